@@ -11,7 +11,10 @@ import java.util.concurrent.ConcurrentSkipListSet;
 import java.util.concurrent.CyclicBarrier;
 import java.util.stream.IntStream;
 
-/** Makes the calls of foreign_calls.c from Java, through its Foreign Function API, and the same calls on a ConcurrentSkipListSet. */
+/**
+ * Makes the calls of foreign_calls.c from Java, through its Foreign Function API, and the same calls on a
+ * ConcurrentSkipListSet.
+ */
 final class ForeignCalls {
     private static final int QUOTA = 16_384, WARM_UP_CALLS = 60_000, WARM_UP_KEYS = 64;
 
@@ -139,7 +142,7 @@ final class ForeignCalls {
 
     public static void main(String[] words) throws Throwable {
         int threads = Integer.parseInt(words[1]), calls = Integer.parseInt(words[2]), keys = Integer.parseInt(words[3]);
-        // These runs are not timed: the virtual machine compiles the calls during them.
+        // These runs are not timed, because the virtual machine compiles the calls during them.
         for (int at = 0; at < 3; at++) {
             nanoseconds(opened(words[0], threads, WARM_UP_KEYS), WARM_UP_CALLS / threads, WARM_UP_KEYS);
         }

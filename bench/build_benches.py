@@ -1,6 +1,7 @@
-"""Builds the benches: programs in Rattle that the gate does not prove. They are proved and built in a
-separate tree, beside the libraries below them. Their files here end in `_`, since rt accepts .rt and .antt
-only in crates."""
+"""Builds the benches, which are Rattle programs that the gate does not prove. They are proved and built in a separate
+tree, together with the libraries below them. Their file names here end in `_`, since rt accepts .rt and .antt files
+only in crates.
+"""
 
 import pathlib
 import shutil
@@ -26,7 +27,7 @@ def lines_with_benches():
 
 
 def lay_out(room, names):
-    """Creates a tree of these benches and the libraries below them in a folder."""
+    """Creates a tree with these benches and the libraries below them in a folder."""
     wanted = crates_txt.below(names, lines=lines_with_benches())
     (room / "crates.txt").write_text("".join(f"{lines_with_benches()[it]}\n" for it in wanted))
     shutil.copy2(TOP / "HANDLES", room)
@@ -38,8 +39,9 @@ def lay_out(room, names):
 
 
 def program_of(name):
-    """Returns the program of a bench. If one is missing, first proves and builds all of them with `rt ci`.
-    (Delete bench/out after a change.)"""
+    """Returns the program of a bench. If it is missing, first proves and builds all benches with `rt ci`. (Delete
+    bench/out after a change.)
+    """
     if not (BUILT / name).exists():
         print(f"bench: proving and building {', '.join(NAMES)}, once", file=sys.stderr)
         toolchain.folder()
@@ -54,7 +56,7 @@ def program_of(name):
 
 
 def by_rustc(source, room):
-    """Builds a Rust file of bench/ with rustc and returns the program."""
+    """Builds a Rust file in bench/ with rustc and returns the program."""
     if not shutil.which("rustc"):
         sys.exit(f"bench: the command rustc is missing: {toolchain.NEEDS['rustc']}")
     program = f"{room}/{source.removesuffix('.rs')}"
@@ -63,8 +65,9 @@ def by_rustc(source, room):
 
 
 def read():
-    """Reads each bench with the libraries below it, without a proof, to check that names and types still
-    match. Returns the status."""
+    """Reads each bench and the libraries below it without a proof, to check that names and types still match. Returns the
+    exit status.
+    """
     failed = 0
     with tempfile.TemporaryDirectory(prefix="bench-") as room:
         lay_out(pathlib.Path(room), NAMES)

@@ -1,5 +1,6 @@
-"""Measures a call of a running set from C, C++, Rust, Java and Python. For comparison, measures a set of each language that threads can
-share."""
+"""Measures the calls of a running set from C, C++, Rust, Java and Python, and compares each with a set that the language's
+threads can share.
+"""
 
 import os
 import pathlib
@@ -37,8 +38,9 @@ path = "{source}"
 
 
 def foreign():
-    """Prints the nanoseconds of a call on sets of several sizes, with one thread and with four. The time is that of all threads together,
-    the median of several alternating runs."""
+    """Prints the nanoseconds per call on sets of several sizes, with one thread and with four. The time is that of all
+    threads together, as the median of several alternating runs.
+    """
     if not (OUT / "lib" / "liblistset.a").exists():
         sys.exit("bench: foreign/out is missing: build it with foreign/build")
     heading(f"Nanoseconds in {THREADS[0]} thread, in {THREADS[1]}", *(f"{size:,}" + " keys" * (size == SIZES[0]) for size in SIZES))
@@ -81,7 +83,7 @@ def by_c(room):
 
 
 def by_cpp(room):
-    """Returns the rows of C++. A skip list of libcds has a row if Debian's package libcds-dev is installed."""
+    """Returns the rows for C++. There is a row for libcds's skip list if Debian's package libcds-dev is installed."""
     program, libcds = room / "of_cpp", ["-lcds"] * LIBCDS.exists()
     library = [f"-I{OUT}/include", OUT / "lib" / "liblistset.a", "-pthread", *libcds]
     compiled("g++", "-std=c++17", "-O2", BENCH / "foreign_calls.cpp", *library, "-o", program)
@@ -109,10 +111,10 @@ def java_home():
 
 
 def by_java(room):
-    """Returns the rows of Java; none if no JDK has the Foreign Function API."""
+    """Returns the rows for Java, or none if no JDK has the Foreign Function API."""
     home = java_home()
     if home is None:
-        print(f"bench: no row of Java: its Foreign Function API wants a JDK {OLDEST_JAVA} or later", file=sys.stderr)
+        print(f"bench: no row of Java: its Foreign Function API requires a JDK {OLDEST_JAVA} or later", file=sys.stderr)
         return {}
     subprocess.run([home / "javac", "-d", room, BENCH / "ForeignCalls.java"], check=True)
     program = [home / "java", "--enable-native-access=ALL-UNNAMED", f"-Dliblistset={OUT / 'lib' / 'liblistset.so'}", "-cp", room, "ForeignCalls"]

@@ -1,5 +1,6 @@
-// Makes calls of a running set from C. Arguments: SET THREADS CALLS KEYS. Prints the nanoseconds of all threads together, divided by the
-// number of calls. A third of the calls are adds, a third removes, a third contains, on random keys. Half of the keys are in the set.
+// Makes calls on a running set from C. Arguments: SET THREADS CALLS KEYS. Prints the nanoseconds of all threads
+// together, divided by the number of calls. One third each of the calls are add, remove and contains, with random keys.
+// Half of the keys are in the set.
 #define _POSIX_C_SOURCE 200809L
 #include <listset.h>
 #include <pthread.h>

@@ -1,5 +1,6 @@
-// Makes the calls of foreign_calls.c from C++, and calls of a std::set under a lock and of libcds's skip list, if libcds is installed.
-// (TBB's concurrent_set is not measured: threads must not call its erase at once.)
+// Makes the calls of foreign_calls.c from C++, and the same calls on a std::set under a lock and, if libcds is
+// installed, on its skip list. (TBB's concurrent_set is not measured, because threads must not call its erase at the
+// same time.)
 #include <listset.hpp>
 
 #include <cstdio>
@@ -39,7 +40,7 @@ struct locked_tree {
 };
 
 #if __has_include(<cds/init.h>)
-// libcds's skip list. A thread registers with libcds before its first call.
+// libcds's skip list. Each thread registers with libcds before its first call.
 struct skip_list {
   struct traits : cds::container::skip_list::traits {
     using less = std::less<uint32_t>;

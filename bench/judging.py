@@ -1,4 +1,4 @@
-"""Measures judge on recordings, beside a judge written by hand (peer_judge.rs)."""
+"""Measures `judge` on recordings, and compares it with a judge written by hand (peer_judge.rs)."""
 
 import collections
 import os
@@ -12,7 +12,7 @@ MILLION = 1_000_000
 THREADS, KEYS = 16, 64
 RUNS = 3
 
-# The recordings: name, number of calls, threads and keys, and whether one more call overlaps all others
+# The recordings: name, number of calls, threads and keys, and whether an additional call overlaps all others.
 RECORDINGS = {
     "2 threads": (MILLION, 2, KEYS, False),
     "8 threads": (MILLION, 8, KEYS, False),
@@ -34,7 +34,7 @@ RECORDINGS = {
 
 
 def judge():
-    """Prints the table of recordings: the minimum of the seconds of several alternating runs."""
+    """Prints the table of recordings. Each time is the minimum of several alternating runs, in seconds."""
     heading("Recording", "`judge`, s", "KB", "by hand, s", "KB", "ratio")
     with tempfile.TemporaryDirectory(prefix="bench-") as room:
         programs = [built("listset"), "judge"], [by_rustc("peer_judge.rs", room)]
@@ -47,8 +47,9 @@ def judge():
 
 
 def lines_of(calls, threads, keys, has_spanning):
-    """Yields the lines of a recording. Random threads begin a call or end their own. A call takes effect at
-    its begin or at its end."""
+    """Yields the lines of a recording. Random threads begin a call or end their pending one. A call takes effect at its
+    begin or at its end.
+    """
     yield "listset-calls 1\n"
     if has_spanning:
         yield f"call {threads} add {keys} 1 {2 * calls + 2} true\n"
@@ -63,7 +64,7 @@ def lines_of(calls, threads, keys, has_spanning):
 
 
 def overlapping(draw, calls, threads, keys, there):
-    """Yields each call when it begins, and None when one has ended. The set changes when calls take effect."""
+    """Yields each call when it begins, and None when one has ended. The set changes when a call takes effect."""
     pending, left, moment = {}, calls, 1
     while left or pending:
         thread = draw.randrange(threads) if left else next(iter(pending))
@@ -80,7 +81,7 @@ def overlapping(draw, calls, threads, keys, there):
 
 
 def effect_of(made, there):
-    """Returns the reply of a call that takes effect."""
+    """Applies a call to the set and returns its reply."""
     word, key = made[1:3]
     is_true = (key in there) != (word == "add")
     if is_true and word != "contains":

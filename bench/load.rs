@@ -1,10 +1,10 @@
 //! Loads a set server on the loopback, and measures how fast it answers.
 //!   rustc -O load.rs;  load PROTOCOL PORT CLIENTS AT_ONCE REQUESTS KEYS
-//! PROTOCOL is `listset`, or `redis` with a set named `s`. Each client has a thread, a connection and REQUESTS requests, which are made
-//! before the first one is sent: a third each of add, remove and contains, on KEYS keys. A client sends AT_ONCE requests in one write, waits
-//! for their answers, and then sends the next AT_ONCE requests. The output is the requests per second, from the first write to the last answer of all clients,
-//! and the median and the 99th percentile of the microseconds from a write to the last of its answers. Each read ends within ten
-//! seconds.
+//! PROTOCOL is `listset`, or `redis` with a set named `s`. Each client has its own thread and connection and sends
+//! REQUESTS requests, which are prepared before the first one is sent: one third each of add, remove and contains, on
+//! KEYS keys. A client sends AT_ONCE requests in one write, waits for their answers, and then sends the next AT_ONCE
+//! requests. Prints the requests per second, from the first write to the last answer of all clients, and the median and
+//! the 99th percentile of the microseconds from a write to the last of its answers. Each read ends within ten seconds.
 
 use std::io::{Read, Write};
 use std::net::TcpStream;
@@ -36,7 +36,7 @@ impl Protocol {
         }
     }
 
-    /// Decides whether an answer can begin with this byte. listset answers TRUE or FALSE, redis answers a number.
+    /// Returns `true` if an answer can begin with this byte. listset answers TRUE or FALSE, redis a number.
     fn begins(self, byte: u8) -> bool {
         match self {
             Protocol::Listset => b"TF".contains(&byte),
@@ -76,7 +76,7 @@ impl Wanted {
     }
 }
 
-/// Reads a number of answers.
+/// Reads `many` answers.
 fn read_answers(stream: &mut TcpStream, protocol: Protocol, many: usize) {
     let mut buffer = [0; 65_536];
     let (mut left, mut begins) = (many, true);

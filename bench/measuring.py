@@ -1,4 +1,6 @@
-"""Common functions of bench/run: they find programs, measure processor seconds and peak memory of runs, and print rows of tables."""
+"""Functions that the modules of bench/run share: they find programs, measure processor time and peak memory of runs, and
+print rows of tables.
+"""
 
 import datetime
 import os
@@ -20,7 +22,7 @@ KINDS = [it.word for it in lists.lists()]
 
 
 def measured_on():
-    """Returns the date, the machine and its load when a table was begun."""
+    """Returns the date, the machine and its load at the start of a table."""
     with open("/proc/cpuinfo") as it:
         model = re.search(r"model name\s*: (.*)", it.read())
     named = " ".join(re.sub(r"\(R\)|\(TM\)|CPU|Processor|@", " ", model[1] if model else "").split()) or "processors"
@@ -29,7 +31,7 @@ def measured_on():
 
 
 def built(name):
-    """Returns the program with this name, which is proved and built if it is missing."""
+    """Returns the program with this name. Proves and builds it first if it is missing."""
     if name in build_benches.NAMES:
         return build_benches.program_of(name)
     program = f"{TOP}/crates/{name}/out/{name}"
@@ -41,14 +43,14 @@ def built(name):
 
 
 def processor_seconds(process):
-    """Waits for a process and returns its processor seconds. Its status is then in `returncode`."""
+    """Waits for a process and returns its processor time in seconds. Its exit status is then in `returncode`."""
     _, status, used = os.wait4(process.pid, 0)
     process.returncode = os.waitstatus_to_exitcode(status)
     return used.ru_utime + used.ru_stime
 
 
 def seconds_of(words, given, written, wanted):
-    """Runs a command that must end with this status, and returns its processor seconds."""
+    """Runs a command that must exit with this status, and returns its processor time in seconds."""
     with open(given) as source, open(written, "w") as sink:
         run = subprocess.Popen(words, stdin=source, stdout=sink, stderr=subprocess.DEVNULL)
         used = processor_seconds(run)
@@ -58,8 +60,9 @@ def seconds_of(words, given, written, wanted):
 
 
 def memory_of(words, given):
-    """Runs a command and returns its peak kilobytes, as the program `time` measures them; None if `time` is
-    not installed."""
+    """Runs a command and returns its peak memory in kilobytes as measured by the program `time`, or None if `time` is not
+    installed.
+    """
     if not os.access(TIME, os.X_OK):
         return None
     with open(given) as source, tempfile.NamedTemporaryFile("r") as told:

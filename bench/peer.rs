@@ -1,11 +1,11 @@
 //! The baseline for running sets: the lists of `lists.rs`, and std's tree under one lock.
 //!   rustc -O peer.rs
-//!   peer each KIND THREADS QUOTA CALLS KEYS SEED     times each call, as `bench_calls KIND each ..` does
-//!   peer whole KIND ..                               times rounds of all calls, as `bench_calls KIND whole ..` does; KIND may be
-//!                                                    `mutex-tree` here, which has no quota
-//! Standard error has the times. For `each`: the nanoseconds of all threads for each kind of call, and how many calls are left out because
-//! they took more than `LONGEST`, for example because the processor was taken away. For `whole`: the nanoseconds of the clock. The output
-//! has the number of calls.
+//!   peer each KIND THREADS QUOTA CALLS KEYS SEED     times each call, like `bench_calls KIND each ..`
+//!   peer whole KIND ..                               times rounds of all calls, like `bench_calls KIND whole ..`; here KIND can also be
+//!                                                    `mutex-tree`, which has no quota
+//! The times are printed on standard error. `each` prints, for each operation, the nanoseconds of all threads, and how
+//! many calls are left out because they took more than `LONGEST`, for example because the thread was preempted. `whole`
+//! prints the elapsed nanoseconds. The output is the number of calls.
 
 mod lists;
 
@@ -16,11 +16,11 @@ use std::sync::Mutex;
 use std::time::{Duration, Instant};
 
 const LONGEST: u64 = 200_000;
-/// The minimum time of all rounds together: rounds are repeated until they have taken this long.
+/// The minimum time of all rounds together. Rounds are repeated until they have taken this long.
 const ENOUGH: Duration = Duration::from_millis(100);
 const OPS: [(Op, &str); 3] = [(Op::Add, "add"), (Op::Remove, "remove"), (Op::Contains, "contains")];
 
-/// The generator of the library's random programs, PCG32.
+/// PCG32, the generator of the library's random programs.
 struct Pcg {
     state: u64,
     step: u64,
@@ -90,7 +90,7 @@ fn meet(there: &AtomicUsize, many: usize) {
     }
 }
 
-/// Runs each thread's program with `run`, all at once.
+/// Runs each thread's program with `run`, all at the same time.
 fn at_once<T: Send>(programs: &[Vec<Call>], run: impl Fn(u64, &[Call]) -> T + Sync) -> Vec<T> {
     let run = &run;
     std::thread::scope(|scope| {
@@ -100,7 +100,7 @@ fn at_once<T: Send>(programs: &[Vec<Call>], run: impl Fn(u64, &[Call]) -> T + Sy
     })
 }
 
-/// Runs each thread's program with `run`; none begins before all threads have started.
+/// Runs each thread's program with `run`. None begins before all threads have started.
 fn together<T: Send>(programs: &[Vec<Call>], run: impl Fn(u64, &[Call]) -> T + Sync) -> Vec<T> {
     let there = AtomicUsize::new(0);
     at_once(programs, |thread, calls| {
@@ -137,7 +137,7 @@ fn tell(name: &str, spent: Spent) {
     eprintln!("{name} {} {}", spent.nanoseconds, spent.left_out);
 }
 
-/// Times each call, with one reading of the clock per call.
+/// Times each call by reading the clock once per call.
 fn each(kind: Kind, wanted: &Wanted) {
     let set = Set::new(kind, wanted.threads, wanted.quota);
     let spent = together(&wanted.programs(), |thread, calls| {
@@ -186,7 +186,7 @@ fn whole_of_list(kind: Kind, wanted: &Wanted) {
     });
 }
 
-/// Makes a call on a tree, and returns its reply.
+/// Makes a call on a tree and returns its reply.
 fn change(tree: &mut BTreeSet<u32>, call: &Call) -> bool {
     match call.op {
         Op::Add => tree.insert(call.key),

@@ -1,5 +1,5 @@
-// A replayer of schedules, written by hand for speed: the baseline for `listset replay`. It reads lines of opening keys, but not the
-// call `ceiling`.
+// A replayer of schedules, written by hand for speed, as the baseline for `listset replay`. It reads lines of opening
+// keys, but does not support `ceiling`.
 //   rustc -O peer_replay.rs;  peer_replay replay < schedule > report;  peer_replay check < report
 use std::collections::{BTreeMap, BTreeSet, HashMap, HashSet};
 use std::fmt::Write as _;
@@ -72,7 +72,7 @@ impl W {
             false
         }
     }
-    // Makes one step. Returns the reply, and the change: 0 for none, 1 for an added key, 2 for a removed one.
+    // Makes one step. Returns the reply and the change: 0 for none, 1 for an added key, 2 for a removed one.
     fn step(&mut self, t: u64, x: &mut L) -> (u8, u8) {
         let (key, me, own, q) = (x.key + 1, t + 1, 2 + t * self.q + x.used, self.q);
         macro_rules! ans {

@@ -1,4 +1,6 @@
-"""Measures the requests per second of the set server, and compares them with redis. Starts both servers and reads their ports."""
+"""Measures the requests per second of the set server, and compares them with redis. Starts both servers and finds out
+their ports.
+"""
 
 import contextlib
 import shutil
@@ -15,13 +17,13 @@ from measuring import KINDS, built, heading, row
 ROUNDS = 5
 CLIENTS = (1, 8)
 KEYS = "64"
-REQUESTS = {1: "20000", 100: "90000"}  # for each client, by how many it sends at once; few enough that no seat runs out of slots
+REQUESTS = {1: "20000", 100: "90000"}  # for each client, by the number of requests per write; few enough that no seat runs out of slots
 REDIS_STARTS_WITHIN = LOAD_ENDS_WITHIN = 60  # seconds
 
 
 @contextlib.contextmanager
 def ended(process):
-    """Kills the process at the end, if it has not ended by itself."""
+    """Kills the process at the end if it has not exited by itself."""
     try:
         yield process
     finally:
@@ -38,7 +40,7 @@ def listset(tool, kind, clients):
 
 
 def answers(port):
-    """Decides whether a server on the port accepts a connection."""
+    """Returns whether a server on the port accepts a connection."""
     with contextlib.suppress(OSError), socket.create_connection(("127.0.0.1", port), timeout=1):
         return True
     return False
@@ -46,7 +48,7 @@ def answers(port):
 
 @contextlib.contextmanager
 def redis(program, _kind, _clients):
-    """Starts a redis server that stores nothing on disk, and returns its port."""
+    """Starts a redis server that does not write to disk, and returns its port."""
     with socket.socket() as free:
         free.bind(("127.0.0.1", 0))
         port = free.getsockname()[1]
@@ -60,7 +62,7 @@ def redis(program, _kind, _clients):
 
 
 def loaded(load, protocol, server, clients, at_once):
-    """Returns the requests per second, and the 99th percentile of the microseconds of a write."""
+    """Returns the requests per second, and the 99th percentile of the microseconds per write."""
     with server(clients) as port:
         words = [load, protocol, port, str(clients), str(at_once), REQUESTS[at_once], KEYS]
         told = subprocess.run(words, stdout=subprocess.PIPE, text=True, check=True, timeout=LOAD_ENDS_WITHIN).stdout
@@ -69,8 +71,9 @@ def loaded(load, protocol, server, clients, at_once):
 
 
 def server():
-    """Prints the table of servers: thousands of requests per second and the 99th percentile of the
-    microseconds of a write, the median of several alternating rounds."""
+    """Prints the table of servers: thousands of requests per second, and the 99th percentile of the microseconds per
+    write. Each is the median of several alternating rounds.
+    """
     tool = built("listset")
     servers = {kind: ("listset", lambda clients, kind=kind: listset(tool, kind, clients)) for kind in KINDS}
     program = shutil.which("redis-server")

@@ -1,4 +1,6 @@
-"""Measures running sets, and compares them with lists written by hand: calls by kind, and rounds of calls on sets of several sizes."""
+"""Measures running sets, and compares them with lists written by hand: calls by operation, and rounds of calls on sets of
+several sizes.
+"""
 
 import statistics
 import subprocess
@@ -15,8 +17,9 @@ MANY_RUNS = 25
 
 
 def calls():
-    """Prints the table of calls by kind: the ratio of their time to that of the list by hand, the median of
-    several alternating runs."""
+    """Prints the table of calls by operation: the ratio of their time to that of the list written by hand, as the median
+    of several alternating runs.
+    """
     timer, kind_names = built("bench_calls"), ("add", "remove", "contains")
     heads = (f"`{call}`" + f", {named(many)}" * (call == "add") for many in THREADS for call in kind_names)
     heading("List", *heads)
@@ -33,8 +36,9 @@ def calls():
 
 
 def sizes():
-    """Prints the table of sizes: millions of calls per second on random keys, with about half of them in the
-    set, the median of several alternating runs."""
+    """Prints the table of sizes: millions of calls per second with random keys, about half of which are in the set, as the
+    median of several alternating runs.
+    """
     heading("Set", *(f"{size:,}" + f" keys, {named(many)}" * (size == SIZES[0]) for many in THREADS for size in SIZES))
     with tempfile.TemporaryDirectory() as room:
         timer, peer = built("bench_calls"), by_rustc("peer.rs", room)
@@ -58,8 +62,9 @@ def median_of(runs, call):
 
 
 def nanoseconds(words):
-    """Runs bench_calls or peer.rs and returns the nanoseconds of one call, for each kind of call or for all.
-    Calls in which the processor was taken away are left out."""
+    """Runs bench_calls or peer.rs and returns the nanoseconds per call, for each operation or for all of them. Calls
+    during which the thread was preempted are left out.
+    """
     run = subprocess.run(words, stdin=subprocess.DEVNULL, capture_output=True, text=True, check=True)
     many = {kind: int(calls) for kind, calls in map(str.split, run.stdout.splitlines())}
     spent = {kind: (int(time), int(left)) for kind, time, left in map(str.split, run.stderr.splitlines())}
@@ -69,5 +74,5 @@ def nanoseconds(words):
 
 
 def rate(words, many, size):
-    """Returns the calls per second of a number of threads together, from rounds of 100 ms or more."""
+    """Returns the calls per second of all threads together, from rounds of 100 ms or more."""
     return 1e9 / nanoseconds([*words, str(many), MOST_QUOTA, MANY_CALLS, str(size), SEED])["all"]

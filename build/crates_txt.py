@@ -1,35 +1,38 @@
-"""The crates of the repository, from crates.txt: which crates are below which, and copies of the repository
-with some of them."""
+"""Reads crates.txt: which crates there are, and which are below which. Also makes copies of the repository with some of
+the crates.
+"""
 
 import pathlib
 import re
 import shutil
 
 TOP = pathlib.Path(__file__).resolve().parent.parent
-# The crates of tests: ./gate builds them without a proof
+# The crates that are tests. ./gate builds them without a proof.
 TESTS = re.compile(r"tests_\w+|memory_calls")
 LEFT_OUT = shutil.ignore_patterns(".git", "out", "dist", "target", "__pycache__", "must-fail")
 NO_EDITS = shutil.ignore_patterns("out", "must-fail")
 
 
 def lines_by_crate(text):
-    """Returns the lines of a crates.txt by the name of the crate, lowest first."""
+    """Returns the lines of a crates.txt by crate, lowest crate first."""
     lines = [line.partition("#")[0].strip() for line in text.splitlines()]
     return {line.partition(":")[0].split()[0]: line for line in lines if line}
 
 
 def lines_of(root=TOP):
-    """Returns the lines of the crates.txt of a repository."""
+    """Returns the lines of a repository's crates.txt."""
     return lines_by_crate((root / "crates.txt").read_text())
 
 
 def tests():
-    """Returns the names of the crates of tests."""
+    """Returns the names of the crates that are tests."""
     return [it for it in lines_of() if TESTS.fullmatch(it)]
 
 
 def below(names, root=TOP, lines=None):
-    """Returns these crates and all crates below them, lowest first. (crates.txt has each crate after those that it uses.)"""
+    """Returns these crates and all crates below them, lowest first. (crates.txt lists each crate after those that it
+    uses.)
+    """
     lines, wanted = lines or lines_of(root), set(names)
     for name in reversed(lines):
         if name in wanted:
@@ -38,8 +41,9 @@ def below(names, root=TOP, lines=None):
 
 
 def lay_out(to, names, is_whole=False):
-    """Creates a repository with these crates in a folder, without their must-fail edits. With `is_whole` it
-    has these edits too, and all files beside the crates, so that rt ci checks them."""
+    """Creates a repository with these crates in a folder, without their must-fail edits. If `is_whole`, the copy also has
+    these edits and all files beside the crates, so that rt ci checks them.
+    """
     to.mkdir(parents=True, exist_ok=True)
     (to / ".git").mkdir()
     lines = lines_of()

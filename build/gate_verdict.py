@@ -1,5 +1,6 @@
-"""The verdict of the last whole gate here, stored in the git folder for build/release. A gate over
-uncommitted changes stores none."""
+"""Stores the verdict of the last complete gate run in the git folder, for build/release. A gate run on uncommitted changes
+stores none.
+"""
 
 import datetime
 import hashlib
@@ -24,7 +25,7 @@ def changes():
 
 
 def clean_commit():
-    """Returns the checked-out commit if nothing is changed, otherwise None."""
+    """Returns the checked-out commit, or None if there are uncommitted changes."""
     return None if changes() else git("rev-parse", "HEAD") or None
 
 
@@ -37,8 +38,9 @@ def sum_of(file):
 
 
 def write(commit, passed, failed):
-    """Stores the verdict of a gate that began at this commit, if it is still checked out. Otherwise deletes
-    the previous verdict."""
+    """Stores the verdict of a gate that began at this commit, if the commit is still checked out. Otherwise deletes the
+    previous verdict.
+    """
     place().unlink(missing_ok=True)
     if commit and commit == clean_commit():
         sums = {it: sum_of(it) for it in TRIED}

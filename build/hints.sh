@@ -1,7 +1,7 @@
-# Prints hints below an error at a terminal: what is wrong, and what to do. Sourced by ./listset, which sets `engine`,
-# the command line of the program, and `called`, the name by which the user called the script.
+# Prints hints below an error at a terminal: what is wrong, and how to correct it. Sourced by ./listset, which sets
+# `engine`, the command line of the program, and `called`, the name under which the user called the script.
 
-# Sets `values` to the arguments of a command that are no options, and `texts` to the values of its options.
+# Sets `values` to the arguments of a command that are not options, and `texts` to the values of its options.
 read_words() {
   local name
   values=()
@@ -23,7 +23,7 @@ read_words() {
   done
 }
 
-# Prints the file that a command reads; nothing if the command reads standard input or no file.
+# Prints the name of the file that a command reads. Prints nothing if it reads standard input or no file.
 print_file() {
   local file=""
   case "$1" in
@@ -34,7 +34,7 @@ print_file() {
   [ "$file" = - ] || printf '%s' "$file"
 }
 
-# Prints a file's name as a command line has it.
+# Prints a file name as it should be typed on a command line.
 quoted() {
   local name=$1
   case "$name" in -*) name=./$name ;; esac
@@ -44,7 +44,7 @@ quoted() {
   esac
 }
 
-# Prints what the command explain prints of a file.
+# Prints the output of the command explain for a file.
 explain_file() {
   local said
   if [ -f "$1" ] && [ -r "$1" ]; then
@@ -55,7 +55,7 @@ explain_file() {
   fi
 }
 
-# Prints the commands that read a file, by the kind that the first line of its explanation states; nothing of another kind.
+# Prints the commands that read a file. The first line of its explanation states its kind. Prints nothing for other kinds.
 print_use() {
   local name
   name=$(quoted "$1")
@@ -70,7 +70,7 @@ print_use() {
   esac
 }
 
-# Prints what a command reads.
+# Prints the kind of text that a command reads.
 read_by() {
   case "$1" in
     replay | trace) echo "a schedule" ;;
@@ -82,8 +82,8 @@ read_by() {
   esac
 }
 
-# Prints what is wrong in a file, and what to do: the last line of what the command explain prints. If the cause $3 is
-# Header and the file is of another kind than command $1 reads, prints both kinds and the commands that read the file.
+# Prints what is wrong in a file, and how to correct it, which is the last line that the command explain prints. If the
+# cause $3 is Header and command $1 does not read this kind of file, prints both kinds and the commands that read the file.
 explain_in_a_line() {
   local command=$1 file=$2 said first use
   said=$(explain_file "$file")
@@ -96,7 +96,7 @@ explain_in_a_line() {
   fi
 }
 
-# Explains a refused line of recorded calls that are too long for the command explain: the line, and its cause.
+# Explains a refused line of a recording that is too long for the command explain. Prints the line and the cause.
 explain_long() {
   local file=$1 number=$2 cause=$3 line why
   line=$(sed -n "$number{p;q}" "$file" | cut -c1-100 | cat -v)
@@ -108,7 +108,7 @@ explain_long() {
   echo "$why"
 }
 
-# Explains a refused line of the input of a command.
+# Explains a refused line in a command's input.
 explain_line() {
   local command=$1 number=$2 cause=$3 file
   file=$(print_file "$command")
@@ -125,7 +125,7 @@ explain_line() {
   fi
 }
 
-# Explains a refusal of recorded calls without lines of final keys, if the refusal is about the final keys.
+# Explains why a recording without lines of final keys is refused, if the final keys are the reason.
 explain_refusal() {
   local file=${values[0]-} verdict
   [ -f "$file" ] && [ "$(stat -c %s -- "$file")" -le 67108864 ] || return 0
@@ -157,7 +157,7 @@ explain_port() {
   fi
 }
 
-# Prints the last moment that show can draw of the command's file; nothing if the command reads standard input.
+# Prints the last moment of the command's file that show can draw. Prints nothing if the command reads standard input.
 print_last_moment() {
   local file picture lacks=()
   file=$(print_file show)
@@ -167,7 +167,7 @@ print_last_moment() {
   sed -n 's/^moments .* of \([0-9]*\);.*/\1/p; s/^moment .* \([0-9]*\)$/\1/p' <<<"$picture" | head -n 1
 }
 
-# Explains a wrong option of show, with the help of the command.
+# Explains a wrong option of show, using the command's help text.
 explain_option() {
   local name=$1 range=$2 last
   case "$name" in
@@ -178,7 +178,7 @@ explain_option() {
   echo "$name '${texts[${name,,}]-}' is wrong. $range"
 }
 
-# Explains a missing or wrong argument, with the help of its command.
+# Explains a missing or wrong argument, using the command's help text.
 explain_value() {
   local command=$1 name=$2 help usage range words at=0
   help=$("${engine[@]}" help "$command" 2>/dev/null)
@@ -201,7 +201,7 @@ explain_value() {
   fi
 }
 
-# Prints how many arguments that are no options come before this one.
+# Prints how many arguments before this one are not options.
 count_before() {
   local it at=0
   for it in "${given[@]:1}"; do
@@ -258,7 +258,7 @@ explain_command() {
   fi
 }
 
-# Prints the examples whose broken report example --broken prints.
+# Prints the names of the examples that have a broken report.
 print_broken() {
   local it names=""
   for it in "$top"/examples/schedules/*.broken.report; do
@@ -269,7 +269,7 @@ print_broken() {
   echo "These examples have one: $names"
 }
 
-# Prints a text, in which commands of listset begin with the name by which the script was called.
+# Prints a text in which listset's commands begin with the name under which the script was called.
 print_as_called() {
   local text=$1 it
   [ "$called" = listset ] || for it in replay judge check show trace draft example gen run serve faults explain help --help --version; do
@@ -278,8 +278,8 @@ print_as_called() {
   [ -z "$text" ] || printf '%s\n' "$text"
 }
 
-# Prints a hint for an error of the program with these arguments, or for a refusal. A refusal prints nothing on standard
-# error.
+# Prints a hint about an error of the program with these arguments, or about a refusal. (A refusal prints nothing on
+# standard error.)
 explain_error() {
   local said=$1 word number
   shift
@@ -308,7 +308,7 @@ explain_error() {
   esac
 }
 
-# Prints an error of the program, without clap's tip to write '--' before an argument, since it does not help.
+# Prints an error of the program without clap's tip to write '--' before an argument, which does not help here.
 print_error() {
   sed "/^  tip: to pass '-/,/^\$/d" <<<"$1"
 }

@@ -1,4 +1,4 @@
-"""The lists, from crates.txt: their names, and the places outside their crates that name them."""
+"""The lists in crates.txt: their names, and the places outside of their crates that name them."""
 
 import os
 import re
@@ -8,7 +8,7 @@ from crates_txt import TOP, lines_of
 
 
 class List:
-    """The names of a list: its word in files (lock-free), its table, its Kind, its crate and its type."""
+    """The names of a list: its name in files (such as lock-free), its table, its Kind, its crate and its type."""
 
     def __init__(self, word):
         self.word, self.table = word, word.replace("-", "_")
@@ -16,18 +16,18 @@ class List:
         self.crate, self.type = f"lset_{self.table}", f"{self.kind}List"
 
     def has_reads(self, root=TOP):
-        """Decides whether contains and ceiling of the list take no lock and have rows of their own."""
+        """Returns whether the list's contains and ceiling take no lock and have their own rows."""
         return f"impl OpenReads for {self.type}" in (root / "crates" / self.crate / "src/lib.rt").read_text()
 
 
 def lists(root=TOP):
-    """Returns the lists in the order of crates.txt. A list's crate has a proof outline."""
+    """Returns the lists in the order of crates.txt. They are the crates with a proof outline."""
     found = [it for it in lines_of(root) if (root / "crates" / it / "specs/Lawful/Outline.antt").is_file()]
     return [List(it.removeprefix("lset_").replace("_", "-")) for it in found]
 
 
-# The places that must name a list for the program to have it, and the names there. build/new_list writes
-# these
+# The places in the code that must name a list for the program to have it, and the names there. build/new_list writes
+# these.
 CODE = {
     "crates/lset_words/src/lib.rt": ["    {kind},"],
     "crates/lset_text/src/words.rt": ['Kind::{kind} => "{word}"', "is_word_of(piece, Kind::{kind})"],
@@ -39,9 +39,9 @@ CODE = {
     "crates/tool_threads/src/run_command.rt": ["Kind::{kind} => run_rounds::<{type}"],
     "crates/tool_threads/src/serve_command.rt": ["Kind::{kind} => serve_list::<{type}"],
 }
-# The crates that use each list's crate, in crates.txt
+# The crates that use every list's crate, according to crates.txt.
 USERS = ["lset_lists", "lset_live", "tool_replay", "tool_threads"]
-# The places that describe the lists in words. These are written by hand
+# The places that describe the lists in prose, which must be written by hand.
 TEXTS = {
     "crates/tool_base/src/faults.rt": ["{word}"],
     "crates/lset_command/src/command_line.rt": ["{word}"],
@@ -52,18 +52,19 @@ TEXTS = {
 
 
 def add_exercises(root):
-    """Adds the crates of examples/lists to a copy of the repository. Each is the copied list that its page
-    names, with its patch."""
+    """Adds the crates of examples/lists to a copy of the repository. Each is a copy of the list that its page names, with
+    its patch applied.
+    """
     for patch in sorted((root / "examples/lists").glob("*.patch")):
         words = re.search(r"build/new_list (\S+) (\S+)", patch.with_suffix(".md").read_text()).groups()
         subprocess.run([root / "build/new_list", *words], stdout=subprocess.DEVNULL, check=True)
-        # (not as a part of a git repository that the copy can be in)
+        # (not as part of a git repository that may contain the copy)
         outside = {**os.environ, "GIT_CEILING_DIRECTORIES": str(root.parent)}
         subprocess.run(["git", "apply", "--whitespace=nowarn", patch], cwd=root, env=outside, check=True)
 
 
 def missing(one, places, root=TOP):
-    """Returns the places that lack a list: the path and the missing text."""
+    """Returns the places that do not name a list, each with its path and the missing text."""
     texts = {path: (root / path).read_text() for path in places}
     wanted = [(path, form.format(**vars(one))) for path, forms in places.items() for form in forms]
     lacks = [f"{path}: {words}" for path, words in wanted if words not in texts[path]]

@@ -1,5 +1,6 @@
-"""Generates the man page of the program, and its completions for bash, zsh and fish, from what `listset
---help` and `listset help COMMAND` print."""
+"""Generates the program's man page, and its completions for bash, zsh and fish, from the output of `listset --help` and
+`listset help COMMAND`.
+"""
 
 import re
 import subprocess
@@ -9,7 +10,7 @@ import lists
 COMMAND = re.compile(r"^  (\w+) +(.+)$", re.M)
 OPTION = re.compile(r"^ +(?:-\w, )?--([\w-]+)(?: <(\w+)>)? +(.*)$", re.M)
 LISTS = " ".join(it.word for it in lists.lists())
-OF_A_LIST = ["gen", "run", "serve"]  # their first value is a list
+OF_A_LIST = ["gen", "run", "serve"]  # the commands whose first argument is a list
 
 
 class Help:
@@ -24,7 +25,7 @@ class Help:
         self.pages = {name: said("help", name) for name in self.about if name != "help"}
 
     def examples(self):
-        """Returns the examples at the ends of the helps."""
+        """Returns the examples at the end of each help text."""
         return [it for text in self.pages.values() for it in re.findall(r"^Example: (.*)$", text, re.M)]
 
     def broken_lists(self):
@@ -33,14 +34,15 @@ class Help:
         return re.findall(r"([\w-]+) \([\w-]+\)", about)
 
     def options(self, name):
-        """Returns the options of a command except --help: the name, the name of the value or "", and what the
-        option does."""
+        """Returns the options of a command except --help: the name, the name of the value (or ""), and what the option
+        does.
+        """
         return [it for it in OPTION.findall(self.pages[name]) if it[0] != "help"]
 
 
 STATUSES = {
-    "0": "The result was printed, or the help or the version that was asked for.",
-    "1": "The answer is not yes, as 'not linearizable' or 'refused'; or the input or the system has an error, which one line on standard error names.",
+    "0": "The result was printed, or the help or version that the user requested.",
+    "1": "The answer is negative, such as 'not linearizable' or 'refused'; or there is an error in the input or in the system, which one line on standard error names.",
     "2": "An argument, an option or the command line is wrong. Standard error says which.",
     "3": "An allocation failed.",
 }
@@ -48,7 +50,7 @@ ENTRY = re.compile(r"^ {2,8}(\S.*?)(?: {2,}(\S.*))?$")
 
 
 def man_page(said, version, date):
-    """Returns the man page of section 1, in roff."""
+    """Returns the man page for section 1, in roff."""
     first, rest = said.whole.split("\n\n", 1)
     parts = [f'.TH LISTSET 1 "{date}" "listset {version}"', ".nh", ".ad l", ".SH NAME", f"listset \\- {first[0].lower()}{first[1:]}"]
     parts += [".SH SYNOPSIS", *filled(rest)]
@@ -65,13 +67,14 @@ def quoted(text):
 
 
 def entry(name, text):
-    """Returns an entry of a list in roff: a name and its text. Further lines can follow."""
+    """Returns an entry of a list in roff, with a name and its text. Further lines can follow."""
     return [".TP", f"\\fB{quoted(name)}\\fR", *([quoted(text)] if text else [])]
 
 
 def filled(text):
-    """Returns the lines of a help in roff: paragraphs, and lists of names with texts. A text can continue in
-    further lines, which are indented more."""
+    """Returns the lines of a help text in roff: paragraphs, and lists of names with texts. A text can continue on further
+    lines, which are indented more.
+    """
     for line in text.splitlines():
         if not line:
             yield ".PP"
@@ -107,7 +110,7 @@ complete -o default -F _listset listset
 
 def for_zsh(said):
     def told(about):
-        """What an option or a word does, as _arguments and _describe take it within apostrophes."""
+        """Escapes the description of an option or argument for _arguments and _describe, which expect it in single quotes."""
         return re.sub(r"[:\[\]'\\]", "", about[:70])
 
     def spec(name, value, about):

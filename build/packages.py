@@ -1,6 +1,6 @@
-"""The package formats of a release: a .tar.gz, a .deb for dpkg, a wheel for pip, and SHA256SUMS. The input is
-a dict of names and bytes. Equal files make equal packages: no clock or owner is used except the given
-ones."""
+"""Makes the package formats of a release: a .tar.gz, a .deb for dpkg, a wheel for pip, and SHA256SUMS. The input is a dict
+from names to bytes. Equal files make equal packages, since only the given time and owner are used.
+"""
 
 import base64
 import gzip
@@ -12,12 +12,11 @@ import zipfile
 
 NO_LICENCE = "No licence is given: the owner has not chosen one. All rights are reserved."
 PROGRAMS = ("bin/", "usr/bin/")
-MEMBER = "{:<16}{:<12}{:<6}{:<6}{:<8}{:<10}`\n"  # the header of a member of an ar archive
+MEMBER = "{:<16}{:<12}{:<6}{:<6}{:<8}{:<10}`\n"  # a member's header in an ar archive
 
 
 def files_below(folder, to="", leave=()):
-    """Returns the files below a folder, with names that begin with `to`, without the folders and names in
-    `leave`."""
+    """Returns the files below a folder, without the folders and names in `leave`. Their names begin with `to`."""
     found = (it for it in sorted(folder.rglob("*")) if it.is_file() and it.suffix != ".pyc")
     return {f"{to}{it.relative_to(folder)}": it.read_bytes() for it in found if not set(it.relative_to(folder).parts) & set(leave)}
 
@@ -27,7 +26,7 @@ def packed(content):
 
 
 def tar(packed_files, root, when):
-    """Returns a .tar.gz of the files below the folder `root`, all with the time `when`, in seconds."""
+    """Returns a .tar.gz with the files below the folder `root`, all of which have the time `when`, in seconds."""
     made = io.BytesIO()
     folders = {str(it) for name in packed_files for it in pathlib.PurePosixPath(root + name).parents} - {"."}
     with tarfile.open(fileobj=made, mode="w", format=tarfile.USTAR_FORMAT) as archive:
@@ -43,8 +42,7 @@ def tar(packed_files, root, when):
 
 
 def deb(packed_files, version, about, when):
-    """Returns a Debian package for amd64: an ar archive with the format version, the control data, and the
-    files below /."""
+    """Returns a Debian package for amd64: an ar archive with the format version, the control data, and the files below /."""
     control = f"""Package: listset
 Version: {version}
 Architecture: amd64
@@ -71,7 +69,7 @@ Description: concurrent list sets, and a judge of recorded calls
 
 
 def wheel(packed_files, version, tag, about):
-    """Returns a Python wheel with these files, for the machines of `tag`."""
+    """Returns a Python wheel with these files, for the machines that `tag` names."""
     info = f"listset-{version}.dist-info"
     head = f"Metadata-Version: 2.1\nName: listset\nVersion: {version}\nSummary: Concurrent list sets and a judge of recorded calls\n"
     told = {
@@ -96,5 +94,5 @@ def sum_in_wheel(content):
 
 
 def sums(packed_files):
-    """Returns the file SHA256SUMS of these files, for `sha256sum -c`."""
+    """Returns the file SHA256SUMS for these files, for `sha256sum -c`."""
     return "".join(f"{hashlib.sha256(content).hexdigest()}  {name}\n" for name, content in sorted(packed_files.items())).encode()

@@ -13,8 +13,9 @@ import time
 
 
 def script(main):
-    """Runs the main function of a script and exits with its status. On a signal, first ends the started
-    processes, then the script, and deletes its temporary folders."""
+    """Runs a script's main function and exits with its status. On a signal, first ends the started processes, then the
+    script, and deletes its temporary folders.
+    """
     def end(number, _):
         global _is_ending
         _is_ending = True  # (otherwise a thread of this script would start its next command)
@@ -28,7 +29,7 @@ def script(main):
 
 def become(program, words):
     """Replaces this process by a program with these arguments."""
-    # (Python ignores these two signals, and the program would inherit this)
+    # (Python ignores these two signals, which the program would inherit.)
     for it in (signal.SIGPIPE, signal.SIGXFSZ):
         signal.signal(it, signal.SIG_DFL)
     os.execv(program, [program, *words])
@@ -38,8 +39,9 @@ _guarding, _lock, _is_ending = {}, threading.RLock(), False
 
 
 def _group():
-    """Starts a shell as the leader of a process group. The shell ends the group when this process closes the
-    pipe. Returns the shell and the pipe."""
+    """Starts a shell as the leader of a process group. The shell kills the group when this process closes the pipe.
+    Returns the shell and the pipe.
+    """
     ends, held = os.pipe()
     how = {"stdin": ends, "stdout": subprocess.DEVNULL, "stderr": subprocess.DEVNULL}
     guard = subprocess.Popen(["sh", "-c", "read _; kill -9 0"], preexec_fn=os.setpgrp, **how)
@@ -48,21 +50,22 @@ def _group():
 
 
 def guarded():
-    """Returns a prefix for a command, which ends the command and all that it started, however this process
-    ends."""
+    """Returns a prefix for a command. It ends the command, and everything that the command started, however this process
+    ends.
+    """
     with _lock:
         if _is_ending:
             sys.exit(1)
         if os.getpid() not in _guarding:
             _guarding[os.getpid()] = _group()
         guard = _guarding[os.getpid()][0]
-    # (Python ignores these two signals, and the command would inherit this)
+    # (Python ignores these two signals, which the command would inherit.)
     joins = f"import os, sys, signal as s; os.setpgid(0, {guard.pid}); [s.signal(it, s.SIG_DFL) for it in (s.SIGPIPE, s.SIGXFSZ)]"
     return [sys.executable, "-ISc", f"{joins}; os.execvp(sys.argv[1], sys.argv[1:])"]
 
 
 def end_guarded():
-    """Ends what this process started with `guarded`, and waits until its group is gone."""
+    """Ends everything that this process started with `guarded`, and waits until the process group is gone."""
     with _lock:
         if group := _guarding.pop(os.getpid(), None):
             os.close(group[1])
@@ -71,13 +74,13 @@ def end_guarded():
 
 @contextlib.contextmanager
 def room(kind):
-    """Creates a temporary folder of this process, which is deleted at the end."""
+    """Creates a temporary folder that is deleted when this process ends."""
     folder = tempfile.mkdtemp(prefix=f"{kind}-")
-    os.chmod(folder, 0o711)  # rt, run as root, runs programs as nobody, who must be able to enter
+    os.chmod(folder, 0o711)  # if rt runs as root, it runs programs as nobody, who must be able to enter
     try:
         yield pathlib.Path(folder)
     finally:
-        # (processes that were just ended can still be writing there)
+        # (processes that have just been killed may still be writing there)
         for _ in range(20):
             shutil.rmtree(folder, ignore_errors=True)
             if not os.path.exists(folder):
@@ -86,19 +89,18 @@ def room(kind):
 
 
 def status_and_words(words, cwd, **environment):
-    """Runs a command to its end. Returns its status and both outputs."""
+    """Runs a command and waits for its end. Returns its exit status and both outputs."""
     how = {"stdin": subprocess.DEVNULL, "stdout": subprocess.PIPE, "stderr": subprocess.STDOUT, "errors": "replace"}
     made = subprocess.run([*guarded(), *map(str, words)], cwd=cwd, env={**os.environ, **environment}, **how)
     return made.returncode, made.stdout
 
 
 class Failed(Exception):
-    """Raised if a command ended with another status than 0: the command, the status, and the end of the
-    output."""
+    """Raised if a command exits with a status other than 0. Has the command, the status, and the end of the output."""
 
 
 def output_of(*words, cwd=None):
-    """Runs a command to its end. Returns both outputs, and raises Failed if the status is not 0."""
+    """Runs a command and waits for its end. Returns both outputs, and raises Failed if the status is not 0."""
     status, said = status_and_words(words, cwd)
     if status:
         raise Failed(f"{words[0]} ended with status {status}\n{said[-3000:].rstrip()}")

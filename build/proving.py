@@ -1,4 +1,4 @@
-"""Proves crates with `rt ci`, in a copy of the repository, and copies the proved programs here."""
+"""Proves crates with `rt ci` in a copy of the repository, and copies the proved programs back."""
 
 import contextlib
 import os
@@ -17,21 +17,22 @@ import version_stamp
 
 SECONDS_BETWEEN = 60  # between two lines about the crates in progress
 MINUTES_OF_A_CRATE = 2  # on one processor, on average
-# Patterns for the output of rt: a crate is done, and something is not proved
+# Patterns for the output of rt: a crate is done, and something is not proved.
 IS_DONE = re.compile(r"rt: (\w+) (?:proved|is kept: .*)")
 IS_ERROR = re.compile(r"(^|: )error[:[]|it is not proved that|^rt: \w+ NOT PROVED|^rt: .*FAILED")
 
 
 def prove(room, names, tell, is_whole=False):
-    """Proves these crates in the folder `room` and returns the status of rt ci. `tell` receives each line of
-    output, with the folder of this repository in place of the copy's. The libraries remain in `room`. With
-    `is_whole` the copy also has the lists of examples/lists."""
+    """Proves these crates in the folder `room` and returns the exit status of rt ci. Each line of output is passed to
+    `tell`, with the copy's folder replaced by that of this repository. The libraries remain in `room`. If `is_whole`,
+    the copy also has the lists of examples/lists.
+    """
     toolchain.folder()
     crates_txt.lay_out(room, names, is_whole)
     if is_whole:
         lists.add_exercises(room)
     how = {"stdin": subprocess.DEVNULL, "stdout": subprocess.PIPE, "stderr": subprocess.STDOUT, "text": True, "errors": "replace"}
-    # (rt leaves its own temporary files if it is ended)
+    # (rt leaves its own temporary files behind if it is killed)
     with processes.room("rt-ci") as temporary:
         environment = {**os.environ, "TMPDIR": str(temporary)}
         with subprocess.Popen([*processes.guarded(), "rt", "ci"], cwd=room, env=environment, **how) as running:
@@ -41,7 +42,7 @@ def prove(room, names, tell, is_whole=False):
 
 
 def crates_in_work(room):
-    """Returns the crates for which processes in a folder are proving something now."""
+    """Returns the crates that processes in a folder are currently proving."""
     found = set()
     for process in pathlib.Path("/proc").glob("[0-9]*"):
         with contextlib.suppress(OSError):
@@ -57,7 +58,7 @@ def minutes_since(began):
 
 @contextlib.contextmanager
 def telling_each_minute(room, tell, began):
-    """Prints the crates in progress once a minute, until the block ends."""
+    """Prints the crates in progress once a minute until the block ends."""
     ended = threading.Event()
 
     def tell_crates():
@@ -75,8 +76,9 @@ def telling_each_minute(room, tell, began):
 
 
 def prove_below(room, names, tell):
-    """Proves these crates and those below them in the folder `room`. Prints each crate that is done, and once
-    a minute those in progress. Raises NotBuilt if a crate is not proved."""
+    """Proves these crates and those below them in the folder `room`. Prints each crate that is done and, once a minute,
+    those in progress. Raises NotBuilt if a crate is not proved.
+    """
     names, lines, done, began = crates_txt.below(names), [], [], time.monotonic()
     processors = len(os.sched_getaffinity(0))
 
@@ -87,7 +89,7 @@ def prove_below(room, names, tell):
             how = "proved earlier" if "is kept" in line else "proved"
             tell(f"{minutes_since(began)}: {found[1]} {how}, {len(done)} of {len(names)}")
 
-    tell(f"proving {len(names)} crates by rt ci, about {max(1, round(MINUTES_OF_A_CRATE * len(names) / processors))} minutes if no other work needs the "
+    tell(f"proving {len(names)} crates with rt ci, about {max(1, round(MINUTES_OF_A_CRATE * len(names) / processors))} minutes if no other work needs the "
          f"{processors} processors; Ctrl-C ends it and keeps what is proved")
     with telling_each_minute(room, tell, began):
         status = prove(room, names, tell_done)
@@ -97,12 +99,11 @@ def prove_below(room, names, tell):
 
 
 def take_program(name, room, began):
-    """Copies a proved program here and stamps it with its commit. Its time is that of the sources it was
-    built from."""
+    """Copies a proved program here and stamps it with its commit. The program gets the time at which its build began."""
     made, program = room / "crates" / name / "out" / name, crates_txt.TOP / "crates" / name / "out" / name
     program.parent.mkdir(exist_ok=True)
     shutil.copy2(made, f"{program}.new")
     version_stamp.stamp(f"{program}.new", version_stamp.PROVED)
-    # (sources that were edited meanwhile are younger)
+    # (so that sources edited in the meantime are younger)
     os.utime(f"{program}.new", (began, began))
     os.replace(f"{program}.new", program)

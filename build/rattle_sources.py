@@ -1,6 +1,7 @@
-"""Parses Rattle sources: the functions of a file with their contracts, and the blocks that contain them. The
-sources must be formatted by rt fmt: an item ends in the first line of the same indentation that is a
-bracket or ends with one."""
+"""Parses Rattle sources: the functions of a file with their contracts, and the blocks that contain them. The sources must
+have been formatted by rt fmt: an item ends at the first line with the same indentation that is a bracket or ends with
+one.
+"""
 
 import re
 from dataclasses import dataclass
@@ -14,7 +15,7 @@ END_OF_SIGNATURE = re.compile(r"\n\s*(?:requires|ensures|//)|\s*\{|;(?![^\[\]\n]
 
 
 def braced(text, start):
-    """Returns the end of the first pair of braces after a place."""
+    """Returns the end of the first pair of braces after a position."""
     depth = 0
     for it in re.compile("[{}]").finditer(text, start):
         depth += 1 if it[0] == "{" else -1
@@ -25,7 +26,7 @@ def braced(text, start):
 
 @dataclass(frozen=True)
 class Block:
-    """An `impl` or a trait: which of the two, its head, and its first and last line, from 1 on."""
+    """An `impl` or a trait: which of the two it is, its head, and its first and last line, counted from 1."""
 
     kind: str
     head: str
@@ -46,8 +47,9 @@ class Block:
 
 @dataclass(frozen=True)
 class Function:
-    """A function: the block that contains it or None, and its lines, from 1 on. `top` is the first line of
-    its comment and attributes, `first` and `last` are those of the function itself."""
+    """A function: the block that contains it (or None), and its lines, counted from 1. `top` is the first line of its
+    comments and attributes; `first` and `last` are those of the function itself.
+    """
 
     block: Block
     name: str
@@ -81,7 +83,7 @@ class Source:
         return Function(block, head[4], head[2] == "pub ", self.top_of(first, head[1]), first, self.last_of(first, head[1], contract), contract)
 
     def contract_at(self, first):
-        """Returns the signature of the function that begins in a line, with its clauses."""
+        """Returns the signature of the function that begins at a line, with its clauses."""
         text = "\n".join(self.lines[first - 1 :])
         place = END_OF_SIGNATURE.search(text, text.index(")")).start()
         while CLAUSES.match(text, place):
@@ -89,8 +91,7 @@ class Source:
         return text[:place]
 
     def last_of(self, first, depth, contract):
-        """Returns the last line of the function that begins in a line: that of its contract, if it has no
-        body."""
+        """Returns the last line of the function that begins at a line. If it has no body, this is the end of its contract."""
         behind = first + contract.count("\n")
         if "\n".join(self.lines[first - 1 : behind]).removeprefix(contract).startswith(";"):
             return behind
@@ -98,7 +99,7 @@ class Source:
         return next((at for at, text in enumerate(self.lines[first - 1 :], first) if ends.match(text)), first)
 
     def top_of(self, first, depth):
-        """Returns the first line of the comments and attributes above the function that begins in a line."""
+        """Returns the first line of the comments and attributes above the function that begins at a line."""
         top = first
         while top > 1 and self.lines[top - 2].strip() and self.lines[top - 2] != depth + "}" and self.lines[top - 2].startswith(depth):
             top -= 1
@@ -106,6 +107,6 @@ class Source:
 
     @property
     def exports(self):
-        """Returns the functions for C, each with the types of its parameters."""
+        """Returns the functions exported to C, each with its parameter types."""
         found = re.findall(r'extern "C" fn (\w+)\(([^)]*)\)', self.text)
         return {name: re.findall(r": ([^,\n]+)", parameters) for name, parameters in found}

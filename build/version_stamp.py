@@ -1,6 +1,6 @@
-"""What a program or a library of this repository states about itself, in four lines for scripts: its version;
-the kit and the logic; the commit, 0 if it was not built from a commit; and whether it is proved
-(`PROOFS`)."""
+"""What a program or a library of this repository states about itself, in four lines for scripts: its version; the kit and
+the logic; the commit, 0 if it was not built from a commit; and whether it is proved (`PROOFS`).
+"""
 
 import pathlib
 import re
@@ -8,10 +8,10 @@ import re
 import gate_verdict
 
 TOP = pathlib.Path(__file__).resolve().parent.parent
-SOURCE = TOP / "crates/lset_command/src/command_line.rt"  # the only place of the version
+SOURCE = TOP / "crates/lset_command/src/command_line.rt"  # the only place that has the version
 IN_SOURCE = re.compile(r'^pub const VERSION: &str = "([^"\\]+)\\n([^"\\]+)";$', re.M)
 NO_COMMIT = "0" * 40
-PROVED, NOT_PROVED, UNKNOWN = PROOFS = "checked", "missing", "unknown"  # of equal length, so that each fits the reserved place
+PROVED, NOT_PROVED, UNKNOWN = PROOFS = "checked", "missing", "unknown"  # of equal length, so that each fits in the reserved place
 PLACE = "commit {}\nproof {}\n"
 
 
@@ -41,8 +41,9 @@ def told(proof):
 
 
 def stamp(file, proof):
-    """Writes the last two lines into a program or its object, at the place that crates/listset/src/main.rt
-    reserves for them. Returns the number of such places."""
+    """Writes the last two lines into a program or its object file, at the place that crates/listset/src/main.rt reserves
+    for them. Returns how many such places were found.
+    """
     file, place = pathlib.Path(file), PLACE.format(NO_COMMIT, UNKNOWN).encode()
     content = file.read_bytes()
     file.write_bytes(content.replace(place, built(proof).encode()))

@@ -1,5 +1,5 @@
-// listset.hpp: sorted-list sets that threads share, and the judge of their calls, for C++17, over listset.h. listset.h documents each
-// function of the judge, and the duties of the caller.
+// listset.hpp: sorted-list sets that threads share, and the judge of their calls, for C++17, as a wrapper of listset.h.
+// listset.h documents each function of the judge and the duties of the caller.
 //
 //     listset::said verdict = listset::judge_text(recording);
 //     if (!verdict.is_ok()) std::cerr << verdict.text;
@@ -32,7 +32,7 @@ namespace listset {
 /// Returns the four lines of `listset_version` about this library.
 inline std::string_view version() { return listset_version(); }
 
-/// What the program `listset` prints, and its exit status.
+/// The text that the program `listset` would print, and its exit status.
 struct said {
   std::string text;
   unsigned status;
@@ -40,7 +40,8 @@ struct said {
   bool is_ok() const { return status == LISTSET_OK; }
 };
 
-/// Calls `call(room, size, &status)`, again with a larger room if the first was too short. Throws std::bad_alloc if an allocation fails.
+/// Calls `call(room, size, &status)`, and repeats the call with a larger buffer if the first one was too short. Throws
+/// std::bad_alloc if an allocation fails.
 template <typename Call> said said_by(Call call) {
   said made{std::string(4096, '\0'), LISTSET_OK};
   for (;;) {
@@ -53,44 +54,48 @@ template <typename Call> said said_by(Call call) {
   }
 }
 
-/// Returns the text, with a pointer that is not null if the text is empty.
+/// Returns the text with a pointer that is not null even if the text is empty.
 inline std::string_view placed(std::string_view text) { return text.data() == nullptr ? std::string_view("") : text; }
 
-/// Calls a function of the judge on a text.
+/// Calls a function of the judge with a text.
 inline said of_text(listset_function *function, std::string_view given) {
   std::string_view text = placed(given);
   return said_by([&](char *room, size_t size, uint8_t *status) { return function(text.data(), text.size(), room, size, status); });
 }
 
-/// Runs a schedule. Returns its report.
+/// Runs a schedule and returns its report.
 inline said replay(std::string_view schedule) { return of_text(listset_replay, schedule); }
-/// Judges a recording. Returns `ok N calls` if some order explains its calls, otherwise calls that show that none does.
+/// Judges a recording. Returns `ok N calls` if some order explains its calls, otherwise calls that show that no order
+/// does.
 inline said judge_text(std::string_view recording) { return of_text(listset_judge, recording); }
-/// Returns a diagnosis of a recording that `judge_text` refuses, with LISTSET_WRONG_TEXT: calls that show the error, which operation is
-/// wrong and how often, and a likely cause. Returns an empty text if some order explains the recording or the text is no recording.
+/// Returns a diagnosis of a recording that `judge_text` refuses, with LISTSET_WRONG_TEXT: calls that show the error,
+/// which operation is wrong and how often, and a likely cause. Returns an empty text if some order explains the
+/// recording or the text is not a recording.
 inline said why(std::string_view recording) { return of_text(listset_why, recording); }
-/// Returns `ok` if the order of a report explains its calls, otherwise the first error.
+/// Returns `ok` if the order in a report explains its calls, otherwise the first fault of the order.
 inline said check(std::string_view report) { return of_text(listset_check, report); }
-/// Returns the schedule of a draft.
+/// Expands a draft into a schedule.
 inline said draft(std::string_view draft) { return of_text(listset_draft, draft); }
 /// Returns the schedule of the example with this name.
 inline said example(std::string_view name) { return of_text(listset_example, name); }
-/// Returns the report of the example with this name, of a list without the check that the example shows.
+/// Returns the broken report of the example with this name: it is from a list without the check that the example is
+/// about.
 inline said broken_example(std::string_view name) { return of_text(listset_broken_example, name); }
-/// Returns the names of the examples, each with its list and a line about it.
+/// Returns the names of all examples, each with its list and a description.
 inline said examples() { return said_by(listset_examples); }
-/// Returns a line about each error, and a sentence about each cause.
+/// Returns a line about each error message, and a sentence about each cause.
 inline said faults() { return said_by(listset_faults); }
 
-/// Returns the trace of a schedule; `with_chains`, with the chain after each event that changed the chain.
+/// Returns the trace of a schedule. If `with_chains`, includes the chain after each event that changed it.
 inline said trace(std::string_view schedule, bool with_chains = false) {
   return of_text(with_chains ? listset_trace_with_chains : listset_trace, schedule);
 }
 
-/// The part of a run to draw: the first and the last moment, and the number of columns. 0 stands for the run's own.
+/// The part of a run to draw: the first and the last moment, and the number of columns. For each of them, 0 selects the
+/// default.
 using window = listset_window;
 
-/// Returns the picture of a schedule or a report, as text or as an SVG.
+/// Draws a schedule or a report, as text or as an SVG.
 inline said show(std::string_view given, const window &asked = {}, bool as_svg = false) {
   std::string_view text = placed(given);
   return said_by([&](char *room, size_t size, uint8_t *status) {
@@ -107,11 +112,12 @@ inline said gen(const std::string &kind, uint32_t threads, uint32_t quota, uint3
 /// The five lists.
 enum class list : uint8_t { coarse, fine, optimistic, lazy, lock_free };
 
-/// The reply of `add`. `is_full`: the key is absent, and the seat has used its quota. A reply is no condition: compare it.
+/// The reply of `add`. `is_full` means that the key is absent but the seat has used up its quota. A reply cannot be
+/// used as a condition; compare it.
 enum class [[nodiscard]] added : uint8_t { is_false, is_true, is_full };
 
-/// The exception of a refused call; `code` says why. LISTSET_NONE_THERE: the seat was moved away, dropped, gathered or closed, or another
-/// thread is in a call from it.
+/// Thrown if a call is refused; `code` says why. LISTSET_NONE_THERE means that the seat was moved from, dropped,
+/// gathered or closed, or that another thread is making a call from it.
 struct fault : std::runtime_error {
   listset_fault code;
 
@@ -126,7 +132,8 @@ inline std::vector<uint32_t> keys_of(listset_seat &closed) {
   return keys;
 }
 
-/// A receipt of all that a seat had seen when it gave the receipt, or nothing. It can be moved, not copied, and may go to any thread.
+/// A receipt of everything that a seat had seen when it issued the receipt, or nothing. It can be moved but not copied,
+/// and can be passed to any thread.
 class receipt {
 public:
   receipt() = default;
@@ -142,24 +149,25 @@ private:
   friend class seat;
 };
 
-/// Returns the maximum number of steps of `seat::contains_now` in the runs of a list that was opened with `seats` seats, this quota and
-/// `opening` keys; 0 if no set opens with these.
+/// Returns the maximum number of steps that a `seat::contains_now` makes in any run of a list opened with `seats`
+/// seats, this quota and `opening` keys. Returns 0 if no set can be opened with these.
 inline uint64_t most_reads(uint32_t seats, uint32_t quota, uint32_t opening) { return listset_most_reads(seats, quota, opening); }
 
-/// A thread's seat in a set, or nothing. It can be moved, not copied, and one thread at a time may use it. A call that begins while
-/// another thread is in a call from the seat throws `fault`. Seats are aligned to cache lines, since a call writes to its seat.
+/// A thread's seat in a set, or nothing. It can be moved but not copied, and only one thread at a time may use it. A
+/// call that begins while another thread is making a call from the seat throws `fault`. Seats are aligned to cache
+/// lines, since a call writes to its seat.
 class alignas(128) seat {
 public:
   seat() = default;
   seat(seat &&other) noexcept : raw(std::exchange(other.raw, listset_seat LISTSET_NONE)) {}
   seat &operator=(seat &&other) noexcept {
-    seat moved(std::move(other)); // Its destructor drops what this seat contained.
+    seat moved(std::move(other)); // The destructor drops what this seat contained.
     std::swap(raw, moved.raw);
     return *this;
   }
   ~seat() { listset_drop(&raw); }
 
-  /// Splits a seat off this one, for another thread.
+  /// Splits a seat off this one for another thread.
   seat split() {
     use held(*this);
     seat made;
@@ -167,8 +175,8 @@ public:
     return made;
   }
 
-  /// Adds a key. Returns `is_true` if the key was absent, `is_false` if it was present, `is_full` if it is absent and the seat has used its
-  /// quota.
+  /// Adds a key. Returns `is_true` if the key was absent, `is_false` if it was present, and `is_full` if it is absent
+  /// but the seat has used up its quota.
   added add(uint32_t key) { return static_cast<added>(by(listset_add, key)); }
 
   /// Removes a key. Returns whether the key was present.
@@ -177,22 +185,23 @@ public:
   /// Returns whether a key is in the set.
   bool contains(uint32_t key) { return by(listset_contains, key) == LISTSET_TRUE; }
 
-  /// Makes a `contains` of a lazy or a lock-free list. Such a call waits for no lock, and has at most `most_reads` steps in every run of the
-  /// list, whatever the other threads do. Throws, with LISTSET_READS_BLOCK, on the other lists.
+  /// Returns whether a key is in the set, without waiting for a lock. Works on lazy and lock-free lists, where the call
+  /// makes at most `most_reads` steps in every run, whatever other threads do. On the other lists, throws with
+  /// LISTSET_READS_BLOCK.
   bool contains_now(uint32_t key) {
     listset_answer answer = by(listset_contains_now, key);
     if (answer == LISTSET_MAY_BLOCK) throw fault(LISTSET_READS_BLOCK);
     return answer == LISTSET_TRUE;
   }
 
-  /// Returns the smallest key of the set that is at least `key`.
+  /// Returns the smallest key in the set that is at least `key`.
   std::optional<uint32_t> ceiling(uint32_t key) {
     use held(*this);
     uint32_t at = 0;
     return replied(listset_ceiling(&raw, key, &at)) == LISTSET_AT ? std::optional<uint32_t>(at) : std::nullopt;
   }
 
-  /// Returns a receipt of all that this seat has seen, for another thread's `after`.
+  /// Returns a receipt of everything that this seat has seen, to pass to `after` in another thread.
   listset::receipt receipt() {
     use held(*this);
     listset::receipt made;
@@ -200,7 +209,8 @@ public:
     return made;
   }
 
-  /// Takes a receipt: the next calls of this seat come after all calls that the receipt stands for. If it throws, both are unchanged.
+  /// Accepts a receipt: all later calls of this seat come after every call that the receipt stands for. If it throws,
+  /// both are unchanged.
   void after(listset::receipt &&given) {
     use held(*this);
     tell(listset_after(&raw, &given.raw));
@@ -213,7 +223,8 @@ public:
     tell(listset_gather(&raw, &from.raw));
   }
 
-  /// Closes the set, all of whose seats this one must contain, and returns its final keys. If it throws, nothing is lost: call it again.
+  /// Closes the set and returns its final keys. This seat must contain all others. If it throws, nothing is lost, and
+  /// the call can be repeated.
   std::vector<uint32_t> close() {
     use held(*this);
     const listset_fault code = listset_close(&raw);
@@ -228,7 +239,7 @@ private:
   listset_seat raw = LISTSET_NONE;
   std::atomic<bool> is_used{false};
 
-  // The use of a seat by one call. Its constructor throws if another thread uses the seat.
+  // Marks a seat as used by one call. The constructor throws if another thread is using the seat.
   class use {
     seat &of;
 
@@ -259,7 +270,7 @@ private:
   friend class renewed_set;
 };
 
-/// Returns a number that no other set of this program has.
+/// Returns a number that no other set in this program has.
 inline uint64_t next_number() {
   static std::atomic<uint64_t> sets{0};
   return sets++;
@@ -274,8 +285,9 @@ inline seat open(list kind, uint32_t seats, uint32_t quota, const std::vector<ui
   return made;
 }
 
-/// Closes the set whose seats are all in `seats`, and opens a set of the list `kind` with its keys. `seats` then has the `count` seats of
-/// that set, each with this quota. If it throws, nothing is lost: `seats` has all seats or the closed set, and the call can be made again.
+/// Closes the set whose seats are all in `seats`, and opens a set of the list `kind` with its keys. Afterwards, `seats`
+/// contains the `count` seats of the new set, each with this quota. If it throws, nothing is lost: `seats` contains all
+/// seats or the closed set, and the call can be repeated.
 inline void renew(std::vector<seat> &seats, list kind, uint32_t count, uint32_t quota) {
   if (count > 64) throw fault(LISTSET_BAD_SEATS);
   seats.resize(std::max<size_t>(seats.size(), count));
@@ -287,16 +299,18 @@ inline void renew(std::vector<seat> &seats, list kind, uint32_t count, uint32_t 
   seats.resize(count);
 }
 
-/// A set that renews itself: when a seat has used its quota, the set is closed, and another one opened with its keys.
+/// A set that renews itself: when a seat has used up its quota, the set is closed and another one is opened with its
+/// keys.
 ///
-/// A thread takes a seat of its own by `split`; the destructor of the seat returns it. During a renewal calls wait, and the renewal waits
-/// for pending calls, but for no thread that is between two calls. A call waits at most `patience` for another one. Then it throws, with
-/// LISTSET_TIMED_OUT, and was not made. docs/FOREIGN.md says what is promised of the order of calls.
+/// A thread gets its own seat from `split`; the seat's destructor returns it. Calls wait during a renewal. The renewal
+/// waits for pending calls, but not for threads that are between two calls. A call waits for another one for at most
+/// `patience`, and then throws with LISTSET_TIMED_OUT without having been made. docs/FOREIGN.md says what is promised
+/// about the order of calls.
 class renewed_set {
   struct alignas(128) place {
     std::mutex lock;
     listset_seat raw = LISTSET_NONE;
-    uint32_t adds = 0, removes = 0; // The calls that changed the set since it was last opened.
+    uint32_t adds = 0, removes = 0; // How many calls of each kind changed the set since it was last opened.
     std::atomic<bool> is_taken{false};
   };
   enum class stage { open, to_be_renewed, closed };
@@ -306,8 +320,8 @@ class renewed_set {
   const list kind;
   const uint32_t quota;
   const std::chrono::nanoseconds patience;
-  std::mutex renewing; // Is locked before all places are.
-  std::atomic<bool> is_wanted{false}; // A thread has waited long for the places: the others' next calls wait for it.
+  std::mutex renewing; // Locked before all places are.
+  std::atomic<bool> is_wanted{false}; // A thread has waited long for the places, so the next calls of the others wait for it.
   std::deque<place> places;
   // These change only while all places are locked.
   stage now = stage::open;
@@ -316,9 +330,12 @@ class renewed_set {
   static constexpr size_t MOST_OPENING = 1 << 20;
   static constexpr std::chrono::milliseconds LONG{5};
 
-  // Locks `lock`. The thread with the lock may be in a `ceiling` of a lock-free list, which can retry until another call unlinks a marked
-  // node. An `add` from `helper` unlinks it, and changes no key if the seat of `helper` has used its quota.
-  // A thread with a helper locks all places. After 5 ms the others' next calls wait for it, unless a call could be needed as a helper.
+  // Locks `lock`. The thread that holds it can be in a `ceiling` of a lock-free list, which may retry until another
+  // call unlinks a marked node. An `add` from `helper` unlinks the node; it changes no key if the seat of `helper` has
+  // used up its quota.
+  //
+  // A thread with a helper locks all places. After 5 ms, the next calls of the other threads wait for it, unless such a
+  // call could be needed as a helper.
   held taken(std::mutex &lock, place *helper = nullptr) {
     held it(lock, std::try_to_lock);
     for (const clock::time_point begun = clock::now(); !it; it.try_lock()) {
@@ -332,7 +349,7 @@ class renewed_set {
     return it;
   }
 
-  // All places, locked.
+  // Holds the locks of all places.
   class all_taken {
     std::atomic<bool> &is_wanted;
     held one;
@@ -360,7 +377,7 @@ class renewed_set {
     return keys;
   }
 
-  // Makes a call of all seats; their places are locked.
+  // Makes a call with all seats, whose places must be locked.
   template <typename Call> void by_all(Call call) {
     std::array<listset_seat, 64> raws;
     now = stage::to_be_renewed;
@@ -384,7 +401,7 @@ class renewed_set {
     now = stage::open;
   }
 
-  // Makes a call from a place. If an allocation of the last renewal failed, renews the set first.
+  // Makes a call from a place. If an allocation failed during the last renewal, renews the set first.
   template <typename Call> auto by(place &mine, Call call) {
     for (;;) {
       if (is_wanted) taken(renewing).unlock();
@@ -400,11 +417,11 @@ class renewed_set {
     return answer;
   }
 
-  // Renews the set and adds a key from `mine`, whose seat has used its quota.
+  // Renews the set and adds a key from `mine`, whose seat has used up its quota.
   added add_renewed(place &mine, uint32_t key) {
     all_taken all(*this, mine);
     if (now == stage::open) {
-      const added answer = add_from(mine, key); // Another thread can have renewed the set in the meantime.
+      const added answer = add_from(mine, key); // Another thread may have renewed the set in the meantime.
       if (answer != added::is_full || keys_now() > MOST_OPENING || quota == 0) return answer;
     }
     renew_taken();
@@ -412,7 +429,7 @@ class renewed_set {
   }
 
 public:
-  /// A thread's seat of the set. One thread at a time may use it. The set must outlive it.
+  /// A thread's seat in the set. Only one thread at a time may use it. The set must outlive it.
   class own_seat {
     renewed_set *set;
     place *mine;
@@ -434,13 +451,13 @@ public:
       if (mine != nullptr) mine->is_taken = false;
     }
 
-    /// Adds a key, and renews the set if the seat has used its quota. Returns `is_full` only if the quota is 0, or if the set has more than
-    /// 1,048,576 keys, with which no set opens.
+    /// Adds a key, and renews the set if the seat has used up its quota. Returns `is_full` only if the quota is 0, or
+    /// if the set has more than 1,048,576 keys, with which no set can be opened.
     added add(uint32_t key) {
       const auto call = [&](place &it) { return add_from(it, key); };
       added answer = by(call);
       if (answer == added::is_full) {
-        set->taken(set->renewing).unlock(); // Another thread can be renewing the set.
+        set->taken(set->renewing).unlock(); // Another thread may be renewing the set.
         answer = by(call);
       }
       return answer == added::is_full ? set->add_renewed(*mine, key) : answer;
@@ -460,7 +477,7 @@ public:
       return by([&](place &it) { return seat::replied(listset_contains(&it.raw, key)) == LISTSET_TRUE; });
     }
 
-    /// Returns the smallest key of the set that is at least `key`.
+    /// Returns the smallest key in the set that is at least `key`.
     std::optional<uint32_t> ceiling(uint32_t key) {
       return by([&](place &it) {
         uint32_t at = 0;
@@ -469,7 +486,8 @@ public:
     }
   };
 
-  /// Opens a set with 1 to 64 seats, each of which adds `quota` keys before it renews the set, and with keys in strictly increasing order.
+  /// Opens a set with 1 to 64 seats, each of which can add `quota` keys before the set is renewed, and with keys in
+  /// strictly increasing order.
   renewed_set(list kind, uint32_t seats, uint32_t quota, const std::vector<uint32_t> &keys = {},
               std::chrono::nanoseconds patience = std::chrono::nanoseconds::max())
       : kind(kind), quota(quota), patience(patience), opened_with(keys.size()) {
@@ -483,7 +501,7 @@ public:
     for (place &it : places) listset_drop(&it.raw);
   }
 
-  /// Takes a seat, for a thread. Throws, with LISTSET_NO_MORE, if all seats are taken.
+  /// Returns a seat for a thread. Throws with LISTSET_NO_MORE if all seats are in use.
   own_seat split() {
     for (place &it : places)
       if (!it.is_taken.exchange(true)) {
@@ -495,7 +513,8 @@ public:
     throw fault(LISTSET_NO_MORE);
   }
 
-  /// Renews the set and returns its keys at that moment. Throws, with LISTSET_BAD_KEYS, if they are more than 1,048,576.
+  /// Renews the set and returns the keys that it has at that moment. Throws with LISTSET_BAD_KEYS if there are more
+  /// than 1,048,576.
   std::vector<uint32_t> keys() {
     all_taken all(*this, places.front());
     if (keys_now() > MOST_OPENING) throw fault(LISTSET_BAD_KEYS);
@@ -504,7 +523,8 @@ public:
     return keys;
   }
 
-  /// Closes the set and returns its final keys. Throws, with LISTSET_SEATS_OUT, while a thread has a seat; the set is then unchanged.
+  /// Closes the set and returns its final keys. Throws with LISTSET_SEATS_OUT while a thread has a seat; the set is
+  /// unchanged then.
   std::vector<uint32_t> close() {
     all_taken all(*this, places.front());
     for (place &it : places)
@@ -516,8 +536,9 @@ public:
   }
 };
 
-/// A set with a pool of seats, which any number of threads may call: a call takes a seat that no other call uses, or waits for one. Two
-/// calls of one thread can use two seats, so not even a thread's own calls are promised to keep their order.
+/// A set with a pool of seats, which any number of threads may call. A call uses a seat that no other call is using, or
+/// waits for one. Two calls of one thread can use different seats, so not even the order of a thread's own calls is
+/// guaranteed.
 class shared {
   struct alignas(128) place {
     std::mutex lock;
@@ -531,7 +552,7 @@ class shared {
     return places.front();
   }
 
-  // Makes a call from a free seat. A thread looks for one from its own place on.
+  // Makes a call from a free seat. Each thread starts its search at its own place.
   template <typename Call> auto by(Call call) {
     first();
     static std::atomic<size_t> threads{0};
@@ -546,13 +567,13 @@ class shared {
   }
 
 public:
-  /// Opens a set with keys in strictly increasing order. Up to `seats` calls, 1 to 64, run at once.
+  /// Opens a set with keys in strictly increasing order. Up to `seats` calls (1 to 64) can run at the same time.
   shared(list kind, uint32_t seats, uint32_t quota, const std::vector<uint32_t> &keys = {}) {
     places.emplace_back().mine = open(kind, seats, quota, keys);
     while (places.size() < seats) places.emplace_back().mine = places.front().mine.split();
   }
 
-  /// Adds a key. Returns `is_full` if the key is absent and each seat has used its quota.
+  /// Adds a key. Returns `is_full` if the key is absent but every seat has used up its quota.
   added add(uint32_t key) {
     added answer = by([&](seat &it) { return it.add(key); });
     for (auto at = places.begin(); answer == added::is_full && at != places.end(); ++at) {
@@ -568,10 +589,11 @@ public:
   /// Returns whether a key is in the set.
   bool contains(uint32_t key) { return by([&](seat &it) { return it.contains(key); }); }
 
-  /// Returns the smallest key of the set that is at least `key`.
+  /// Returns the smallest key in the set that is at least `key`.
   std::optional<uint32_t> ceiling(uint32_t key) { return by([&](seat &it) { return it.ceiling(key); }); }
 
-  /// Closes the set, which no call may use any more, and returns its final keys. If an allocation fails, it throws: call it again.
+  /// Closes the set and returns its final keys. No call may use the set any more. Throws if an allocation fails; the
+  /// call can then be repeated.
   std::vector<uint32_t> close() {
     seat &all = first().mine;
     for (; places.size() > 1; places.pop_back()) all.gather(std::move(places.back().mine));

@@ -1,4 +1,4 @@
-"""Sorted-list sets that threads share, and the judge of their calls, by liblistset.so.
+"""Sorted-list sets that threads share, and the judge of their calls, implemented by liblistset.so.
 
 The judge reads a text and returns a text:
 
@@ -8,10 +8,11 @@ The judge reads a text and returns a text:
     report = listset.replay(schedule)
     print(listset.show(report, width=60))
 
-A text is str or bytes. If the exit status of the program `listset` would not be 0, a function raises `Wrong` with the status and with what
-the program prints. Any number of threads may call at once, and run in parallel: a call releases Python's global lock.
+A text is str or bytes. If the program `listset` would not exit with status 0, a function raises `Wrong` with the status
+and the text that the program would print. Any number of threads may call at the same time, and run in parallel: a call
+releases Python's global interpreter lock.
 
-The sets are for tests and teaching. Each thread calls from a seat of its own, and one thread at a time uses a seat:
+The sets are for tests and teaching. Each thread calls from its own seat, and only one thread at a time uses a seat:
 
     mine = listset.open("lazy", seats=2, quota=1000)
     other = mine.split()
@@ -21,10 +22,11 @@ The sets are for tests and teaching. Each thread calls from a seat of its own, a
 
 A `Shared` set can be called by any thread. A `RenewedSet` has seats that do not run out of quota.
 
-A key, a number of seats and a quota are integers from 0 to 4294967295. An integer out of range raises ValueError, anything else TypeError;
-the set is then unchanged.
+Keys, numbers of seats and quotas are integers from 0 to 4294967295. An integer out of range raises ValueError, and
+anything else raises TypeError; the set is unchanged then.
 
-The library is loaded from the folder LISTSET_LIB if that is set, otherwise from where foreign/build installs it beside this file.
+The library is loaded from the folder LISTSET_LIB if that is set, otherwise from where foreign/build installs it beside
+this file.
 """
 
 import builtins
@@ -49,9 +51,10 @@ FIRST_ROOM = 1 << 16  # bytes
 
 
 class Wrong(Exception):
-    """The program's error. `status` is 1 for a wrong text, 2 for a wrong argument, 3 if memory ran out; `text` is what the program prints. If a
-    line of the text is wrong, `line` is its number, from 1, and `cause` names the cause, which `faults()` explains. Otherwise both are
-    None."""
+    """The program's error. `status` is 1 for a wrong text, 2 for a wrong argument, and 3 if memory ran out. `text` is what
+    the program would print. If a line of the text is wrong, `line` is its number, counted from 1, and `cause` is the
+    name of the cause, which `faults()` explains. Otherwise both are None.
+    """
 
     def __init__(self, text, status):
         super().__init__(text.rstrip("\n"))
@@ -74,15 +77,16 @@ _LIBRARY = _library()
 
 
 def version():
-    """Returns four lines about the library: its version; the kit and the logic; the commit of its sources; and "proof checked" if it is
-    proved, otherwise "proof missing"."""
+    """Returns four lines about the library: its version; the kit and the logic; the commit of its sources; and "proof
+    checked" if it is proved, otherwise "proof missing".
+    """
     function = _LIBRARY.listset_version
     function.restype = ctypes.c_char_p
     return function().decode()
 
 
 def said(name, *texts):
-    """Calls the function listset_NAME on these bytes. Returns its bytes and its exit status."""
+    """Calls the function listset_NAME with these bytes. Returns the bytes that it writes, and the exit status."""
     function, status, size = getattr(_LIBRARY, f"listset_{name}"), ctypes.c_uint8(), FIRST_ROOM
     function.restype = ctypes.c_size_t
     given = [it for text in texts for it in (ctypes.c_char_p(text), ctypes.c_size_t(len(text)))]
@@ -115,17 +119,21 @@ def _words(values):
 
 
 def replay(schedule):
-    """Runs a schedule. Returns its report."""
+    """Runs a schedule and returns its report."""
     return _asked("replay", schedule)
 
 
 def judge_text(recording):
-    """Judges a recording. Returns `ok N calls` if some order explains its calls. Otherwise raises `Wrong` with calls that show that none does."""
+    """Judges a recording. Returns `ok N calls` if some order explains its calls. Otherwise raises `Wrong` with calls that
+    show that no order does.
+    """
     return _asked("judge", recording)
 
 
 def judge_file(path):
-    """Judges the recording in the file `path`, of any length. Returns what the program prints, and its exit status."""
+    """Judges the recording in the file `path`, which can have any length. Returns what the program would print, and its
+    exit status.
+    """
     room, status = ctypes.create_string_buffer(8192), ctypes.c_uint8()
     function = _LIBRARY.listset_judge_from
     function.restype = ctypes.c_size_t
@@ -135,8 +143,10 @@ def judge_file(path):
 
 
 def why(recording):
-    """Returns a diagnosis of a recording that `judge_text` refuses: calls that show the error, which operation is wrong and how often, and a
-    likely cause. Returns an empty text if some order explains the recording or the text is no recording."""
+    """Returns a diagnosis of a recording that `judge_text` refuses: calls that show the error, which operation is wrong
+    and how often, and a likely cause. Returns an empty text if some order explains the recording or the text is not a
+    recording.
+    """
     diagnosis, status = said("why", _bytes(recording))
     if status > 1:
         raise Wrong(diagnosis.decode(), status)
@@ -144,22 +154,24 @@ def why(recording):
 
 
 def check(report):
-    """Checks a report. Raises `Wrong` if its order does not explain its calls, or if the text is no report."""
+    """Checks a report. Raises `Wrong` if its order does not explain its calls, or if the text is not a report."""
     _asked("check", report)
 
 
 def trace(schedule, with_chains=False):
-    """Returns the trace of a schedule: what each step did. `with_chains` adds the chain after each event that changed the chain."""
+    """Returns the trace of a schedule, which says what each step did. `with_chains` adds the chain after each event that
+    changed it.
+    """
     return _asked("trace_with_chains" if with_chains else "trace", schedule)
 
 
 def draft(text):
-    """Returns the schedule of a draft."""
+    """Expands a draft into a schedule."""
     return _asked("draft", text)
 
 
 def show(text, as_svg=False, *, first=None, last=None, width=None):
-    """Returns the picture of a schedule or a report, as text or as an SVG, from the moment `first` to the moment `last`."""
+    """Draws a schedule or a report, as text or as an SVG, from the moment `first` to the moment `last`."""
     options = _words("" if it is None else f"={it}" for it in (first, last, width))
     return _asked("show_svg" if as_svg else "show", text, options)
 
@@ -170,17 +182,19 @@ def gen(kind, threads, quota, calls, keys, seed):
 
 
 def examples():
-    """Returns the names of the examples, each with its list and a line about it."""
+    """Returns the names of all examples, each with its list and a description."""
     return _asked("examples")
 
 
 def example(name, is_broken=False):
-    """Returns the schedule of the example `name`; or, if `is_broken`, the report of a list without the check that the example shows."""
+    """Returns the schedule of the example `name`. If `is_broken`, returns its broken report instead, which is from a list
+    without the check that the example is about.
+    """
     return _asked("broken_example" if is_broken else "example", name)
 
 
 def faults():
-    """Returns a line about each error, and a sentence about each cause."""
+    """Returns a line about each error message, and a sentence about each cause."""
     return _asked("faults")
 
 
@@ -193,7 +207,7 @@ _NUMBERS = itertools.count()
 
 
 class Fault(Exception):
-    """The error of a refused call. `code` is the number of the fault in listset.h."""
+    """Raised if a call is refused. `code` is the number of the fault in listset.h."""
 
     def __init__(self, code, text=None):
         super().__init__(text or _function("fault_text", ctypes.c_char_p)(ctypes.c_uint8(code)).decode())
@@ -201,21 +215,23 @@ class Fault(Exception):
 
 
 class Full(Fault):
-    """The error of an add that did not add the key: it is absent, and the seat has used its quota. After `renew`, seats have a new quota."""
+    """Raised by an add if the key is absent but the seat has used up its quota. `renew` returns seats with a new quota."""
 
     def __init__(self, key):
         super().__init__(FULL, f"{key} is not in the set, and the seat has used its quota of adds")
 
 
 class TimedOut(Fault, TimeoutError):
-    """The error of a call of a `RenewedSet` that was not made, because another thread was in a call for too long."""
+    """Raised by a `RenewedSet` if another thread was in a call for too long, so that this call was not made."""
 
     def __init__(self):
         super().__init__(TIMED_OUT)
 
 
 class Added(enum.Enum):
-    """The reply of `try_add`. FULL: the key is absent, and the seat has used its quota. A reply is no condition: compare it."""
+    """The reply of `try_add`. FULL means that the key is absent but the seat has used up its quota. A reply cannot be used
+    as a condition; compare it.
+    """
 
     FALSE, TRUE, FULL = 0, 1, 2
 
@@ -250,7 +266,7 @@ def _told(code):
 
 
 def _number(given, what="key"):
-    """Returns `given` as an integer that fits a uint32_t. (ctypes would cut any other to 32 bits.)"""
+    """Returns `given` as an integer that fits in a uint32_t. (ctypes would truncate larger ones to 32 bits.)"""
     try:
         number = operator.index(given)
     except TypeError:
@@ -281,21 +297,22 @@ def _closed_keys(closed):
 
 
 class Receipt:
-    """A receipt of all that a seat had seen when it gave the receipt. It may go to any thread."""
+    """A receipt of everything that a seat had seen when it issued the receipt. It can be passed to any thread."""
 
     def __init__(self):
         self.raw = _Raw()
 
     def drop(self):
-        """Drops the receipt, which is then empty."""
+        """Drops the receipt, which is empty afterwards."""
         _DROP(self.raw)
 
     __del__ = drop
 
 
 class Seat:
-    """A thread's seat in a set, or nothing after it was gathered or closed. One thread at a time may use it: a call that begins while another
-    thread is in a call from it raises `Fault`."""
+    """A thread's seat in a set, or nothing after it has been gathered or closed. Only one thread at a time may use it: a
+    call that begins while another thread is making a call from it raises `Fault`.
+    """
 
     def __init__(self):
         self.raw, self._use = _Raw(), threading.Lock()
@@ -322,22 +339,25 @@ class Seat:
         return reply
 
     def split(self):
-        """Splits a seat off this one, for another thread. From a seat that has gathered another, none can be split off."""
+        """Splits a seat off this one for another thread. No seat can be split off a seat that has gathered another one."""
         made = Seat()
         with self._used():
             _told(_SPLIT(self.raw, made.raw))
         return made
 
     def add(self, key):
-        """Adds a key. Returns True if the key was absent, False if it was present. Raises `Full` if it is absent and the seat has used its quota."""
+        """Adds a key. Returns True if the key was absent, False if it was present. Raises `Full` if the key is absent but
+        the seat has used up its quota.
+        """
         reply = self._reply(_ADD, key)
         if reply == FULL:
             raise Full(key)
         return bool(reply)
 
     def try_add(self, key):
-        """Adds a key. Returns `Added.TRUE` if the key was absent, `Added.FALSE` if it was present, `Added.FULL` if it is absent and the seat has
-        used its quota."""
+        """Adds a key. Returns `Added.TRUE` if the key was absent, `Added.FALSE` if it was present, and `Added.FULL` if it
+        is absent but the seat has used up its quota.
+        """
         return Added(self._reply(_ADD, key))
 
     def remove(self, key):
@@ -349,45 +369,49 @@ class Seat:
         self._reply(_REMOVE, key)
 
     def contains(self, key):
-        """Returns whether a key is in the set, as `key in seat` does."""
+        """Returns whether a key is in the set, like `key in seat`."""
         return bool(self._reply(_CONTAINS, key))
 
     __contains__ = contains
 
     def contains_now(self, key):
-        """Makes a `contains` of a lazy or a lock-free list. Such a call waits for no lock, and has at most `most_reads` steps in every run of the
-        list, whatever the other threads do. Raises `Fault` on the other lists."""
+        """Returns whether a key is in the set, without waiting for a lock. Works on lazy and lock-free lists, where the
+        call makes at most `most_reads` steps in every run, whatever other threads do. Raises `Fault` on the other
+        lists.
+        """
         reply = self._reply(_NOW, key)
         if reply == MAY_BLOCK:
             raise Fault(READS_BLOCK)
         return bool(reply)
 
     def ceiling(self, key):
-        """Returns the smallest key of the set that is at least `key`, or None."""
+        """Returns the smallest key in the set that is at least `key`, or None."""
         at = _U32()
         return at.value if self._reply(_CEILING, key, at) == AT else None
 
     def receipt(self):
-        """Returns a receipt of all that this seat has seen, for `after` in another thread."""
+        """Returns a receipt of everything that this seat has seen, to pass to `after` in another thread."""
         made = Receipt()
         with self._used():
             _told(_RECEIPT_OF(self.raw, made.raw))
         return made
 
     def after(self, receipt):
-        """Takes a receipt: the next calls of this seat come after all calls that the receipt stands for."""
+        """Accepts a receipt: all later calls of this seat come after every call that the receipt stands for."""
         with self._used():
             _told(_AFTER(self.raw, receipt.raw))
 
     def gather(self, other):
-        """Merges another seat of the set into this one. `other` is then empty."""
+        """Merges another seat of the set into this one. `other` is empty afterwards."""
         if other is self:
             raise Fault(NO_GATHER)
         with self._used(), other._used():
             _told(_GATHER(self.raw, other.raw))
 
     def close(self):
-        """Closes the set, all of whose seats this one must contain, and returns its final keys. If it raises, nothing is lost: call it again."""
+        """Closes the set and returns its final keys. This seat must contain all others. If it raises, nothing is lost, and
+        the call can be repeated.
+        """
         with self._used():
             code = _CLOSE(self.raw)
             keys = _closed_keys(self.raw)
@@ -397,15 +421,16 @@ class Seat:
         return keys
 
     def drop(self):
-        """Drops what the seat contains. A set cannot be closed after one of its seats was dropped."""
+        """Drops the contents of the seat. A set cannot be closed once one of its seats has been dropped."""
         _DROP(self.raw)
 
     __del__ = drop
 
 
 def most_reads(seats, quota, keys=0):
-    """Returns the maximum number of steps of `Seat.contains_now` in the runs of a list that was opened with `seats` seats, this quota and `keys`
-    keys; 0 if no set opens with these."""
+    """Returns the maximum number of steps that a `Seat.contains_now` makes in any run of a list opened with `seats` seats,
+    this quota and `keys` keys. Returns 0 if no set can be opened with these.
+    """
     return _MOST_READS(_number(seats, "number of seats"), _number(quota, "quota"), _number(keys, "number of keys"))
 
 
@@ -421,7 +446,7 @@ open = open_set  # listset.open. It is not in __all__: `from listset import *` k
 
 
 def _of_all(seats, call):
-    """Makes a call of all these seats, in an array."""
+    """Makes a call with an array of all these seats."""
     raws = (_Raw * max(len(seats), 1))(*(it.raw for it in seats))
     code = call(raws)
     for seat, raw in zip(seats, raws):
@@ -434,9 +459,11 @@ def _renew(seats, kind, quota):
 
 
 def renew(seats, kind, count, quota):
-    """Closes the set whose seats are all in `seats`, and opens a set of the list `kind` with its keys. Returns the `count` seats of that set,
-    each with this quota. During the call no thread may use a seat of `seats`. If it raises, nothing is lost: the given seats still are the
-    set, perhaps gathered; or the first one is closed, and its `close` returns the keys."""
+    """Closes the set whose seats are all in `seats`, and opens a set of the list `kind` with its keys. Returns the `count`
+    seats of the new set, each with this quota. During the call, no thread may use a seat in `seats`. If it raises,
+    nothing is lost: either the given seats still are the set (they may have been gathered), or the first one is closed,
+    and its `close` returns the keys.
+    """
     given, many, kind = list(seats), _number(count, "number of seats"), _list(kind)
     places = given + [Seat() for _ in range(len(given), min(many, 64))]
     with contextlib.ExitStack() as uses:
@@ -448,8 +475,10 @@ def renew(seats, kind, count, quota):
 
 
 class Shared:
-    """A set with a pool of seats, which any number of threads may call: a call takes a seat that no other call uses, or waits for one. Two calls
-    of one thread can use two seats, so not even a thread's own calls are promised to keep their order."""
+    """A set with a pool of seats, which any number of threads may call. A call uses a seat that no other call is using, or
+    waits for one. Two calls of one thread can use different seats, so not even the order of a thread's own calls is
+    guaranteed.
+    """
 
     def __init__(self, kind, seats, quota, keys=()):
         first = open_set(kind, seats, quota, keys)
@@ -471,8 +500,9 @@ class Shared:
             self._locks[place].release()
 
     def try_add(self, key):
-        """Adds a key. Returns `Added.TRUE` if the key was absent, `Added.FALSE` if it was present, `Added.FULL` if it is absent and each seat has
-        used its quota."""
+        """Adds a key. Returns `Added.TRUE` if the key was absent, `Added.FALSE` if it was present, and `Added.FULL` if it
+        is absent but every seat has used up its quota.
+        """
         added = self._by(lambda it: it.try_add(key))
         for seat, lock in zip(self._seats, self._locks):
             if added is Added.FULL:
@@ -481,7 +511,9 @@ class Shared:
         return added
 
     def add(self, key):
-        """Adds a key. Returns True if the key was absent, False if it was present. Raises `Full` if it is absent and each seat has used its quota."""
+        """Adds a key. Returns True if the key was absent, False if it was present. Raises `Full` if the key is absent but
+        every seat has used up its quota.
+        """
         added = self.try_add(key)
         if added is Added.FULL:
             raise Full(key)
@@ -496,17 +528,19 @@ class Shared:
         self.remove(key)
 
     def contains(self, key):
-        """Returns whether a key is in the set, as `key in shared` does."""
+        """Returns whether a key is in the set, like `key in shared`."""
         return self._by(lambda it: it.contains(key))
 
     __contains__ = contains
 
     def ceiling(self, key):
-        """Returns the smallest key of the set that is at least `key`, or None."""
+        """Returns the smallest key in the set that is at least `key`, or None."""
         return self._by(lambda it: it.ceiling(key))
 
     def close(self):
-        """Closes the set, which no call may use any more, and returns its final keys. If it raises, call it again."""
+        """Closes the set and returns its final keys. No call may use the set any more. If it raises, the call can be
+        repeated.
+        """
         if not self._seats:
             raise Fault(NO_SEAT)
         while len(self._seats) > 1:
@@ -528,11 +562,13 @@ class _Place:
 
 
 class RenewedSet:
-    """A set that renews itself: when a seat has used its quota, the set is closed, and another one opened with its keys.
+    """A set that renews itself: when a seat has used up its quota, the set is closed and another one is opened with its
+    keys.
 
-    A thread takes a seat of its own by `split`, and returns it by `drop` or at the end of a `with`. During a renewal calls wait, and the
-    renewal waits for pending calls, but for no thread that is between two calls. A call waits at most `patience` seconds for another one, or
-    for ever if that is None. Then it raises `TimedOut`, and was not made. docs/FOREIGN.md says what is promised of the order of calls.
+    A thread gets its own seat from `split`, and returns it with `drop` or at the end of a `with` block. Calls wait
+    during a renewal. The renewal waits for pending calls, but not for threads that are between two calls. A call waits
+    for another one for at most `patience` seconds, or forever if that is None, and then raises `TimedOut` without
+    having been made. docs/FOREIGN.md says what is promised about the order of calls.
     """
 
     def __init__(self, kind, seats, quota, keys=(), *, patience=None):
@@ -542,10 +578,10 @@ class RenewedSet:
         self._places = [_Place(it) for it in (first, *(first.split() for _ in range(1, seats)))]
         self._renewing, self._stage = threading.Lock(), "open"  # The stage changes only while all places are locked.
         self._splitting = threading.Lock()
-        self._is_wanted = False  # A thread has waited long for the places: the others' next calls wait for it.
+        self._is_wanted = False  # A thread has waited long for the places, so the next calls of the others wait for it.
 
     def split(self):
-        """Takes a seat, for a thread. Raises `Fault` if all seats are taken."""
+        """Returns a seat for a thread. Raises `Fault` if all seats are in use."""
         with self._splitting:
             place = next((it for it in self._places if not it.is_taken), None)
             if place is None or self._stage == "closed":
@@ -554,7 +590,7 @@ class RenewedSet:
         return OwnSeat(self, place)
 
     def keys(self):
-        """Renews the set and returns its keys at that moment. Raises `Fault` if they are more than 1,048,576."""
+        """Renews the set and returns the keys that it has at that moment. Raises `Fault` if there are more than 1,048,576."""
         with self._all_taken(self._places[0]):
             if self._keys_now() > MOST_OPENING:
                 raise Fault(BAD_KEYS)
@@ -563,7 +599,7 @@ class RenewedSet:
             return keys
 
     def close(self):
-        """Closes the set and returns its final keys. Raises `Fault` while a thread has a seat; the set is then unchanged."""
+        """Closes the set and returns its final keys. Raises `Fault` while a thread has a seat; the set is unchanged then."""
         with self._all_taken(self._places[0]):
             if any(it.is_taken for it in self._places):
                 raise Fault(SEATS_OUT)
@@ -573,10 +609,13 @@ class RenewedSet:
             return keys
 
     def _lock(self, lock, helper=None):
-        """Locks `lock`. The thread with the lock may be in a `ceiling` of a lock-free list, which can retry until another call unlinks a marked
-        node. An `add` from `helper` unlinks it, and changes no key if the seat of `helper` has used its quota.
+        """Locks `lock`. The thread that holds it can be in a `ceiling` of a lock-free list, which may retry until another
+        call unlinks a marked node. An `add` from `helper` unlinks the node; it changes no key if the seat of `helper`
+        has used up its quota.
 
-        A thread with a helper locks all places. After 5 ms the others' next calls wait for it, unless a call could be needed as a helper."""
+        A thread with a helper locks all places. After 5 ms, the next calls of the other threads wait for it, unless
+        such a call could be needed as a helper.
+        """
         if lock.acquire(blocking=False):
             return
         patience = threading.TIMEOUT_MAX if self._patience is None else min(max(self._patience, 0), threading.TIMEOUT_MAX)
@@ -640,7 +679,7 @@ class RenewedSet:
         self._stage = "open"
 
     def _by(self, place, call):
-        """Makes a call from a place. If an allocation of the last renewal failed, renews the set first."""
+        """Makes a call from a place. If an allocation failed during the last renewal, renews the set first."""
         while True:
             if self._is_wanted:
                 self._wait_for_renewal()
@@ -655,10 +694,10 @@ class RenewedSet:
                     self._renew_taken()
 
     def _add_renewed(self, place, key):
-        """Renews the set and adds a key from `place`, whose seat has used its quota."""
+        """Renews the set and adds a key from `place`, whose seat has used up its quota."""
         with self._all_taken(place):
             if self._stage == "open":
-                added = place.try_add(key)  # Another thread can have renewed the set in the meantime.
+                added = place.try_add(key)  # Another thread may have renewed the set in the meantime.
                 if added is not Added.FULL or self._keys_now() > MOST_OPENING or self._quota == 0:
                     return added
             self._renew_taken()
@@ -666,8 +705,9 @@ class RenewedSet:
 
 
 class OwnSeat:
-    """A thread's seat of a `RenewedSet`, which `RenewedSet.split` returns. A call from it renews the set if the seat has used its quota. A call
-    can raise `TimedOut`, if the set has a `patience`."""
+    """A thread's seat in a `RenewedSet`, as returned by `RenewedSet.split`. A call from it renews the set if the seat has
+    used up its quota. A call can raise `TimedOut` if the set has a `patience`.
+    """
 
     def __init__(self, of, place):
         self._of, self._place = of, place
@@ -678,17 +718,20 @@ class OwnSeat:
         return self._of._by(self._place, call)
 
     def try_add(self, key):
-        """Adds a key, and renews the set if the seat has used its quota. Returns `Added.FULL` only if the quota is 0, or if the set has more than
-        1,048,576 keys, with which no set opens."""
+        """Adds a key, and renews the set if the seat has used up its quota. Returns `Added.FULL` only if the quota is 0,
+        or if the set has more than 1,048,576 keys, with which no set can be opened.
+        """
         added = self._by(lambda it: it.try_add(key))
         if added is Added.FULL:
-            self._of._wait_for_renewal()  # Another thread can be renewing the set.
+            self._of._wait_for_renewal()  # Another thread may be renewing the set.
             added = self._by(lambda it: it.try_add(key))
         return self._of._add_renewed(self._place, key) if added is Added.FULL else added
 
     def add(self, key):
-        """Adds a key, and renews the set if the seat has used its quota. Returns True if the key was absent, False if it was present. Raises
-        `Full` only if the quota is 0, or if the set has more than 1,048,576 keys, with which no set opens."""
+        """Adds a key, and renews the set if the seat has used up its quota. Returns True if the key was absent, False if
+        it was present. Raises `Full` only if the quota is 0, or if the set has more than 1,048,576 keys, with which no
+        set can be opened.
+        """
         added = self.try_add(key)
         if added is Added.FULL:
             raise Full(key)
@@ -709,13 +752,13 @@ class OwnSeat:
         self.remove(key)
 
     def contains(self, key):
-        """Returns whether a key is in the set, as `key in seat` does."""
+        """Returns whether a key is in the set, like `key in seat`."""
         return self._by(lambda it: it.seat.contains(key))
 
     __contains__ = contains
 
     def ceiling(self, key):
-        """Returns the smallest key of the set that is at least `key`, or None."""
+        """Returns the smallest key in the set that is at least `key`, or None."""
         return self._by(lambda it: it.seat.ceiling(key))
 
     def drop(self):

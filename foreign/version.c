@@ -1,4 +1,4 @@
-// The library's version, and the sentences of its faults. foreign/build defines the text TOLD and the number NUMBER.
+// The library's version, and a sentence for each fault. foreign/build defines the text TOLD and the number NUMBER.
 const char *listset_version(void) { return TOLD; }
 
 unsigned listset_version_number(void) { return NUMBER; }

@@ -1,9 +1,10 @@
-"""Tests every command on inputs of all sizes, up to the limits of docs/TEXTS.md and beyond them, and compares
-the answers with a set in Python.
+"""Tests every command on inputs of all sizes, up to the limits in docs/TEXTS.md and beyond, and compares the answers with
+those of a set in Python.
 
-A right input has the right answer within a few seconds of a processor. Beyond a limit the error is the
-documented one. Time and memory grow with the input: eight times as many calls take at most 24 times as
-much. `--few` draws a tenth."""
+A valid input must get the right answer within a few seconds of processor time. Beyond a limit, the documented error is
+expected. Time and memory may grow with the input: eight times as many calls may take at most 24 times as much. `--few`
+draws a tenth of the inputs.
+"""
 
 import collections
 import json
@@ -18,12 +19,12 @@ from harness.programs import KINDS
 
 GREATEST = 2**32 - 1  # the largest key
 MOST_THREADS, MOST_QUOTA, OPENING = 64, 16_384, 1_048_576
-CALLS, TIMES = 16_000, 8  # the largest number of calls compared, and the factor to the smaller number
+CALLS, TIMES = 16_000, 8  # the larger number of calls in a comparison, and how many times larger it is than the smaller one
 LITTLE = 0.04, 14_000  # differences in seconds and kilobytes that are ignored
-PROCESSOR_SECONDS = 9  # for one command; an unproved program takes up to 2
-SPINNING_SECONDS = 90  # for a command whose threads spin at locks: on a busy machine the holder can be stopped for long
-# (A small process starts the program: the memory that the system reports for it includes that of the process
-# that starts it.)
+PROCESSOR_SECONDS = 9  # the limit for one command; an unproved program takes up to 2
+SPINNING_SECONDS = 90  # the limit for a command whose threads spin at locks, since the holder can be preempted for long on a busy machine
+# (A small process starts the program, because the memory that the system reports for a program includes that of the
+# process that started it.)
 STARTER = """import json, os, resource, sys
 resource.setrlimit(resource.RLIMIT_CPU, (int(sys.argv[2]), int(sys.argv[2])))
 _, status, used = os.wait4(os.posix_spawn(sys.argv[3], sys.argv[3:], os.environ), 0)
@@ -32,14 +33,13 @@ with open(sys.argv[1], "w") as file: json.dump([os.waitstatus_to_exitcode(status
 
 
 class Asked:
-    """Runs a program and keeps the time and memory of each command, by size."""
+    """Runs a program, and keeps the time and memory that each command took, by input size."""
 
     def __init__(self, program, room):
         self.program, self.room, self.taken = program, room, collections.defaultdict(dict)
 
     def says(self, *words, text="", status=0, error="", size=None, seconds=PROCESSOR_SECONDS):
-        """Runs a command, checks its exit status and returns its output. Keeps the seconds and kilobytes for
-        this size."""
+        """Runs a command, checks its exit status and returns its output. Records the seconds and kilobytes for this size."""
         taken, given = self.room / "taken", self.room / "text"
         given.write_text(text)
         with open(given, "rb") as stdin:
@@ -52,7 +52,7 @@ class Asked:
         return done.stdout
 
     def grows(self, size, greater):
-        """Fails if a command took more than three times as much per byte at the greater size."""
+        """Fails if any command took more than three times as much per byte for the larger size."""
         for name in self.taken[size].keys() & self.taken[greater].keys():
             for before, after, little in zip(self.taken[size][name], self.taken[greater][name], LITTLE):
                 assert after <= 3 * TIMES * max(before, little), f"{name} takes {before} and {after}"
@@ -64,12 +64,11 @@ def asked(program, room):
 
 
 def log_uniform(draw, most, least=1):
-    """Returns a number from `least` to `most`, equally likely in the tens and in the thousands. One in ten is
-    `most`."""
+    """Returns a random number from `least` to `most`, as likely in the tens as in the thousands. One in ten is `most`."""
     return most if draw.random() < 0.1 else min(most, int(math.exp(draw.uniform(math.log(least), math.log(most + 1)))))
 
 
-# ---- calls of many shapes: the opening keys; word, key and reply of each call; the final keys
+# ---- calls of many shapes: the opening keys; the operation, key and reply of each call; the final keys
 
 def shuffled(things):
     return random.Random(1).sample([*things], len(things))
@@ -98,7 +97,7 @@ def head(title, kind, threads, quota, opening=()):
 
 
 def recording_of(opening, calls, left, threads, at_once):
-    """Returns a recording of calls one after another, or of one call of each thread at once."""
+    """Returns a recording in which calls do not overlap, or in which all threads call at the same time."""
     lines = [f"opening {key}\n" for key in opening]
     for number, (word, key, reply) in enumerate(calls):
         turn, thread = divmod(number, threads)
@@ -108,14 +107,14 @@ def recording_of(opening, calls, left, threads, at_once):
 
 
 def draft_of(kind, opening, calls, threads):
-    """Returns a draft of calls one after another."""
+    """Returns a draft in which calls do not overlap."""
     lines = [f"begin {number % threads} {word} {key}\ngo {number % threads} out\n" for number, (word, key, _) in enumerate(calls)]
     return "".join([head("draft 2", kind, threads, MOST_QUOTA, opening), *lines])
 
 
 @pytest.mark.parametrize("name, at_once", [*((name, False) for name in [*SHAPES, *NEAR]), ("rising", True), ("looks", True)])
 def test_recordings_of_each_size_are_judged(asked, few, name, at_once):
-    """Judges a right recording, and one with a wrong last reply."""
+    """Judges a linearizable recording, and the same one with a wrong last reply."""
     sizes = [CALLS // TIMES] if few else [CALLS // TIMES, CALLS]
     for size in sizes:
         opening, calls, left = {**SHAPES, **NEAR}[name](size)
@@ -130,7 +129,7 @@ def test_recordings_of_each_size_are_judged(asked, few, name, at_once):
 
 
 def runs(asked, kind, size, made, words=()):
-    """Runs `draft`; on the schedule `replay`, `trace` and `show`; and `check` on the report."""
+    """Runs `draft` on a draft; `replay`, `trace` and `show` on the schedule; and `check` on the report."""
     opening, calls, left = made
     schedule = asked.says("draft", text=draft_of(kind, opening, calls, MOST_THREADS), size=size)
     events = len(calls) + sum(map(int, re.findall("^go [0-9]+ ([0-9]+)$", schedule, re.M)))
@@ -146,7 +145,7 @@ def runs(asked, kind, size, made, words=()):
 
 @pytest.mark.parametrize("kind", KINDS)
 def test_schedules_of_each_size_are_drafted_replayed_and_checked(asked, few, kind):
-    """Runs short schedules of all shapes, and long ones whose calls do not walk far."""
+    """Runs short schedules of all shapes, and long ones whose calls traverse few nodes."""
     for shape in [*SHAPES.values(), *NEAR.values()]:
         runs(asked, kind, 0, shape(240))
     words = {"coarse": ["--lacks", "lock"], "lazy": ["--lacks", "mark-in-contains"]}.get(kind, ())  # (broken lists that do the same as the right ones if calls do not overlap)
@@ -158,7 +157,7 @@ def test_schedules_of_each_size_are_drafted_replayed_and_checked(asked, few, kin
 
 @pytest.mark.parametrize("kind", KINDS)
 def test_counts_of_runs_of_each_size_add_up(asked, few, kind):
-    """Runs `run` with one thread and several, up to the limits. The counts add up."""
+    """Runs `run` with one thread and with several, up to the limits. The counts must add up."""
     draw = random.Random(kind)
     drawn = [(threads, log_uniform(draw, MOST_QUOTA), log_uniform(draw, 200), log_uniform(draw, 10_000), log_uniform(draw, 2**64 - 1),
               log_uniform(draw, 100 if threads < 9 else 3)) for threads in ([5, 64] if few else [1, 2, 5, 17, 64])]
@@ -178,7 +177,7 @@ def text_of(title, threads=1, quota=0, opening=0, lines=()):
 
 
 def tries_of(title, many):
-    """Returns a schedule in which one thread holds the lock and another attempts to take it."""
+    """Returns a schedule in which one thread holds the lock and another one attempts to take it."""
     goes = [10_000] * ((many - 3) // 10_000) + [it for it in [(many - 3) % 10_000] if it]
     return text_of(title, 2, 1, lines=["begin 0 add 1\ngo 0 1\nbegin 1 add 1\n", *(f"go 1 {it}\n" for it in goes)])
 
@@ -199,7 +198,7 @@ LIMITS += [(["serve lazy 1 0 0 0 -"], OPENING, lambda it: "".join(f"key {key}\n"
 
 @pytest.mark.parametrize("commands, most, made, error", LIMITS, ids=[f"{it[0][0].split()[0]} {it[1]}" for it in LIMITS])
 def test_the_largest_number_is_accepted_and_the_next_refused(asked, few, commands, most, made, error):
-    """Tests the largest number, and one more."""
+    """The largest number is accepted, and the next one is refused."""
     draw = random.Random(f"{commands} {most}")
     if few and most > 100_000 and draw.random() < 0.8:
         pytest.skip("a tenth of these limits is tried")

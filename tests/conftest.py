@@ -1,13 +1,14 @@
-"""Fixtures of all tests: the program under test, a folder for files, results that are made once for a run.
+"""Fixtures for all tests: the program under test, a folder for files, and results that are computed once per run.
 
     pytest-3                          runs all tests; -n 4 runs four in parallel
-    pytest-3 tests/serve_clients.py   runs those of a file, or of a page of tests/transcripts; -k WORD those of a name
-    pytest-3 --program=PROGRAM        tests this program; otherwise the proved or the unproved one, whichever was built from younger sources
+    pytest-3 tests/serve_clients.py   runs the tests of a file, or of a page in tests/transcripts; -k WORD selects tests by name
+    pytest-3 --program=PROGRAM        tests this program; by default the proved or the unproved one, whichever has younger sources
     pytest-3 --few                    draws a tenth of the random inputs
-    pytest-3 --show PAGE              prints what the commands of a page of tests/transcripts print now, in the page's form
+    pytest-3 --show PAGE              prints what the commands of a page in tests/transcripts print now, in the page's format
 
-A test that needs a tool or a program that is not here is skipped, with a message. If it is named by -k or
-as FILE::NAME, it fails."""
+A test that needs a missing tool or program is skipped with a message. If it was selected by -k or as FILE::NAME, it
+fails.
+"""
 
 import collections
 import fcntl
@@ -25,9 +26,9 @@ from toolchain import NEEDS
 def pytest_addoption(parser):
     group = parser.getgroup("listset")
     group.addoption("--program", type=os.path.realpath, help="the program that is tested")
-    group.addoption("--few", action="store_true", help="a tenth of what is drawn at random")
+    group.addoption("--few", action="store_true", help="draws only a tenth of the random inputs")
     group.addoption("--missing", action="store_true", help="with --collect-only: prints the commands that are not installed, and how many tests need each")
-    group.addoption("--show", action="store_true", help="prints what the commands of a page print now")
+    group.addoption("--show", action="store_true", help="prints the current output of the commands on a page")
 
 
 @pytest.hookimpl(tryfirst=True)
@@ -47,7 +48,7 @@ def pytest_runtest_logreport(report):
 
 
 def built_program(config):
-    """Returns the program with the younger sources, if none is given. Its time is when its build began."""
+    """Returns the program with the younger sources, unless one is given. Its age is counted from when its build began."""
     built = [it for it in (PROVED, UNPROVED) if it.exists()]
     return config.option.program or str(max(built, key=lambda it: it.stat().st_mtime, default=PROVED))
 
@@ -71,7 +72,9 @@ def pytest_collection_modifyitems(config, items):
 
 
 def print_missing(items):
-    """Prints each missing command of a mark, how to install it, and how many tests are skipped without it."""
+    """Prints, for each command that a mark needs and that is missing, how to install it and how many tests are skipped
+    without it.
+    """
     wanted = [it for item in items for it in {word for mark in item.iter_markers("needs") for word in mark.args}]
     for it, many in collections.Counter(wanted).items():
         if why := not_installed(it):
@@ -80,8 +83,9 @@ def print_missing(items):
 
 @pytest.fixture(scope="session")
 def lacking(pytestconfig):
-    """Returns a function that ends a test because something is missing: pytest.fail if the test is named,
-    otherwise pytest.skip."""
+    """Returns a function that ends a test because something is missing. It fails the test if the test was selected by
+    name, and skips it otherwise.
+    """
     is_named = pytestconfig.option.keyword or any("::" in it for it in pytestconfig.args)
     return pytest.fail if is_named else pytest.skip
 
@@ -104,16 +108,18 @@ def program(pytestconfig, lacking):
 
 @pytest.fixture
 def room(tmp_path):
-    """Returns a folder of this test. At its end the folder is deleted, and processes that run in it or name
-    it are ended."""
+    """Returns a folder for this test. After the test, the folder is deleted, and processes that run in it or name it are
+    killed.
+    """
     yield tmp_path
     clear(tmp_path)
 
 
 @pytest.fixture(scope="session")
 def once(tmp_path_factory, worker_id):
-    """Returns a function that calls a function with a new folder and returns its result, once for all tests
-    of a run, even in parallel."""
+    """Returns a function that calls another function with a new folder and caches the result for all tests of the run,
+    even in parallel.
+    """
     of_run = tmp_path_factory.getbasetemp()
     of_run = of_run if worker_id == "master" else of_run.parent
 
@@ -132,5 +138,5 @@ def once(tmp_path_factory, worker_id):
 
 @pytest.fixture(scope="session")
 def few(pytestconfig):
-    """Returns whether to draw only a tenth of the random inputs."""
+    """Returns whether only a tenth of the random inputs should be drawn."""
     return pytestconfig.option.few

@@ -1,11 +1,12 @@
-"""Tests that the program makes the reports in examples/schedules of the schedules there, and that
-docs/CLASSIC.md shows what it prints.
+"""Tests that the program turns the schedules in examples/schedules into the reports there, and that docs/CLASSIC.md shows
+what it prints.
 
-`replay` of each NAME.schedule prints NAME.report, and `check` of each report prints `ok`. For a file in
-refused-files.txt it prints the error there, and no report. `example NAME` prints the schedule of each
-classic interleaving, and `example --broken NAME` its broken report, if there is one.
-page/tests/break_it.js tests how a broken list shows its missing check. The other test here: README, the
-pages of docs/ and two other pages show what their commands print (harness/pages.py)."""
+`replay` of each NAME.schedule must print NAME.report, and `check` of each report must print `ok`. For a file in
+refused-files.txt, `replay` must print the error listed there and no report. `example NAME` prints the schedule of each
+classic interleaving, and `example --broken NAME` its broken report if it has one. page/tests/break_it.js tests how a
+broken list reveals its missing check. Another test here checks that README, the pages in docs/ and two other pages show
+what their commands print (harness/pages.py).
+"""
 
 import re
 
@@ -34,8 +35,7 @@ def test_commands_print_what_the_page_shows(page, steps, program, room):
 
 
 def lines_of(*words, text="", status=0):
-    """Runs the program with these arguments and this input. Returns the lines of its output and of its
-    standard error."""
+    """Runs the program with these arguments and this input. Returns the lines of its output and of standard error."""
     done = ran(*words, text=text)
     assert done.returncode == status, done.stderr
     return (done.stdout + done.stderr).splitlines()
@@ -67,14 +67,13 @@ def test_examples_of_the_program_are_the_files(program):
 
 @pytest.mark.parametrize("file", sorted(EXAMPLES.glob("*.broken.report")), ids=lambda it: it.name)
 def test_no_order_explains_a_broken_report(program, file):
-    """`check` refuses the order in the report, and the judge prints below its picture that no other order
-    explains the calls."""
+    """`check` refuses the order in the report, and `show` states below the picture that no other order explains the calls."""
     assert "\n\nnot linearizable\nno order explains the calls of key " in "\n".join(lines_of(program, "show", file, status=1))
 
 
 @pytest.mark.parametrize("name, section", zip(NAMES, SECTIONS), ids=NAMES)
 def test_the_page_shows_the_picture_and_the_trace_of_an_example(program, name, section):
-    """The two code blocks are the picture, without the order below it, and lines of the trace."""
+    """The two code blocks show the picture (without the order below it) and lines of the trace."""
     drawn, traced = (re.sub("^    ", "", block, flags=re.M).strip("\n").split("\n") for block in re.findall(BLOCK, section, re.M))
     schedule, picture = picture_of(program, name)
     assert [*drawn, ""] == picture[:picture.index("order")]
@@ -84,7 +83,7 @@ def test_the_page_shows_the_picture_and_the_trace_of_an_example(program, name, s
 
 @pytest.mark.parametrize("name, kind, told", LACKING.findall(BROKEN))
 def test_the_page_describes_a_broken_list(program, name, kind, told):
-    """`check` refuses the order, and no order explains the calls, unless the page says that another one does."""
+    """`check` refuses the order, and no other order explains the calls unless the page says so."""
     file = LACKS / f"{name}.schedule"
     assert f"\nlist {kind}\n" in file.read_text()
     report = "\n".join(lines_of(program, "replay", "--lacks", name, file)) + "\n"

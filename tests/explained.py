@@ -1,5 +1,6 @@
-"""What is said of mistakes: in a pipe one fixed line, to the byte; by `explain` the line, what is wrong and what to do. tests/hints.py has what
-a terminal shows below the fixed line."""
+"""Tests how mistakes are explained. A pipe gets exactly one fixed line; `explain` prints the wrong line, what is wrong,
+and how to correct it. tests/hints.py tests what a terminal shows below the fixed line.
+"""
 
 import os
 import re
@@ -16,7 +17,7 @@ RIGHT_REPORT = REPORT + "call 0 0 add 5 1 8 true\nplace 0 true\nkey 5\nend\n"
 ADD = "call 0 add 5 1 4 true\n"
 RIGHT_CALLS = f"{CALLS}{ADD}key 5\nend\n"
 
-# the command, the text, the fixed line, and what the explanation has
+# the command, the text, the fixed line, and parts of the explanation
 ROWS = {
     "no bytes": ("replay", "", "line 1: Header", ["no bytes", "command before a pipe"]),
     "no bytes of a recording": ("judge", "", "line 1: Header", ["no bytes"]),
@@ -100,7 +101,7 @@ def test_a_mistake_is_explained(program, name):
         assert f"line {line[5:].split(':')[0]} has an error, {line.split(': ')[1]}:\n    " in said, said
 
 
-def test_no_edit_is_advised_of_a_file_of_another_program(program):
+def test_explain_suggests_no_edit_of_another_programs_file(program):
     for text in ("# A project\n", "\n\nText\n", "// code\nint main;\n", "a file\r\n", "  indented\n", "a\tb\n", "call me\n", "list of things\n"):
         said = ran(program, "explain", text=text.encode()).stdout.decode()
         assert "is no text of listset" in said and "sed " not in said and said.splitlines()[-1].startswith("Line 1 must be one of"), said
@@ -130,7 +131,7 @@ def test_a_shell_reads_the_name_in_a_command(program, room, name):
 
 
 def test_no_text_stops_explain(program, few):
-    """Texts with a part cut out, repeated, or replaced: `explain` succeeds and names the line that the command names."""
+    """Cuts out, repeats or replaces parts of texts. `explain` must succeed and name the same line as the command."""
     import random
 
     dice = random.Random(7)
@@ -149,7 +150,7 @@ def test_no_text_stops_explain(program, few):
             assert b"%s has an error, %s:" % (found[1], found[2]) in explained.stdout, (text, due, explained)
 
 
-def test_faults_of_a_cause(program):
+def test_faults_prints_the_lines_about_a_cause(program):
     whole = well(program, "faults")
     busy = well(program, "faults", "Busy")
     assert busy == well(program, "faults", "busy") == well(program, "faults", "listset: line 6: Busy")

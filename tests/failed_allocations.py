@@ -1,14 +1,13 @@
-"""Tests programs with one failed allocation: each allocation fails in turn, one in a run.
+"""Tests programs with a failed allocation: each run fails one allocation, and each allocation fails in some run.
 
-`tests/harness/fail_allocation.c` refuses the allocation with a given number, and overwrites freed memory,
-so that a read of it shows. The program then prints `out of memory` and nothing else (except `trace`, which
-prints events when they are made). Or it prints what it always does, if std can do with less memory than it
-asked for. If even the line about the error cannot be allocated, the status is that of the error.
+`tests/harness/fail_allocation.c` refuses the allocation with a given number, and overwrites freed memory so that
+reading it has a visible effect. The program must print `out of memory` and nothing else (except for `trace`, which
+prints each event as soon as it is made). If std can do with less memory than it asked for, the program may instead
+print what it always prints. If even the error line cannot be allocated, the exit status is still that of the error.
 
-CALLS is the program of crates/memory_calls. It makes calls of the libraries one by one; its input is the
-number of allocations to use up before the first call. It fails if a call does anything but report a failed
-allocation (or that a thread was refused) or return the right result; or if a repeated call does not return
-the right result.
+CALLS is the program in crates/memory_calls. It makes the libraries' calls one by one; its input is the number of
+allocations to use up before the first call. It fails unless each call reports a failed allocation (or that a thread
+could not be started) or returns the right result, and unless a repeated call returns the right result.
 """
 
 import functools
@@ -22,12 +21,12 @@ import pytest
 
 from harness.programs import SECONDS, TOP
 
-REFUSED = 1000  # the number of the refused allocation: more than the calls make
-PROCESSOR_SECONDS = 5  # for one run
+REFUSED = 1000  # an allocation number that the calls never reach
+PROCESSOR_SECONDS = 5  # the limit for one run
 CALLS = TOP / "crates/memory_calls/out/unproved/memory_calls"
 
-# The commands to test: on files in examples/; on a random schedule (DRAWN); on one with many opening keys,
-# which steps past the end of its call (OPENING) or not (ENDED); on one with many attempts to take a lock
+# The commands to test. They run on files in examples/; on a random schedule (DRAWN); on schedules with many opening
+# keys, with steps after the end of a call (OPENING) or without (ENDED); on one with many attempts to take a lock
 # (TRIES); and on one with long chains (CHAIN).
 ASKED = """
 replay opens-with-keys.schedule | replay ceiling-left-in-chain.schedule | replay DRAWN | replay OPENING | replay refused.schedule |
@@ -45,7 +44,7 @@ LAST_CALL = "still to be refused"
 
 
 def refuser(folder):
-    """Builds the library that refuses an allocation. It is loaded before the C library."""
+    """Builds the library that refuses an allocation. It must be loaded before the C library."""
     rt = shutil.which("rt")
     assert rt, "the command rt is missing"
     clang = pathlib.Path(rt).resolve().parent.parent / "toolchain/bin/clang"
@@ -56,8 +55,9 @@ def refuser(folder):
 
 
 def ran_where(refuse, number, *words, **how):
-    """Runs a program in which the allocation with this number fails. Returns the status, the output and the
-    line on standard error."""
+    """Runs a program in which the allocation with this number fails. Returns the exit status, the output, and the line on
+    standard error.
+    """
     room = {**os.environ, "LD_PRELOAD": refuse, "REFUSE": str(number), "MALLOC_PERTURB_": "165"}
     limit = functools.partial(resource.setrlimit, resource.RLIMIT_CPU, (PROCESSOR_SECONDS, PROCESSOR_SECONDS))
     made = subprocess.run(words, env=room, capture_output=True, text=True, timeout=SECONDS, preexec_fn=limit, **how)
@@ -65,8 +65,9 @@ def ran_where(refuse, number, *words, **how):
 
 
 def answers(program, refuse):
-    """Returns the names of the calls that CALLS prints, with each allocation refused in turn, up to the first
-    one that no call makes."""
+    """Returns the names of the calls that CALLS prints while each allocation is refused in turn, up to the first number
+    that no call reaches.
+    """
     told = []
     for number in range(1, REFUSED):
         status, line, fault = ran_where(refuse, REFUSED, program, input=f"{REFUSED - number}\n")
@@ -79,14 +80,13 @@ def answers(program, refuse):
 
 OUT_OF_MEMORY = 3, "", "listset: out of memory\n"
 SPAWN = 1, "", "listset: work: Spawn\n"
-# The line that replaces the diagnosis of a refusal. The verdict does not change
+# The line that replaces the diagnosis of a refusal. The verdict stays the same.
 NOT_TOLD = "\nwhat is wrong is not told: memory ran out, or the file has changed since it was judged\n"
 LAST = 10  # this many runs in a row without an effect mean that there is no further allocation
 
 
 def out_of_memory_at_each(program, words, refuse):
-    """Returns how often a command prints that it is out of memory, with each of its allocations refused in
-    turn."""
+    """Returns how often a command reports that it is out of memory, while each of its allocations is refused in turn."""
     how = {"cwd": TOP / "examples/schedules", "stdin": subprocess.DEVNULL}
     due = ran_where(refuse, 0, program, *words, **how)
     goes_along = words[0] == "trace"
@@ -107,7 +107,7 @@ def out_of_memory_at_each(program, words, refuse):
 
 
 def texts(program, room):
-    """Writes the input files, by name. Most are schedules for one thread."""
+    """Writes the input files, by name. Most of them are schedules with one thread."""
     files = {name: room / f"{name.lower()}.text" for name in ("OPENING", "ENDED", "TRIES", "CHAIN", "DRAWN")}
     few, many = ("".join(f"opening {key}\n" for key in range(1, most)) for most in (13, 6_001))
     one, two = ("listset-schedule 2\nlist coarse\nthreads {}\nquota 5\n".format(threads) for threads in (1, 2))
@@ -127,7 +127,7 @@ def test_a_command_reports_each_failed_allocation(program, room, once, words):
 
 
 def test_calls_report_each_failed_allocation(once, lacking):
-    """Tests the calls of CALLS. `work` returns set and seats whichever allocation fails."""
+    """Runs CALLS. `work` must return the set and the seats whichever allocation fails."""
     if not CALLS.exists():
         lacking(f"{CALLS.relative_to(TOP)} is missing: tests/unproved memory_calls builds it")
     calls = answers(CALLS, once(refuser))

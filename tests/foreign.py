@@ -1,7 +1,8 @@
-"""Tests of the sets and the judge from C, C++, Rust and Python, and of the programs in docs/FOREIGN.md.
+"""Tests the sets and the judge from C, C++, Rust and Python, and the programs in docs/FOREIGN.md.
 
-The libraries are those that foreign/build installed in the folder LISTSET_PREFIX, or in foreign/out. Callers run with the sanitizers for
-addresses, undefined behaviour and races, if these work on this machine. The libraries themselves are built without sanitizers.
+The libraries are those that foreign/build installed in the folder LISTSET_PREFIX or in foreign/out. The test programs
+run with the sanitizers for addresses, undefined behaviour and races, if these work on this machine. The libraries
+themselves are built without sanitizers.
 """
 
 import os
@@ -26,18 +27,18 @@ WRAPPED = [f"-Wl,--wrap={it}" for it in ("malloc", "realloc", "free")]
 
 
 class InstalledLibraries:
-    """The installed libraries, and a folder for the programs that are built over them."""
+    """The installed libraries, and a folder for programs that are built with them."""
 
     def __init__(self, room):
         self.room, self.library, self.share = room, PREFIX / "lib", PREFIX / "share" / "listset"
         self.include = f"-I{PREFIX / 'include'}"
 
     def proof(self):
-        """Returns the library's line about its proof."""
+        """Returns the line in which the library states its proof."""
         return "proof missing" if "without a proof" in (self.library / "pkgconfig" / "listset.pc").read_text() else "proof checked"
 
     def works(self, sanitizer):
-        """Returns whether a sanitizer works with the compiler of this machine."""
+        """Returns whether a sanitizer works with this machine's compiler."""
         source, made = self.room / "small.c", self.room / "small"
         source.write_text("int main(void) { return 0; }\n")
         found = ran("gcc", sanitizer, source, "-o", made, seconds=LONG).returncode == 0 and ran(made).returncode == 0
@@ -46,13 +47,13 @@ class InstalledLibraries:
         return found
 
     def built(self, name, *flags):
-        """Builds a C program over the static library. Returns its path. `name` is relative to foreign/tests."""
+        """Builds a C program with the static library and returns its path. `name` is relative to foreign/tests."""
         made = self.room / pathlib.Path(name).stem
         well("gcc", "-std=c11", *WARN, *flags, self.include, TESTS / name, self.library / "liblistset.a", "-pthread", "-o", made)
         return made
 
     def flags(self):
-        """Returns the compiler's flags for the installed library, by pkg-config if that is installed."""
+        """Returns the compiler flags for the installed library, from pkg-config if that is installed."""
         flags = [self.include, f"-L{self.library}", "-llistset"]
         if shutil.which("pkg-config"):
             how = {**os.environ, "PKG_CONFIG_PATH": str(self.library / "pkgconfig")}
@@ -60,7 +61,7 @@ class InstalledLibraries:
         return [*flags, f"-Wl,-rpath,{self.library}"]
 
     def page(self, language, ending, name, before=""):
-        """Writes the program of docs/FOREIGN.md that contains `name` to a file, after the text `before`. Returns the file."""
+        """Writes the program in docs/FOREIGN.md that contains `name` to a file, after the text `before`. Returns the file."""
         found = re.findall(rf"^```{language}\n(.*?)^```$", (TOP / "docs" / "FOREIGN.md").read_text(), re.M | re.S)
         program, = (it for it in found if name in it)
         made = self.room / f"first-set.{ending}"
@@ -93,7 +94,7 @@ WRONG_USES = ["if (listset_add(&seat, 7)) return 1;", "listset_fault fault = lis
 
 @needs("gcc")
 @pytest.mark.parametrize("wrong", WRONG_USES)
-def test_a_reply_is_no_condition_and_no_fault(wrong):
+def test_a_reply_does_not_compile_as_a_condition_or_a_fault(wrong):
     program = "#include <listset.h>\nint main(void) { listset_seat seat = LISTSET_NONE; %s return listset_add(&seat, 7).is == LISTSET_TRUE; }\n"
     words = ["gcc", "-std=c99", "-fsyntax-only", f"-I{FOREIGN}", "-x", "c", "-"]
     well(*words, text=program % "")
@@ -110,7 +111,7 @@ OF_TEXTS = {
 
 
 def words_of_program(program):
-    """Yields command lines of the program: for texts of each kind, names, and values."""
+    """Yields command lines of the program for texts of each kind, names, and values."""
     yield from (f"{words} {file}" for pattern, all_words in OF_TEXTS.items() for file in sorted(TOP.glob(pattern)) for words in all_words)
     names = [line.split()[0] for line in ran(program, "example").stdout.splitlines()]
     yield from (f"example{broken} {name}" for name in [*names, "no-such-name"] for broken in ("", " --broken"))
@@ -120,7 +121,7 @@ def words_of_program(program):
 
 @needs("gcc")
 def test_a_c_program_prints_what_the_program_prints(installed, program):
-    """A C program over each of the libraries prints the same bytes as the program listset, with the same exit status."""
+    """A C program over each library prints the same bytes as listset, with the same exit status."""
     static, shared, run_path = installed.built("words.c"), installed.room / "shared", f"-Wl,-rpath,{installed.library}"
     well("gcc", "-std=c11", *WARN, installed.include, TESTS / "words.c", f"-L{installed.library}", "-llistset", run_path, "-o", shared)
     text = (EXAMPLES / "snip.schedule").read_bytes()
@@ -132,7 +133,7 @@ def test_a_c_program_prints_what_the_program_prints(installed, program):
 
 @needs("gcc")
 def test_eight_threads_judge_at_once(installed):
-    """Eight threads call the judge at once."""
+    """Eight threads call the judge at the same time."""
     for flags in ([], [MEMORY], [RACES]):
         if all(map(installed.works, flags)):
             well(installed.built("threads.c", *flags), *sorted(EXAMPLES.glob("*.schedule")), *sorted(EXAMPLES.glob("*.report")))
@@ -140,7 +141,7 @@ def test_eight_threads_judge_at_once(installed):
 
 @needs("gcc")
 def test_the_judge_reports_each_failed_allocation_and_leaks_nothing(installed):
-    """The judge reports each failed allocation, and leaks nothing."""
+    """The judge reports each failed allocation and does not leak."""
     schedule, report = EXAMPLES / "one-add.schedule", EXAMPLES / "one-add.report"
     draft = min((TOP / "tests" / "transcripts" / "data" / "drafts").glob("*.draft"), key=lambda it: it.stat().st_size)
     flags = [MEMORY] if installed.works(MEMORY) else []
@@ -150,7 +151,9 @@ def test_the_judge_reports_each_failed_allocation_and_leaks_nothing(installed):
 
 @needs("gcc")
 def test_calls_of_threads_agree_with_counts_and_are_judged(installed):
-    """Calls of threads agree with models and counts, and are judged: with more threads than processors, and a million calls."""
+    """The calls of threads agree with models and counts, and are judged: with more threads than processors, and for a
+    million calls.
+    """
     for flags, sizes in (([], [250_000, 4]), ([], [500, 64]), ([MEMORY], [5_000, 4]), ([RACES], [2_000, 4])):
         if all(map(installed.works, flags)):
             well(installed.built("sets.c", *flags), *sizes)
@@ -159,14 +162,14 @@ def test_calls_of_threads_agree_with_counts_and_are_judged(installed):
 
 @needs("gcc")
 def test_wrong_arguments_and_failed_allocations_are_reported(installed):
-    """The sets refuse wrong arguments, and report each failed allocation."""
+    """The sets refuse wrong arguments and report each failed allocation."""
     flags = [MEMORY] if installed.works(MEMORY) else []
     well(installed.built("misuse.c", *flags, *WRAPPED))
 
 
 @needs("gcc")
 def test_each_list_opens_with_the_most_keys(installed):
-    """Each list opens with the most keys that a set can have."""
+    """Each list opens with the maximum number of keys."""
     well(installed.built(TOP / "tests" / "harness" / "largest_set.c"))
 
 
@@ -182,7 +185,8 @@ def test_programs_in_c_use_sets_and_judge(installed):
 @needs("g++")
 def test_programs_in_cpp_use_sets_and_judge(installed):
     made, first, how = installed.room / "made", installed.room / "first", [MEMORY] if installed.works(MEMORY) else []
-    # With optimization and a sanitizer g++ takes three times as long. The programs of the page compile the header with optimization.
+    # With optimization and a sanitizer, g++ would take three times as long. The page's programs compile the header with
+    # optimization.
     elsewhere, flags = installed.room / "elsewhere.o", ["-std=c++17", *WARN, "-O0", *how, "-pthread"]
     well("g++", *flags, "-c", TESTS / "elsewhere.cpp", installed.include, "-o", elsewhere)
     for name in ("judge.cpp", "sets.cpp", "judged.cpp"):
@@ -198,7 +202,7 @@ def test_programs_in_cpp_use_sets_and_judge(installed):
 
 @needs("g++")
 def test_calls_of_a_renewed_set_are_linearizable(installed):
-    """Sets of each list renew themselves while eight threads add and remove the same keys; their calls are judged."""
+    """Sets of each list are renewed while eight threads add and remove the same keys. Their calls are judged."""
     made, flags = installed.room / "made", ["-std=c++17", *WARN, "-pthread", TESTS / "renewed.cpp", *installed.flags()]
     for how, calls in (([], 50_000), (["-O0", MEMORY], 2_000), (["-O0", RACES], 500)):
         if all(map(installed.works, how[1:])):
@@ -238,12 +242,12 @@ def test_programs_in_go_use_sets_and_judge(installed):
 
 
 def in_room(installed):
-    """Returns an environment in which refused recordings are written to the temporary folder of the tests."""
+    """Returns an environment in which refused recordings are written to the tests' temporary folder."""
     return {**os.environ, "TMPDIR": str(installed.room)}
 
 
 def is_judged(said, proof):
-    """Expects that the library judged a user's set."""
+    """Checks that the library judged a user's set."""
     assert f"; judge: liblistset, {proof}" in said
 
 

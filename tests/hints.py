@@ -1,4 +1,6 @@
-"""What the script ./listset shows at a terminal: below an error a line that helps, before a command what it reads, and in a pipe nothing more."""
+"""Tests what the script ./listset shows at a terminal: below an error a line that helps, and before a command what it
+reads. In a pipe it shows nothing more.
+"""
 
 import os
 import pty
@@ -9,7 +11,7 @@ import pytest
 from explained import CALLS, RIGHT, RIGHT_CALLS, SCHEDULE, ADD
 from harness.programs import SECONDS, TOP, ran, wants, well
 
-# The arguments, the fixed line, and what the terminal shows below it
+# The arguments, the fixed line, and what the terminal shows below that line.
 AT_TERMINAL = {
     "replay no-such": ["listset: cannot read\n", "no-such: there is no such file"],
     "judge .": ["listset: cannot read\n", ".: this is a folder"],
@@ -48,7 +50,7 @@ AT_TERMINAL = {
 
 
 def at_terminal(words, cwd, typed=None, env=None):
-    """Returns what a command prints at a terminal, and its status. `typed` is its standard input."""
+    """Returns what a command prints at a terminal, and its exit status. `typed` is its standard input."""
     ours, theirs = pty.openpty()
     stdin = theirs if typed else subprocess.DEVNULL
     running = subprocess.Popen(words, cwd=cwd, stdin=stdin, stdout=theirs, stderr=theirs, env=env)
@@ -69,7 +71,9 @@ def at_terminal(words, cwd, typed=None, env=None):
 
 @pytest.fixture
 def script(program, room):
-    """Makes a folder with the script, the program under test as its proved program, schedules and recordings."""
+    """Creates a folder with the script, with the program under test in place of the proved program, and with schedules and
+    recordings.
+    """
     tree = room / "tree"
     (tree / "crates/listset/out").mkdir(parents=True)
     for folder in ("build", "examples/schedules"):
@@ -156,7 +160,7 @@ def test_a_long_line_of_a_long_recording_is_shown(script):
 
 
 @pytest.mark.needs("node")
-def test_node_alone_has_the_hints_too(program, script):
+def test_node_without_a_program_shows_the_same_hints(program, script):
     shutil.copytree(TOP / "page", script / "page", ignore=shutil.ignore_patterns("src", "tests", "shots"))
     (script / "none").write_text(CALLS + ADD + "end\n")
     for words in ("replay no-such", "judge .", "check a.schedule", "replay -- -x.calls", "judge it's_unsorted", "gen lazy 65 4 9 5 1", "show --from 700 long.schedule", "example --broken full", "judge none"):
@@ -174,12 +178,12 @@ READ = {"judge": "recorded calls", "replay": "a schedule", "replay --lacks mark"
 
 
 @pytest.mark.parametrize("words", READ)
-def test_what_is_read_from_a_terminal_is_said(script, words):
+def test_a_terminal_shows_what_a_command_reads(script, words):
     _, said = at_terminal(["./listset", *words.split()], script, typed=b"\x04")
     assert f"listset: reading {READ[words]} from the terminal, up to Ctrl-D (see listset help {words.split()[0]})\n" in said, said
 
 
-def test_the_size_of_a_long_recording_is_said(script):
+def test_the_size_of_a_long_recording_is_shown(script):
     long = script / "long.calls"
     long.write_text(SCHEDULE)
     os.truncate(long, 60_000_000)

@@ -1,10 +1,10 @@
-"""Tests the judges in judge/, for each language that is installed, with the same cases. The program of a
-language, judge/LANGUAGE/tests, judges the set that SET names with the options in HOW, and prints the kind
-of the result, and the result.
+"""Tests the judges in judge/ with the same cases for each installed language. The language's test program,
+judge/LANGUAGE/tests, judges the set that SET names with the options in HOW, and prints the result and its kind.
 
-Right sets are `ok` and wrong ones are refused with the default options. If a set hangs or crashes, its
-calls so far are judged. A long run is one recording, which the program judges again. Scripts in place of a
-judge show how a refusal is passed on. Every wait is bounded."""
+Correct sets must be `ok`, and wrong sets must be refused with the default options. If a set hangs or crashes, its calls
+so far are judged. A long run is one recording, which the program judges again. Scripts that stand in for a judge show
+how a refusal is passed on. All waits are bounded.
+"""
 
 import os
 import pathlib
@@ -18,7 +18,7 @@ from toolchain import NEEDS
 
 FORMS = TOP / "judge"
 SECONDS = 300  # for each run of a judge, on a busy machine
-# Files that are no judge, and the message about each. `{}` is the path.
+# Files that are not a judge, with the message about each. `{}` is the path.
 NO_VERDICT = "{} printed no verdict, but: %s. Use a newer listset"
 NO_JUDGE = "no judge was found: {} cannot be run. Copy the file judge/listset.js"
 NO_JUDGES = {
@@ -34,7 +34,7 @@ NO_JUDGES = {
 JUDGES_NOT_IN_PATH = [None, "/no/such/listset.js"]
 
 
-# ---- building the sets of each language, once for all tests, and the command that judges one of them
+# ---- building each language's sets once for all tests, and the command that judges one of them
 
 
 def built_rust(folder):
@@ -57,8 +57,7 @@ def built_python(_folder):
 
 
 def in_jvm(*words):
-    """Returns a command of Java that starts in half the time, for short programs and the programs that they
-    start."""
+    """Returns a java command that starts in half the time, for short programs and those that they start."""
     return [shutil.which("env"), "JAVA_TOOL_OPTIONS=-XX:TieredStopAtLevel=1 -XX:+UseSerialGC", *words]
 
 
@@ -68,7 +67,7 @@ def built_java(folder):
 
 
 def go_words(*words):
-    """Returns a command of go that does not use the network."""
+    """Returns a go command that does not use the network."""
     return ["env", "GOPROXY=off", "go", *words]
 
 
@@ -86,12 +85,12 @@ FEW = "threads=4 calls=250 runs=3 within=2"
 
 
 def each(languages):
-    """Returns the parameters for a test of each language, with the compiler that it needs."""
+    """Returns the parameters for a test that runs for each language, with the compiler that each needs."""
     return pytest.mark.parametrize("language", [pytest.param(it, marks=pytest.mark.needs(*TOOLS.get(it, []))) for it in languages])
 
 
 class Form:
-    """The judge of a language: the folder and the command of its tests."""
+    """A language's judge: the folder and the command of its tests."""
 
     def __init__(self, language, room, words):
         self.language, self.room, self.words = language, room, words
@@ -128,7 +127,7 @@ def form(language, room, once):
 
 
 @each(LANGUAGES)
-def test_right_sets_are_linearizable(form, program):
+def test_correct_sets_are_linearizable(form, program):
     for of, how in (("right", ""), ("right", "own_process=0"), ("opens", "opens_with_keys=1"), ("texts", "keys=64"), ("not known", ""), ("adds only", "removes=0")):
         kind, said = form.told(program, of, f"{FEW} {how}")
         assert kind == "ok" and re.search("^(ok|few calls overlapped.*): [0-9]+ calls, and [0-9]+ of them overlapped a change of their key", said, re.M), said
@@ -217,8 +216,8 @@ def test_calls_before_a_crash_or_a_hang_are_judged(form, program, of):
 
 
 @each(LANGUAGES)
-def test_a_right_set_that_throws_again_and_again_is_not_refused(form, program):
-    """In Java and Go, threads of one process can still make calls while the run is recorded."""
+def test_a_correct_set_that_throws_repeatedly_is_not_refused(form, program):
+    """In Java and Go, other threads of the process can still make calls while the run is recorded."""
     tests = 5 if form.language == "Python" else 25
     for how in ("pauses=0", "pauses=20"):
         _, said = form.told(program, "throws", f"threads=4 calls=1000 keys=4 own_process=0 {how}", TESTS=str(tests))
@@ -226,8 +225,8 @@ def test_a_right_set_that_throws_again_and_again_is_not_refused(form, program):
 
 
 @each(LANGUAGES)
-def test_a_set_that_goes_on_after_it_hung_does_not_change_the_recording(form, program):
-    """A `remove` takes 1.2 s. The judge takes another second."""
+def test_a_set_that_continues_after_a_hang_does_not_change_the_recording(form, program):
+    """A `remove` takes 1.2 s, and the judge another second."""
     judge = form.script("judge", f"#!/bin/sh\n[ $1 = --version ] || sleep 1\n'{program}' \"$@\"\n")
     kind, said = form.told(judge, "naps", "threads=4 calls=1000 keys=4 seconds=1")
     assert kind == "cut short" and "the set hung: no call began or ended for 1 s" in said and form.recorded(said).count("\ncut\n") == 1, said
@@ -259,7 +258,7 @@ def test_a_seed_repeats_the_calls(form, program):
     assert {tuple(it.split()[2:4]) for it in (first + other).splitlines() if it.startswith("call ")} >= {("add", "4"), ("remove", "0"), ("contains", "3")}
 
 
-# ---- passing a refusal on, from a judge that refuses with these words
+# ---- passing on the refusal of a judge that refuses with these words
 
 REFUSED = "not linearizable\nno order explains the calls of key 1 up to moment 9\n\n  contains(1) returned true, expected false   # %s $HOME 'quoted'\n"
 REFUSES = """#!/bin/sh
@@ -294,8 +293,8 @@ def test_recordings_of_runs_that_pass_are_not_kept(form, program):
 # ---- finding the judge
 
 
-# The program, except for the number of overlapping calls. It also prints to standard error, as ./listset does
-# with an unproved program
+# Acts like the program except for the number of overlapping calls. It also prints to standard error, like ./listset
+# with an unproved program.
 OVERLAPS_ALL = """#!/bin/sh
 echo 'listset: without a proof' >&2
 '%s' "$@" | sed 's/^[0-9]* of them /900 of them /'
@@ -354,7 +353,7 @@ def test_the_calls_that_show_a_refusal_are_written(form):
 
 
 @pytest.mark.needs("node")
-def test_a_missing_part_of_the_engine_is_one_line(room):
+def test_a_missing_part_of_the_engine_is_reported_in_one_line(room):
     shutil.copy(TOP / "page" / "listset.js", room)
     done = ran("node", room / "listset.js", "judge")
     assert (done.returncode, done.stdout) == (1, "") and re.fullmatch("listset: in_node.js or only.js is not beside listset.js: take judge/listset.js, .*\n", done.stderr)
@@ -381,7 +380,7 @@ def test_an_error_without_a_verdict_is_one_sentence(form, program):
         assert kind == "none" and f"the variable {name} is {text}, but must be a number from " in said, said
 
 
-# ---- tests for one language
+# ---- tests for a single language
 
 
 def test_all_languages_have_the_messages_of_one_file():
@@ -389,7 +388,7 @@ def test_all_languages_have_the_messages_of_one_file():
 
 
 @pytest.mark.needs("cargo", "rustc")
-def test_a_lock_that_another_test_holds_stops_no_test(room, once, program):
+def test_a_lock_held_by_another_test_does_not_stop_a_test(room, once, program):
     tests, *_ = once(built_rust)
     assert "ok: " in well(tests, "another_test_holds_a_lock", "--exact", "--nocapture", env={**os.environ, "LISTSET": program, "TMPDIR": str(room)})
 
@@ -432,8 +431,9 @@ def test_a_set_that_cannot_be_sent_is_called_in_this_jvm(room, once, program):
 
 @pytest.mark.needs("javac", "java")
 def test_java_sets_that_inherit_their_calls_are_judged_by_them(room, once, program):
-    """Java 17 reads the serialized `Second::contains` back as `First::contains` if both inherit it. The sets
-    are then called in this JVM."""
+    """If two sets inherit their calls, Java 17 reads the serialized `Second::contains` back as `First::contains`. Such
+    sets are called in this JVM.
+    """
     form = Form("Java", room, once(built_java))
     for of in ("inherits first", "inherits second"):
         kind, said = form.told(program, of, FEW)
@@ -448,7 +448,7 @@ def test_servers_are_judged_by_their_clients(room, program, of):
     well(sys.executable, "-B", "-m", "unittest", f"test_servers.{of}", cwd=room, env={**os.environ, "LISTSET": program, "TMPDIR": str(room), "PYTHONPATH": paths})
 
 
-# ---- as a package of each language, used by a project of one's own from where it is installed
+# ---- as a package of each language, used by someone else's project from where it is installed
 
 CMAKE = """cmake_minimum_required(VERSION 3.18)
 project(own LANGUAGES CXX)
@@ -484,7 +484,7 @@ def test_a_project_uses_the_package_of_python(room, program, lacking):
 
 
 def missing_of_maven():
-    """Returns how to install Maven's plugins and JUnit, which are packages of their own, if one is missing."""
+    """Returns how to install Maven's plugins and JUnit, which are separate packages, if one is missing."""
     plugins = [pathlib.Path(f"/usr/share/maven-repo/org/apache/maven/plugins/maven-{it}-plugin") for it in ("compiler", "jar", "resources", "surefire")]
     is_here = all(it.exists() for it in [*plugins, pathlib.Path("/usr/share/java/junit4.jar")])
     return "" if is_here else f"a plugin of mvn, or JUnit, is not installed: {NEEDS['mvn']}"
@@ -521,7 +521,7 @@ def test_a_project_uses_the_package_of_rust(room):
 
 
 def refused(said):
-    """Returns for each set whether its only test refused it."""
+    """Returns for each set whether its only test refused the set."""
     return {name: int(it) for name, it in re.findall(r"^(.*): refused in ([01]) of 1 tests$", said, re.M)}
 
 
@@ -530,7 +530,7 @@ OF_CPP = {"libcds": (["-lcds"], "cds/init.h"), "others": (["-ltbb", "-lurcu-cds"
 
 @pytest.mark.needs("g++")
 @pytest.mark.parametrize("name", OF_CPP)
-def test_right_published_sets_of_cpp_are_not_refused(room, program, lacking, name):
+def test_correct_published_sets_of_cpp_are_not_refused(room, program, lacking, name):
     libraries, header = OF_CPP[name]
     if not pathlib.Path("/usr/include", header).exists():
         lacking("a library is not installed: Debian's packages libcds-dev, libtbb-dev, liburcu-dev and libck-dev")
@@ -545,7 +545,7 @@ def test_packages_that_are_not_installed_are_skipped(program):
 
 
 @pytest.mark.needs("javac", "java")
-def test_of_the_published_sets_of_java_the_wrong_ones_are_refused(room, program, lacking):
+def test_only_the_wrong_published_sets_of_java_are_refused(room, program, lacking):
     jar = pathlib.Path("/usr/share/java/jctools-core.jar")
     if not jar.exists():
         lacking("JCTools is not installed: Debian's package libjctools-java")

@@ -1,5 +1,5 @@
-"""What `judge` says of recordings beside a search of all orders: its verdict, and which key and moment it names, whatever the pieces are in
-which the text comes. `--few` tries a tenth of the texts.
+"""Compares `judge` with a search of all orders: its verdict, and the key and the moment that it names, however the text is
+split into pieces. `--few` tries a tenth of the texts.
 """
 
 import collections
@@ -21,8 +21,9 @@ Call = collections.namedtuple("Call", "thread word key begin end reply")
 
 
 def drawn(rng, calls):
-    """Calls of threads that overlap, in the order of their begins, of a set that has one reply wrong now and then; what it opens with and
-    leaves; moments are 1, 2, 3 and so on."""
+    """Draws overlapping calls of threads, in the order in which they began, with their opening and final keys. The set
+    occasionally replies wrongly. Moments are 1, 2, 3 and so on.
+    """
     opening = sorted(rng.sample(range(KEYS), rng.randrange(KEYS)))
     opened, found, pending, moment = SetModel(keys=opening), [], {}, 0
     wrong = rng.choice([0, 0, 0.05, 0.2])
@@ -47,14 +48,14 @@ def drawn(rng, calls):
 
 
 def with_pending(rng, calls):
-    """Returns the calls with the last calls of some threads made pending."""
+    """Returns the calls, with the last calls of some threads made pending."""
     last, share = {it.thread: it for it in calls}, rng.choice([0, 0.3, 0.9])
     pending = {it.begin for it in last.values() if rng.random() < share}
     return [it._replace(end=None, reply=None) if it.begin in pending else it for it in calls]
 
 
 def spread(rng, calls, opening, keys):
-    """Returns the calls on other keys: those of a set with more keys. Some keys are lost or appear from nowhere."""
+    """Spreads the calls over more keys. Some keys are lost or appear from nowhere."""
     names = rng.sample(range(3 * KEYS), 3 * KEYS)
     others = [it for it in names[KEYS:] if rng.random() < 0.5]
     opened, left = [names[it] for it in opening] + others, {names[it] for it in keys} | {*others}
@@ -72,7 +73,7 @@ def call_line(made):
 
 
 def text_of(calls, opening, keys):
-    """Returns the text of a recording. Without final keys the recording was cut off."""
+    """Returns the text of a recording. If there are no final keys, the recording was cut off."""
     ends = ["cut"] if keys is None else [*(f"key {it}" for it in keys), "end"]
     return "".join(f"{it}\n" for it in [TITLE, *(f"opening {it}" for it in opening), *map(call_line, calls), *ends])
 
@@ -81,13 +82,14 @@ def text_of(calls, opening, keys):
 
 
 def changes(it):
-    """Decides whether a call changes its key, or can change it because it is pending."""
+    """Returns whether a call changes its key, or can change it because it is pending."""
     return it.word in CHANGES and it.reply in ("true", None)
 
 
 def ways_left(calls, is_there):
-    """How the key of these calls may be after them, there or not, if it was there before them or was not: by all orders of those that have
-    ended and of some pending ones that change it."""
+    """Returns the possible states of a key after these calls, given whether it was present before them. Tries all orders
+    of the completed calls and of any pending ones that change the key.
+    """
     calls = [it for it in calls if it.end or changes(it)]
     ended = {number for number, it in enumerate(calls) if it.end}
     before = [{other for other in ended if calls[other].end < it.begin} for it in calls]
@@ -105,13 +107,15 @@ def ways_left(calls, is_there):
 
 
 def known_at(calls, moment):
-    """What is known of calls at a moment: of a change that ends later that it may have been made, of any other such call nothing."""
+    """Returns what is known of the calls at a moment. A change that ends later may have taken effect; any other call that
+    ends later is left out.
+    """
     ended = [it for it in calls if it.end and it.end <= moment]
     return ended + [it._replace(end=None, reply=None) for it in calls if it.begin <= moment and it not in ended and changes(it)]
 
 
 class Judged:
-    """A recording, and the result of a search of all its orders."""
+    """A recording, and the result of searching all its orders."""
 
     def __init__(self, calls, opening, keys):
         self.calls, self.opening, self.keys = calls, opening, keys
@@ -125,11 +129,11 @@ class Judged:
             self.key = min(wrong, key=lambda it: (it not in opening and not self.may_be_changed(it), it), default=None)
 
     def may_be_changed(self, key):
-        """Decides whether a call of the key has ended or can change the key."""
+        """Returns whether a call of the key has ended or can change the key."""
         return any(it.end or changes(it) for it in self.of_key[key])
 
     def overlapped(self):
-        """Returns the number of calls that overlap another call that changed their key."""
+        """Returns how many calls overlap another call that changed their key."""
         def overlap(it, other):
             return it.key == other.key and it.begin < (other.end or LAST) and other.begin < (it.end or LAST)
         return sum(any(it != other and other.reply and changes(other) and overlap(it, other) for other in self.calls) for it in self.calls)
@@ -152,17 +156,17 @@ STATE, CALL = "(present|absent)", r"thread (\d+) (\w+) (\d+) (true|false), (\d+)
 
 
 def leaves(it):
-    """Decides whether a call leaves its key present."""
+    """Returns whether a call leaves its key present."""
     return it.word == "add" or (it.word, it.reply) == ("contains", "true")
 
 
 def needs(it):
-    """Decides whether a call needs its key present."""
+    """Returns whether a call needs its key present."""
     return leaves(it) != changes(it)
 
 
 def call_in(line, form, of_key):
-    """The call that a line of this form has, which is one of the key; and the states behind it."""
+    """Returns the key's call in a line of this form, and the states that follow it."""
     found = re.fullmatch(form, line)
     if not found:
         return None, []
@@ -172,12 +176,12 @@ def call_in(line, form, of_key):
 
 
 def may_be_made(of_key, word, since, until):
-    """Decides whether a call that brings the key into this state, and returned true or is pending, overlaps this time."""
+    """Returns whether a call overlaps this period that brings the key into this state, and returned true or is pending."""
     return any(it.word == word and changes(it) and it.begin < until and since < (it.end or LAST + 1) for it in of_key)
 
 
 def is_true(lines, key, judged):
-    """Decides whether every word of the lines about a clash is true for the calls of the key."""
+    """Returns whether every word of the lines about a contradiction is true for the key's calls."""
     of_key, word = judged.of_key.get(key, []), {True: "add", False: "remove"}
     first, states = call_in(lines[0], f"contradiction in both orders: {CALL}, needs key {key} {STATE} and leaves it {STATE},", of_key)
     if first:
@@ -211,7 +215,7 @@ MORE = "listset judge FILE, with a file, also says what is wrong\n"
 
 
 @pytest.mark.parametrize("seed", SEEDS)
-def test_a_verdict_and_what_is_said_of_it(program, few, seed):
+def test_the_verdict_and_its_lines_are_right(program, few, seed):
     rng, found = random.Random(seed), collections.Counter()
     for _ in range(TEXTS // 10 if few else TEXTS):
         calls, opening, keys = spread(rng, *drawn(rng, rng.randrange(1, 14)))
@@ -229,7 +233,7 @@ def test_a_verdict_and_what_is_said_of_it(program, few, seed):
     assert found["without a clash"] <= (found["by a moment"] + found["left wrong"]) // 10, found
 
 
-# ---- pieces
+# ---- texts that arrive in pieces
 
 def in_pieces(program, text, size):
     """Runs `judge` on a text that is written in pieces of this many bytes."""
@@ -245,7 +249,7 @@ def in_pieces(program, text, size):
 
 @pytest.mark.parametrize("size", [1, 7, 16, 4096])
 def test_the_verdict_does_not_depend_on_the_pieces(program, size):
-    """A recording, a recording without its end, and a recording with another title."""
+    """Tests a recording, a recording without its end, and one with another title."""
     rng = random.Random(size)
     for many in (3, 30, 400):
         calls, opening, keys = drawn(rng, many)
@@ -255,8 +259,8 @@ def test_the_verdict_does_not_depend_on_the_pieces(program, size):
             assert in_pieces(program, it, size) == (done.returncode, done.stdout, done.stderr), it
 
 
-def test_an_error_is_told_before_the_input_ends(program):
-    """A recorder can run for hours: a line with an error ends the program while the pipe is still open."""
+def test_an_error_is_reported_before_the_input_ends(program):
+    """A recorder can run for hours, so an error in a line must end the program while the pipe is still open."""
     with subprocess.Popen([program, "judge"], stdin=subprocess.PIPE, stdout=subprocess.PIPE, stderr=subprocess.PIPE, bufsize=0) as judge:
         judge.stdin.write(f"{TITLE}\ncall 0 add 5 1 2 true\ncall 0 add 5 2 3 true\n".encode())
         try:

@@ -1,9 +1,9 @@
-"""Tests that the program does not keep in memory what it no longer needs. No contract states this.
+"""Tests that the program does not keep data in memory that it no longer needs. No contract states this.
 
-A command runs in an address space and uses about two thirds of it. It would need twice this space if it
-kept, for `judge`, the calls of a recording; for `trace`, its text; for `draft`, `replay` and `show`, each
-event; for `run`, the replies of each round. A server that has served a thousand sessions with many calls
-has used at most a megabyte more than after the first 180.
+Each command runs in a limited address space and uses about two thirds of it. It would need twice the limit if `judge`
+kept the calls of a recording, `trace` its text, `draft`, `replay` and `show` each event, or `run` the replies of each
+round. A server that has served a thousand sessions with many calls may use at most a megabyte more than after the first
+180.
 """
 
 import contextlib
@@ -20,7 +20,7 @@ STACK = 512  # kilobytes of a thread's stack
 
 
 def printed_within(kilobytes, program, *words, text=b""):
-    """Runs a command in this address space, checks for status 0, and returns the output."""
+    """Runs a command in an address space of this size, checks that its status is 0, and returns the output."""
     done = ran("bash", "-c", f'ulimit -s {STACK} && ulimit -v "$0" && exec "$@"', kilobytes, program, *words, text=text)
     assert (done.returncode, done.stderr) == (0, b""), f"{' '.join(map(str, words[:3]))} within {kilobytes} KB"
     return done.stdout
@@ -33,8 +33,9 @@ CALLS, KEYS = 800_000, 120
 
 @pytest.mark.parametrize("threads, at_once", [(4, True), (CALLS // 4, False)])
 def test_judge_keeps_no_completed_call(program, room, threads, at_once):
-    """`judge` keeps nothing of a completed call or of its thread, except the state of its key. The recording
-    is a file or the input."""
+    """`judge` keeps nothing about a completed call or its thread, except for the state of the key. The recording is a file
+    or standard input.
+    """
     of_key = ("add", "true"), ("contains", "true"), ("add", "false"), ("remove", "true"), ("remove", "false")
     calls = [(word, number % KEYS, reply) for number in range(CALLS // len(of_key)) for word, reply in of_key]
     file = room / "long.calls"
@@ -49,15 +50,16 @@ OPENING, WALKS = 2_000, 100
 
 
 def long_walks():
-    """Returns a draft of calls that walk past all keys, one line each. Its schedule has many events for few
-    lines."""
+    """Returns a draft with one line for each call, all of which traverse all keys. Its schedule has many events in few
+    lines.
+    """
     opening = "".join(f"opening {key}\n" for key in range(OPENING))
     calls = f"begin 0 contains {OPENING}\ngo 0 out\n" * WALKS
     return f"listset-draft 2\nlist lazy\nthreads 1\nquota 1\n{opening}{calls}".encode()
 
 
 def events_of(schedule):
-    """Returns the number of events of such a schedule."""
+    """Returns the number of events in a schedule with many steps per line."""
     many = WALKS + sum(map(int, re.findall(rb"^go 0 (\d+)$", schedule, re.M)))
     assert many > 2 * OPENING * WALKS  # (the calls walk past all keys)
     return many
@@ -66,8 +68,7 @@ def events_of(schedule):
 @pytest.mark.parametrize("words", ["draft", "trace", "replay", "show --from 400000", "show --svg --from 400000", "replay --lacks mark-in-contains",
                                    "show --lacks mark-in-contains --from 400000"])
 def test_no_command_keeps_its_events(program, words):
-    """Commands with hundreds of thousands of events, also on a broken list. The output of `trace` has tens of
-    megabytes."""
+    """Runs commands with hundreds of thousands of events, also on a broken list. `trace` prints tens of megabytes."""
     schedule = well(program, "draft", text=long_walks())
     many = events_of(schedule)
     assert many > 400_000  # (a picture shows only a few)
@@ -83,7 +84,7 @@ CALLS_OF_RUN, LIVES = 10_000, 100  # the maximum numbers; a reply has 8 bytes
 
 
 def test_run_keeps_the_replies_of_one_round(program):
-    """`run` keeps the replies of one round at a time. The replies of all rounds have 8,000 KB."""
+    """`run` keeps only the replies of one round at a time. The replies of all rounds take 8,000 KB."""
     said = printed_within(LITTLE, program, "run", "lazy", 1, 1, CALLS_OF_RUN, 1, 1, LIVES)
     assert said.startswith(b"calls %d\n" % (CALLS_OF_RUN * LIVES))
 
@@ -96,7 +97,7 @@ GROWTH = 1_000  # kilobytes: one page for each session of MANY rounds would be 3
 
 
 def most_resident(server):
-    """Returns the peak memory of a server in kilobytes."""
+    """Returns a server's peak memory in kilobytes."""
     return int(re.search(r"^VmHWM:\s+(\d+) kB$", pathlib.Path(f"/proc/{server.process.pid}/status").read_text(), re.M)[1])
 
 
@@ -110,7 +111,7 @@ def goes_away(connection):
 
 
 def sends_a_long_line(connection):
-    """Sends a long line. The server closes the connection before it has read everything."""
+    """Sends a long line. The server closes the connection before it has read all of it."""
     with contextlib.suppress(ConnectionError):
         connection.sendall(b"?" * 4_000_000)
 
@@ -120,7 +121,7 @@ CALLS_OF_SESSIONS = CALLS_AT_ONCE + 2
 
 
 def serves(server, sessions):
-    """Holds sessions, one after another."""
+    """Holds sessions one after another."""
     for speak in sessions:
         with server.connect() as connection:
             connection.settimeout(SOON)
@@ -128,8 +129,9 @@ def serves(server, sessions):
 
 
 def test_a_server_keeps_nothing_of_its_sessions(program):
-    """The memory of a server does not grow with served sessions and calls, nor with a long line, nor while a
-    silent client is connected."""
+    """A server's memory does not grow with the number of served sessions and calls, with a long line, or while a silent
+    client is connected.
+    """
     rounds = FEW + MANY
     sessions, calls = 1 + len(SESSIONS) * rounds + LONG_LINES, CALLS_OF_SESSIONS * rounds
     with serving(program, "lazy", SEATS, 2 * rounds, sessions) as server:

@@ -1,5 +1,6 @@
-"""Tests docs/NEW-LIST.md: each list is in each place that names the lists; build/new_list makes a copy, adds
-it to these places, and prints what is left. ./gate proves what it makes, with the lists of examples/lists."""
+"""Tests docs/NEW-LIST.md: every place that names the lists names all of them, and build/new_list makes a copy, adds it to
+these places, and prints what is left to do. ./gate proves the copy together with the lists in examples/lists.
+"""
 
 import re
 
@@ -14,12 +15,12 @@ PLACES = {**lists.CODE, **lists.TEXTS}
 
 @pytest.fixture
 def copy(room):
-    """Returns a repository with the files that new_list reads and writes."""
+    """Creates a repository with the files that new_list reads and writes."""
     return copied(["build", "crates.txt", "examples/lists", *PLACES, *(f"crates/{it.crate}" for it in lists.lists())], room / "copy")
 
 
 def code_in(crate):
-    """Returns the code of a crate's files, without comments."""
+    """Returns the code in a crate's files without comments."""
     files = [it for it in crate.rglob("*") if it.suffix in (".rt", ".antt")]
     return "\n".join(re.sub(r"(^|\s)(--|//).*", "", line) for it in files for line in it.read_text().splitlines())
 
@@ -36,7 +37,7 @@ def test_a_copy_has_names_of_its_own_and_the_kind_of_its_list(copy, old):
     assert "impl Machine for OneMoreList" in code and "pub one_more_lawful : Lawful one_more" in code
 
 
-def test_a_joined_list_lacks_only_what_is_written_by_hand(copy):
+def test_a_joined_list_lacks_only_the_parts_written_by_hand(copy):
     for word in ["one-more", "not-yet"]:
         well(copy / "build/new_list", "fine", word)
     well(copy / "build/new_list", "--join", "one-more")

@@ -1,5 +1,6 @@
-"""Tests examples/recorders and examples/recordings: the recorder that docs/YOUR-SET.md shows, and judging a
-recording by parts of its keys. The verdict is that of `listset judge`, for any number of parts."""
+"""Tests examples/recorders and examples/recordings: the recorder that docs/YOUR-SET.md shows, and judging a recording
+split by key. The verdict must be that of `listset judge` for any number of parts.
+"""
 
 import os
 import random
@@ -23,8 +24,8 @@ RECORDINGS = [recording(1), recording(2), recording(3), recording(1, is_cut=True
 
 @pytest.mark.parametrize("text", RECORDINGS, ids=range(len(RECORDINGS)))
 @pytest.mark.parametrize("parts", [4, 30])
-def test_parts_have_the_verdict_of_the_recording(program, room, text, parts):
-    """The named refusal, or the part with an error, can differ."""
+def test_the_parts_of_a_recording_have_its_verdict(program, room, text, parts):
+    """Which refusal is named, or which part has an error, can differ."""
     recorded = room / "run.calls"
     recorded.write_text(text)
     done, due = ran(TOP / "examples/recordings/judge_by_key", recorded, parts, env={**os.environ, "LISTSET": program}), ran(program, "judge", recorded)

@@ -1,5 +1,6 @@
-"""Tests the first error of texts of each kind: of the texts in a table, and of each prefix of a text. The
-program prints one line about the error and nothing else, and exits with status 1."""
+"""Tests the first error in texts of each kind: in the texts of a table, and in each prefix of a text. The program must
+print exactly one line about the error and exit with status 1.
+"""
 
 import re
 
@@ -7,7 +8,7 @@ import pytest
 from harness.programs import TOP, ran
 
 DATA = TOP / "tests/transcripts/data"
-# The command that reads a kind of text, and the lines before those in the table
+# The command that reads a kind of text, and the lines before those in the table.
 READERS = {
     "schedule": ("replay", "listset-schedule 1\nlist coarse\nthreads 1\nquota 1\n"),
     "schedule 2": ("replay", "listset-schedule 2\nlist coarse\nthreads 1\nquota 1\n"),
@@ -17,8 +18,7 @@ READERS = {
     "recording": ("judge", "listset-calls 1\n"),
     "keys": ("serve lazy 1 4 0 0 -", ""),
 }
-# The kind of a text, the number of a line and its cause; then texts with this first error. \n separates their
-# lines
+# The kind of a text, a line number and a cause; then texts with this first error. \n separates their lines.
 TABLE = r"""
 schedule: line 5: Event | take 0 5\n | go  0 1\n | begin 0 add\n | opening 5\n
 schedule: line 5: Number | begin 0 add 05\n | begin 0 add 4294967296\n | go 0 0\n | go 0 10001\n
@@ -61,7 +61,7 @@ HEADER = ["Header", "Kind", "Threads", "Quota"]  # the cause, by the number of w
 
 
 def rows():
-    """Returns kind, text, line and cause of each text in the table."""
+    """Returns the kind, text, line and cause of each text in the table."""
     for line in TABLE.strip().splitlines():
         about, *texts = line.split(" | ")
         kind, due = about.split(": ", 1)
@@ -98,8 +98,9 @@ def test_the_first_error_of_a_header_is_named(program, title, words):
 
 
 def test_the_first_error_of_each_prefix_of_a_draft_is_named(program):
-    """The error of a prefix that ends within a line is that the line has no end. A prefix of whole lines
-    lacks the next line of the header, or is read."""
+    """If a prefix ends within a line, the error is that the line has no newline. If it consists of complete lines, either
+    the next header line is missing, or the prefix is read.
+    """
     text = (DATA / "drafts/opens-with-keys.draft").read_text()
     for front in (text[:at] for at in range(len(text))):
         lines = front.count("\n")

@@ -1,6 +1,6 @@
-"""Tests the packages of a release: makes a trial release of what is built here, unpacks each package where no
-toolchain is, and uses it as its reader would: the archive, the .deb, the wheel, the crate, and the page in
-one file."""
+"""Tests the packages of a release. Makes a trial release from the current build, unpacks each package where there is no
+toolchain, and uses it as its reader would: the archive, the .deb, the wheel, the crate, and the page in one file.
+"""
 
 import os
 import pathlib
@@ -20,7 +20,7 @@ needs = pytest.mark.needs
 
 SCHEDULES = TOP / "examples" / "schedules"
 REPLAYED_EXAMPLES = ["snip", "opens-with-keys", "read-in-anothers-step", "two-removers"]
-# without the folders of the Rattle toolchain
+# PATH without the folders of the Rattle toolchain
 PATH_WITHOUT_RATTLE = os.pathsep.join(it for it in os.environ["PATH"].split(os.pathsep) if not (pathlib.Path(it) / "rt").exists())
 WITHOUT_RATTLE = {"PATH": PATH_WITHOUT_RATTLE, "HOME": os.environ.get("HOME", "/"), "LANG": "C.UTF-8"}
 PROGRAM_WITH_WHEEL = """import listset, sys
@@ -55,18 +55,18 @@ def proof_of(program):
 
 
 def trial_of(program):
-    """Returns the command that makes packages of the program under test, except for their folder."""
+    """Returns the command that makes packages of the program under test, without the name of their folder."""
     return [TOP / "build" / "release", *(["--unproved"] if proof_of(program) == version_stamp.NOT_PROVED else []), "--trial"]
 
 
 def made_packages(folder, program):
-    """Returns the folder of the packages, or why none can be made on this machine or in this clone."""
+    """Returns the folder of the packages, or the reason why they cannot be made on this machine or in this clone."""
     done = ran(*trial_of(program), folder / "dist", seconds=LONG)
     return folder / "dist" if done.returncode == 0 else done.stderr.strip()
 
 
 class Release:
-    """The packages for all tests."""
+    """The packages, shared by all tests."""
 
     def __init__(self, folder, room):
         self.folder, self.room = folder, room
@@ -91,14 +91,16 @@ def release(program, room, once, lacking):
 
 
 def replays(program, enter, **how):
-    """Checks that the program of a package prints the same bytes as the program under test."""
+    """Checks that a package's program prints the same bytes as the program under test."""
     for name in REPLAYED_EXAMPLES:
         text = (SCHEDULES / f"{name}.schedule").read_text()
         assert well(*enter, "replay", text=text, **how) == well(program, "replay", text=text)
 
 
 def told_of_broken(program):
-    """Returns the version, the verdict on a broken report and the exit status, in the layout that the test programs print."""
+    """Returns the version, the verdict on a broken report, and the exit status, in the format that the test programs
+    print.
+    """
     done = ran(program, "check", SCHEDULES / "snip.broken.report")
     return f"{version_stamp.told(proof_of(program))}{(done.stdout + done.stderr).strip()} {done.returncode}\n"
 
@@ -113,7 +115,9 @@ def test_a_release_is_reproducible(release, program, room):
 
 @pytest.mark.skipif(os.geteuid() != 0, reason="only root may chroot")
 def test_the_program_needs_no_other_file(release, program):
-    """The program replays, runs four threads and serves a session in a root with nothing but its package."""
+    """In a root folder with nothing but its package, the program replays a schedule, runs four threads, and serves a
+    session.
+    """
     enter = [shutil.which("chroot"), release.unpacked("*-linux-x86_64.tar.gz"), "/bin/listset"]
     assert well(*enter, "--version", "--long", env={}) == version_stamp.told(proof_of(program))
     replays(program, enter, env={})

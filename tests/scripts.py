@@ -1,5 +1,6 @@
-"""Tests ./listset as a user meets it: without a program, with Node only, after an edit, and with a command
-that is interrupted; and `build/take`. The tests use small clones, in which the program adds up bytes."""
+"""Tests ./listset as a user would use it: without a program, with only Node, after an edit, and with an interrupted
+command; and `build/take`. The tests use small clones, in which the program adds up bytes.
+"""
 
 import os
 import pathlib
@@ -16,7 +17,7 @@ from harness.programs import LONG, SECONDS, TOP, comes, is_running, ran, wants, 
 
 BUILDING = "building the program once WITHOUT A PROOF"
 NO_NODE = "no program is built here, and Node is missing. Install Debian's package nodejs (18 or later), or put the folder bin of the Rattle toolchain in PATH"
-# The sum of each command's length and one: above the largest byte for "show", and missing for "replay"
+# Prints the table entry for each argument's length, plus one: 255 + 1 overflows for "show", and "replay" has no entry.
 MAIN = """#![tactic(auto)]
 
 use std::io;
@@ -33,12 +34,12 @@ fn main(rt: HostRuntime) -> io::Result<()> {
 TEXTS = {"crates.txt": "ffi_page staticlib:\nlistset:\n", "crates/ffi_page/src/lib.rt": "//! Nothing.\n", "crates/listset/src/main.rt": MAIN}
 
 
-# The commands that the scripts can use without a message if they are missing
+# The commands that the scripts may use without reporting that they are missing.
 COMMANDS = "awk bash cat chmod cp cut date dirname env find grep mv readlink rm sed sh sha256sum sleep sort touch xargs".split()
 
 
 def bare_path(folder, *further):
-    """Returns a folder for PATH, with Python, COMMANDS, and those of the further commands that are installed."""
+    """Creates a folder to use as PATH, with Python, COMMANDS, and the further commands that are installed."""
     folder.mkdir()
     (folder / "python3").symlink_to(os.path.realpath(sys.executable))
     for it in filter(shutil.which, [*COMMANDS, *further]):
@@ -47,7 +48,7 @@ def bare_path(folder, *further):
 
 
 def copied(parts, to):
-    """Returns a folder with these parts of the repository, without built files."""
+    """Creates a folder with these parts of the repository, without built files."""
     for part in parts:
         (to / part).parent.mkdir(parents=True, exist_ok=True)
         if (TOP / part).is_dir():
@@ -58,7 +59,7 @@ def copied(parts, to):
 
 
 class Clone:
-    """A small clone, and a PATH with few commands."""
+    """A small clone, with a PATH of few commands."""
 
     def __init__(self, room, *commands):
         self.tree, self.path = room / "tree", bare_path(room / "path", *commands)
@@ -75,7 +76,7 @@ class Clone:
         return ran(*words, seconds=LONG, **self.how, **how)
 
     def prove(self, at):
-        """Writes a program in the place of the proved one. It is this many seconds younger than now."""
+        """Writes a program in place of the proved one, `at` seconds younger than now."""
         self.kept.mkdir(parents=True, exist_ok=True)
         self.proved.write_text('#!/bin/sh\necho "proved: $*"\n')
         self.proved.chmod(0o755)
@@ -83,7 +84,7 @@ class Clone:
 
 
 def shown(command):
-    """Returns what a command prints, from the transcripts."""
+    """Returns what a command prints, according to the transcripts."""
     text = "".join((TOP / "tests/transcripts" / f"{page}.md").read_text() for page in ("help", "words"))
     block = re.search(rf"^    \$ listset {re.escape(command)}\n((?:    (?!\$ ).*\n|\n)*)", text, re.M)[1]
     return re.sub("^    ", "", block, flags=re.M).rstrip("\n") + "\n"
@@ -155,7 +156,7 @@ def test_a_missing_rt_is_named(room, words):
     assert done.returncode and "rt is missing: the Rattle toolchain; its folder bin must be in PATH" in said and "Traceback" not in said
 
 
-# Prints what the gate says is not run
+# Prints what the gate reports as not run.
 NOT_RUN = """import importlib.machinery, importlib.util, sys
 loader = importlib.machinery.SourceFileLoader("gate", "gate")
 gate = importlib.util.module_from_spec(importlib.util.spec_from_loader("gate", loader))
@@ -184,7 +185,7 @@ def test_a_mark_of_an_unknown_tool_is_refused(room):
     assert done.returncode and "needs no-such-tool, which build/needs.txt does not list" in done.stdout + done.stderr, done
 
 
-# A script whose two threads run four commands, two at a time
+# A script in which two threads run four commands, two at a time.
 FOUR = """import sys, time
 sys.path.insert(0, {build!r})
 import processes
@@ -216,7 +217,7 @@ def test_an_interrupted_script_starts_no_further_command(room, number):
     assert sorted(it.name for it in room.iterdir()) == ["a", "b", "temporary"] and [*(room / "temporary").iterdir()] == []
 
 
-# A substitute for rt: a proof that does not end, with a file in the folder for temporary files
+# A substitute for rt: a proof that does not end, and has a file in the folder for temporary files.
 SLEEPS = """#!/bin/sh
 if [ "$1" = doc ]; then echo {room}/START-HERE.md; exit; fi
 mkdir "$TMPDIR/rattle-logic-built-locked-1"
@@ -238,12 +239,12 @@ def test_an_interrupted_proof_leaves_no_process_and_no_file(room, words):
     running.send_signal(signal.SIGINT)
     said, _ = running.communicate(timeout=SECONDS)
     assert (running.returncode, "Traceback" in said) == (130, False), said
-    assert "listset" not in words or re.search(r"proving \d+ crates by rt ci, about \d+ minutes .* \d+ processors; Ctrl-C ends it and keeps what is proved\n", said), said
+    assert "listset" not in words or re.search(r"proving \d+ crates with rt ci, about \d+ minutes .* \d+ processors; Ctrl-C ends it and keeps what is proved\n", said), said
     comes(lambda: not is_running(int((room / "started").read_text())), "the end of what was started")
     assert [*(room / "temporary").iterdir()] == []
 
 
-def test_each_crate_is_after_those_that_it_uses_and_both_scripts_find_those_below():
+def test_crates_txt_is_ordered_and_both_scripts_find_the_crates_below():
     lines, before = crates_txt.lines_of(), set()
     for name, line in lines.items():
         used = {it for it in line.partition(":")[2].split() if it in lines}
@@ -263,7 +264,7 @@ def test_help_of_a_script_starts_no_work(room):
     assert [*clone.tree.rglob("out")] == []
 
 
-# An edit of a function's body, of its contract, of two bodies, and of a constant
+# Edits of one function's body, of its contract, of two bodies, and of a constant.
 EDITED = """const MOST: u32 = 5;
 
 /// Returns the larger number.
@@ -297,7 +298,7 @@ def test_an_edit_that_must_fail_changes_bodies_alone(room, old):
         assert "BadEdit: " in done.stderr, done
 
 
-# Prints the functions that an edit changes
+# Prints the functions that an edit changes.
 EDITED_FUNCTIONS = """import importlib.machinery, importlib.util, pathlib, sys
 sys.path.insert(0, "build")
 loader = importlib.machinery.SourceFileLoader("try_edits", "build/try_edits")
@@ -319,4 +320,4 @@ def test_take_copies_crates_and_replaces_them(room):
     wants(ran(here / "build/take", there, "no-such"), status=2, output="", tells=["there is no crate no-such"])
     wants(ran(here / "build/take", ".", "lset_words", cwd=here), status=2, output="", tells=["take: . is this repository"])
     (there / "HANDLES").write_text("Another.\n")
-    wants(ran(here / "build/take", there, "lset_words"), output="left: HANDLES is another one there\n1 crates are there as here\n")
+    wants(ran(here / "build/take", there, "lset_words"), output="kept: HANDLES is different there\n1 crates are there as here\n")

@@ -1,8 +1,9 @@
-"""Checks each sentence that `check` and `show` print of a report: each is a property here, which a search of all orders decides. The reports have
-3 to 9 calls, drawn at random, right and wrong. A line without a property fails. `trace` and `show` must also have the calls of the report that
-`replay` prints. (Sentences on recordings: tests/judging.py.)
+"""Checks every sentence that `check` and `show` print about a report. Each kind of sentence is a property, which a search
+of all orders decides. The reports have 3 to 9 random calls and are right or wrong. A line without a property fails the
+test. `trace` and `show` must also show the calls of the report that `replay` prints. (tests/judging.py checks sentences
+about recordings.)
 
-The environment variable CASES is the number of cases that each test draws for each seed; `--few` draws a tenth.
+The environment variable CASES is the number of cases that each test draws per seed; `--few` draws a tenth.
 """
 
 import collections
@@ -30,7 +31,7 @@ def cases(few):
 
 
 class Sentences:
-    """Properties by the pattern of their lines. A property gets a case and the groups of the match."""
+    """Properties, each with the pattern of its lines. A property receives a case and the groups of the match."""
 
     def __init__(self):
         self.properties = []
@@ -50,18 +51,20 @@ class Sentences:
             case.met[holds.__name__] += 1
 
 
-# ---- all orders of calls of a set with several keys, a quota and ceilings
+# ---- all orders of the calls of a set with several keys, a quota and ceilings
 
 
 def is_reply(word, key, reply):
-    """Decides whether a set with these keys returns this reply to a call."""
+    """Returns whether a set with these keys gives this reply to a call."""
     if word == "ceiling":
         return reply == "nothing" or (reply.startswith("at-") and int(reply[3:]) >= key)
     return reply in ("true", "false") or (word, reply) == ("add", "full")
 
 
 def left_by_orders(calls, opening, quota):
-    """Returns the final key sets of all orders that explain the calls. A pending call without an effect is in no order."""
+    """Returns the possible final keys: those of all orders that explain the calls. A pending call without effect is in no
+    order.
+    """
     calls = [it for it in calls if it.end or changes(it)]
     completed = {number for number, it in enumerate(calls) if it.end}
     before = [{other for other in completed if calls[other].end < it.begin} for it in calls]
@@ -86,8 +89,10 @@ def left_by_orders(calls, opening, quota):
 
 
 def drawn_calls(rng, quota, opening):
-    """Calls of threads that overlap, each with its end and reply if it has ended; their numbers in the order in which they took effect, with
-    the reply of the set; and the keys left. Now and then a call returns another reply."""
+    """Draws overlapping calls of threads, with the end and reply of those that have ended. Returns the calls, their
+    numbers in the order in which they took effect with the set's replies, and the final keys. Occasionally, a call
+    returns a wrong reply.
+    """
     held, calls, pending, order, moment = SetModel(quota, opening), [], {}, [], 0
     count, wrong = rng.randrange(3, 10), rng.choice([0, 0.1, 0.3])
     while len(calls) < count or pending:
@@ -128,11 +133,11 @@ class Reported:
         self.kind = made.kind
 
     def is_explained(self):
-        """Decides whether some order explains the calls and leaves the final keys."""
+        """Returns whether some order explains the calls and leaves the final keys."""
         return self.keys == sorted({*self.keys}) and frozenset(self.keys) in left_by_orders(self.calls, self.opening, self.quota)
 
     def before_place(self, place):
-        """Returns the set before place number `place`, counted from 1."""
+        """Returns the set just before the place with this number, counted from 1."""
         held = SetModel(self.quota, self.opening)
         for number, _ in self.order[: place - 1]:
             if number < len(self.calls):
@@ -149,12 +154,12 @@ class Reported:
         return [place for place, (number, _) in enumerate(self.order, 1) if number == int(call)]
 
     def after(self, call):
-        """Returns the calls whose place is after the place of a call."""
+        """Returns the calls that are placed after a call."""
         places = self.places(call)
         return [number for number, _ in self.order[places[0]:] if number < len(self.calls)] if places else []
 
     def is_early(self, call, other):
-        """Decides whether the order has a call before another call that had ended when it began."""
+        """Returns whether the order puts a call before another one that had ended when the call began."""
         ended = self.calls[int(other)].end
         return ended is not None and ended < self.calls[int(call)].begin and int(other) in self.after(int(call))
 
@@ -163,7 +168,7 @@ class Reported:
         return (self.calls[number].reply or reply) != reply or self.answer_at(place) != reply
 
     def explains(self):
-        """Decides whether the order in the report explains its calls and leaves its final keys."""
+        """Returns whether the report's order explains its calls and leaves its final keys."""
         numbers = [number for number, _ in self.order]
         completed = {number for number, it in enumerate(self.calls) if it.end}
         if len({*numbers}) < len(numbers) or max(numbers, default=-1) >= len(self.calls) or not completed <= {*numbers}:
@@ -172,7 +177,7 @@ class Reported:
         return are_right and not any(self.is_early(it, other) for it in numbers for other in numbers) and self.left() == self.keys
 
     def read(self):
-        """The calls as looks at one key and changes of it: a ceiling, and an add that returned full, look at a key."""
+        """Returns the calls as reads and changes of single keys. A ceiling, or an add that returned full, reads one key."""
         looks = []
         for it in self.calls:
             if it.reply == "full":
@@ -246,7 +251,7 @@ def keys_in(text):
 
 
 def has_room(case):
-    """Decides whether no thread can exceed the quota with its successful adds."""
+    """Returns whether no thread can exceed the quota with its successful adds."""
     may = collections.Counter(it.thread for it in case.calls if it.word == "add" and changes(it))
     return max(may.values(), default=0) <= case.quota
 
@@ -357,13 +362,13 @@ def each_order_of_the_report_leaves_the_key_otherwise(case, key):
     return case.ways(int(key)) == {int(key) not in case.keys}
 
 
-# Two calls that contradict each other: each is a call of the report, and leaves or needs a key as it is read.
+# Two contradicting calls: each must be a call of the report, and leaves or needs a key the way it is read.
 
 CALL, STATE = r"thread (\d+) (\w+) (\d+) (\S+), (\d+) to (\d+)", "(present|absent)"
 
 
 def look_at(case, call):
-    """Returns how a call of the report is read. None if the report has no such call."""
+    """Returns how a call of the report is read. Returns None if the report has no such call."""
     thread, word, key, reply, begin, end = call
     made = Call(int(thread), word, int(key), int(begin), int(end), reply)
     return dict(zip(case.calls, case.read())).get(made)
@@ -398,7 +403,7 @@ def the_key_is_so_at_the_end(case, key, state):
 
 
 def may_be_made(case, word, key, since, until):
-    """Decides whether a call that brings the key into this state, and returned true or is pending, overlaps this time."""
+    """Returns whether a call overlaps this period that brings the key into this state, and returned true or is pending."""
     return any((it.word, it.key) == (word, key) and changes(it) and it.begin <= until and since <= (it.end or LAST) for it in case.calls)
 
 
@@ -422,7 +427,7 @@ DRAWN = ("moment ", "thread ", "set ", "order")
 
 
 def sentences_in(shown):
-    """Returns the lines with a statement about a report."""
+    """Returns the lines that state something about a report."""
     above, refusal, below = shown.partition("\nnot linearizable\n")
     return [it for it in above.splitlines() if it and it != LEGEND and not it.startswith(DRAWN)] + f"not linearizable\n{below}".splitlines() * bool(refusal)
 
@@ -442,7 +447,9 @@ def test_what_show_says_of_a_report_is_true(program, cases, few, seed):
 
 
 def ends_of_trace(trace):
-    """Of each call of a trace its reply and the moment at which it takes effect; a pending call has one if it has changed the set."""
+    """Returns, for each call in a trace, its reply and the moment at which it takes effect. A pending call has a moment if
+    it has changed the set.
+    """
     ends, begun = {}, {}
     for line in trace.splitlines():
         if found := re.match(r"event (\d+) line \d+ thread (\d+) (.*)", line):
@@ -460,12 +467,12 @@ def ends_of_trace(trace):
 
 
 def order_of(ends):
-    """Returns the places sorted by their moments. At one moment the change comes first, then the others by their numbers."""
+    """Returns the places sorted by moment. At one moment the change comes first, then the others by number."""
     return sorted(ends, key=lambda it: (ends[it][1], not ends[it][2], it))
 
 
 def compare_run(program, text, *words):
-    """Checks that the trace and the picture of a run have the calls of its report. Returns the ends in the trace."""
+    """Checks that the trace and the picture of a run have the same calls as its report. Returns the ends in the trace."""
     report, trace = ran(program, "replay", *words, text=text).stdout, ran(program, "trace", *words, text=text).stdout
     ends, places = ends_of_trace(trace), [tuple(it.split()[1:]) for it in report.splitlines() if it.startswith("place ")]
     assert places == [(str(it), ends[it][0]) for it in order_of(ends)], text
@@ -479,7 +486,7 @@ def compare_run(program, text, *words):
 
 @pytest.mark.parametrize("kind", KINDS)
 def test_traces_and_pictures_have_the_order_of_the_report(program, few, kind):
-    """The report comes from the proved `replay`."""
+    """The report comes from `replay`, which is proved."""
     for seed in range(2 if few else 12):
         text = drawn_schedule(kind, 1000 + seed)
         if not ran(program, "replay", text=text).returncode:
@@ -487,7 +494,7 @@ def test_traces_and_pictures_have_the_order_of_the_report(program, few, kind):
 
 
 def continued(name, seed):
-    """Returns the schedule that breaks a broken list, continued by calls of all its keys, one after another."""
+    """Returns the schedule that breaks a broken list, followed by calls of all its keys in turn."""
     text, draw = (TOP / f"examples/schedules/lacks/{name}.schedule").read_text(), random.Random(f"{name} {seed}")
     plan = read_schedule(text)
     model, lines = List(plan.kind, plan.threads, plan.quota, plan.opening, name), []
@@ -518,14 +525,14 @@ def continued(name, seed):
 
 
 def fits_nowhere(run, number):
-    """Decides whether a completed call without a change has a reply that fits at no moment of the call."""
+    """Returns whether a completed call that changes nothing has a reply that is not correct at any of its moments."""
     it, (end, reply), (_, is_change) = run.calls[number], run.ends[number], run.points[number]
     return not is_change and reply != "full" and all(reply_of(it.word, it.key, run.sets[at]) != reply for at in range(it.begun, end + 1))
 
 
 @pytest.mark.parametrize("name", LACKING)
 def test_a_reply_that_fits_nowhere_is_placed_at_its_end(program, few, name):
-    """Any other call without a change is at the first moment at which its reply fits."""
+    """Any other call that changes nothing is placed at the first moment at which its reply is correct."""
     found = 0
     for seed in range(1 if few else 4):
         text = continued(name, seed)

@@ -1,7 +1,6 @@
-"""Tests the answers of `listset serve` to clients, at once and one after another.
+"""Tests how `listset serve` answers clients, at the same time and one after another.
 
-Only the loopback is used. Every wait is bounded, and a server that does not end is killed by its process
-id.
+Only the loopback is used. All waits are bounded, and a server that does not end is killed by its process id.
 """
 
 import collections
@@ -30,16 +29,17 @@ BEYOND = 100_000
 LATE = 3
 
 
-# ---- many clients at once
+# ---- many clients at the same time
 
 
 class Sharing:
-    """A client with its own habits: it sends its requests in pieces of random size, byte by byte, or all
-    before it reads an answer. It ends with QUIT, in the middle of a line, or with random bytes. `told` has
-    the answers to its calls on shared keys, `own` its own keys.
+    """A client with habits of its own: it sends its requests in pieces of random size, byte by byte, or all of them before
+    it reads an answer. It ends with QUIT, in the middle of a line, or with random bytes. `told` contains the answers to
+    its calls of shared keys, and `own` its own keys.
 
-    A LockFreeList gets no CEILING here: a ceiling that meets a marked node starts again until another call
-    walks there."""
+    On a LockFreeList there is no CEILING, because a ceiling that meets a marked node restarts until another call passes
+    there.
+    """
 
     def __init__(self, number, kind, all_are_served):
         self.all_are_served = all_are_served
@@ -50,8 +50,9 @@ class Sharing:
         self.calls = sum(call is not None for _, call, _ in self.turns)
 
     def turn(self):
-        """Returns a line; its call, or None; and its right answers, or for a ceiling the client's smallest
-        own key at or above the key of the call."""
+        """Returns a line, its call (or None), and the right answers. For a ceiling, returns the client's smallest own key
+        at or above the call's key instead of the answers.
+        """
         word, key, is_own = self.draw.choice(self.words), self.draw.randrange(SHARED), self.draw.random() < 0.5
         if self.draw.random() < 0.05:
             return self.draw.choice([f"{word.upper()} 0{key}", f"{word} {key}", f"{word.upper()}  {key}", "", "MOVE 7"]), None, {"BAD"}
@@ -94,8 +95,9 @@ class Sharing:
 
 @pytest.mark.parametrize("kind", KINDS)
 def test_clients_at_once_receive_right_answers(program, kind):
-    """Each answer on a client's own keys is right. Those on shared keys add up to what the server prints at
-    its end. All clients have a seat at once: none continues before all have their first answer."""
+    """All answers about a client's own keys are right, and those about shared keys agree with what the server prints at
+    its end. All clients have a seat at the same time: none continues before all have received an answer.
+    """
     with serving(program, kind, SEATS, ROOM, CLIENTS + 1) as server, server.connect() as idle:
         all_are_served = threading.Barrier(CLIENTS)
         clients = [Sharing(number, kind, all_are_served) for number in range(CLIENTS)]
@@ -114,8 +116,9 @@ def test_clients_at_once_receive_right_answers(program, kind):
 
 
 def test_more_clients_than_seats_are_served(program):
-    """More sessions than seats, threads of a set and places in the queue. A session that ends with an error
-    ends only itself. Each tenth client resets its connection, with answers that it has not read."""
+    """There are more sessions than seats, than threads of a set, and than places in the queue. A session that ends with an
+    error ends no other. One client in ten resets its connection without having read all answers.
+    """
     def speak(key, connection):
         if key % 10 == 0:
             connection.sendall(b"CONTAINS %d\n" % key * 3)
@@ -136,8 +139,7 @@ def test_more_clients_than_seats_are_served(program):
 
 
 def test_many_connections_one_after_another_are_served(program):
-    """The maximum number of connections, one after another, with a low limit of open files, whichever way a
-    session ends."""
+    """The maximum number of connections, one after another, with a low limit on open files, whatever way a session ends."""
     sessions, keys, files = 10_000, 1000, 32
     limited = ["sh", "-c", f'ulimit -n {files} && exec "$@"', "sh"]
     with serving(program, ONE_LIST, 1, ROOM, sessions, before=limited) as server:
@@ -157,15 +159,16 @@ def test_many_connections_one_after_another_are_served(program):
 
 
 def drips(connection, end):
-    """Sends a byte now and then until `end` is set."""
+    """Sends a byte from time to time until `end` is set."""
     with contextlib.suppress(OSError):
         while not end.wait(0.3):
             connection.sendall(b"?")
 
 
 def test_clients_of_one_seat_are_served_in_turn(program):
-    """One client after another, on a seat with 2 slots; a client from another address; and one client more
-    than are served."""
+    """Clients use one seat with 2 slots one after another. One client comes from another address, and one more comes than
+    are served.
+    """
     with serving(program, ONE_LIST, 1, 2, 6) as server:
         with pytest.raises(ConnectionRefusedError):
             server.connect("127.0.0.2")
@@ -196,7 +199,7 @@ def test_clients_of_one_seat_are_served_in_turn(program):
 
 
 def test_a_server_listens_on_the_port_in_its_arguments(program):
-    """A server listens on the port in its arguments, which was free just before."""
+    """The server listens on the port in its arguments, which was free just before."""
     with socket.create_server(("127.0.0.1", 0)) as free:
         port = free.getsockname()[1]
     with started(program, "serve", ONE_LIST, 1, ROOM, port, 1) as process:
@@ -212,9 +215,10 @@ def test_a_server_listens_on_the_port_in_its_arguments(program):
 
 @pytest.mark.parametrize("group", [1, 1023, 6000])
 def test_answers_to_a_group_of_lines_arrive_before_the_next_group(program, group):
-    """A client sends a group of lines and reads all answers before it sends the next group: answers of each
-    kind, keys of each length. The answers arrive although no further line is sent, even if they fill the
-    buffer of the server (4,096 bytes). The answers to many lines arrive in few pieces."""
+    """A client sends a group of lines, with every kind of answer and keys of every length, and reads all answers before it
+    sends the next group. The answers arrive although no further line is sent, even if they fill the server's buffer
+    (4,096 bytes). The answers to many lines arrive in few pieces.
+    """
     keys = [10**digits for digits in range(10)]
     turns = [(f"CEILING {key}", f"AT {key}") for key in keys] + [("MOVE 7", "BAD")] * 5
     turns += [("ADD 5", "FULL"), ("ADD 1", "FALSE"), ("CONTAINS 1", "TRUE"), (f"CEILING {keys[-1] + 1}", "NONE")]
@@ -231,14 +235,14 @@ def test_answers_to_a_group_of_lines_arrive_before_the_next_group(program, group
 
 
 def segments_with_data(connection):
-    """Returns how many segments with data the system has received on a connection: `tcpi_data_segs_in` of
-    linux/tcp.h."""
+    """Returns how many segments with data the system has received on a connection (`tcpi_data_segs_in` in linux/tcp.h)."""
     return struct.unpack_from("I", connection.getsockopt(socket.IPPROTO_TCP, socket.TCP_INFO, 160), 152)[0]
 
 
 def test_a_silent_client_keeps_its_session(program):
-    """A client can be silent for some seconds, even within a line, and then continue: no read of a session
-    has a timeout."""
+    """A client can be silent for some seconds, even within a line, and then continue, because no read of a session has a
+    timeout.
+    """
     with serving(program, ONE_LIST, 1, 1, 1) as server:
         with server.connect() as connection:
             connection.settimeout(SOON)
@@ -255,8 +259,9 @@ def test_a_silent_client_keeps_its_session(program):
 
 
 def sends_until_stuck(connection):
-    """Sends lines and reads no answer, until the system has accepted none for a second. Returns how many
-    lines were accepted."""
+    """Sends lines without reading answers, until the system has accepted none for a second. Returns how many lines were
+    accepted.
+    """
     line, sent = b"CEILING 0\n", 0
     with contextlib.suppress(TimeoutError):
         while True:
@@ -265,8 +270,9 @@ def sends_until_stuck(connection):
 
 
 def test_a_client_that_reads_no_answer_holds_only_its_seat(program):
-    """A client that reads no answer holds its seat and nothing else: the others are served, and when it
-    disconnects the server ends."""
+    """A client that reads no answers occupies nothing but its seat. The other clients are served, and once it disconnects,
+    the server ends.
+    """
     key = 4_294_967_295
     with serving(program, ONE_LIST, 2, ROOM, 5) as server:
         with server.connect() as connection:
@@ -283,13 +289,14 @@ def test_a_client_that_reads_no_answer_holds_only_its_seat(program):
         server.ends(5, 4 + 1, 4 + lines, [key])
 
 
-# ---- bytes past the end of a session
+# ---- bytes after the end of a session
 
 
 def test_answers_arrive_if_bytes_follow_the_last_line(program):
-    """Every answer arrives, whatever the client sends after its last line. One client reads so late that the
-    server has already closed its connection. An answer that the system had not delivered by then would be
-    lost if bytes of the client were unread."""
+    """All answers arrive, whatever the client sends after its last line. One client reads so late that the server has
+    already closed its connection. If the server had left bytes of the client unread, answers that the system had not
+    yet delivered would be lost.
+    """
     def speak(lines, answers, late, connection):
         connection.sendall(lines + b"?" * BEYOND)
         time.sleep(late)

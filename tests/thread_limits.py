@@ -1,8 +1,8 @@
-"""Tests how `run` and `serve` end if fewer and fewer threads can be started.
+"""Tests how `run` and `serve` end when fewer and fewer threads can be started.
 
-A thread needs addresses for its stack, so a limit on the program's address space (`ulimit -v`) refuses
-some threads or all. Under each limit `run` prints its outcome, or that a thread or an allocation was
-refused. `serve` does the same, and its client is served completely or not at all.
+A thread's stack needs address space, so a limit on the program's address space (`ulimit -v`) refuses some or all
+threads. Under each limit, `run` must print its outcome, or that a thread or an allocation was refused. The same holds
+for `serve`, whose client must be served completely or not at all.
 """
 
 import collections
@@ -27,7 +27,7 @@ def limited(limit, *words, of="-v"):
 
 
 def ended_run(program, limit):
-    """Runs `run` under a limit, and returns how it ends."""
+    """Runs `run` under a limit and returns how it ends."""
     made = ran(*limited(limit, program, "run", KINDS[limit % 5], THREADS, QUOTA, CALLS, 8, 1))
     if made.returncode == 0:
         counts = dict(re.findall(r"^(calls|true|false|full|keys) (\d+)$", made.stdout, re.M))
@@ -39,8 +39,9 @@ def ended_run(program, limit):
 
 
 def ended_serve(program, limit):
-    """Runs `serve` under a limit with one client, which can be turned away, and returns how it ends. The
-    threads are started after the first line."""
+    """Runs `serve` with one client under a limit and returns how it ends. The client can be turned away. The server starts
+    its threads after it has printed the first line.
+    """
     with started(*limited(limit, program, "serve", KINDS[limit % 5], THREADS, QUOTA, 0, 1)) as process:
         first, told = process.stdout.readline(), b""
         if first:
@@ -61,28 +62,28 @@ def ended_serve(program, limit):
 
 @pytest.fixture
 def limits(program):
-    """Returns limits in KiB under which the program starts (its loader needs addresses too): half a stack
-    apart, and closer near the first."""
+    """Returns limits in KiB under which the program starts (its loader needs address space too). They are half a stack
+    apart, and closer to each other near the first.
+    """
     limits = [*range(2_000, 12_000, 128), *range(12_000, 4 * (THREADS + 2) * STACK, STACK // 2)]
     return [it for it in limits if ran(*limited(it, program, "example", "full")).returncode == 0]
 
 
 @pytest.mark.parametrize("way", [ended_run, ended_serve])
 def test_run_and_serve_end_in_a_documented_way_under_each_limit(program, way, limits):
-    """Under some limits there is an outcome, and under some a thread is refused."""
+    """Under some limits there is an outcome, and under others a thread is refused."""
     ends = collections.Counter(way(program, limit) for limit in limits)
     assert ends["outcome"] and ends["thread refused"]
 
 
 def test_serve_without_memory_for_the_set_does_not_listen(program):
-    """The largest set does not fit in 40 MB: no line says that the server is ready."""
+    """The largest set does not fit in 40 MB, so no line may say that the server is ready."""
     made = ran(*limited(40_000, program, "serve", "lock-free", 64, 16384, 0, 1))
     assert (made.returncode, made.stdout, made.stderr) == (3, "", "listset: out of memory\n")
 
 
 def test_serve_without_files_refuses_the_first_connection(program):
-    """The standard streams and the listener are 4 files: the system refuses the first connection before a
-    client comes."""
+    """The standard streams and the listener are 4 files, so the system refuses the first connection."""
     made = ran(*limited(4, program, "serve", "lazy", 2, 4, 0, 1, of="-n"))
     assert re.fullmatch(r"listening 127\.0\.0\.1:\d+\n", made.stdout)
     assert (made.returncode, made.stderr) == (1, "listset: serve: Accept\n")

@@ -1,10 +1,10 @@
-"""Tests the output of `trace` and `show` with models, which were written independently of the crates
-(tests/harness/traces_model.py, pictures_model.py, reports_model.py and lists_model.py). No contract covers
-this output. For an SVG the tests compare its texts and the numbers of points and bars.
+"""Compares the output of `trace` and `show` with models that were written independently of the crates
+(tests/harness/traces_model.py, pictures_model.py, reports_model.py and lists_model.py). No contract covers this output.
+For an SVG, the tests compare its texts and its numbers of points and bars.
 
-The schedules are those of examples/schedules/, and random ones of the lists and the broken lists. The
-reports have random calls, and most are damaged, so that each fault of an order occurs. Windows, widths,
-and the presence of these options are random too.
+The schedules are those in examples/schedules/, and random ones for the lists and the broken lists. The reports have
+random calls; most are damaged, so that each fault of an order occurs. Windows and widths are random too, as is whether
+these options are given.
 """
 
 import collections
@@ -23,8 +23,9 @@ GREATEST = 4294967295
 
 
 def drawn_schedule(kind, seed, lacks=None, overruns=False):
-    """Returns a random schedule of a list. If it overruns, there are steps after the end of a call, and the
-    first one is refused."""
+    """Returns a random schedule for a list. If it overruns, it has steps after the end of a call, and the first such step
+    is refused.
+    """
     draw = random.Random(f"{kind} {seed}")
     version, threads, quota = draw.choice([1, 2, 2]), draw.choice([64, 9]) if seed % 10 == 9 else draw.choice([1, 2, 3]), draw.randrange(5)
     opening = sorted(draw.sample([*range(12), GREATEST], draw.randrange(11 if seed % 7 == 3 else 4))) if version == 2 else []
@@ -46,8 +47,7 @@ def drawn_schedule(kind, seed, lacks=None, overruns=False):
 
 
 class Compared:
-    """A text and the program's output for it, compared with the models. `words` name a broken list, if one
-    runs the text."""
+    """A text and the program's output for it, compared with the models. `words` name a broken list if one runs the text."""
 
     def __init__(self, program, name, text, *words):
         self.program, self.name, self.text, self.words = program, name, text, words
@@ -68,8 +68,7 @@ class Compared:
             self.compare(words, [*due, status], [*lines, ended])
 
     def picture(self, picture, asked, below=()):
-        """Compares the text picture in a window and with a width. A value that is not None is given as an
-        option."""
+        """Compares the text picture in a window and with a width. A value that is not None is passed as an option."""
         words, first, last, width = options("show", asked)
         lines, ended = self.said(*words)
         due = [2] if is_past(picture, first) else [*fitted(picture, first, last, width).text(), *below, status_of(picture)]
@@ -86,8 +85,9 @@ class Compared:
         assert texts <= {it.text for it in svg.iter()}, f"{' '.join(words)} of {self.text!r}"
 
     def pictures(self, picture, below=()):
-        """Compares all moments at one width; a window that begins somewhere; one that ends there, or begins
-        at the last moment or after it. Some options are absent."""
+        """Compares a picture of all moments with one width, one from a random moment on, and one that ends there or begins
+        at or after the last moment. Some options are absent.
+        """
         draw = random.Random(self.name)
         moments = Drawn(picture, 1, GREATEST).all or [1]
         first = max(1, draw.choice(moments) - draw.randrange(3))
@@ -100,15 +100,14 @@ class Compared:
 
 
 def options(words, asked):
-    """Returns a command with options, and the window and the width that they mean. Options that are None are
-    absent."""
+    """Returns a command with options, and the window and width that they select. Options that are None are absent."""
     given_words = [it for name, value in zip(["--from", "--to", "--width"], asked) if value is not None for it in (name, str(value))]
     first, last, width = (default if it is None else it for it, default in zip(asked, [1, GREATEST, 100]))
     return [*words.split(), *given_words], first, last, width
 
 
 def is_past(picture, first):
-    """Decides whether everything in a picture happens before a moment."""
+    """Returns whether everything in a picture happens before a moment."""
     return bool(picture.calls) and first > max(Drawn(picture, 1, GREATEST).all)
 
 
@@ -117,7 +116,7 @@ def status_of(picture):
 
 
 def pytest_generate_tests(metafunc):
-    """Parametrizes tests by the names and seeds of random schedules; with --few by a tenth."""
+    """Parametrizes tests with the names and seeds of random schedules; with --few, with a tenth of them."""
     is_few = metafunc.config.option.few
     drawn = [f"{kind} {seed}" for kind in KINDS for seed in range(2 if is_few else 20)]
     named = {"schedule": [*EXAMPLES, *drawn], "report": drawn, "broken": [f"{name} {seed}" for name in LACKING for seed in range(1 if is_few else 5)]}
@@ -142,11 +141,11 @@ def test_trace_and_pictures_match_the_model(program, schedule):
             looked.picture(picture, (None, None, width))
 
 
-# ---- pictures of reports, and of what broken lists make of schedules
+# ---- pictures of reports, and of what broken lists do with schedules
 
 
 def compare_report(looked, report):
-    """Compares pictures of a report. Below a refused one there are one or two lines about other orders."""
+    """Compares pictures of a report. Below a refused one, there are one or two lines about other orders."""
     picture, below = picture_of_report(report), []
     if picture.refusal:
         said = looked.said("show")[0]
@@ -156,7 +155,7 @@ def compare_report(looked, report):
 
 
 def test_pictures_of_reports_match_the_model(program, report):
-    """Pictures of a random schedule's report, intact or damaged, and the answer of `check`."""
+    """Compares pictures of a random schedule's report, intact or damaged, and the answer of `check`."""
     kind, seed = report.split()
     replayed, draw = ran(program, "replay", text=drawn_schedule(kind, int(seed))).stdout, random.Random(report)
     made = read_report(replayed)
@@ -173,7 +172,7 @@ def test_pictures_of_reports_match_the_model(program, report):
 
 
 def test_traces_and_pictures_of_a_broken_list_match_the_model(program, broken):
-    """Compares the trace, and the picture of the report that `replay` prints, or its error."""
+    """Compares the trace, and the picture of the report that `replay` prints, or the error."""
     name, seed = broken.split()
     text = drawn_schedule(LACKING[name][0], int(seed), name, overruns=int(seed) % 4 == 0)
     looked, report = Compared(program, broken, text, "--lacks", name), ran(program, "replay", "--lacks", name, text=text)

@@ -1,5 +1,7 @@
-"""What `judge` prints below a refusal. page/tests/verdicts.js checks each sentence of the same engine in Node; here the program prints the same, and
-the count, which only a text has, is checked by a search of all orders."""
+"""Tests what `judge` prints below a refusal. page/tests/verdicts.js checks each sentence of the same engine in Node. The
+tests here check that the program prints the same. They also check the count, which only the text has, by a search of
+all orders.
+"""
 
 import itertools
 import random
@@ -27,12 +29,14 @@ def recordings(seed, count):
 
 
 def verdict_lines(output):
-    """Returns the lines of a refusal's contradiction."""
+    """Returns the lines about the contradiction in a refusal."""
     return output.partition("\n\n")[0].splitlines()[2:]
 
 
 def is_count(calls, opening, keys, lines):
-    """Decides whether the calls of a count and the changes that could undo them have no order. Returns None if the message does not name all calls."""
+    """Returns whether the calls of a count, and the changes that could undo them, have no order. Returns None if the
+    message does not name all calls.
+    """
     found = COUNT.match("\n".join(lines))
     named, key = found[1], int(found[2])
     counted = [Call(int(thread), op, int(at), int(begin), int(end), reply) for op, at, reply, thread, begin, end in COUNTED.findall(named)]
@@ -65,13 +69,15 @@ def test_a_message_has_at_most_fifteen_lines_and_its_count_is_true(program, path
 
 
 def mark_not_read(rounds):
-    """Draws calls of a set whose `contains` still finds a key while a remove runs, although another remove has found the key absent."""
+    """Draws calls of a set whose `contains` still finds a key during a remove, although another remove has already found
+    the key absent.
+    """
     made = [("add", 1, 2, 0, "true"), ("remove", 3, 8, 1, "true"), ("remove", 4, 5, 0, "false"), ("contains", 6, 7, 0, "true")]
     calls = [Call(thread, word, 3, moment + begin, moment + end, reply) for moment in range(0, 8 * rounds, 8) for word, begin, end, thread, reply in made]
     return text_of(calls, [], [])
 
 
-def test_the_operation_that_alone_is_wrong_is_named_with_its_cause(program, path):
+def test_an_operation_that_alone_is_wrong_is_named_with_a_cause(program, path):
     path.write_text(mark_not_read(20))
     said = ran(program, "judge", path).stdout
     assert "\ncontains(3) returned true, expected false\n" in said
@@ -85,27 +91,27 @@ def test_few_calls_have_no_likely_cause(program, path):
     assert "only contains is wrong: 5 of its 5 answers" in said and "likely:" not in said
 
 
-def test_a_pipe_is_told_that_a_file_tells_more(program):
+def test_a_refusal_from_a_pipe_has_a_hint_to_use_a_file(program):
     done = ran(program, "judge", text=mark_not_read(20))
     assert done.returncode == 1 and "likely:" not in done.stdout
     assert done.stdout.endswith("\nlistset judge FILE, with a file, also says what is wrong\n")
 
 
-def test_a_right_recording_has_no_diagnosis(program, path):
+def test_a_linearizable_recording_has_no_diagnosis(program, path):
     path.write_text(text_of([Call(0, "add", 1, 1, 2, "true")], [], [1]))
     said, brief = ran(program, "judge", path).stdout, ran(program, "judge", "--brief", path).stdout
     assert brief == "ok 1 calls\n0 of them overlap a change of their key\n" and said.startswith(brief) and "contradiction" not in said
 
 
 def test_a_refusal_without_a_clash_has_a_count(program, path):
-    """Three adds that overlap, and one remove: no two of these calls clash."""
+    """Three adds and one remove overlap. No two of these calls contradict each other."""
     calls = [Call(thread, "add", 7, 1 + thread, 10 + thread, "true") for thread in range(3)] + [Call(3, "remove", 7, 4, 9, "true")]
     path.write_text(text_of(calls, [], [7]))
     lines = verdict_lines(ran(program, "judge", path).stdout)
     assert len(lines) == 3 and is_count(calls, [], [7], lines), lines
 
 
-def test_brief_prints_the_verdict_alone(program, path):
+def test_brief_prints_only_the_verdict(program, path):
     path.write_text(mark_not_read(5))
     done = ran(program, "judge", "--brief", path)
     assert (done.stdout, done.returncode) == ("not linearizable\nno order explains the calls of key 3 up to moment 7\n", 1)
@@ -113,7 +119,7 @@ def test_brief_prints_the_verdict_alone(program, path):
 
 
 def test_a_long_recording_is_explained_by_its_first_calls(program, path):
-    """The first million calls have no order: the message is of these, and says so."""
+    """The first million calls are not linearizable. The message is only about these calls, and says so."""
     lines = (f"call 0 contains {number % 4} {2 * number + 1} {2 * number + 2} {'true' if number == 9 else 'false'}\n" for number in range(1_100_000))
     with path.open("w") as file:
         file.writelines(itertools.chain(["listset-calls 1\n"], lines, ["end\n"]))

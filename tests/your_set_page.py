@@ -1,6 +1,5 @@
-"""Tests docs/YOUR-SET.md as its reader would use it, for each language: the judge is copied into a folder of
-one's own with a right set, and the lines of the page judge the set. tests/judge_in_a_test.py has the tests
-of the judges themselves.
+"""Tests docs/YOUR-SET.md as a reader would use it. For each language, the judge is copied into a new folder with a correct
+set, and the commands on the page judge the set. tests/judge_in_a_test.py tests the judges themselves.
 """
 
 import os
@@ -107,7 +106,7 @@ func TestOptions(t *testing.T) { %s }
 
 
 def codes_of(language, heads):
-    """Returns the code pieces in the row of a language, in the page's table with this heading."""
+    """Returns the code in a language's row of the page's table with this heading."""
     table = PAGE.read_text(encoding="utf-8").split(f"| {' | '.join(heads)} |\n")[1].partition("\n\n")[0]
     (row,) = re.findall(rf"^\| {re.escape(language)}[ \d.]*\|(.*)\|$", table, re.M)
     return re.findall(r"`([^`]+)`", row.rpartition(" | ")[2] if len(heads) > 2 else row)
@@ -186,8 +185,7 @@ def test_the_lines_of_the_page_judge(program, room, lacking, language):
         assert well(program, "judge", own / "recorded" / "seed-1.calls").startswith("ok 48000 calls\n")
 
 
-# ---- in continuous integration: a project of one's own, laid out as the page says, tested by the page's
-# command
+# ---- in continuous integration: a project of a user, laid out as the page says and tested by the page's command
 
 
 def lay_cpp(room, own):
@@ -260,7 +258,7 @@ def command_of(language):
 
 
 def in_ci(room, command, **also):
-    """Runs the steps of judge/ci/github.yml in a project, with this command in place of the one there."""
+    """Runs the steps of judge/ci/github.yml in a project, with this command in place of the original one."""
     text = (FORMS / "ci" / "github.yml").read_text()
     given = dict(re.findall(r"^  (LISTSET\w*): (.*)$", text, re.M))
     given = {name: it.replace("${{ github.workspace }}", str(room)) for name, it in given.items() if "schedule" not in it}

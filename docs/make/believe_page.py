@@ -1,10 +1,10 @@
-"""Checks docs/BELIEVE.md and believed.txt. Finds names that are missing in them, and names in them that do not exist:
-files of definitions that public contracts reach, the names of these definitions, and functions with their
-clauses.
+"""Checks docs/BELIEVE.md and believed.txt. Reports names that are missing there, and names there that do not exist: files
+of definitions that public contracts reach, the names of these definitions, and functions with their clauses.
 
-The search begins with the names in the signature and the clauses of each public function, and in the
-statements of public types and traits. It follows definitions by name. It does not follow lemmas, which the
-prover checks, nor invariants of types."""
+The search begins with the names in the signature and the clauses of each public function, and in the statements of
+public types and traits. It follows definitions by name. It does not follow lemmas, which the prover checks, or
+invariants of types.
+"""
 
 import functools
 import re
@@ -20,14 +20,15 @@ USE = re.compile(r"^\s*(?:ghost )?(?:pub )?use Rattle\.([^\s{;]+?)(?:\.\{([^}]*)
 KINDS = {"abbrev", "unfoldable", "opaque", "record", "data"}
 IMPORT = re.compile(r"(?:pub )?(?:use|mod|infixl|infixr|infix|syntax)\b")
 HEAD = re.compile(rf"((?:(?:pub|{'|'.join(KINDS)}) )*)({NAME})((?: [({{].*?[)}}])* :)?")
-# Functions in a cell of a table, and the clauses in the parentheses after them.
+# Functions in a cell of a table, followed by clauses in parentheses.
 SAID_BY = re.compile(r"((?:`[a-z]\w+::[\w:{}, ]+`,? ?)+)(?:\(((?:`\w+`,? ?)+)\))?")
 IN_BRACKETS = re.compile(r"(?<!\w)\[([A-Z][a-z ][^][]*)\](?!\()")
 
 
 class Module(NamedTuple):
-    """A file of definitions: its path, its text, its definitions by name, and what its `use` lines import:
-    names, and modules."""
+    """A file of definitions: its path, its text, its definitions by name, and the names and modules that its `use` lines
+    import.
+    """
 
     file: str
     definitions: dict
@@ -36,7 +37,7 @@ class Module(NamedTuple):
 
 
 def uses(text):
-    """Returns what the `use` lines of a file import from the logic: names, and modules under another name."""
+    """Returns what the `use` lines of a file import from the logic: names, and modules under other names."""
     names, modules = {}, {}
     for path, listed, other in USE.findall(text):
         for entry in filter(None, (listed or "").split(",")):
@@ -48,7 +49,7 @@ def uses(text):
 
 
 def definitions_in(text):
-    """Returns the definitions of a file, by name, without comments."""
+    """Returns the definitions in a file by name, without comments."""
     found, lemmas, into = {}, {}, None
     for line in text.split("\n"):
         if not line.strip() or line.strip().startswith("--"):
@@ -75,8 +76,9 @@ def modules():
 
 
 def named(text, sign, names, others, own=()):
-    """Returns the definitions that a text names, comments ignored, as pairs of module and name. Those of its
-    own file have no module."""
+    """Returns the definitions that a text names outside of comments, as pairs of module and name. Those of its own file
+    have no module.
+    """
     text = " ".join(re.sub(rf"(^|\s){sign}.*", "", text, flags=re.M).split())
     text = re.sub(r"\bpub " + NAME + r" :", ":", re.sub(r"(?<=[{;])\s*" + NAME + r"\s*=(?![=>])", "", text))
     for word in re.findall(NAME + r"(?:\." + NAME + ")*", text):
@@ -99,8 +101,9 @@ def public_contracts():
 
 
 def contracts_in_sources():
-    """Yields what each library states about its public functions, types and traits: the library, the name of
-    the item, the text, and what the names in it can mean."""
+    """Yields what each library states about its public functions, types and traits: the library, the name of the item, the
+    text, and what the names in it can mean.
+    """
     for root in sorted(CRATES.glob("*/src/lib.rt")):
         texts = {it.stem: it.read_text(encoding="utf-8") for it in sorted(root.parent.rglob("*.rt"))}
         above = {"lib", *re.findall(r"pub mod (\w+);", texts["lib"])}
@@ -121,8 +124,9 @@ def contracts_in_sources():
 
 @functools.cache
 def reached(items=""):
-    """Returns the definitions that public contracts reach, as pairs of module and name. If `items` is given, only the
-    contracts of the functions whose library and name it matches."""
+    """Returns the definitions that public contracts reach, as pairs of module and name. If `items` is given, considers
+    only the contracts of functions whose library and name match it.
+    """
     contracts = [it for it in public_contracts() if re.match(items, f"{it[0]}::{it[1]}")]
     found, waiting = set(), [it for _, _, text, can_be in contracts for it in named(text, "//", *can_be)]
     while waiting:
@@ -138,20 +142,23 @@ def reached(items=""):
 
 
 def print_reached():
-    """Prints each file with the names of its definitions that are reached."""
+    """Prints each file with the names of those of its definitions that are reached."""
     for path, module in modules().items():
         if names := [it for it in module.definitions if (path, it) in reached()]:
             print(f"{module.file}: {', '.join(names)}")
 
 
-# The functions of the rows of the page's table of lines, by the row's first word in code or else its first word
+# Which functions the rows of the page's table of lines are about. The key is the row's first word in code, or else its
+# first word.
 OF_ROWS = {"check_order": "lset_history::check_order$", "laws": "lset_steps::laws::", "headline": "lset_lists::runs_are_linearizable$",
            "replay": "lset_replay::replay$", "LiveSet::call": "lset_live::LiveSet::call$", "LiveSet::close": "lset_live::LiveSet::close$",
            "work": "lset_work::work$", "session": "lset_session::session$", "serve": "lset_server::serve$", "everything": ""}  # fmt: skip
 
 
 def wrong_numbers(page):
-    """Yields the rows of the table of lines whose number differs by a twentieth from the lines that contracts reach."""
+    """Yields the rows of the table of lines whose number differs by a twentieth or more from the number of lines that
+    contracts reach.
+    """
     said = {row: int(number) for row, number in re.findall(r"^\| (.*) \| (\d+) \|$", page, re.M)}
     for word, items in OF_ROWS.items():
         row = next((it for it in said if re.search(rf"`{word}`|^(the )?{word}\b", it)), None)
@@ -162,7 +169,7 @@ def wrong_numbers(page):
 
 
 def entries():
-    """Yields each line of believed.txt: a file, and the names of what it defines."""
+    """Yields each line of believed.txt: a file, and the names that it defines."""
     for line in BELIEVED.read_text(encoding="utf-8").splitlines():
         if line and not line.startswith("#"):
             file, _, names = line.partition(": ")
@@ -175,7 +182,7 @@ def problems(top):
 
 
 def file_faults():
-    """Yields the files that public contracts reach and believed.txt does not list, and the reverse."""
+    """Yields the files that public contracts reach but believed.txt does not list, and vice versa."""
     found, listed = {modules()[path].file for path, _ in reached()}, {file for file, _ in entries()}
     yield from (f"needs a line of believed.txt for {it}, which a public contract reaches" for it in sorted(found - listed))
     yield from (f"would have to list {it}: move what is reached there to specs/" for it in sorted(found) if "/proofs/" in it)
@@ -183,8 +190,7 @@ def file_faults():
 
 
 def name_faults(top, rows):
-    """Yields names in brackets that are no definition, in comments and pages; and definitions that no row
-    names."""
+    """Yields names in brackets, in comments and pages, that are not a definition; and definitions that no row names."""
     known = {name for _, names in entries() for name in names}
     texts = {it: re.sub(r"^    .*$|`[^`\n]*\[[^`\n]*`", "", it.read_text(encoding="utf-8"), flags=re.M) for it in (top / "docs").glob("*.md")}
     for path in [*CRATES.glob("*/*/**/*.antt"), *CRATES.glob("*/src/**/*.rt")]:
@@ -195,7 +201,7 @@ def name_faults(top, rows):
 
 
 def function_faults(rows):
-    """Yields functions that rows name, and clauses in the parentheses after them, that do not exist."""
+    """Yields functions named in rows, and clauses in the parentheses after them, that do not exist."""
     stated = {}
     for crate, name, text, _ in public_contracts():
         stated[crate, name] = stated.get((crate, name), "") + text
@@ -209,6 +215,6 @@ def function_faults(rows):
 
 
 def is_declared(crate, name):
-    """Decides whether a crate declares a function, type or trait with this name."""
+    """Returns whether a crate declares a function, type or trait with this name."""
     declared = re.compile(rf"\b(?:fn|struct|enum|trait|type|mod) {name.rpartition('::')[2]}\b")
     return any(declared.search(it.read_text(encoding="utf-8")) for it in (CRATES / crate / "src").rglob("*.rt"))

@@ -1,9 +1,10 @@
-"""Makes the tables of docs/TEXTS.md from the sources: of errors, from the comments of the variants and the
-output of `listset faults`. Also finds where docs/TEXTS.md and docs/COMMANDS.md differ from the sources."""
+"""Makes the tables of errors in docs/TEXTS.md from the comments of the variants in the sources and the output of `listset
+faults`. Also reports where docs/TEXTS.md and docs/COMMANDS.md differ from the sources.
+"""
 
 import re
 
-# The files with lines that can be refused, and their names in `listset faults`
+# The files whose lines can be refused, and what `listset faults` calls them.
 FILES = {"schedule": "a schedule", "draft": "a draft", "report": "a report", "recording": "recorded calls", "keys": "the keys"}
 
 
@@ -12,15 +13,17 @@ def table(head, rows):
 
 
 def faults_below(top, head):
-    """Returns the entries of `listset faults` below a line that begins with `head`: the name of each fault
-    and the first line of its text."""
+    """Returns the entries of `listset faults` below a line that begins with `head`: the name of each fault and the first
+    line of its text.
+    """
     said = (top / "crates/tool_base/src/faults.rt").read_text().split(f"\n{head}")[1].split("\n\n")[0]
     return dict(re.findall(r"^  (\S+) +(.*?)\.?$", said, re.M))
 
 
 def table_of_causes(top):
-    """Returns the table of causes for which a line is refused: the comment of each variant, and the files for
-    which `listset faults` names it."""
+    """Returns the table of causes for which a line is refused: the comment of each variant, and the files for which
+    `listset faults` names it.
+    """
     text = (top / "crates/lset_text/src/causes.rt").read_text()
     causes = re.findall(r"((?:^    /// .*\n)+)    (\w+),$", text.split("pub enum Cause {")[1].split("\n}")[0], re.M)
     named = {file: faults_below(top, f"listset: line L: CAUSE, in {its}") for file, its in FILES.items()}
@@ -40,8 +43,9 @@ def table_of_orders(top):
 
 
 def problems(top):
-    """Yields limits that differ from the constants of the sources, and arguments and options that differ from
-    `listset help`. (A page can leave out the names for `--lacks`.)"""
+    """Yields limits that differ from the constants in the sources, and arguments and options that differ from `listset
+    help`. (A page may leave out the names for `--lacks`.)
+    """
     sources = "\n".join(it.read_text() for it in top.glob("crates/*/src/**/*.rt"))
     for value, name in re.findall(r"\| ([\d,]+) \| `(\w+)` \|", (top / "docs/TEXTS.md").read_text()):
         if not re.search(rf"^pub const {name}: \w+ = {value.replace(',', '_?')};", sources, re.M):

@@ -1,8 +1,8 @@
-// Splits a recording by key. Each part is a recording of its own:
+// Splits a recording by key. Each part is a complete recording:
 //
 //     cc -O2 by_key.c -o by_key && ./by_key PART .. < RECORDING
 //
-// A PART is a file or a pipe. If nobody reads a pipe any more, it receives no further lines.
+// A PART is a file or a pipe. A pipe that nobody reads any more receives no further lines.
 #define _GNU_SOURCE
 #include <errno.h>
 #include <fcntl.h>
@@ -43,8 +43,8 @@ static void put(struct part *it, const char *line, size_t length) {
   it->used += length;
 }
 
-// Returns the key of a line: the fourth word of a call, the second of an opening key or of a final key. Any other line
-// has no key.
+// Returns 1 and stores the line's key if it has one: the fourth field of a call, or the second of an opening or final
+// key. Otherwise returns 0.
 static int key_of(const char *line, unsigned *key) {
   const char *at = line;
   int spaces = line[0] == 'c' && line[1] == 'a' ? 3 : line[0] == 'o' || line[0] == 'k' ? 1 : 0;
@@ -54,7 +54,7 @@ static int key_of(const char *line, unsigned *key) {
   return 1;
 }
 
-// Writes a line to the part of its key. A line without a key goes to each part.
+// Writes a line to the part for its key. A line without a key is written to all parts.
 static void put_line(struct part *parts, unsigned count, const char *line, size_t length) {
   unsigned key;
   if (key_of(line, &key)) put(&parts[key % count], line, length);

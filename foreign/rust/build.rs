@@ -1,4 +1,5 @@
-//! Finds liblistset.a: in the folder LISTSET_LIB if that is set, otherwise in this crate or where `foreign/build` installs it.
+//! Finds liblistset.a in the folder LISTSET_LIB if that is set, otherwise in this crate or where `foreign/build`
+//! installs it.
 use std::env;
 use std::path::{Path, PathBuf};
 

@@ -1,4 +1,4 @@
-// A second source file that includes the headers: the program must link.
+// A second source file that includes the headers, to check that the program links.
 #include "listset.hpp"
 
 #include "listset_judge.hpp"

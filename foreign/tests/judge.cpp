@@ -1,4 +1,4 @@
-// The judge from C++: generates, replays, checks and draws a schedule, and expects the status of wrong arguments.
+// The judge from C++: generates, replays, checks and draws a schedule, and checks the status for wrong arguments.
 #include "listset.hpp"
 
 #include <cstdio>
@@ -13,7 +13,7 @@ static void expect(bool holds, const char *what) {
 
 static bool begins(const std::string &text, std::string_view with) { return text.compare(0, with.size(), with) == 0; }
 
-// Returns whether a generated schedule of this list is replayed and its report accepted.
+// Returns whether a generated schedule for this list is replayed and its report is accepted.
 static bool is_right(const std::string &kind, uint64_t seed) {
   listset::said schedule = listset::gen(kind, 3, 8, 40, 6, seed);
   listset::said report = listset::replay(schedule.text);
@@ -52,7 +52,7 @@ static void expect_judged() {
   expect(wrong.status == LISTSET_WRONG_TEXT && wrong.text == "listset: line 4: Line\n", "judged with a wrong line");
 }
 
-// Expects each argument of `gen` in the schedule, with all its bits.
+// Checks that each argument of `gen` arrives in the schedule with all its bits.
 static void expect_gen() {
   std::string head = "listset-schedule 1\nlist fine\nthreads 64\nquota 16384\n";
   expect(listset::gen("fine", 64, 16384, 0, UINT32_MAX, UINT64_MAX).text == head, "the values of a generated schedule");

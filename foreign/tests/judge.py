@@ -1,6 +1,7 @@
-"""The judge from Python: each example in four threads at once, as str and as bytes; and the errors of wrong texts.
+"""The judge from Python: each example in four threads at the same time, as str and as bytes, and the errors of wrong
+texts.
 
-    judge.py EXAMPLES     their folder; that of listset.py is in PYTHONPATH
+    judge.py EXAMPLES     the folder of the examples; PYTHONPATH must contain the folder of listset.py
 """
 
 import concurrent.futures
@@ -14,7 +15,7 @@ THREADS = 4
 
 
 def pairs(folder):
-    """Yields the texts of each schedule and its report, except schedules that must be refused."""
+    """Yields the texts of each schedule and its report, except for schedules that must be refused."""
     refused = {line.split(":")[0] for line in (folder / "refused-files.txt").read_text().splitlines()}
     for it in sorted(folder.glob("*.schedule")):
         if (report := it.with_suffix(".report")).exists() and it.name not in refused:

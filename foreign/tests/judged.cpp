@@ -1,4 +1,4 @@
-// Judges the five lists, each shared by eight threads, as docs/YOUR-SET.md judges a user's set; and a wrong set.
+// Judges the five lists, each shared by eight threads, the way docs/YOUR-SET.md judges a user's set, and a wrong set.
 #include "listset.hpp"
 
 #include "listset_judge.hpp"

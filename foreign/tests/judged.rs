@@ -1,4 +1,4 @@
-//! Judges the five lists, each shared by eight threads, as docs/YOUR-SET.md judges a user's set.
+//! Judges the five lists, each shared by eight threads, the way docs/YOUR-SET.md judges a user's set.
 use listset::{Added, List, Shared};
 use listset_judge::Options;
 

@@ -1,5 +1,5 @@
-// Lets each allocation of a call fail in turn: the call must report it or work with less memory, and free every block. Link with
-// --wrap for malloc, realloc and free.
+// Makes each allocation of a call fail in turn. The call must report it or work with less memory, and must free every
+// block. Link with --wrap for malloc, realloc and free.
 //
 //     memory SCHEDULE REPORT DRAFT RECORDING
 #include "listset.h"
@@ -58,7 +58,8 @@ static size_t faults(const char *given, size_t count, char *to, size_t size, uin
 
 static int is_said(const char *want, size_t count, size_t found) { return found == count && memcmp(room, want, count) == 0; }
 
-// Makes the call with no allocation failing, then with each one failing. Returns how many failures the call reported; 0 on an error.
+// Makes the call without a failed allocation, then with each allocation failing. Returns how many failures the call
+// reported; 0 on an error.
 static size_t tried(const char *name, listset_function *function) {
   uint8_t due, status;
   size_t told = 0;
@@ -77,7 +78,8 @@ static size_t tried(const char *name, listset_function *function) {
   }
 }
 
-// Makes the call by `listset_said`, with each of its allocations failing in turn. Returns how often `listset_said` returned NULL.
+// Makes the call through `listset_said`, with each of its allocations failing in turn. Returns how often `listset_said`
+// returned NULL.
 static size_t tried_said(listset_function *function) {
   uint8_t due, status;
   size_t count = 0, found, none = 0;
@@ -118,11 +120,11 @@ int main(int count, char **names) {
   size_t failed = count != 5;
   for (size_t at = 0; !failed && at < sizeof CALLS / sizeof *CALLS; at++) {
     read_text(names[CALLS[at].file]);
-    // Reading and closing a file allocate too.
+    // Reading and closing a file allocates too, so the counts start here.
     asked = blocks = 0;
     size_t told = tried(CALLS[at].name, CALLS[at].function);
     failed += told == 0;
     printf("%s: %zu refusals told\n", CALLS[at].name, told);
   }
-  return failed != 0 || tried_said(faults) < 2; // A text that is longer than the first block.
+  return failed != 0 || tried_said(faults) < 2; // The text is longer than the first block.
 }

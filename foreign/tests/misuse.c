@@ -1,5 +1,5 @@
-// Calls each function of the sets with arguments that it refuses, and with each allocation failing in turn. Link with --wrap for malloc,
-// realloc and free.
+// Calls each function of the sets with arguments that it must refuse, and with each allocation failing in turn. Link
+// with --wrap for malloc, realloc and free.
 #include "listset.h"
 
 #include <stdio.h>
@@ -111,7 +111,7 @@ static void refused_calls(uint8_t kind) {
   calls_without_a_seat("a dropped seat", &a);
 }
 
-// Receipts, and `contains_now` on each list.
+// Tests receipts, and `contains_now` on each list.
 static void reads_and_receipts(uint8_t kind) {
   const bool blocks = kind < LISTSET_LAZY;
   listset_seat a = LISTSET_NONE, b = LISTSET_NONE, other = LISTSET_NONE;
@@ -144,7 +144,7 @@ static void reads_and_receipts(uint8_t kind) {
   for (int at = 0; at < 4; at++) expect("no steps", listset_most_reads(outside[at][0], outside[at][1], outside[at][2]), 0);
 }
 
-// Renews a set of three seats in five places.
+// Renews a set with three seats in five places.
 static void refused_renewals(uint8_t kind) {
   listset_seat seats[5] = {LISTSET_NONE, LISTSET_NONE, LISTSET_NONE, LISTSET_NONE, LISTSET_NONE}, out = LISTSET_NONE;
   uint32_t room[8];
@@ -176,7 +176,7 @@ static void refused_renewals(uint8_t kind) {
   listset_drop(&seats[0]);
 }
 
-// Renews a set with each allocation failing: a second call must renew it, with all its keys.
+// Renews a set while an allocation fails. A second call must renew it, with all its keys.
 static void one_renewal(uint8_t kind, size_t refused) {
   listset_seat seats[3] = {LISTSET_NONE, LISTSET_NONE, LISTSET_NONE};
   uint32_t room[8];
@@ -201,7 +201,7 @@ static void one_renewal(uint8_t kind, size_t refused) {
   asked = asked_by_renew;
 }
 
-// Takes a receipt with its allocation failing: a second call must return it.
+// Requests a receipt while its allocation fails. A second call must return it.
 static void one_receipt(uint8_t kind) {
   listset_seat seat = LISTSET_NONE;
   listset_receipt receipt = LISTSET_NONE;
@@ -223,7 +223,7 @@ static void expect_unasked(const char *what, size_t found, size_t due) {
   asked_before = asked;
 }
 
-// Expects that no function of a set allocates, except those that open, split and close.
+// Checks that no function of a set allocates, except for those that open, split and close.
 static void calls_without_memory(uint8_t kind) {
   listset_seat a = LISTSET_NONE, b = LISTSET_NONE;
   uint32_t at = 0;
@@ -241,8 +241,8 @@ static void calls_without_memory(uint8_t kind) {
   listset_drop(&a);
 }
 
-// Gathers the seat that opened a set of ten, with the seats that it still contains, into one of three that were split off; and closes a
-// set most of whose seats were never split off.
+// Gathers the seat that opened a set of ten, with the seats that it still contains, into one of three that were split
+// off. Also closes a set most of whose seats were never split off.
 static void seats_within(uint8_t kind) {
   listset_seat opener = LISTSET_NONE, a = LISTSET_NONE, b = LISTSET_NONE, c = LISTSET_NONE;
   uint32_t room[4];
@@ -271,7 +271,8 @@ static void seats_within(uint8_t kind) {
   listset_drop(&opener);
 }
 
-// Opens a set with the most opening keys, and calls its last key and the largest key of all.
+// Opens a set with the maximum number of opening keys, and makes calls with its last key and with the largest key of
+// all.
 static void most_keys(uint8_t kind) {
   listset_seat seat = LISTSET_NONE;
   uint32_t at = 0;
@@ -290,7 +291,8 @@ static void most_keys(uint8_t kind) {
   listset_drop(&seat);
 }
 
-// Opens, splits, uses, gathers and closes a set, with each allocation failing: a failure is reported, and changes nothing.
+// Opens, splits, uses, gathers and closes a set, with each allocation failing in turn. A failure must be reported and
+// change nothing.
 static void one_life(uint8_t kind, size_t refused) {
   listset_seat a = LISTSET_NONE, b = LISTSET_NONE;
   uint32_t room[8];
@@ -319,7 +321,7 @@ static void one_life(uint8_t kind, size_t refused) {
   listset_drop(&a);
 }
 
-// Expects a different sentence for each fault.
+// Checks that each fault has a different sentence.
 static void sentences(void) {
   for (int fault = LISTSET_BAD_SEATS; fault <= LISTSET_TIMED_OUT + 1; fault++)
     for (int other = LISTSET_OK; other < fault; other += other == LISTSET_OK ? LISTSET_BAD_SEATS : 1)

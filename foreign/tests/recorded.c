@@ -1,4 +1,4 @@
-// Records the calls of four threads on each list, in the text of docs/YOUR-SET.md, and judges them in this process.
+// Records the calls of four threads on each list, in the format of docs/YOUR-SET.md, and judges them in this process.
 #define _POSIX_C_SOURCE 200809L
 #include "listset.h"
 #include <pthread.h>
@@ -52,7 +52,7 @@ static size_t written(const uint32_t *keys, size_t count) {
   return at + sprintf(at, "end\n") - text;
 }
 
-// Returns whether the judge gives the same answer for the text in a file.
+// Returns whether the judge gives the same answer if it reads the text from a file.
 static int is_judged_from_file(size_t length, uint8_t due, const char *said) {
   char room[8192];
   uint8_t status;
@@ -64,7 +64,7 @@ static int is_judged_from_file(size_t length, uint8_t due, const char *said) {
   return status == due && count == strlen(said) && memcmp(room, said, count) == 0;
 }
 
-// Returns whether the judge's answer for a text begins with `due`.
+// Returns whether the judge's answer for a text begins with `begins` and has the status `due`.
 static int is_judged(size_t length, uint8_t due, const char *begins) {
   size_t said_length;
   uint8_t status;
@@ -88,7 +88,7 @@ static int is_right(uint8_t list) {
   if (listset_close(&tasks[0].seat) != LISTSET_OK) return 0;
   size_t count = listset_keys(&tasks[0].seat, keys, KEYS);
   listset_drop(&tasks[0].seat);
-  // The right text, and the text without a final key.
+  // The correct text, and the text without one of the final keys.
   return is_judged(written(keys, count), LISTSET_OK, "ok 40000 calls\n") &&
          is_judged(written(keys, count - 1), LISTSET_WRONG_TEXT, "not linearizable\n");
 }

@@ -1,5 +1,6 @@
-// Sets that are renewed by `renew`, and by themselves in eight threads, whose calls are recorded in the text of docs/YOUR-SET.md and judged
-// in this process. Arguments: a file for the recording, the calls of each thread; then, for one list alone, the list, 0 to 4, and the quota.
+// Sets that `renew` renews, and sets that renew themselves in eight threads, whose calls are recorded in the format of
+// docs/YOUR-SET.md and judged in this process. Arguments: a file for the recording, and the number of calls per thread;
+// optionally, to test one list only, the list (0 to 4) and the quota.
 #include "listset.hpp"
 
 #include <cstdio>
@@ -58,7 +59,7 @@ static std::vector<recorded> calls_of(renewed_set &set, uint32_t thread, size_t 
   return calls;
 }
 
-// Writes the calls of all threads in the order of their begins, and the keys.
+// Writes the calls of all threads in the order in which they began, and the keys.
 static void write(FILE *file, const std::vector<std::vector<recorded>> &calls, const std::vector<uint32_t> &keys) {
   std::fprintf(file, "listset-calls 1\n");
   for (uint32_t key : OPENING) std::fprintf(file, "opening %u\n", key);
@@ -76,7 +77,8 @@ static void write(FILE *file, const std::vector<std::vector<recorded>> &calls, c
   std::fprintf(file, "end\n");
 }
 
-// Returns whether the judge accepts the calls of threads that add and remove the same keys, while another thread asks for the keys.
+// Returns whether the judge accepts the calls of threads that add and remove the same keys while another thread asks
+// for the keys.
 static bool is_explained(const char *path, list kind, uint32_t quota, size_t many) {
   renewed_set set(kind, THREADS, quota, {std::begin(OPENING), std::end(OPENING)});
   std::vector<std::future<std::vector<recorded>>> threads;
@@ -98,14 +100,15 @@ static bool is_explained(const char *path, list kind, uint32_t quota, size_t man
   return status == LISTSET_OK && said.rfind("ok " + std::to_string(THREADS * many) + " calls\n", 0) == 0;
 }
 
-// Returns the private places of a renewed set: an explicit instantiation may name them.
+// Returns the private places of a renewed set, which an explicit instantiation is allowed to name.
 static auto &places_of(renewed_set &set);
 template <auto Places> struct reach {
   friend auto &places_of(renewed_set &set) { return set.*Places; }
 };
 template struct reach<&renewed_set::places>;
 
-// Expects that no call waits for a thread between two calls, and that a thread that stays in a call makes the others' calls time out.
+// Checks that no call waits for a thread that is between two calls, and that a thread that stays in a call makes the
+// other threads' calls time out.
 static void expect_patience() {
   renewed_set set(list::lazy, 2, 2, {}, 20ms);
   auto mine = set.split(), rests = set.split();
@@ -135,7 +138,7 @@ static void expect_seats() {
   expect(thrown([] { renewed_set(list::lazy, 65, 1); }) == LISTSET_BAD_SEATS, "too many seats");
 }
 
-// Expects that a set with more keys than a set opens with is not closed, and that an add is then full.
+// Checks that a set is not closed if it has more keys than a set can open with, and that an add then returns full.
 static void expect_most_keys() {
   std::vector<uint32_t> keys(1 << 20);
   for (uint32_t at = 0; at < keys.size(); at++) keys[at] = 2 * at;
@@ -149,7 +152,7 @@ static void expect_most_keys() {
   expect(set.close().size() == keys.size() + 1, "all keys");
 }
 
-// Renews seats by `renew`, with each list as the next one.
+// Renews seats with `renew`, with each list as the next one.
 static void expect_by_hand() {
   std::vector<seat> seats;
   seats.push_back(listset::open(list::lazy, 3, 1, {5}));
@@ -187,7 +190,7 @@ static void expect_reads_and_receipts(list kind) {
   expect(listset::most_reads(2, 3, 2) == 18 && listset::most_reads(65, 1, 1) == 0, "most_reads");
 }
 
-// Calls from one seat in two threads at once: each call must be made or throw.
+// Makes calls from one seat in two threads at the same time. Each call must be made or throw.
 static void expect_two_users() {
   seat mine = listset::open(list::coarse, 1, 16384);
   std::atomic<int> made{0}, refused{0}, ready{0};

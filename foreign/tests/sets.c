@@ -1,5 +1,6 @@
-// Threads call one set, of each list. On keys of its own a thread compares the replies with a model. On shared keys it counts the changes:
-// for each key, true adds minus true removes must be whether the set has the key at the end.
+// Threads call one set, for each list. With its own keys, a thread compares the replies with a model. With shared keys,
+// it counts the changes: for each key, the number of true adds minus true removes must be 1 if the set has the key at
+// the end, and otherwise 0.
 //
 //     sets CALLS THREADS     at most 64 threads
 #include "listset.h"
@@ -23,7 +24,8 @@ typedef struct {
   bool own[OWN];
 } task;
 
-// Returns the number of kinds of calls. Several threads make no ceiling of the lock-free list: it can wait for a remove that nobody makes.
+// The number of operations. With several threads, there is no ceiling on the lock-free list, because it can wait for a
+// remove that nobody makes.
 static uint32_t kinds;
 
 static uint64_t draw(uint64_t *drawn) {
@@ -45,7 +47,7 @@ static void call_shared(task *it, uint32_t kind, uint32_t key) {
   wrong += !may || (reply == LISTSET_FULL && it->adds < QUOTA);
 }
 
-// The keys of thread t alone are SHARED + t * OWN and the OWN - 1 keys above.
+// The keys that only thread t uses are SHARED + t * OWN and the OWN - 1 keys above it.
 static void call_own(task *it, uint32_t kind, uint32_t k) {
   uint32_t base = SHARED + it->number * OWN, at = 0, next = k;
   uint8_t want;
@@ -80,7 +82,7 @@ static void *run(void *given) {
   return NULL;
 }
 
-// Returns whether the final keys are increasing, and are those of the models and the counts.
+// Returns whether the final keys are increasing and agree with the models and the counts.
 static bool are_left(listset_seat *closed, const task *tasks) {
   static uint32_t keys[KEYS];
   static bool left[KEYS];

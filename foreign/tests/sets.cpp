@@ -1,4 +1,4 @@
-// The lists from C++: four threads add keys and remove some; and a refused call leaves the seats unchanged.
+// The lists from C++: four threads add keys and remove some of them. A refused call leaves the seats unchanged.
 #include "listset.hpp"
 
 #include <algorithm>
@@ -33,7 +33,7 @@ template <typename Call> uint8_t thrown(Call call) {
   }
 }
 
-// Each of four threads adds a fourth of the keys below 4,000, and removes the multiples of three among them.
+// Each of four threads adds a quarter of the keys below 4,000, and removes the multiples of three among them.
 static bool is_right(list kind) {
   std::vector<seat> seats(4);
   seats[0] = listset::open(kind, 4, 1000);
@@ -54,7 +54,7 @@ static bool is_right(list kind) {
   return full == 0 && seats[0].close() == due;
 }
 
-// Makes the same calls of a `shared` set with fewer seats than threads.
+// Makes the same calls on a `shared` set with fewer seats than threads.
 static bool is_right_shared(list kind) {
   listset::shared set(kind, 3, 2000);
   std::atomic<int> found{0};
@@ -72,9 +72,10 @@ static bool is_right_shared(list kind) {
   return found == 4000 && set.contains(1) && set.ceiling(3) == 4u && set.close() == due;
 }
 
-// Threads add more keys than the seats have quota for: as many adds as the quota must be true, and exactly these keys remain.
+// Threads add more keys than the seats have quota for. Exactly as many adds as the quota allows must return true, and
+// exactly these keys remain.
 static bool is_filled(uint32_t seats, uint32_t quota) {
-  listset::shared set(list::lock_free, seats, quota); // A wrong call could keep no lock of this list.
+  listset::shared set(list::lock_free, seats, quota); // On this list, a wrong call cannot leave a lock held.
   std::vector<std::vector<uint32_t>> added_by(4);
   std::vector<std::thread> threads;
   for (uint32_t at = 0; at < 4; at++)
@@ -89,7 +90,8 @@ static bool is_filled(uint32_t seats, uint32_t quota) {
   return due.size() == seats * quota && set.close() == due;
 }
 
-// Four threads add the same keys, as many as the seats have quota for. An add may be full only if no seat has quota left; its key is then present.
+// Four threads add the same keys, as many as the seats have quota for. An add may return full only if no seat has quota
+// left; its key must then be present.
 static int full_too_soon() {
   const uint32_t many = 1000;
   listset::shared set(list::lazy, 2, many / 2);
@@ -103,14 +105,15 @@ static int full_too_soon() {
   return full;
 }
 
-// Returns the private places of a shared set: an explicit instantiation may name them.
+// Returns the private places of a shared set, which an explicit instantiation is allowed to name.
 static auto &places_of(listset::shared &set);
 template <auto Places> struct reach {
   friend auto &places_of(listset::shared &set) { return set.*Places; }
 };
 template struct reach<&listset::shared::places>;
 
-// Returns whether a thread's calls end while others have all seats but one. (Waiting calls continue when the seats are released.)
+// Returns whether a thread's calls end while others occupy all seats but one. (Waiting calls continue once the seats
+// are released.)
 static bool end_by_one_seat(size_t free, size_t seats) {
   listset::shared set(list::lock_free, static_cast<uint32_t>(seats), 1);
   std::vector<std::unique_lock<std::mutex>> taken;
@@ -123,14 +126,14 @@ static bool end_by_one_seat(size_t free, size_t seats) {
   return made.get() && is_soon;
 }
 
-// Two threads, one after the other. At most one of them has the free seat as its own place.
+// Runs two threads one after the other. At most one of them has the free seat as its own place.
 static bool take_the_free_seat(size_t seats) {
   for (size_t free = 0; free < seats; free++)
     if (!end_by_one_seat(free, seats) || !end_by_one_seat(free, seats)) return false;
   return true;
 }
 
-// Expects that a set that was closed or moved from has no seat.
+// Checks that a set that was closed or moved from has no seat.
 static void expect_no_seat() {
   listset::shared closed(list::lazy, 2, 1), moved(list::lazy, 2, 1);
   seat last = listset::open(list::lazy, 1, 1, {7});
@@ -157,7 +160,7 @@ static void expect_shared() {
   expect_no_seat();
 }
 
-// Makes each call with the smallest and the largest key, from a seat and of a `shared` set.
+// Makes each call with the smallest and the largest key, from a seat and on a `shared` set.
 template <typename Set> static void expect_ends(Set set) {
   const uint32_t most = UINT32_MAX;
   expect(set.ceiling(0) == 0u && set.ceiling(1) == most && set.ceiling(most) == most, "ceiling of the least and the greatest key");
@@ -167,7 +170,7 @@ template <typename Set> static void expect_ends(Set set) {
   expect(set.close() == std::vector<uint32_t>({0, most}), "both are left");
 }
 
-// Assigns a seat to a full one, whose set must be freed: the address sanitizer counts it.
+// Assigns a seat to a full one, whose set must then be freed, as the address sanitizer checks.
 static void expect_assigned(list kind) {
   seat mine = listset::open(kind, 2, 1, {1}), other = listset::open(kind, 1, 1, {2});
   mine = std::move(other);
@@ -177,10 +180,11 @@ static void expect_assigned(list kind) {
   expect(mine.contains(2) && !mine.contains(1) && mine.close() == std::vector<uint32_t>({2}), "the seat that was assigned");
 }
 
-// Expects that a seat gathers none of another set. Half of the many sets are opened by another source file, in another thread.
+// Checks that a seat never gathers a seat of another set. Half of the many sets are opened by another source file, in
+// another thread.
 static void expect_apart() {
   seat mine = listset::open(list::lazy, 1, 0);
-  const int many = 70000; // More than 16 bits can number.
+  const int many = 70000; // More than 16 bits can number
   int refused = 0;
   std::thread([&] {
     for (int at = 0; at < many; at++) {
@@ -209,7 +213,7 @@ static void expect_apart() {
   expect(apart == rounds, "two sets that two threads open at once");
 }
 
-// Opens sets with the most keys, and with the smallest and the largest quota.
+// Opens sets with the maximum number of keys, and with the smallest and the largest quota.
 static void expect_limits() {
   std::vector<uint32_t> keys(1 << 20);
   for (uint32_t at = 0; at < keys.size(); at++) keys[at] = 4095 * at;

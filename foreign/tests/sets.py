@@ -1,4 +1,6 @@
-"""The lists from Python: four threads count their changes; and the errors of refused calls. PYTHONPATH has the folder of listset.py."""
+"""The lists from Python: four threads count their changes. Also tests the errors of refused calls. PYTHONPATH must contain
+the folder of listset.py.
+"""
 
 import concurrent.futures
 import random
@@ -9,12 +11,14 @@ import listset
 from listset import Added
 
 THREADS, CALLS, KEYS, OPENING = 4, 3000, 64, [1, 7, 63]
-ENDS = [0, 2**32 - 1]  # the least key and the greatest
+ENDS = [0, 2**32 - 1]  # the smallest key and the largest
 
 
 def calls_of(seat, number, kinds):
-    """Makes calls of keys that all threads use, and of keys that only this thread uses. Returns for each shared key its true adds minus its
-    true removes, and the thread's own keys that remain. There are 4 kinds of calls, or 3 without ceilings."""
+    """Makes calls with keys that all threads use, and with keys that only this thread uses. Returns, for each shared key,
+    the number of true adds minus true removes, and the thread's own keys that remain. There are 4 operations, or 3
+    without ceilings.
+    """
     draws, net, own = random.Random(number), [0] * KEYS, set()
     for _ in range(CALLS):
         key, kind = draws.randrange(KEYS), draws.randrange(kinds)
@@ -104,7 +108,9 @@ def raised(call, *values):
 
 
 def numbers():
-    """Expects an error, and an unchanged set, for integers that do not fit 32 bits and for values that are no integer."""
+    """Checks that integers that do not fit in 32 bits, and values that are not integers, raise an error and leave the set
+    unchanged.
+    """
     mine = listset.open_set("lazy", 1, 4, [1, 5])
     calls = [mine.add, mine.remove, mine.contains, mine.ceiling, *(lambda it, at=at: opened(at, it) for at in range(4))]
     for call in calls:
@@ -118,7 +124,7 @@ def numbers():
 
 
 def apart():
-    """Expects that a seat gathers none of another set, among more sets than 16 bits can number."""
+    """Checks that a seat never gathers a seat of another set, among more sets than 16 bits can number."""
     mine, found = listset.open_set("lazy", 1, 0), set()
 
     def run():
@@ -131,7 +137,7 @@ def apart():
 
 
 def limits():
-    """Opens sets with the most seats and keys, and with the smallest and the largest quota."""
+    """Opens sets with the maximum number of seats and keys, and with the smallest and the largest quota."""
     keys = [4095 * it for it in range(2**20)]
     assert listset.open_set("lazy", 1, 0, keys).close() == keys
     assert code(listset.open_set, "lazy", 1, 1, [7, 7]) == code(listset.open_set, "lazy", 1, 1, [9, 5]) == 12
@@ -148,7 +154,7 @@ def limits():
 
 
 def closed_again():
-    """Expects the keys from a second `close` if an allocation of the first one failed."""
+    """Checks that a second `close` returns the keys if an allocation failed during the first one."""
     keys, mine = listset._keys, listset.open_set("lazy", 1, 1, [5, 9])
     for refused in (1, 2):
         with unittest.mock.patch.object(listset, "_keys", side_effect=[*[keys([])] * (refused - 1), MemoryError]):
@@ -170,7 +176,7 @@ def reads_and_receipts(kind):
 
 
 def renewed_by_hand():
-    """Renews a set as one of another list, with its keys. Expects that a refused renewal loses nothing."""
+    """Renews a set, with its keys, as a set of another list. Checks that a refused renewal loses nothing."""
     first = listset.open("lazy", 3, 1, [5])
     seats = [first, first.split(), first.split()]
     assert seats[0].add(7) and seats[1].add(8) and raised(seats[0].add, 9)[0] is listset.Full
@@ -190,7 +196,7 @@ def by_threads(run):
 
 
 def renewed_by_itself(kind, quota):
-    """Fills a set of small quota in four threads: each call must reply as one of a set without a quota."""
+    """Fills a set with a small quota in four threads. Each call must reply like that of a set without a quota."""
     of = listset.RenewedSet(kind, THREADS, quota, [KEYS * 9])
 
     def run(number):
@@ -235,7 +241,7 @@ def shared(kind):
 
 
 def two_users():
-    """Expects an error of a call from a seat while another thread is in a call from it."""
+    """Checks that a call from a seat raises an error while another thread is making a call from it."""
     mine = listset.open("lazy", 1, 1)
     with mine._used():
         text = "no seat is here: it was moved, dropped, gathered or closed, or another thread is in a call from it"
@@ -250,7 +256,7 @@ def pages():
 
 
 def memory():
-    """Expects that sets without references are freed; each has about 3 MB."""
+    """Checks that sets without references are freed. Each of them has about 3 MB."""
     before = pages()
     for _ in range(60):
         listset.open_set("lazy", 8, 16384).split()
@@ -258,7 +264,7 @@ def memory():
 
 
 def side_by_side():
-    """Expects that other threads run during a call of the judge."""
+    """Checks that other threads run during a call of the judge."""
     counted, is_over = [0], threading.Event()
 
     def count():
@@ -279,7 +285,7 @@ def side_by_side():
 
 
 def opened(at, number):
-    """Opens a set with `number` as the seats, the quota, the first key or the last key."""
+    """Opens a set with `number` as the number of seats, the quota, the first key or the last key."""
     seats, quota, first, last = [number if at == it else it + 1 for it in range(4)]
     listset.open_set("lazy", seats, quota, [first, last])
 

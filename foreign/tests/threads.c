@@ -1,4 +1,4 @@
-// Threads judge the texts of these files at once: each must get what a single thread got.
+// Threads judge the texts in these files at the same time. Each must get the same answers as a single thread.
 //
 //     threads FILE ..
 #include "listset.h"

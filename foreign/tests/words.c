@@ -1,4 +1,4 @@
-// The commands of the program that need no threads, by liblistset, for tests/foreign.py.
+// The commands of the program that need no threads, implemented with liblistset, for tests/foreign.py.
 #include "listset.h"
 
 #include <stdbool.h>
@@ -33,7 +33,7 @@ static const struct {
     {"trace", listset_trace, listset_trace_with_chains},
 };
 
-// Joins the words after the text with a zero byte between two. Returns the length.
+// Joins the arguments after the text, separated by zero bytes. Returns the length.
 static size_t join(const char **words, int count, const char *before) {
   size_t length = 0;
   for (int at = 0; at < count; at++) {
@@ -86,7 +86,7 @@ int main(int count, char **words) {
   uint8_t status = 255;
   read_words(count - 2, words + 2);
   size_t length = asked(words[1], &status);
-  // No answer begins as a line with an error does.
+  // No answer begins like a line about an error.
   fwrite(room, 1, length, length >= 9 && memcmp(room, "listset: ", 9) == 0 ? stderr : stdout);
   return status;
 }

@@ -1,17 +1,17 @@
-// Tests whether a concurrent set of your own is linearizable, in one line of a test:
+// Tests whether your own concurrent set is linearizable, in one line of a test:
 //
 //     auto verdict = listset::judge<MySet>();
 //     ASSERT_TRUE(verdict) << verdict;             // GoogleTest; any other: if (!verdict) std::cerr << verdict
 //
-// MySet has add, remove and contains; or insert, erase and contains or count. Threads call new sets, and the begin and
+// MySet has add, remove and contains; or insert, erase, and contains or count. Threads call new sets, and the begin and
 // the end of each call are recorded. A judge decides whether some order of the calls explains their replies.
 //
-// The judge is liblistset, if <listset.h> is included before this file. Otherwise it is the program that the
-// environment variable LISTSET names, or else `listset` in PATH. LISTSET can also name a listset.js, which node runs.
-// If it is `skip`, nothing is judged.
+// The judge is liblistset if <listset.h> is included before this file. Otherwise it is the program named by the
+// environment variable LISTSET or, if that is not set, `listset` in PATH. LISTSET can also name a listset.js, which is
+// run with node. If LISTSET is `skip`, nothing is judged.
 //
-// If this process has one thread, each run has a process of its own. If a set crashes or hangs there, its calls so far
-// are judged. C++17, with -pthread, on a POSIX system.
+// If this process has only one thread, each run gets its own process. If a set crashes or hangs there, the calls made
+// so far are judged. Requires C++17, -pthread and a POSIX system.
 #pragma once
 #include <algorithm>
 #include <atomic>
@@ -53,7 +53,7 @@
 #endif
 
 namespace listset {
-// (two files of one program can differ in these)
+// (two files of one program can have different values of these)
 #if defined LISTSET_H && defined GTEST_SKIP
 inline namespace judged_by_library_in_gtest {
 #elif defined LISTSET_H
@@ -66,63 +66,64 @@ inline namespace judged_by_program {
 
 /// Options of a test. All are checked before the first set is created.
 struct options {
-    /// The number of threads that call a set at once: 1 to 64. 0 uses the presets in turn.
+    /// The number of threads that call a set at the same time: 1 to 64. 0 cycles through the presets.
     unsigned threads = 0;
-    /// The number of calls of each thread: at least 1, and at most 1,000,000,000 for all threads together. 0 uses the presets
-    /// in turn. After each 20,000 calls of all threads, these are written to the file while the threads wait.
+    /// The number of calls of each thread: at least 1, and at most 1,000,000,000 for all threads together. 0 cycles
+    /// through the presets. After every 20,000 calls of all threads together, the calls are written to the file while
+    /// the threads wait.
     unsigned calls = 0;
-    /// The number of keys: 1 to 1,048,576. 0 uses the presets in turn. With more than eight keys, half of the calls use the
-    /// first four.
+    /// The number of keys: 1 to 1,048,576. 0 cycles through the presets. With more than eight keys, half of the calls
+    /// use the first four.
     unsigned keys = 0;
-    /// The percentage of calls before which a thread pauses, for at most a few microseconds: 0 to 100. Unless it is 0, threads
-    /// in a process of the set's own are also stopped during calls, by the signal SIGURG.
+    /// The percentage of calls before which a thread pauses, for at most a few microseconds: 0 to 100. Unless it is 0,
+    /// threads in the set's own process are also interrupted during calls by the signal SIGURG.
     unsigned pauses = 20;
     /// The number of runs: 1 to 1,000,000. A run calls one set, or several new sets one after another.
     unsigned runs = 20;
-    /// The seed of the calls, keys and pauses of the first run. The next run has the next seed.
+    /// The random seed for the calls, keys and pauses of the first run. Each later run uses the next seed.
     unsigned seed = 1;
-    /// A run is cut short as hung if no call begins or ends for this many seconds: 1 to 3,600.
+    /// If no call begins or ends for this many seconds, a run is considered hung and is cut short: 1 to 3,600.
     unsigned seconds = 10;
-    /// No run begins after this many seconds of the test: 1 to 604,800.
+    /// No new run begins once the test has taken this many seconds: 1 to 604,800.
     unsigned within = 60;
     /// The verdict is false if less than this percentage of the calls overlap a change of their key.
     unsigned at_least = 0;
-    /// The shares of add, remove and contains.
+    /// The relative frequencies of add, remove and contains.
     unsigned adds = 1, removes = 1, finds = 1;
-    /// If false, sets are called in this process, which crashes or hangs with them: for debuggers and for coverage.
+    /// If false, sets are called in this process, which crashes or hangs with them. Useful for debuggers and coverage.
     bool own_process = true;
-    /// If true, `contains` is called for each key before all other calls, to record the opening keys.
+    /// If true, `contains` is called for each key before all other calls to record the opening keys.
     bool opens_with_keys = false;
-    /// Called at the begin and at the end of each thread that calls or creates the set.
+    /// Called at the beginning and at the end of each thread that creates or calls the set.
     std::function<void()> begins = nullptr, ends = nullptr;
-    /// The folder that keeps the recording of each run. If empty, only the recording of a failed run is kept: in the folder
-    /// that the variable LISTSET_RECORD names, or else in TMPDIR or in /tmp.
+    /// The folder in which the recording of each run is kept. If empty, only the recording of a failed run is kept, in
+    /// the folder named by the variable LISTSET_RECORD, or else in TMPDIR or /tmp.
     std::string record = "";
 };
 
-/// The result of a test. It is true if some order explains each run, each run reached its end, and at least `at_least` percent
-/// of the calls overlapped. `<<` prints it.
+/// The result of a test. It is true if some order explains each run, each run was completed, and at least `at_least`
+/// percent of the calls overlapped. `<<` prints it.
 struct verdict {
     bool ok = true;
-    /// Whether LISTSET=skip skipped the test, so that nothing was judged.
+    /// Whether the test was skipped because of LISTSET=skip, so that nothing was judged.
     bool is_skipped = false;
     uint64_t calls = 0;
-    /// The number of calls that overlapped a change of their key, as the judge counted them.
+    /// The number of calls that overlapped a change of their key, as counted by the judge.
     uint64_t overlapped = 0;
-    /// The seed of the run that failed.
+    /// The seed of the failed run.
     uint64_t seed = 0;
-    /// What the judge printed about the run that failed, and the file with its recording.
+    /// What the judge printed about the failed run, and the file with its recording.
     std::string said, file;
-    /// The name of the judge, and its statement about its proof.
+    /// The name of the judge, and what it states about its proof.
     std::string judge;
-    /// The whole message.
+    /// The complete message.
     std::string text;
     explicit operator bool() const { return ok; }
 };
 
 inline std::ostream &operator<<(std::ostream &to, const verdict &it) { return to << it.text; }
 
-/// The exception of `judge` if nothing is known about the set: an option is out of range, no set could be created, or no judge
+/// Thrown by `judge` if nothing is known about the set: an option is out of range, no set could be created, or no judge
 /// was found.
 struct no_verdict : std::runtime_error {
     using std::runtime_error::runtime_error;
@@ -130,8 +131,8 @@ struct no_verdict : std::runtime_error {
 
 namespace judging {
 
-// The shape of a run: the numbers of threads, of new sets one after another, of calls of each thread on each set, and
-// of keys, which are the multiples of `times`.
+// The sizes of a run: the number of threads, of new sets used one after another, of calls per thread and set, and of
+// keys. The keys are the multiples of `times`.
 struct shape {
     const char *name;
     unsigned threads, sets, calls, keys, times;
@@ -174,7 +175,7 @@ constexpr const char *NOT_IN_CI = "LISTSET is skip, but the variable CI is set: 
 constexpr const char *NUMBER = "the variable %s is %s, but must be a number from %s to %s";
 // end of what is made
 
-// Replaces each %s of a text.
+// Replaces each %s in a text.
 template <class... With> std::string say(const char *text, const With &...with) {
     std::ostringstream said;
     said.imbue(std::locale::classic());
@@ -207,8 +208,8 @@ inline uint64_t number_of(const char *variable, uint64_t other, uint64_t least, 
     return found;
 }
 
-// Applies the environment variables. LISTSET_SECONDS repeats runs for this many seconds, with seeds from the current time on;
-// LISTSET_SEED sets the first seed.
+// Applies the environment variables. LISTSET_SECONDS repeats runs for this many seconds, with seeds counting up from
+// the current time. LISTSET_SEED sets the first seed.
 inline options by_environment(options how) {
     const unsigned seconds = unsigned(number_of("LISTSET_SECONDS", 0, 1, RANGES[6].most));
     if (seconds) how.within = seconds, how.runs = RANGES[4].most, how.seed = unsigned(std::time(nullptr));
@@ -218,7 +219,7 @@ inline options by_environment(options how) {
 
 inline bool is_few(uint64_t overlapped, uint64_t calls) { return overlapped * 100 < calls * ENOUGH; }
 
-// ---- the three calls, by the names that the set has for them
+// ---- the three calls, under the names that the set uses for them
 
 enum class kind { add, remove, contains };
 enum class reply : uint8_t { no, yes, unknown };
@@ -237,7 +238,7 @@ inline constexpr auto by_erase = [](auto &set, auto &key) -> decltype(set.erase(
 inline constexpr auto by_contains = [](auto &set, auto &key) -> decltype(set.contains(key)) { return set.contains(key); };
 inline constexpr auto by_count = [](auto &set, auto &key) -> decltype(set.count(key)) { return set.count(key); };
 
-// Decides whether a set has one of these calls for such keys; `called` makes the first call that the set has.
+// Whether a set has at least one of these calls for such keys. `called` makes the first call that the set has.
 template <class S, class K, class... Calls> constexpr bool has(const Calls &...) { return (std::is_invocable_v<Calls, S &, const K &> || ...); }
 
 template <class S, class K, class First, class... Others> reply called(S &set, const K &key, First first, Others... others) {
@@ -245,12 +246,12 @@ template <class S, class K, class First, class... Others> reply called(S &set, c
     else return called(set, key, others...);
 }
 
-// ---- a run, and its recording
+// ---- a run and its recording
 
 enum phase { GOING, OVER, FAILED, UNMADE };
 
-// A call as its thread records it, at its begin and at its end. After an unknown reply the thread continues with a new
-// thread number.
+// A call as recorded by its thread, at its begin and at its end. After an unknown reply, the thread continues under a
+// new thread number.
 struct slot {
     unsigned thread, key;
     kind call;
@@ -258,12 +259,12 @@ struct slot {
     std::atomic<unsigned> begin, end;  // 0 until they happen
 };
 
-// The memory of a run, which processes can share. It has the calls that are not yet in the file.
+// The memory of a run, which processes can share. It contains the calls that have not been written to the file yet.
 struct area {
     const shape of;
     const uint64_t seed;
-    const unsigned rows, parts, rounds;  // the calls of each thread in a part (the last one can have fewer); the parts of a set; the parts of all sets
-    slot *slots = nullptr;               // the calls of each thread in turn
+    const unsigned rows, parts, rounds;  // how many calls a thread makes in a part (the last one can have fewer), how many parts a set has, and all sets together
+    slot *slots = nullptr;               // the calls, thread by thread
     std::atomic<unsigned> tickets{0}, there{0}, done{0}, begun{0};
     std::atomic<uint64_t> written{0};  // the length of the file
     std::atomic<phase> at{GOING};
@@ -284,7 +285,7 @@ struct area {
 
     size_t count() const { return size_t(of.threads) * rows; }
 
-    // Calls a function, and stores the exception that it throws. Only the first one is kept.
+    // Calls a function and stores the exception that it throws, if any. Only the first exception is kept.
     template <class F> void tries(phase as, F call) {
         try {
             call();
@@ -308,8 +309,8 @@ struct area {
         return !is_stopping;
     }
 
-    // Waits until all threads are here, so that they continue at once. Polls without sleeping if each thread can have a
-    // processor, unless such a wait took too long before.
+    // Waits until all threads are here, so that they continue at the same time. Polls without sleeping if there is a
+    // processor for each thread, unless an earlier wait of this kind took too long.
     void meet() {
         const unsigned all = there++ / of.threads * of.threads + of.threads;
         const unsigned awake = of.threads <= std::thread::hardware_concurrency() && !is_busy ? AWAKE : LONGEST;
@@ -326,8 +327,9 @@ inline std::string line_of(const slot &it, unsigned end) {
     return text + (is_open ? "- -\n" : std::to_string(end) + (it.answer == reply::yes ? " true\n" : " false\n"));
 }
 
-// Returns the lines of the calls in memory, in the order of their begins, and the lines of the pending ones. Threads can
-// still make calls: a call that begins later than now is left out, and a call that ends later is pending.
+// Returns the lines of the calls in memory, in the order in which they began, and the lines of the pending ones.
+// Threads may still be making calls: a call that begins after this function was called is left out, and a call that
+// ends after it is pending.
 inline std::pair<std::string, std::string> lines_of(const area &from) {
     const unsigned now = from.tickets;
     std::map<unsigned, std::pair<const slot *, unsigned>> found;
@@ -343,8 +345,8 @@ inline std::pair<std::string, std::string> lines_of(const area &from) {
     return {lines, under_way};
 }
 
-// Stops its thread some microseconds after some of its calls have begun, whatever it does then, by SIGURG from a timer.
-// On Linux only.
+// Interrupts its thread a few microseconds after some of its calls have begun, whatever it is doing then, by SIGURG
+// from a timer. Works on Linux only.
 struct stops {
 #ifdef __linux__
     int timer = -1;
@@ -357,7 +359,7 @@ struct stops {
         errno = before;
     }
 
-    // Is called before each of `calls` calls. Starts the timer before a few of them.
+    // Must be called before each of `calls` calls. Starts the timer before a few of them.
     void before_call(uint64_t calls) {
         if (timer < 0 || draw() % calls >= STOPS) return;
         itimerspec in = {};
@@ -424,7 +426,7 @@ template <class Make, class K> struct maker {
         return unsigned(draw()) % below;
     }
 
-    // Makes the calls of one thread on a set, in one part.
+    // Makes one part of a thread's calls on a set.
     void call_set(area &run, unsigned thread, unsigned round, unsigned &number, std::mt19937 &draw, stops &own) {
         set_type &its = *set;
         slot *at = run.slots + size_t(thread) * run.rows;
@@ -457,10 +459,10 @@ template <class Make, class K> struct maker {
         if (how.ends) how.ends();
     }
 
-    // How often `contains` of a key is called at the beginning and at the end, while its outcome is unknown.
+    // The maximum number of `contains` calls for a key, at the beginning or at the end, while the outcome is unknown.
     static constexpr unsigned MOST_ASKED = 100;
 
-    // Calls `contains` for each key, again while its outcome is unknown. Returns a line for each key found.
+    // Calls `contains` for each key, and retries if the outcome is unknown. Returns a line for each key found.
     std::string lines_of_keys(area &run, const char *word, unsigned round) {
         std::string lines;
         for (unsigned key = 0; key < run.of.keys; key++, run.tickets++) {
@@ -477,7 +479,8 @@ template <class Make, class K> struct maker {
         for (size_t i = 0; i < run.count(); i++) run.slots[i].begin = run.slots[i].end = 0;
     }
 
-    // Creates each set and starts the threads on it, part by part. Writes each part when its calls have ended.
+    // Creates each set and starts the threads on it, part by part. Writes each part to the file after its calls have
+    // ended.
     void lead(area &run, pointer &own) {
         std::string left, lines = "listset-calls 1\n";
         for (unsigned round = 0; round < run.rounds; round++, lines = "") {
@@ -498,7 +501,7 @@ template <class Make, class K> struct maker {
         write(run, left + "end\n");
     }
 
-    // Runs all threads. They are stopped during calls if `is_own`: the process is the set's own.
+    // Runs all threads. They are interrupted during calls if `is_own`, that is, if the process belongs to the set.
     void all(area &run, bool is_own) {
         std::vector<std::thread> threads;
         for (unsigned i = 0; i < run.of.threads; i++)
@@ -514,7 +517,7 @@ template <class Make, class K> struct maker {
     }
 };
 
-// Waits until `is_done`. Returns false if no call begins or ends for `seconds` before that.
+// Waits until `is_done`. Returns false if no call begins or ends for `seconds` first.
 template <class Done> bool comes_to_end(const area &run, unsigned seconds, Done is_done) {
     using clock = std::chrono::steady_clock;
     unsigned seen = run.tickets;
@@ -528,8 +531,8 @@ template <class Done> bool comes_to_end(const area &run, unsigned seconds, Done 
     return true;
 }
 
-// Decides whether this thread is the only one of its process. Another thread could hold a lock when the process is
-// copied.
+// Returns whether this thread is the only one in its process. When a process is forked, another thread could hold a
+// lock.
 inline bool is_alone() {
     std::error_code none;
     const std::filesystem::directory_iterator threads("/proc/self/task", none);
@@ -585,13 +588,13 @@ struct answer {
 
 inline std::string stripped(const std::string &text) { return text.substr(0, text.find_last_not_of('\n') + 1); }
 
-// Returns the line that states whether a judge is proved.
+// Returns the line in which a judge states whether it is proved.
 inline std::string proof_in(const std::string &version) {
     const size_t at = ("\n" + version).find("\nproof ");
     return at == std::string::npos ? "proof unknown" : version.substr(at, version.find('\n', at) - at);
 }
 
-// A judge: its name, its statement about its proof, and how to call it.
+// A judge: its name, what it states about its proof, and how to call it.
 struct judge_found {
     std::string name, proof;
     std::function<answer(const std::string &file)> asked_of;
@@ -625,7 +628,7 @@ inline std::string quoted(const std::string &word) {
     return text + "'";
 }
 
-// Decides whether a command exists. Without this check the shell would print a message of its own.
+// Returns whether a command exists. Without this check, the shell would print its own message.
 inline bool is_command(const std::string &name) { return !std::system(("command -v " + quoted(name) + " >/dev/null 2>&1").c_str()); }
 
 inline judge_found find_judge() {
@@ -649,7 +652,7 @@ inline judge_found find_judge() {
 }
 #endif
 
-// Judges a recording. Returns what the judge printed if no order explains the calls, otherwise an empty text; and how
+// Judges a recording. Returns what the judge printed if no order explains the calls, otherwise an empty text, and how
 // many calls overlapped a change of their key.
 inline std::pair<std::string, uint64_t> judged(const judge_found &by, const std::string &file) {
     const auto [status, said] = by.asked_of(file);
@@ -660,16 +663,16 @@ inline std::pair<std::string, uint64_t> judged(const judge_found &by, const std:
     throw no_verdict(say(NO_VERDICT, by.name, first.empty() ? "nothing" : first));
 }
 
-// Returns the number of the key that a refusal names.
+// Returns the key that a refusal names, as a number.
 inline std::string key_in(const std::string &refused) {
     std::string key;
     if (const size_t at = refused.find("of key "); at != std::string::npos) std::istringstream(refused.substr(at + 7)) >> key;
     return key;
 }
 
-// ---- a test: runs, one after another
+// ---- a test: runs one after another
 
-// The file with the recording of a run, which grows during the run. Deleted at the end unless it is kept.
+// The file with the recording of a run, which grows during the run. It is deleted at the end unless it is kept.
 struct recording {
     std::string path;
     bool is_kept;
@@ -703,7 +706,7 @@ inline std::string cut(const area &run, const std::string &path, const std::stri
 
 struct outcome {
     uint64_t seed = 0, calls = 0, overlapped = 0;
-    std::string said = "", file = "", text = "";  // of a run that failed; `text` is the whole message
+    std::string said = "", file = "", text = "";  // of a failed run; `text` is the complete message
 };
 
 struct number {
@@ -729,7 +732,7 @@ template <class Make, class Key> struct tester {
     const Make &make;
     const Key &key;
 
-    // Returns the preset for a seed, changed by the options.
+    // Returns the preset for a seed, modified by the options.
     shape shape_of(uint64_t seed) const {
         shape it = PRESETS[(seed + std::size(PRESETS) - 1) % std::size(PRESETS)];
         if (how.threads) it.threads = how.threads;
@@ -742,8 +745,8 @@ template <class Make, class Key> struct tester {
         return it;
     }
 
-    // Returns a shape whose calls overlap more: more threads, even more than processors, and fewer keys, unless the
-    // options set them. The number of all calls does not grow.
+    // Returns a shape whose calls overlap more: with more threads (possibly more than processors) and fewer keys,
+    // except where the options set them. The total number of calls does not grow.
     shape harder(shape it) const {
         const unsigned before = it.threads;
         if (!how.threads) it.threads = std::min(std::max(2 * it.threads, std::thread::hardware_concurrency() + 2), 64u);
@@ -763,7 +766,8 @@ template <class Make, class Key> struct tester {
         return keys;
     }
 
-    // Describes the key of a number in the recording, and its set if the run has several. Empty if the number is enough.
+    // Describes the key with this number in the recording, and its set if the run has several. Returns an empty text if
+    // the number says enough.
     static std::string key_line(const std::string &number, const shape &it, const std::vector<K> &keys) {
         if (number.empty()) return "";
         const unsigned long at = std::stoul(number);
@@ -790,8 +794,8 @@ template <class Make, class Key> struct tester {
         return found;
     }
 
-    // Writes the calls that show a refusal to a small file beside the recording. Returns the part of the message that
-    // names the file.
+    // Writes the calls that show why a key is refused to a small file beside the recording. Returns the part of the
+    // message that names this file.
     std::string alone(const std::string &path, const std::string &number) const {
         const std::string text = number.empty() || !by.only ? "" : by.only(path, number), file = path.substr(0, path.size() - 6) + "-key-" + number + ".calls";
         return !text.empty() && std::ofstream(file) << text << std::flush ? say(ALONE, file) : "";
@@ -821,7 +825,7 @@ template <class Make, class Key> struct tester {
         return all;
     }
 
-    // Returns the verdict if no run failed. It is false if too few calls overlapped.
+    // Returns the verdict when no run has failed. It is false if too few calls overlapped.
     verdict passed(verdict all) const {
         const bool few = is_few(all.overlapped, all.calls);
         all.text = say(few ? FEW : OK, all.calls, all.overlapped) + "; judge: " + all.judge;
@@ -832,7 +836,7 @@ template <class Make, class Key> struct tester {
     }
 };
 
-// Returns the verdict if LISTSET is `skip`. Skips the test, if GoogleTest is included before this file.
+// Returns the verdict if LISTSET is `skip`. Skips the test if GoogleTest is included before this file.
 inline verdict skipped() {
     if (const char *ci = std::getenv("CI"); ci && *ci) throw no_verdict(NOT_IN_CI);
     verdict none;
@@ -847,8 +851,8 @@ inline verdict skipped() {
 
 }  // namespace judging
 
-/// Judges the sets that `make` creates. `make` returns a pointer that owns a set. `key` returns the key of a number, and must
-/// return a different key for each number.
+/// Judges the sets that `make` creates. `make` returns a pointer that owns a set. `key` converts a number to a key, and
+/// must return a different key for each number.
 template <class S, class Make = judging::made<S>, class Key = judging::number> verdict judge(const options &how = {}, Make make = {}, Key key = {}) {
     judging::check(how);
     if (const char *named = std::getenv("LISTSET"); named && named == std::string("skip")) return judging::skipped();

@@ -21,7 +21,7 @@ import (
 // fileName is the variable that names the file with the shared memory of a run.
 const fileName = "LISTSET_AREA"
 
-// child is a process that runs a test again up to its Check, and makes runs there.
+// child is a process that runs a test again up to its Check and then makes runs there.
 type child struct {
 	*area
 	process *exec.Cmd
@@ -29,7 +29,7 @@ type child struct {
 	over    chan bool
 }
 
-// inChild returns the caller of the Check with this name. In the child process it makes the runs and never returns.
+// inChild returns the caller for the Check with this name. In the child process it makes the runs and never returns.
 func inChild(name string, a *area) (caller, error) {
 	c := &child{area: a, over: make(chan bool)}
 	if os.Getenv(checkName) == name {
@@ -50,7 +50,7 @@ func inChild(name string, a *area) (caller, error) {
 	return c, c.start(name, file.Name())
 }
 
-// share maps the file into memory, and records the run there.
+// share maps the file into memory and records the run there.
 func (c *child) share(file *os.File) error {
 	memory, err := syscall.Mmap(int(file.Fd()), 0, c.bytes(), syscall.PROT_READ|syscall.PROT_WRITE, syscall.MAP_SHARED)
 	if err == nil {
@@ -59,7 +59,7 @@ func (c *child) share(file *os.File) error {
 	return err
 }
 
-// start starts the process, and waits until it has reached the Check.
+// start starts the process and waits until it has reached the Check.
 func (c *child) start(name, file string) error {
 	pieces := strings.Split(name[:strings.LastIndex(name, "#")], "/")
 	for i, piece := range pieces {
@@ -126,7 +126,7 @@ func (c *child) close() {
 	syscall.Munmap(c.memory)
 }
 
-// serve makes the runs that the parent process asks for, until the parent ends.
+// serve makes the runs that the parent process asks for until the parent ends.
 func (c *child) serve() {
 	file, err := os.OpenFile(os.Getenv(fileName), os.O_RDWR, 0)
 	if err != nil || c.share(file) != nil {
@@ -152,7 +152,8 @@ func (c *child) serve() {
 	}
 }
 
-// interrupt stops all goroutines for a moment during their calls, again and again. They continue in another order.
+// interrupt repeatedly stops all goroutines for a moment during their calls. Afterwards they continue in a different
+// order.
 func interrupt(seed int64, isOver chan bool) {
 	var stats runtime.MemStats
 	for draw := rand.New(rand.NewSource(seed)); ; runtime.ReadMemStats(&stats) {

@@ -1,16 +1,14 @@
-// Package judge tests whether a concurrent set of your own is linearizable, in one line of a test:
-//
+// Package judge tests whether your own concurrent set is linearizable, in one line of a test:
 //	func TestIsLinearizable(t *testing.T) { judge.Check(t, NewMySet) }
-//
 // MySet has Add, Remove and Contains. Goroutines call new sets, and the begin and the end of each call are recorded. A
 // judge decides whether some order of the calls explains their replies.
 //
 // The judge is liblistset in a test with the tag `listset`, which needs cgo and pkg-config. Otherwise it is the program
-// that the environment variable LISTSET names, or else `listset` in PATH. LISTSET can also name a listset.js, which
-// node runs. If it is `skip`, the test is skipped.
+// named by the environment variable LISTSET or, if that is not set, `listset` in PATH. LISTSET can also name a
+// listset.js, which is run with node. If LISTSET is `skip`, the test is skipped.
 //
-// On Unix, Check has a process of its own for the set, which runs this test again up to Check. If the set crashes or
-// hangs there, its calls so far are judged.
+// On Unix, Check starts a separate process for the set, which runs this test again up to Check. If the set crashes or
+// hangs there, the calls made so far are judged.
 package judge
 
 import (
@@ -24,8 +22,8 @@ import (
 	"time"
 )
 
-// SetOf is a set with keys of type K, called from many goroutines at once. A call panics with NotKnown if its outcome
-// is unknown, such as after a timeout.
+// SetOf is a set with keys of type K that many goroutines call at the same time. A call panics with NotKnown if its
+// outcome is unknown, for example after a timeout.
 type SetOf[K any] interface {
 	Add(key K) bool
 	Remove(key K) bool
@@ -37,29 +35,29 @@ type Set = SetOf[uint32]
 
 type notKnown struct{}
 
-// NotKnown marks an unknown outcome: a call panics with this value.
+// NotKnown is the value with which a call panics if its outcome is unknown.
 var NotKnown any = notKnown{}
 
-// Options are the options of a test. All are checked before the first set is created.
+// Options are the options of a test. All of them are checked before the first set is created.
 type Options struct {
-	Threads       int    // goroutines that call a set at once: 1 to 64; 0 uses the presets in turn
-	Calls         int    // calls of each goroutine: at least 1, and at most 1,000,000,000 for all together; 0 uses the presets in turn; after each 20,000 calls, these are written to the file while the goroutines wait
-	Keys          int    // keys: 1 to 1,048,576; 0 uses the presets in turn; with more than eight keys, half of the calls use the first four
-	Pauses        int    // percentage of calls before which a goroutine pauses, for at most a few microseconds: 0 to 100; unless it is 0, goroutines in a process of the set's own are also stopped during calls
-	Runs          int    // runs: 1 to 1,000,000; a run calls one set, or several new sets one after another
-	Seed          int64  // seed of the calls, keys and pauses of the first run; the next run has the next seed
-	Seconds       int    // a run is cut short as hung if no call begins or ends for this many seconds: 1 to 3,600
-	Within        int    // no run begins after this many seconds of the test: 1 to 604,800
+	Threads       int    // the number of goroutines that call a set at the same time: 1 to 64; 0 cycles through the presets
+	Calls         int    // the number of calls of each goroutine: at least 1, and at most 1,000,000,000 for all together; 0 cycles through the presets; after every 20,000 calls, these are written to the file while the goroutines wait
+	Keys          int    // the number of keys: 1 to 1,048,576; 0 cycles through the presets; with more than eight keys, half of the calls use the first four
+	Pauses        int    // the percentage of calls before which a goroutine pauses, for at most a few microseconds: 0 to 100; unless it is 0, goroutines in the set's own process are also stopped during calls
+	Runs          int    // the number of runs: 1 to 1,000,000; a run calls one set, or several new sets one after another
+	Seed          int64  // the random seed for the calls, keys and pauses of the first run; each later run uses the next seed
+	Seconds       int    // if no call begins or ends for this many seconds, a run is considered hung and is cut short: 1 to 3,600
+	Within        int    // no new run begins once the test has taken this many seconds: 1 to 604,800
 	AtLeast       int    // the test fails if less than this percentage of the calls overlap a change of their key
-	Adds          int    // share of Add among the calls
-	Removes       int    // share of Remove
-	Finds         int    // share of Contains
-	InProcess     bool   // calls sets in this process, which crashes or hangs with them: for debuggers and for coverage
-	OpensWithKeys bool   // calls Contains for each key before all other calls, to record the opening keys
-	Record        string // folder that keeps the recording of each run; if empty, only the recording of a failed run is kept: in the folder that the variable LISTSET_RECORD names, or else in the folder for temporary files
+	Adds          int    // the relative frequency of Add among the calls
+	Removes       int    // that of Remove
+	Finds         int    // that of Contains
+	InProcess     bool   // calls sets in this process, which crashes or hangs with them; useful for debuggers and coverage
+	OpensWithKeys bool   // calls Contains for each key before all other calls to record the opening keys
+	Record        string // the folder in which the recording of each run is kept; if empty, only the recording of a failed run is kept, in the folder named by the variable LISTSET_RECORD, or else in the folder for temporary files
 }
 
-// DefaultOptions returns the options of 20 runs with the presets.
+// DefaultOptions returns the options for 20 runs with the presets.
 func DefaultOptions() Options {
 	return Options{Pauses: 20, Runs: 20, Seed: 1, Seconds: 10, Within: manyWithin, Adds: 1, Removes: 1, Finds: 1}
 }
@@ -84,8 +82,8 @@ func (o Options) check() error {
 	return nil
 }
 
-// byEnvironment applies the environment variables. LISTSET_SECONDS repeats runs for this many seconds, with seeds from the current
-// time on; LISTSET_SEED sets the first seed.
+// byEnvironment applies the environment variables. LISTSET_SECONDS repeats runs for this many seconds, with seeds
+// counting up from the current time. LISTSET_SEED sets the first seed.
 func (o Options) byEnvironment() (Options, error) {
 	seconds, err := numberOf("LISTSET_SECONDS", 0, 1, int64(ranges[6].most))
 	if seconds > 0 {
@@ -110,17 +108,17 @@ func numberOf(variable string, other, least, most int64) (int64, error) {
 	return found, nil
 }
 
-// shape is the preset of a run, changed by the options.
+// shape is the preset of a run, modified by the options.
 type shape struct {
 	name string
 	size
 }
 
-// size is the size of a run: the numbers of goroutines, of new sets one after another, of calls of each goroutine on
-// each set, and of keys, which are the multiples of times.
+// size has the sizes of a run: the number of goroutines, of new sets used one after another, of calls per goroutine and
+// set, and of keys. The keys are the multiples of times.
 type size struct{ threads, sets, calls, keys, times int }
 
-// rows returns how many calls a goroutine makes in a part. The last part of a set can have fewer.
+// rows returns how many calls a goroutine makes in a part. The last part on a set can have fewer.
 func (s size) rows() int {
 	if most := manyPart / s.threads; most < s.calls {
 		return most
@@ -139,7 +137,7 @@ type limits struct {
 	least, most int
 }
 
-// shapeOf returns the preset for a seed, changed by the options.
+// shapeOf returns the preset for a seed, modified by the options.
 func (o Options) shapeOf(seed int64) shape {
 	count := int64(len(presets))
 	s := presets[((seed-1)%count+count)%count]
@@ -158,8 +156,8 @@ func (o Options) shapeOf(seed int64) shape {
 	return s
 }
 
-// harder returns a shape whose calls overlap more: more goroutines, even more than processors, and fewer keys, unless
-// the options set them. The number of all calls does not grow.
+// harder returns a shape whose calls overlap more: with more goroutines (possibly more than processors) and fewer keys,
+// except where the options set them. The total number of calls does not grow.
 func (o Options) harder(s shape) shape {
 	before := s.threads
 	if o.Threads == 0 {
@@ -188,7 +186,7 @@ func most(a, b int) int {
 	return b
 }
 
-// most returns the largest value of a number in the presets, changed by the options.
+// most returns the largest value of a number in the presets, modified by the options.
 func (o Options) most(of func(size) int) (most int) {
 	for i := range presets {
 		if its := of(o.shapeOf(int64(i + 1)).size); its > most {
@@ -198,9 +196,9 @@ func (o Options) most(of func(size) int) (most int) {
 	return most
 }
 
-// Verdict is the result of a test without a failure: some order explains each run. It has the number of calls, how many
-// of them overlapped a change of their key, as the judge counted them, and the judge with its statement about its
-// proof. String returns it as text.
+// Verdict is the result of a successful test: some order explains each run. It has the number of calls, how many of
+// them overlapped a change of their key (as counted by the judge), and the judge with what it states about its proof.
+// String formats it.
 type Verdict struct {
 	Calls, Overlapped int
 	Judge             string
@@ -219,7 +217,7 @@ func (v Verdict) String() string {
 	return fmt.Sprintf(text, v.Calls, v.Overlapped) + "; judge: " + v.Judge
 }
 
-// Failed is a failed run: its preset, what the judge printed, the file with its recording, the judge, and the whole
+// Failed is a failed run: its preset, what the judge printed, the file with its recording, the judge, and the complete
 // message.
 type Failed struct {
 	Seed                          int64
@@ -249,14 +247,14 @@ type Test interface {
 }
 
 // Check judges the sets that newSet creates. It fails the test if no order explains a run, or if the set crashes or
-// hangs. It uses DefaultOptions, or the one Options given. The set has a process of its own, which runs the test from
-// its begin up to this Check; other Checks of the test do nothing there.
+// hangs. It uses DefaultOptions unless an Options is given. The set gets a separate process, which runs the test from
+// its beginning up to this Check; other Checks of the test do nothing there.
 func Check[S Set](t Test, newSet func() S, options ...Options) {
 	t.Helper()
 	check(t, func(int) (source, error) { return numbers(newSet), nil }, options)
 }
 
-// CheckKeys is Check for a set with other keys. It requires that key returns a different key for each number.
+// CheckKeys is Check for a set with keys of another type. key must return a different key for each number.
 func CheckKeys[K comparable, S SetOf[K]](t Test, newSet func() S, key func(uint32) K, options ...Options) {
 	t.Helper()
 	check(t, func(keys int) (source, error) { return ofKeys(newSet, key, keys) }, options)
@@ -298,7 +296,7 @@ var (
 	lock   sync.Mutex
 )
 
-// nameOf returns the name of the test with the number of its Check.
+// nameOf returns the name of the test together with the number of its Check.
 func nameOf(t Test) string {
 	lock.Lock()
 	defer lock.Unlock()
@@ -313,18 +311,18 @@ func nameOf(t Test) string {
 	return fmt.Sprintf("%s#%d", name, checks[name])
 }
 
-// source creates sets of numbers, and shows the key of a number.
+// source creates sets of numbers and describes the key of a number.
 type source struct {
 	newSet func() Set
 	shown  func(number uint32) string
-	isOwn  bool // whether the test has a function for keys
+	isOwn  bool // whether the test has a function that converts numbers to keys
 }
 
 func numbers[S Set](newSet func() S) source {
 	return source{func() Set { return newSet() }, func(n uint32) string { return fmt.Sprint(n) }, false}
 }
 
-// keyed is a set with other keys, called by their numbers.
+// keyed is a set with keys of another type, called with their numbers.
 type keyed[K any] struct {
 	set  SetOf[K]
 	keys []K
@@ -347,7 +345,7 @@ func ofKeys[K comparable, S SetOf[K]](newSet func() S, key func(uint32) K, count
 	return source{func() Set { return keyed[K]{newSet(), keys} }, shown, true}, nil
 }
 
-// tester is the state of a test: it judges one run after another.
+// tester is the state of a test. It judges runs one after another.
 type tester struct {
 	options Options
 	area    *area
@@ -355,8 +353,8 @@ type tester struct {
 	by      *judgeFound
 }
 
-// judged judges run after run, in a child process for the Check with this name, or in this process if the name is
-// empty.
+// judged judges one run after another, in a child process for the Check with this name, or in this process if the name
+// is empty.
 func judged(options Options, of func(keys int) (source, error), name string) (verdict Verdict, err error) {
 	if err = options.check(); err != nil {
 		return verdict, err
@@ -387,7 +385,7 @@ func judged(options Options, of func(keys int) (source, error), name string) (ve
 	return t.all()
 }
 
-// all makes the requested runs, each up to three times, then more runs while few calls have overlapped.
+// all makes the requested runs, each up to three times, and then more runs while few calls have overlapped.
 func (t *tester) all() (verdict Verdict, err error) {
 	verdict.Judge = t.by.String()
 	began, o := time.Now(), t.options

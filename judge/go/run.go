@@ -30,8 +30,8 @@ const (
 	unmade
 )
 
-// slot is a call as its goroutine records it, at its begin and at its end. After an unknown outcome the goroutine
-// continues with a new thread number.
+// slot is a call as recorded by its goroutine, at its begin and at its end. After an unknown outcome, the goroutine
+// continues under a new thread number.
 type slot struct {
 	begin, end               uint32 // 0 until they happen
 	thread, call, key, reply uint32
@@ -58,7 +58,8 @@ type head struct {
 	file, why                   text   // why the run failed
 }
 
-// area is the memory of a run, which processes can share. It has the calls that are not yet in the file.
+// area is the memory of a run, which processes can share. It contains the calls that have not been written to the file
+// yet.
 type area struct {
 	options Options
 	source  source
@@ -82,8 +83,9 @@ func (a *area) lay(memory []byte) {
 	a.slots = unsafe.Slice((*slot)(unsafe.Pointer(&memory[unsafe.Sizeof(head{})])), manyPart)
 }
 
-// lines returns the lines of the calls in memory, in the order of their begins, and the lines of the pending ones.
-// Goroutines can still make calls: a call that begins later than now is left out, and a call that ends later is pending.
+// lines returns the lines of the calls in memory, in the order in which they began, and the lines of the pending ones.
+// Goroutines may still be making calls: a call that begins after lines was called is left out, and a call that ends
+// after it is pending.
 func (a *area) lines() (lines, underWay string) {
 	now, of, begins := atomic.LoadUint32(&a.tickets), map[uint32]string{}, []uint32{}
 	for i := range a.slots[:a.threads*a.rows()] {
@@ -119,14 +121,14 @@ func (s *slot) line(end uint32) string {
 
 // caller makes runs.
 type caller interface {
-	begin()          // is called when the memory of a run is ready
+	begin()          // must be called once the memory of a run is ready
 	hasEnded() bool  // whether the run has ended
-	trouble() string // then the error, if any
+	trouble() string // the error, if the run has ended with one
 	stop()           // stops the run; a child process ends
 	close()          // frees the memory of the runs
 }
 
-// here makes runs in this process, where goroutines that hang are left running.
+// here makes runs in this process. Goroutines that hang are left running.
 type here struct{ *area }
 
 func (h *here) begin() { go h.callAll() }
@@ -185,7 +187,7 @@ func (a *area) fail(as uint32, words string) {
 	}
 }
 
-// waits polls awake times, then sleeps between polls, until isDone. It returns false if the run was stopped.
+// waits waits until isDone: it polls awake times, then sleeps between polls. It returns false if the run was stopped.
 func (a *area) waits(awake int, isDone func() bool) bool {
 	for looks := 0; !isDone() && atomic.LoadUint32(&a.isStopping) == 0; looks++ {
 		if looks >= awake {
@@ -195,8 +197,8 @@ func (a *area) waits(awake int, isDone func() bool) bool {
 	return atomic.LoadUint32(&a.isStopping) == 0
 }
 
-// meet waits until all goroutines are here, so that they continue at once. It does not sleep if each goroutine can have
-// a processor, unless such a wait took too long before.
+// meet waits until all goroutines are here, so that they continue at the same time. It does not sleep if there is a
+// processor for each goroutine, unless an earlier wait of this kind took too long.
 func (a *area) meet() bool {
 	awake, count, looks := manyLongest, uint32(a.threads), 0
 	if a.threads <= runtime.NumCPU() && atomic.LoadUint32(&a.isBusy) == 0 {
@@ -241,7 +243,8 @@ func (a *area) newSet() (set Set) {
 	return set
 }
 
-// lead creates each set and starts the goroutines on it, part by part. It writes each part when its calls have ended.
+// lead creates each set and starts the goroutines on it, part by part. It writes each part to the file after its calls
+// have ended.
 func (a *area) lead(on *stage) {
 	defer a.fail(failed, sayThrew)
 	file, err := os.OpenFile(a.file.String(), os.O_WRONLY, 0)
@@ -291,10 +294,11 @@ func (a *area) number(key int) uint32 {
 	return uint32(key * a.times)
 }
 
-// mostAsked is how often Contains of a key is called at the beginning and at the end, while its outcome is unknown.
+// mostAsked is the maximum number of Contains calls for a key, at the beginning or at the end, while the outcome is
+// unknown.
 const mostAsked = 100
 
-// linesOfKeys calls Contains for each key, again while its outcome is unknown, and returns a line for each key found.
+// linesOfKeys calls Contains for each key, and retries if the outcome is unknown. It returns a line for each key found.
 func (a *area) linesOfKeys(word string, set Set, round int) (lines string) {
 	for key := 0; key < a.keys; key++ {
 		found := uint32(unknown)

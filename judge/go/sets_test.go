@@ -39,7 +39,7 @@ func (r *right[K]) Contains(key K) bool {
 	return r.keys[key]
 }
 
-// set is a right set, except for the error that the variable SET names.
+// set is a correct set, except for the error that the variable SET names.
 type set struct {
 	*right[uint32]
 	is    string
@@ -57,8 +57,8 @@ func newSet() *set {
 	return made
 }
 
-// part returns the whole set. With "first use" each key has a set of its own, which its first call creates; two calls
-// can both create it.
+// part returns the whole set. With "first use", each key has its own set, which its first call creates; two calls can
+// both create it.
 func (s *set) part(key uint32) *right[uint32] {
 	if s.is != "first use" {
 		return s.right
@@ -71,7 +71,7 @@ func (s *set) part(key uint32) *right[uint32] {
 	return made
 }
 
-// place returns the key. With "collides", keys with the same remainder are one key.
+// place returns the key. With "collides", keys with the same remainder are treated as one key.
 func (s *set) place(key uint32) uint32 {
 	if s.is == "collides" {
 		return key % 64
@@ -79,7 +79,7 @@ func (s *set) place(key uint32) uint32 {
 	return key
 }
 
-// called loses each fiftieth reply: the outcome is unknown, or the call is made again.
+// called loses one reply in fifty: the outcome is then unknown, or the call is repeated.
 func (s *set) called(call func(uint32) bool, key uint32) bool {
 	reply := call(s.place(key))
 	if s.is != "not known" && s.is != "again" || atomic.AddInt32(&s.calls, 1)%50 > 0 {
@@ -91,7 +91,7 @@ func (s *set) called(call func(uint32) bool, key uint32) bool {
 	return call(key)
 }
 
-// stop never returns from a remove, and keeps the lock.
+// stop hangs in a remove while holding the lock.
 func (s *set) stop() {
 	s.lock.Lock()
 	defer s.lock.Unlock()
@@ -133,7 +133,7 @@ func (s *set) Contains(key uint32) bool {
 	return s.part(key).Contains(s.place(key))
 }
 
-// told is a test that prints the kind of the result, and the result.
+// told is a test that prints the result and its kind.
 type told struct{ *testing.T }
 
 func (told) Log(verdict ...any) { fmt.Printf("verdict: ok\n%v\n", verdict[0]) }
@@ -171,8 +171,8 @@ func howOf(words string) Options {
 	return how
 }
 
-// TestSet judges the set that the variable SET names, with the options in HOW, such as "threads=4 runs=2", once or as
-// often as TESTS says.
+// TestSet judges the set that the variable SET names, with the options in HOW, such as "threads=4 runs=2". It does so
+// once, or as often as TESTS says.
 func TestSet(t *testing.T) {
 	how := howOf(os.Getenv("HOW"))
 	switch os.Getenv("SET") {

@@ -39,8 +39,8 @@ func newRecording(seed int64, name, record string) (*recording, error) {
 	return r, nil
 }
 
-// judged returns how many calls overlapped a change of their key, or the error of the run.
-// trouble is why the run was cut short, if it was.
+// judged returns how many calls overlapped a change of their key, or the error of the run. trouble is the reason if the
+// run was cut short.
 func (r *recording) judged(by *judgeFound, a *area, trouble string) (int, error) {
 	underWay, lines := "", ""
 	if trouble != "" {
@@ -73,10 +73,10 @@ func (r *recording) judged(by *judgeFound, a *area, trouble string) (int, error)
 	return 0, &CutShort{failed}
 }
 
-// ofKey finds the key that a judge names.
+// ofKey matches the key that a judge names.
 var ofKey = regexp.MustCompile(`of key (\d+) `)
 
-// firstOf returns the first line of several calls, and how many more there are.
+// firstOf returns the first of several calls' lines, and how many more there are.
 func firstOf(lines string) string {
 	all := strings.Split(strings.TrimSpace(lines), "\n")
 	if all[0] == "" {
@@ -88,7 +88,8 @@ func firstOf(lines string) string {
 	return all[0]
 }
 
-// keyLine describes the key of a number in the recording, and its set if the run has several. It is empty if the number is enough.
+// keyLine describes the key with this number in the recording, and its set if the run has several. It is empty if the
+// number says enough.
 func keyLine(a *area, number int) string {
 	set, shown := "", a.source.shown(a.number(number%a.keys))
 	if a.sets > 1 {
@@ -100,8 +101,8 @@ func keyLine(a *area, number int) string {
 	return fmt.Sprintf(sayKeyIs, number, shown) + set
 }
 
-// alone writes the calls that show a refusal to a small file beside the recording. It returns the part of the message
-// that names the file.
+// alone writes the calls that show why a key is refused to a small file beside the recording. It returns the part of
+// the message that names this file.
 func (r *recording) alone(by *judgeFound, key string) string {
 	if by.command == nil {
 		return ""
@@ -123,7 +124,7 @@ func (r *recording) close() {
 
 // ---- the judge
 
-// judgeFound is a judge: its name, its statement about its proof, and how to call it.
+// judgeFound is a judge: its name, what it states about its proof, and how to call it.
 type judgeFound struct {
 	name, proof string
 	answer      func(recording *os.File) (status int, said string)
@@ -160,7 +161,7 @@ func findJudge() (*judgeFound, error) {
 	return &judgeFound{name, proofIn(version), ask, command}, nil
 }
 
-// proofIn returns the line that states whether a judge is proved.
+// proofIn returns the line in which a judge states whether it is proved.
 func proofIn(version string) string {
 	if found := regexp.MustCompile("(?m)^proof .*$").FindString(version); found != "" {
 		return found

@@ -39,32 +39,33 @@ import java.util.stream.Collectors;
 import java.util.stream.Stream;
 
 /**
- * Tests whether a concurrent set of your own is linearizable, in one line of a test (Java 16):
+ * Tests whether your own concurrent set is linearizable, in one line of a test (Java 16):
  *
  * <pre>{@code @Test void isLinearizable() { System.out.println(Judge.judge(MySet::new)); }}</pre>
  *
- * <p>MySet is a {@code Set<Integer>}; any other set is called by three method references. Threads call new sets, and
- * the begin and the end of each call are recorded. {@code listset judge FILE} decides whether some order of the calls
- * explains their replies.
+ * <p>MySet is a {@code Set<Integer>}; any other set is called through three method references. Threads call new sets,
+ * and the begin and the end of each call are recorded. {@code listset judge FILE} decides whether some order of the
+ * calls explains their replies.
  *
- * <p>The environment variable LISTSET names this program; otherwise it is {@code listset} in PATH. LISTSET can also
- * name a listset.js, which node runs. If it is {@code skip}, the test is skipped in the way of JUnit or TestNG.
+ * <p>The environment variable LISTSET names this program; if it is not set, {@code listset} in PATH is used. LISTSET
+ * can also name a listset.js, which is run with node. If LISTSET is {@code skip}, the test is skipped the way JUnit or
+ * TestNG does it.
  *
- * <p>The sets are called in a JVM of their own, if the method references can be sent there and a set can be created
- * there. If a set ends its JVM or hangs there, its calls so far are judged.
+ * <p>The sets are called in a separate JVM if the method references can be sent there and a set can be created there.
+ * If a set ends that JVM or hangs, the calls made so far are judged.
  */
 public final class Judge {
     private static final String[] WORDS = {"add", "remove", "contains"};
     private static final long SECOND = 1_000_000_000L; // nanoseconds
 
     /**
-     * The shape of a run: the numbers of threads, of new sets one after another, of calls of each thread on each set,
-     * and of keys, which are the multiples of {@code times}.
+     * The sizes of a run: the number of threads, of new sets used one after another, of calls per thread and set, and
+     * of keys. The keys are the multiples of {@code times}.
      */
     private record Shape(String name, int threads, int sets, int calls, int keys, int times) {
         long allCalls() { return (long) threads * sets * calls; }
 
-        /** Returns how many calls a thread makes in a part. The last part of a set can have fewer. */
+        /** Returns how many calls a thread makes in a part. The last part on a set can have fewer. */
         int rows() { return Math.min(calls, PART / threads); }
 
         int parts() { return (calls - 1) / rows() + 1; }
@@ -106,8 +107,8 @@ public final class Judge {
     private Judge() { }
 
     /**
-     * Options of a test. All are checked before the first set is created. A {@code with} method returns changed
-     * options, and leaves the old ones as they are.
+     * Options of a test. All of them are checked before the first set is created. A {@code with} method returns a
+     * changed copy and leaves the original options unchanged.
      */
     public static final class Options implements Serializable, Cloneable {
         private static final long serialVersionUID = 1;
@@ -116,57 +117,66 @@ public final class Judge {
         private boolean ownProcess = true, opensWithKeys;
         private String record;
 
-        /** Sets the number of threads that call a set at once: 1 to 64. 0 uses the presets in turn. */
+        /** Sets the number of threads that call a set at the same time: 1 to 64. 0 cycles through the presets. */
         public Options withThreads(int it) { return with(made -> made.threads = it); }
 
         /**
-         * Sets the number of calls of each thread: at least 1, and at most 1,000,000,000 for all threads together. 0 uses
-         * the presets in turn. After each 20,000 calls of all threads, these are written to the file while the threads
-         * wait.
+         * Sets the number of calls of each thread: at least 1, and at most 1,000,000,000 for all threads together. 0
+         * cycles through the presets. After every 20,000 calls of all threads together, the calls are written to the
+         * file while the threads wait.
          */
         public Options withCalls(int it) { return with(made -> made.calls = it); }
 
         /**
-         * Sets the number of keys: 1 to 1,048,576. 0 uses the presets in turn. With more than eight keys, half of the calls
-         * use the first four.
+         * Sets the number of keys: 1 to 1,048,576. 0 cycles through the presets. With more than eight keys, half of the
+         * calls use the first four.
          */
         public Options withKeys(int it) { return with(made -> made.keys = it); }
 
         /**
-         * Sets the percentage of calls before which a thread pauses, for at most a few microseconds: 0 to 100. Unless it is
-         * 0, threads in a JVM of the set's own are also stopped during calls.
+         * Sets the percentage of calls before which a thread pauses, for at most a few microseconds: 0 to 100. Unless
+         * it is 0, threads in the set's own JVM are also interrupted during calls.
          */
         public Options withPauses(int it) { return with(made -> made.pauses = it); }
 
         /** Sets the number of runs: 1 to 1,000,000. A run calls one set, or several new sets one after another. */
         public Options withRuns(int it) { return with(made -> made.runs = it); }
 
-        /** Sets the seed of the calls, keys and pauses of the first run. The next run has the next seed. */
+        /** Sets the random seed for the calls, keys and pauses of the first run. Each later run uses the next seed. */
         public Options withSeed(long it) { return with(made -> made.seed = it); }
 
-        /** Sets the seconds without a begin or an end of a call after which a run is cut short as hung: 1 to 3,600. */
+        /**
+         * Sets after how many seconds without a begin or an end of a call a run is considered hung and is cut short: 1
+         * to 3,600.
+         */
         public Options withSeconds(int it) { return with(made -> made.seconds = it); }
 
-        /** Sets the seconds of the test after which no run begins: 1 to 604,800. */
+        /** Sets after how many seconds of the test no new run begins: 1 to 604,800. */
         public Options withWithin(int it) { return with(made -> made.within = it); }
 
-        /** Sets the percentage of calls that must overlap a change of their key. With fewer the test fails with {@link TooFew}. */
+        /**
+         * Sets the percentage of calls that must overlap a change of their key. If there are fewer, the test fails with
+         * {@link TooFew}.
+         */
         public Options withAtLeast(int it) { return with(made -> made.atLeast = it); }
 
-        /** Sets the shares of add, remove and contains. */
+        /** Sets the relative frequencies of add, remove and contains. */
         public Options withShares(int add, int remove, int contains) {
             return with(made -> { made.adds = add; made.removes = remove; made.finds = contains; });
         }
 
-        /** Sets whether sets have a JVM of their own. Otherwise this JVM ends or hangs with them: for debuggers and for coverage. */
+        /**
+         * Sets whether sets are called in their own JVM. Otherwise this JVM ends or hangs with them, which is useful
+         * for debuggers and coverage.
+         */
         public Options withOwnProcess(boolean it) { return with(made -> made.ownProcess = it); }
 
-        /** Sets whether contains is called for each key before all other calls, to record the opening keys. */
+        /** Sets whether contains is called for each key before all other calls to record the opening keys. */
         public Options withOpeningKeys(boolean it) { return with(made -> made.opensWithKeys = it); }
 
         /**
-         * Sets the folder that keeps the recording of each run. If null, only the recording of a failed run is kept: in the
-         * folder that the variable LISTSET_RECORD names, or else in java.io.tmpdir.
+         * Sets the folder in which the recording of each run is kept. If null, only the recording of a failed run is
+         * kept, in the folder named by the variable LISTSET_RECORD, or else in java.io.tmpdir.
          */
         public Options withRecord(String it) { return with(made -> made.record = it); }
 
@@ -190,7 +200,7 @@ public final class Judge {
             }
         }
 
-        /** Returns the preset for a seed, changed by these options. */
+        /** Returns the preset for a seed, modified by these options. */
         private Shape shapeOf(long seed) {
             Shape it = PRESETS[(int) Math.floorMod(seed - 1, (long) PRESETS.length)];
             int ofSet = calls > 0 ? calls : opensWithKeys ? it.sets * it.calls : it.calls;
@@ -199,8 +209,8 @@ public final class Judge {
         }
 
         /**
-         * Applies the environment variables. LISTSET_SECONDS repeats runs for that many seconds, with seeds that count
-         * up from the current time. LISTSET_SEED sets the first seed.
+         * Applies the environment variables. LISTSET_SECONDS repeats runs for this many seconds, with seeds counting up
+         * from the current time. LISTSET_SEED sets the first seed.
          */
         private Options byEnvironment() {
             int seconds = (int) numberOf("LISTSET_SECONDS", 0, 1, RANGES[6].most);
@@ -209,8 +219,8 @@ public final class Judge {
         }
 
         /**
-         * Returns a shape whose calls overlap more: more threads, even more than processors, and fewer keys, unless
-         * these options set them. The number of all calls does not grow.
+         * Returns a shape whose calls overlap more: with more threads (possibly more than processors) and fewer keys,
+         * except where these options set them. The total number of calls does not grow.
          */
         private Shape harder(Shape it) {
             int wanted = Math.max(2 * it.threads, Runtime.getRuntime().availableProcessors() + 2), more = threads > 0 ? it.threads : Math.min(wanted, 64);
@@ -220,9 +230,9 @@ public final class Judge {
     }
 
     /**
-     * The result of a test without a failure: some order explains each run. It has the number of calls, how many of
-     * them overlapped a change of their key, as the judge counted them, and the judge with its statement about its
-     * proof. {@code toString} returns it as text.
+     * The result of a successful test: some order explains each run. It has the number of calls, how many of them
+     * overlapped a change of their key (as counted by the judge), and the judge with what it states about its proof.
+     * {@code toString} formats it.
      */
     public record Verdict(long calls, long overlapped, String judge) {
         @Override public String toString() {
@@ -230,7 +240,7 @@ public final class Judge {
         }
     }
 
-    /** Decides whether too few calls overlapped for {@code ok} to mean much. */
+    /** Returns whether so few calls overlapped that {@code ok} says little. */
     private static boolean isFew(long overlapped, long calls) { return overlapped * 100 < calls * ENOUGH; }
 
     /** A failed run: what the judge printed, and the file with the recording. */
@@ -254,7 +264,7 @@ public final class Judge {
         NotLinearizable(long seed, String said, Path file, String text) { super(seed, said, file, text); }
     }
 
-    /** The set ended its JVM, hung or threw in the run. The calls before that were judged. */
+    /** The set ended its JVM, hung or threw during the run. The calls before that were judged. */
     public static final class CutShort extends Failed {
         private static final long serialVersionUID = 1;
 
@@ -277,21 +287,21 @@ public final class Judge {
         NoVerdict(String why, Throwable cause) { super(why + cause, cause); }
     }
 
-    /** Thrown by a call whose outcome is unknown, such as after a timeout. */
+    /** Thrown by a call whose outcome is unknown, for example after a timeout. */
     public static final class NotKnown extends RuntimeException {
         private static final long serialVersionUID = 1;
     }
 
     /**
-     * Creates a set. A method reference or a lambda is sent to the other JVM, unless it refers to an object that cannot
+     * Creates a set. A method reference or lambda is sent to the other JVM, unless it refers to an object that cannot
      * be sent.
      */
     public interface Make<S> extends Supplier<S>, Serializable { }
 
-    /** Returns the key of a number, a different one for each number. */
+    /** Converts a number to a key, a different one for each number. */
     public interface Keys<K> extends IntFunction<K>, Serializable { }
 
-    /** Makes a call of a set. */
+    /** Makes a call on a set. */
     public interface Call<S, K> extends BiPredicate<S, K>, Serializable { }
 
     public static Verdict judge(Make<? extends Set<Integer>> make) { return judge(make, new Options()); }
@@ -313,7 +323,7 @@ public final class Judge {
     }
 
     /**
-     * Judges sets with keys of another type. {@code keys} returns the key of a number, and must return a different key
+     * Judges sets with keys of another type. {@code keys} converts a number to a key, and must return a different key
      * for each number.
      */
     public static <S, K> Verdict judge(Make<? extends S> make, Keys<K> keys, Call<S, K> add, Call<S, K> remove, Call<S, K> contains, Options how) {
@@ -329,21 +339,21 @@ public final class Judge {
         return found;
     }
 
-    /** Skips the test in the way of JUnit or TestNG. Without them, returns a verdict without calls. */
+    /** Skips the test the way JUnit or TestNG does it. Without them, returns a verdict without calls. */
     private static Verdict skipped() {
         if (System.getenv("CI") != null && !System.getenv("CI").isEmpty()) throw new NoVerdict(NOT_IN_CI);
         for (String name : List.of("org.opentest4j.TestAbortedException", "org.junit.AssumptionViolatedException", "org.testng.SkipException")) {
             try {
                 throw (RuntimeException) Class.forName(name).getConstructor(String.class).newInstance(SKIPPED);
             } catch (ReflectiveOperationException another) {
-                // (the tests are run by something else)
+                // (the tests are run by another framework)
             }
         }
         System.err.println(SKIPPED);
         return new Verdict(0, 0, "");
     }
 
-    /** The state of a test: judges one run after another. */
+    /** The state of a test. Judges runs one after another. */
     private record Tester<S, K>(Options how, Calls<S, K> calls, Program program, Caller<S, K> caller) {
         static <S, K> Verdict judge(Options how, Calls<S, K> calls) {
             how.check();
@@ -357,7 +367,7 @@ public final class Judge {
             }
         }
 
-        /** Makes the requested runs, each up to three times, then more runs while few calls have overlapped. */
+        /** Makes the requested runs, each up to three times, and then more runs while few calls have overlapped. */
         private Verdict all() throws IOException {
             long began = System.nanoTime(), seed = how.seed;
             long[] sums = {0, 0}; // the number of calls, and of those that overlapped
@@ -402,8 +412,8 @@ public final class Judge {
         }
 
         /**
-         * Writes the calls that show a refusal to a small file beside the recording. Returns the part of the message
-         * that names the file.
+         * Writes the calls that show why a key is refused to a small file beside the recording. Returns the part of the
+         * message that names this file.
          */
         private String alone(Path file, String key) throws IOException {
             Answer answer = program.answer("judge", "--only", key, file.toString());
@@ -412,7 +422,10 @@ public final class Judge {
             return ALONE.formatted(Files.writeString(Path.of(name.substring(0, name.length() - ".calls".length()) + "-key-" + key + ".calls"), answer.said + "\n"));
         }
 
-        /** Describes the key of a number in the recording, and its set if the run has several. Empty if the number is enough. */
+        /**
+         * Describes the key with this number in the recording, and its set if the run has several. Returns an empty
+         * text if the number says enough.
+         */
         private String keyLine(int number, Shape shape) {
             String key = String.valueOf(calls.key(number % shape.keys, shape.times));
             String ofSet = shape.sets > 1 ? IN_SET.formatted(number / shape.keys + 1) : "";
@@ -420,14 +433,14 @@ public final class Judge {
         }
     }
 
-    // ---- a run, and its recording
+    // ---- a run and its recording
 
     private record Calls<S, K>(Make<? extends S> make, Keys<K> keys, Call<S, K> add, Call<S, K> remove, Call<S, K> contains) implements Serializable {
         private static final int NO = 0, YES = 1, UNKNOWN = 2;
 
         /**
-         * Returns the key of a number. Each call creates a new object; without a function for keys it is a multiple of
-         * the number.
+         * Converts a number to a key. Each call creates a new object. Without a function for keys, the key is a
+         * multiple of the number.
          */
         @SuppressWarnings("unchecked")
         K key(int number, int times) { return keys == null ? (K) Integer.valueOf(number * times) : keys.apply(number); }
@@ -449,14 +462,14 @@ public final class Judge {
         }
     }
 
-    /** The memory of a run, which JVMs can share. It has the calls that are not yet in the file. */
+    /** The memory of a run, which JVMs can share. It contains the calls that have not been written to the file yet. */
     private record Area(Options how, ByteBuffer memory) {
         private static final VarHandle INT = MethodHandles.byteBufferViewVarHandle(int[].class, ByteOrder.nativeOrder());
         // Offsets in the memory. IS_HERE: whether the other JVM has started. WRITTEN: the length of the file. SHAPE:
         // five numbers. WHY and FILE: texts.
         private static final int TICKETS = 0, THERE = 4, DONE = 8, BEGUN = 12, AT = 16, STOPPING = 20, IS_HERE = 24, IS_BUSY = 28, SEED = 32, WRITTEN = 40,
             SHAPE = 48, WHY = 68, FILE = WHY + 4 + 240, SLOTS = FILE + 4 + 1024;
-        private static final int BEGIN = 0, END = 4, CALL = 8, KEY = 12, REPLY = 16, THREAD = 20, SLOT = 24; // offsets in a call; the calls of each thread in turn
+        private static final int BEGIN = 0, END = 4, CALL = 8, KEY = 12, REPLY = 16, THREAD = 20, SLOT = 24; // offsets in a call; the memory has the calls of one thread after those of another
         private static final int GOING = 1, OVER = 2, FAILED = 3, UNMADE = 4; // the values of AT
         private static final int SIZE = SLOTS + PART * SLOT;
 
@@ -474,7 +487,7 @@ public final class Judge {
             return new Shape("", get(SHAPE), get(SHAPE + 4), get(SHAPE + 8), get(SHAPE + 12), get(SHAPE + 16));
         }
 
-        /** Prepares the memory for the run of a seed, and starts the run. Its calls are written to the file. */
+        /** Prepares the memory for the run of a seed and starts the run, whose calls are written to the file. */
         void begin(long seed, Shape of, Path file) {
             for (int at = 0; at < SIZE; at += 4) if (at != IS_HERE) memory.putInt(at, 0);
             memory.putLong(SEED, seed);
@@ -500,8 +513,8 @@ public final class Judge {
         private String lines() { return rows().stream().map(Row::line).collect(Collectors.joining()); }
 
         /**
-         * Ends the recording of a run that was cut short, with the calls in memory. Returns the first pending call, and
-         * how many more there are.
+         * Ends the recording of a run that was cut short by adding the calls in memory. Returns the first pending call,
+         * and how many more there are.
          */
         String cut() throws IOException {
             List<Row> rows = rows();
@@ -511,7 +524,7 @@ public final class Judge {
             return pending.size() > 1 ? AND_MORE.formatted(first, pending.size() - 1) : first;
         }
 
-        /** Appends lines for the calls in memory to the file, and clears these calls. */
+        /** Appends lines for the calls in memory to the file and clears these calls. */
         void write(String lines) throws IOException {
             try (FileChannel file = FileChannel.open(Path.of(text(FILE)), StandardOpenOption.WRITE)) {
                 long written = memory.getLong(WRITTEN);
@@ -524,8 +537,8 @@ public final class Judge {
         }
 
         /**
-         * Returns the calls in memory, in the order of their begins. Threads can still make calls: a call that begins
-         * later than now is left out, and a call that ends later is pending.
+         * Returns the calls in memory, in the order in which they began. Threads may still be making calls: a call that
+         * begins after this method was called is left out, and a call that ends after it is pending.
          */
         private List<Row> rows() {
             List<Row> found = new ArrayList<>();
@@ -545,9 +558,9 @@ public final class Judge {
         }
     }
 
-    /** The threads of a run, and the set that they call. */
+    /** The threads of a run, and the set on which they call. */
     private record Play<S, K>(Area area, Calls<S, K> calls, Shape of, AtomicReference<S> set) {
-        private static final int MOST_ASKED = 100; // how often contains of a key is called at the beginning and at the end, while its outcome is unknown
+        private static final int MOST_ASKED = 100; // the maximum number of contains calls for a key, at the beginning or at the end, while the outcome is unknown
 
         void all(boolean interrupts) {
             List<Thread> threads = new ArrayList<>();
@@ -565,7 +578,7 @@ public final class Judge {
             isOver.set(true);
         }
 
-        /** Stops random threads during their calls: a thread waits while its stack is read. */
+        /** Interrupts random threads during their calls: a thread waits while its stack is read. */
         private void interrupt(List<Thread> threads, AtomicBoolean isOver) {
             for (SplittableRandom draw = new SplittableRandom(area.memory.getLong(Area.SEED)); !isOver.get();) {
                 LockSupport.parkNanos(draw.nextInt(APART) * 1000L);
@@ -577,7 +590,7 @@ public final class Judge {
             void run() throws Exception;
         }
 
-        /** Runs an action, and stores the error that it throws. Only the first one is kept. */
+        /** Runs an action and stores the error that it throws, if any. Only the first error is kept. */
         private void tried(int as, Doing does) {
             try {
                 does.run();
@@ -601,8 +614,8 @@ public final class Judge {
         }
 
         /**
-         * Waits until all threads are here, so that they continue at once. Polls without sleeping if each thread can
-         * have a processor, unless such a wait took too long before.
+         * Waits until all threads are here, so that they continue at the same time. Polls without sleeping if there is
+         * a processor for each thread, unless an earlier wait of this kind took too long.
          */
         private boolean meets() {
             boolean isAwake = of.threads <= Runtime.getRuntime().availableProcessors() && area.get(Area.IS_BUSY) == 0;
@@ -613,7 +626,10 @@ public final class Judge {
             return areThere;
         }
 
-        /** Creates each set and starts the threads on it, part by part. Writes each part when its calls have ended. */
+        /**
+         * Creates each set and starts the threads on it, part by part. Writes each part to the file after its calls
+         * have ended.
+         */
         private void lead() throws IOException {
             StringBuilder left = new StringBuilder();
             area.write("listset-calls 1\n");
@@ -632,7 +648,7 @@ public final class Judge {
             area.write(left + "end\n");
         }
 
-        /** Calls contains for each key, again while its outcome is unknown. Returns a line for each key found. */
+        /** Calls contains for each key, and retries if the outcome is unknown. Returns a line for each key found. */
         private String linesOfKeys(String word, int round) {
             StringBuilder lines = new StringBuilder();
             for (int key = 0; key < of.keys; key++, area.next(Area.TICKETS)) {
@@ -677,8 +693,8 @@ public final class Judge {
     }
 
     /**
-     * Makes runs, one after another: in another JVM, which ends when its input ends, or in this one if {@code process}
-     * is null.
+     * Makes runs one after another, in another JVM that ends when its input ends, or in this one if {@code process} is
+     * null.
      */
     private record Caller<S, K>(Calls<S, K> calls, Options how, Area area, Process process) implements AutoCloseable {
         static <S, K> Caller<S, K> of(Calls<S, K> calls, Options how) {
@@ -719,9 +735,9 @@ public final class Judge {
         }
 
         /**
-         * Decides whether options and calls are unchanged after they are written and read back. The javac of Java 17
-         * identifies method references by the method that implements them: if A and B inherit {@code contains}, {@code
-         * B::contains} is read back as {@code A::contains}.
+         * Returns whether options and calls are unchanged after they have been written and read back. The javac of Java
+         * 17 identifies a method reference by the method that implements it: if A and B inherit {@code contains},
+         * {@code B::contains} is read back as {@code A::contains}.
          */
         private static boolean isReadBackUnchanged(byte[] given) throws IOException, ClassNotFoundException {
             try (ObjectInputStream in = new ObjectInputStream(new ByteArrayInputStream(given))) {
@@ -741,7 +757,7 @@ public final class Judge {
             return trouble;
         }
 
-        /** Waits until the run has ended. Returns true if no call begins or ends for too long before that. */
+        /** Waits until the run has ended. Returns true if no call begins or ends for too long first. */
         private boolean isHung() {
             long since = System.nanoTime();
             for (int seen = -1; area.get(Area.AT) < Area.OVER && (process == null || process.isAlive()); LockSupport.parkNanos(300_000)) {
@@ -803,7 +819,7 @@ public final class Judge {
             try {
                 while (System.in.read() >= 0) continue;
             } catch (IOException closed) {
-                // (as when its input ends)
+                // (the same as when its input ends)
             }
             Runtime.getRuntime().halt(1);
         }
@@ -848,20 +864,23 @@ public final class Judge {
         }
     }
 
-    /** Finds the key that a judge names. */
+    /** Matches the key that a judge names. */
     private static final Pattern OF_KEY = Pattern.compile("of key ([0-9]+) ");
 
     // ---- the judge
 
-    /** The verdict on a recording: what the judge refuses, or null; and how many calls overlapped a change of their key. */
+    /**
+     * The verdict on a recording: what the judge printed if it refused the recording (otherwise null), and how many
+     * calls overlapped a change of their key.
+     */
     private record Judgement(String refused, long overlapped) { }
 
     /** The output and the exit status of a command. */
     private record Answer(String said, int status) { }
 
     /**
-     * The program that judges: its name, the command and its first arguments, and its statement about its proof. {@code
-     * toString} returns name and statement.
+     * The program that judges: its name, the command and its first arguments, and what it states about its proof.
+     * {@code toString} returns the name and this statement.
      */
     private record Program(String name, List<String> command, String proof) {
         private static final Pattern OVERLAPPED = Pattern.compile("ok [0-9]+ calls\n([0-9]+) of them");

@@ -1,18 +1,17 @@
-"""Tests whether a concurrent set of your own is linearizable, in one line of a test:
+"""Tests whether your own concurrent set is linearizable, in one line of a test:
 
     def test_is_linearizable():
         print(listset_judge.judge(MySet))
 
-MySet() has `add` and `remove`, which return True or False, and `contains` or `in`. Threads call new sets,
-and the begin and the end of each call are recorded. A judge decides whether some order of the calls
-explains their replies.
+MySet() has `add` and `remove`, which return True or False, and `contains` or `in`. Threads call new sets, and the begin
+and the end of each call are recorded. A judge decides whether some order of the calls explains their replies.
 
-The judge is the module `listset`, if it can be imported. Otherwise it is the program that the environment
-variable LISTSET names, or else `listset` in PATH. LISTSET can also name a listset.js, which node runs. If
-it is `skip`, the test is skipped.
+The judge is the module `listset` if it can be imported. Otherwise it is the program named by the environment variable
+LISTSET or, if that is not set, `listset` in PATH. LISTSET can also name a listset.js, which is run with node. If
+LISTSET is `skip`, the test is skipped.
 
-If this process has one thread and can be forked, each run has a process of its own. If a set crashes or
-hangs there, its calls so far are judged.
+If this process has only one thread and can be forked, each run gets its own process. If a set crashes or hangs there,
+the calls made so far are judged.
 """
 
 from __future__ import annotations
@@ -40,15 +39,15 @@ from typing import Any, Callable
 __all__ = ["CutShort", "Failed", "NoVerdict", "NotLinearizable", "TooFew", "Verdict", "judge"]
 
 GOING, ENDED, UNMADE = range(3)
-MOST_ASKED = 100  # how often `contains` of a key is called at the beginning and at the end, while its outcome is unknown
+MOST_ASKED = 100  # the maximum number of `contains` calls for a key, at the beginning or at the end, while the outcome is unknown
 WORDS = ADD, REMOVE, CONTAINS = "add", "remove", "contains"
 NO, YES, UNKNOWN = range(3)
 FIRST_LINE = "listset-calls 1\n"
 OVERLAPPED = re.compile("ok [0-9]+ calls\n([0-9]+) of them")
 OF_KEY = re.compile("of key ([0-9]+) ")
 Call = collections.namedtuple("Call", "begin end thread call key reply")
-# The shape of a run: the numbers of threads, of new sets one after another, of calls of each thread on each
-# set, and of keys, which are the multiples of `times`
+# The sizes of a run: the number of threads, of new sets used one after another, of calls per thread and set, and of
+# keys. The keys are the multiples of `times`.
 Shape = collections.namedtuple("Shape", "name threads sets calls keys times")
 
 # made of words.json by judge/make_words: PART and MEET in calls, PATIENCE in seconds
@@ -102,9 +101,10 @@ NUMBER = "the variable %s is %s, but must be a number from %s to %s"
 
 @dataclasses.dataclass(frozen=True)
 class Verdict:
-    """The result of a test without a failure: some order explains each run. It has the number of calls, how
-    many of them overlapped a change of their key, as the judge counted them, and the judge with its
-    statement about its proof. str() prints it."""
+    """The result of a successful test: some order explains each run. It has the number of calls, how many of them
+    overlapped a change of their key (as counted by the judge), and the judge with what it states about its proof. str()
+    formats it.
+    """
 
     calls: int
     overlapped: int
@@ -112,7 +112,7 @@ class Verdict:
 
     @property
     def is_few(self) -> bool:
-        """Decides whether too few calls overlapped for `ok` to mean much."""
+        """Returns whether so few calls overlapped that `ok` says little."""
         return self.overlapped * 100 < self.calls * ENOUGH
 
     def __str__(self) -> str:
@@ -132,7 +132,7 @@ class NotLinearizable(Failed):
 
 
 class CutShort(Failed):
-    """The set crashed, hung or raised in the run. The calls before that were judged."""
+    """The set crashed, hung or raised during the run. The calls before that were judged."""
 
 
 class TooFew(AssertionError):
@@ -140,8 +140,9 @@ class TooFew(AssertionError):
 
 
 class NoVerdict(Exception):
-    """Nothing is known about the set: an option is out of range, no set could be created, the set lacks one
-    of the three calls, or no judge was found."""
+    """Nothing is known about the set: an option is out of range, no set could be created, the set lacks one of the three
+    calls, or no judge was found.
+    """
 
 
 class Options(collections.namedtuple("Options", "threads calls keys key pauses runs seed seconds within at_least shares own_process opens_with_keys record")):
@@ -157,15 +158,16 @@ class Options(collections.namedtuple("Options", "threads calls keys key pauses r
                 raise NoVerdict(RANGE % (name, it, least, most))
 
     def by_environment(self) -> Options:
-        """Applies the environment variables. LISTSET_SECONDS repeats runs for this many seconds, with seeds
-        that count up from the current time. LISTSET_SEED sets the first seed."""
+        """Applies the environment variables. LISTSET_SECONDS repeats runs for this many seconds, with seeds counting up
+        from the current time. LISTSET_SEED sets the first seed.
+        """
         most = {name: most for name, _, most in RANGES}
         seconds = number_of("LISTSET_SECONDS", None, 1, most["within"])
         it = self._replace(within=seconds, runs=most["runs"], seed=int(time.time())) if seconds else self
         return it._replace(seed=number_of("LISTSET_SEED", it.seed, 0, 2**32 - 1))
 
     def shape_of(self, seed: int) -> Shape:
-        """Returns the preset for a seed, changed by these options."""
+        """Returns the preset for a seed, modified by these options."""
         it = PRESETS[(seed - 1) % len(PRESETS)]
         if it.sets == 1:
             it = it._replace(calls=it.calls // (SLOW if it.keys <= 2 * HOT else 2))
@@ -179,8 +181,9 @@ class Options(collections.namedtuple("Options", "threads calls keys key pauses r
         return it
 
     def harder(self, it: Shape) -> Shape:
-        """Returns a shape whose calls overlap more: more threads, even more than processors, and fewer keys,
-        unless these options set them. The number of all calls does not grow."""
+        """Returns a shape whose calls overlap more: with more threads (possibly more than processors) and fewer keys,
+        except where these options set them. The total number of calls does not grow.
+        """
         threads = self.threads or min(max(2 * it.threads, (os.cpu_count() or 1) + 2), 64)
         return it._replace(threads=threads, calls=self.calls or max(it.calls * it.threads // threads, 1), keys=self.keys or max(it.keys // 2, 1))
 
@@ -192,7 +195,7 @@ class Options(collections.namedtuple("Options", "threads calls keys key pauses r
                 raise NoVerdict(TWICE % (repr(key), seen[key], number))
 
     def key_of(self, number: int, it: Shape) -> Any:
-        """Returns the key of a number. Each call creates a new object."""
+        """Converts a number to a key. Each call creates a new object."""
         return (self.key or int)(number * it.times)
 
 
@@ -210,29 +213,30 @@ def judge(make: Callable[[], Any], *, threads: int | None = None, calls: int | N
           key: Callable[[int], Any] | None = None, pauses: int = 20, runs: int = 20, seed: int = 1, seconds: int = 10, within: int = WITHIN,
           at_least: int = 0, adds: int = 1, removes: int = 1, finds: int = 1, own_process: bool = True,
           opens_with_keys: bool = False, record: str | os.PathLike | None = None) -> Verdict:
-    """Judges the sets that `make` creates and returns a Verdict. Raises NotLinearizable for a run that no
-    order explains, and CutShort for a run that crashes or hangs.
+    """Judges the sets that `make` creates and returns a Verdict. Raises NotLinearizable if no order explains a run, and
+    CutShort if the set crashes or hangs.
 
-    threads -- the number of threads that call a set at once: 1 to 64; None for the presets in turn
-    calls -- the number of calls of each thread: at least 1, and at most 1,000,000,000 for all threads together; None for
-             the presets in turn; after each 20,000 calls, these are written to the file while the threads wait
-    keys -- the number of keys: 1 to 1,048,576; None for the presets in turn; with more than eight keys, half of the
-            calls use the first four
-    key -- returns the key of a number; must return a different key for each number
-    pauses -- the percentage of the set's lines, and in one of ten calls also of its steps, before which a thread lets
+    threads -- the number of threads that call a set at the same time: 1 to 64; None cycles through the presets
+    calls -- the number of calls of each thread: at least 1, and at most 1,000,000,000 for all threads together; None
+             cycles through the presets; after every 20,000 calls, these are written to the file while the threads wait
+    keys -- the number of keys: 1 to 1,048,576; None cycles through the presets; with more than eight keys, half of
+            the calls use the first four
+    key -- converts a number to a key; must return a different key for each number
+    pauses -- the percentage of the set's lines, and in one call of ten also of its steps, before which a thread lets
               others run: 0 to 100
     runs -- the number of runs: 1 to 1,000,000; a run calls one set, or several new sets one after another
-    seed -- the seed of the calls, keys and pauses of the first run; the next run has the next seed
-    seconds -- a run is cut short as hung if no call begins or ends for this many seconds: 1 to 3,600
-    within -- no run begins after this many seconds of the test: 1 to 604,800
-    at_least -- TooFew is raised if less than this percentage of the calls overlap a change of their key
-    adds, removes, finds -- the shares of add, remove and contains
-    own_process -- if False, sets are called in this process, which crashes or hangs with them: for debuggers and coverage
-    opens_with_keys -- if True, `contains` is called for each key before all other calls, to record the opening keys
-    record -- the folder that keeps the recording of each run; if None, only the recording of a failed run is kept: in
-              the folder that the variable LISTSET_RECORD names, or else in the folder for temporary files
+    seed -- the random seed for the calls, keys and pauses of the first run; each later run uses the next seed
+    seconds -- if no call begins or ends for this many seconds, a run is considered hung and is cut short: 1 to 3,600
+    within -- no new run begins once the test has taken this many seconds: 1 to 604,800
+    at_least -- raises TooFew if less than this percentage of the calls overlap a change of their key
+    adds, removes, finds -- the relative frequencies of add, remove and contains
+    own_process -- if False, sets are called in this process, which crashes or hangs with them; useful for debuggers
+                   and coverage
+    opens_with_keys -- if True, `contains` is called for each key before all other calls to record the opening keys
+    record -- the folder in which the recording of each run is kept; if None, only the recording of a failed run is kept,
+              in the folder named by the variable LISTSET_RECORD, or else in the folder for temporary files
 
-    A call that returns None has an unknown outcome, such as after a timeout.
+    If a call returns None, its outcome is unknown, for example after a timeout.
     """
     __tracebackhide__ = True  # (pytest then shows only the line of the test)
     how = Options(threads, calls, keys, key, pauses, runs, seed, seconds, within, at_least, (adds, removes, finds), own_process, opens_with_keys, record)
@@ -251,19 +255,20 @@ def judge(make: Callable[[], Any], *, threads: int | None = None, calls: int | N
 
 
 def is_few(overlapped: int, calls: int) -> bool:
-    """Decides whether too few calls overlapped for `ok` to mean much."""
+    """Returns whether so few calls overlapped that `ok` says little."""
     return overlapped * 100 < calls * ENOUGH
 
 
 class Tester:
-    """The state of a test: judges one run after another."""
+    """The state of a test. Judges runs one after another."""
 
     def __init__(self, make: Callable[[], Any], how: Options):
         self.make, self.how, self.by, self.calls, self.overlapped = make, how, Judge(), 0, 0
 
     def all(self) -> Verdict:
-        """Makes the requested runs, each up to three times, then more runs while few calls have overlapped.
-        Raises the error of a failed run."""
+        """Makes the requested runs, each up to three times, and then more runs while few calls have overlapped. Raises the
+        error of a failed run.
+        """
         __tracebackhide__ = True  # (pytest then shows only the line of the test)
         began, how = time.monotonic(), self.how
         for seed in range(how.seed, how.seed + how.runs):
@@ -302,7 +307,9 @@ class Tester:
         return is_few(overlapped, calls)
 
     def key_line(self, number: str, shape: Shape) -> str:
-        """Describes the key of a number in the recording, and its set if the run has several. Empty if the number is enough."""
+        """Describes the key with this number in the recording, and its set if the run has several. Returns an empty text
+        if the number says enough.
+        """
         one, at = divmod(int(number or 0), shape.keys)
         key = repr(self.how.key_of(at, shape))
         if not number or shape.sets == 1 and key == number:
@@ -310,8 +317,9 @@ class Tester:
         return KEY_IS % (number, key) + (IN_SET % (one + 1) if shape.sets > 1 else "")
 
     def alone(self, file: pathlib.Path, key: str) -> str:
-        """Writes the calls that show a refusal to a small file beside the recording. Returns the part of the
-        message that names the file."""
+        """Writes the calls that show why a key is refused to a small file beside the recording. Returns the part of the
+        message that names this file.
+        """
         text = self.by.only(file, key) if key else ""
         if not text:
             return ""
@@ -321,7 +329,7 @@ class Tester:
 
 
 def recording_of(seed: int, record: str | os.PathLike | None) -> pathlib.Path:
-    """Creates the file for the recording of a run, and returns its path."""
+    """Creates the file for the recording of a run and returns its path."""
     folder = pathlib.Path(record or os.environ.get("LISTSET_RECORD") or tempfile.gettempdir())
     try:
         folder.mkdir(parents=True, exist_ok=True)
@@ -337,19 +345,20 @@ def recording_of(seed: int, record: str | os.PathLike | None) -> pathlib.Path:
 
 
 def key_in(refused: str) -> str:
-    """Returns the number of the key that the judge names."""
+    """Returns the key that the judge names, as a number."""
     found = OF_KEY.search(refused)
     return found[1] if found else ""
 
 
-# ---- a run, recorded
+# ---- a run and its recording
 
 
 class Run:
-    """A run. Its calls are recorded in memory that the set's own process shares with this one, and are
-    written to the file part by part."""
+    """A run. Its calls are recorded in memory that is shared with the set's own process, and are written to the file part
+    by part.
+    """
 
-    SLOT, COUNT = struct.Struct("=IIIIBB"), struct.Struct("=Q")  # a call: begin, end or 0, thread, key, word, reply; and the progress of a thread
+    SLOT, COUNT = struct.Struct("=IIIIBB"), struct.Struct("=Q")  # a call: begin, end or 0, thread, key, operation, reply; and the progress of a thread
     AT = 240  # the offset of the run's progress, after the error
 
     def __init__(self, make, how, shape, seed, file):
@@ -358,8 +367,8 @@ class Run:
         self.most = min(shape.calls, PART // shape.threads)  # the largest number of calls of a thread in a part
         self.parts = -(-shape.calls // self.most)  # of each set
         self.rounds = shape.sets * self.parts
-        # The memory has, in this order: the error; the progress of the run, of each thread and of `contains`;
-        # the length of the file; the calls.
+        # The memory contains, in this order: the error; the progress of the run, of each thread and of `contains`; the
+        # length of the file; the calls.
         self.at_slots = self.AT + 1 + (shape.threads + 2) * self.COUNT.size
         self.slots = mmap.mmap(-1, self.at_slots + shape.threads * self.most * self.SLOT.size)
 
@@ -378,11 +387,12 @@ class Run:
             self.slots[: len(said)] = said
             self.slots[self.AT] = at
 
-    # ---- in the process that watches
+    # ---- in the process that watches the run
 
     def ended(self):
-        """Makes the run. Returns why it was cut short and the pending calls, or two empty texts. If it was
-        cut short, writes the last calls."""
+        """Makes the run. Returns why it was cut short and the pending calls, or two empty texts. If it was cut short,
+        writes the last calls.
+        """
         is_own = self.how.own_process and hasattr(os, "fork") and threading.active_count() == 1
         trouble = self.made_in_child() if is_own else self.made_here()
         why = self.slots[: self.AT].rstrip(b"\0").decode(errors="replace")
@@ -427,8 +437,9 @@ class Run:
         return ENDED_SO % ended if ended or self.slots[self.AT] == GOING and not self.slots[0] else ""
 
     def made_here(self):
-        """Makes the run in threads of this process. Threads that hang are left running. Returns why the run
-        was cut short, if it was."""
+        """Makes the run in threads of this process. Threads that hang are left running. Returns why the run was cut short,
+        if it was.
+        """
         leader = threading.Thread(target=self.make_all, daemon=True)
         leader.start()
         try:
@@ -437,7 +448,7 @@ class Run:
             self.there.abort()
 
     def comes_to_end(self, is_done):
-        """Waits until it is done. Returns False if no call begins or ends for `seconds` before that."""
+        """Waits until `is_done` returns true. Returns False if no call begins or ends for `seconds` first."""
         seen, since, wait = None, time.monotonic(), 0.0005
         while not is_done():
             time.sleep(wait)
@@ -449,12 +460,12 @@ class Run:
         return True
 
     def rows(self):
-        """Returns the calls in memory, in the order of their begins."""
+        """Returns the calls in memory, in the order in which they began."""
         found = self.SLOT.iter_unpack(self.slots[self.at_slots :])
         return sorted(Call(begin, 0 if reply == UNKNOWN else end, thread, WORDS[word], key, reply)
                       for begin, end, thread, key, word, reply in found if begin)
 
-    # ---- the thread that makes the sets
+    # ---- the thread that creates the sets
 
     def make_all(self):
         """Creates the sets of the run and calls them."""
@@ -475,8 +486,9 @@ class Run:
         self.slots[self.AT] = self.slots[self.AT] or ENDED
 
     def lead(self):
-        """Creates each set and starts the threads on it, part by part. Writes each part when its calls have
-        ended."""
+        """Creates each set and starts the threads on it, part by part. Writes each part to the file after its calls have
+        ended.
+        """
         left = []
         try:
             with open(self.file, "wb", 0) as file:
@@ -520,7 +532,7 @@ class Run:
             raise
 
     def lines_of_keys(self, word, one):
-        """Calls `contains` for each key, again while its outcome is unknown. Returns a line for each key found."""
+        """Calls `contains` for each key, and retries if the outcome is unknown. Returns a line for each key found."""
         first, lines = one // self.parts * self.shape.keys, []
         for number in range(self.shape.keys):
             key = self.how.key_of(number, self.shape)
@@ -530,7 +542,7 @@ class Run:
             self.count(self.shape.threads, first + number)
         return lines
 
-    # ---- the threads that call them
+    # ---- the threads that call the sets
 
     def call_in_rounds(self, thread):
         """Makes the calls of one thread, part by part."""
@@ -582,9 +594,10 @@ def line_of(it):
 
 
 def pausing(pauses, draw, before):
-    """Returns a trace function that lets other threads run. It does so before this percentage of the lines of
-    all code outside this file, and in one of ten calls also before this percentage of the steps. `before`
-    is the previous trace function, which is called too."""
+    """Returns a trace function that lets other threads run before this percentage of the lines of all code outside this
+    file. In one call of ten, it does so also before this percentage of the steps. `before` is the previous trace
+    function, which is called as well.
+    """
 
     def of_frame(inner):
         def at_line(frame, event, arg):
@@ -608,7 +621,7 @@ def pausing(pauses, draw, before):
 
 
 class Judge:
-    """A judge: the library, or a program. str() returns its name and its statement about its proof."""
+    """A judge: the library or a program. str() returns its name and what it states about its proof."""
 
     def __init__(self):
         try:
@@ -628,8 +641,9 @@ class Judge:
         return f"{self.name}, {self.proof}"
 
     def judged(self, file: pathlib.Path) -> tuple[int, str]:
-        """Judges a recording. Returns how many calls overlapped a change of their key, and what the judge
-        printed if no order explains them."""
+        """Judges a recording. Returns how many calls overlapped a change of their key, and what the judge printed if no
+        order explains them.
+        """
         text, status = self.answer(file)
         met = OVERLAPPED.match(text)
         if status == 0 and met:
@@ -645,7 +659,7 @@ class Judge:
 
 
 def said(words: list, errors: int | None = None) -> tuple[str, int]:
-    """Runs a command. Returns its output and its status; 127 if it cannot be run."""
+    """Runs a command. Returns its output and its exit status, which is 127 if the command cannot be run."""
     try:
         done = subprocess.run(words, stdin=subprocess.DEVNULL, stdout=subprocess.PIPE, stderr=errors)
     except OSError:

@@ -1,15 +1,14 @@
-"""Servers as sets for `listset_judge.judge`. A call sends a line to the server and reads a line back, on one
-connection per thread.
+"""Servers as sets for `listset_judge.judge`. A call sends a line to the server and reads a line back, with one connection
+per thread.
 
     def test_redis_is_linearizable():
         print(listset_judge.judge(lambda: listset_servers.Redis(6379), pauses=0))
 
-Use `pauses=0`: pauses are for sets in Python. In a client they hide most of the errors of a replica.
+Use `pauses=0`: pauses are for sets in Python. In a client, they hide most errors of a replica.
 
-If a reply does not arrive in time, or is lost with its connection, the outcome is unknown: the call
-returns None, and the thread opens a new connection for its next call. `listset_servers.Redis(6379,
-read_at=6380)` writes to one address and reads from another, as clients of a replica do. For another
-server, write a class like `Redis`.
+If a reply does not arrive in time, or is lost with its connection, the outcome is unknown: the call returns None, and
+the thread opens a new connection for its next call. `listset_servers.Redis(6379, read_at=6380)` writes to one address
+and reads from another, like a client of a replica. For other servers, write a class like `Redis`.
 """
 
 import contextlib
@@ -18,11 +17,11 @@ import socket
 import threading
 import time
 
-OPENING = 30  # seconds to open a connection again, while the server restarts
+OPENING = 30  # seconds for opening a connection again while the server restarts
 
 
 class Connection:
-    """A connection to a port of this machine, or to a host and its port."""
+    """A connection to a port of this machine, or to a host and port."""
 
     socket = file = None
 
@@ -55,7 +54,7 @@ class Connection:
         self.close()
 
     def ask(self, line):
-        """Sends a line and returns the line of the reply; None if the outcome is unknown."""
+        """Sends a line and returns the reply line, or None if the outcome is unknown."""
         self.open_again()
         with contextlib.suppress(TimeoutError, ConnectionError):
             self.file.write(f"{line}\n".encode())
@@ -68,14 +67,15 @@ class Connection:
 
 
 class Server:
-    """A server at an address: a port of this machine, or a host and its port."""
+    """A server at an address: a port of this machine, or a host and port."""
 
     def __init__(self, address, read_at=None, seconds=10):
         self.address, self.read_at, self.seconds, self.mine = address, read_at or address, seconds, threading.local()
 
     def ask(self, line, replies, is_read=False):
-        """Sends a line and returns what the reply means by `replies`; None if the outcome is unknown. Raises
-        ConnectionError for any other reply."""
+        """Sends a line and returns the value that `replies` has for the reply, or None if the outcome is unknown. Raises
+        ConnectionError for any other reply.
+        """
         mine, address = vars(self.mine), self.read_at if is_read else self.address
         if address not in mine:
             mine[address] = Connection(address, self.seconds)
@@ -86,7 +86,7 @@ class Server:
 
 
 class Redis(Server):
-    """A set of Redis. Its name is new, so a late call on an earlier set has no effect on it."""
+    """A set in Redis. It gets a new name, so a late call on an earlier set has no effect on it."""
 
     REPLIES, made = {":1": True, ":0": False}, 0
 
@@ -111,7 +111,7 @@ class Redis(Server):
 
 
 class Listset(Server):
-    """The set of `listset serve`, which keeps its keys between runs."""
+    """The set of `listset serve`, which keeps its keys from one run to the next."""
 
     REPLIES = {"TRUE": True, "FALSE": False}
 

@@ -13,8 +13,8 @@ import static java.util.Collections.synchronizedMap;
 import static java.util.Collections.synchronizedSet;
 
 /**
- * Judges sets of Java and of JCTools (Debian's package libjctools-java), and wrong sets, each in a number of tests:
- * {@code javac -cp /usr/share/java/jctools-core.jar -d out ../java/Judge.java Jctools.java}, and {@code java -cp
+ * Judges Java's and JCTools' sets (Debian's package libjctools-java), and wrong sets, each in a number of tests: {@code
+ * javac -cp /usr/share/java/jctools-core.jar -d out ../java/Judge.java Jctools.java}, and {@code java -cp
  * out:/usr/share/java/jctools-core.jar Jctools 20}.
  */
 final class Jctools {

@@ -1,4 +1,4 @@
-// Judges sets of libcds (Debian's package libcds-dev), each in a number of tests:
+// Judges the sets of libcds (Debian's package libcds-dev), each in a number of tests:
 //     g++ -O2 -std=c++17 -pthread libcds.cpp -lcds -o libcds && ./libcds 20
 #include "tests.hpp"
 #include <cds/container/ellen_bintree_set_hp.h>
@@ -17,7 +17,7 @@
 #include <functional>
 #include <set>
 
-// Registers a thread with libcds, which is required before its first call.
+// Registers a thread with libcds, as is required before its first call.
 struct attached {
     attached() { cds::threading::Manager::attachThread(); }
     ~attached() { cds::threading::Manager::detachThread(); }

@@ -1,5 +1,5 @@
-// Judges sets of TBB, of liburcu and of Concurrency Kit (Debian's packages libtbb-dev, liburcu-dev, libck-dev), each in
-// a number of tests:
+// Judges the sets of TBB, liburcu and Concurrency Kit (Debian's packages libtbb-dev, liburcu-dev, libck-dev), each in a
+// number of tests:
 //     g++ -O2 -std=c++17 -pthread others.cpp -ltbb -lurcu-cds -lurcu -lck -o others && ./others 20
 #include "tests.hpp"
 #include <mutex>
@@ -19,7 +19,7 @@ struct Tbb {
 
 constexpr unsigned long hash_of(unsigned long key) { return key * 0x9E3779B97F4A7C15; }
 
-// A set with one writer at a time. Readers take no lock.
+// A set with one writer at a time and readers that take no lock.
 struct Ck {
     ck_hs_t keys;
     std::mutex writers;
@@ -37,7 +37,7 @@ struct Ck {
     bool contains(unsigned key) { return ck_hs_get(&keys, hash(of(key), 0), of(key)) != nullptr; }
 };
 
-// Registers a thread with liburcu, which is required before its first call.
+// Registers a thread with liburcu, as is required before its first call.
 struct registered {
     registered() { rcu_register_thread(); }
     ~registered() { rcu_unregister_thread(); }

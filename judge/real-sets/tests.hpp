@@ -2,7 +2,7 @@
 #include "../cpp/listset_judge.hpp"
 #include <iostream>
 
-// `words` are the arguments: the number of tests, and the name of the only set to judge, if one is given.
+// `words` are the arguments: the number of tests and, optionally, the name of the only set to judge.
 template <class S> void judge(const char *name, char **words, void (*begins)() = nullptr) {
     const unsigned tests = words[1] ? unsigned(std::stoul(words[1])) : 1;
     if (words[1] && words[2] && words[2] != std::string(name)) return;

@@ -1,4 +1,5 @@
-// The lines of the algorithm beside the picture: each row of a list stands on one of them, and the calls of a line make its rows.
+// Tests the code beside the picture: each row of a list's table belongs to one of its lines, and the calls on a line
+// are the ones that make its rows.
 "use strict";
 
 const { inPage } = require("../in_node.js");

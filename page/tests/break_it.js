@@ -1,5 +1,6 @@
-// node tests/break_it.js: broken lists, each broken by a schedule of examples/schedules/lacks, as docs/CLASSIC.md says; drafts on
-// them, what is handed in, and a lesson that has one. Prints how many checks passed, and what failed, as JSON.
+// node tests/break_it.js: tests broken lists. Each is broken by a schedule in examples/schedules/lacks, as
+// docs/CLASSIC.md says. Also tests drafts for broken lists, hand-ins, and a lesson that uses one. Prints as JSON how
+// many checks passed and which failed.
 "use strict";
 
 const fs = require("fs");
@@ -20,10 +21,11 @@ function check(name, isGood) {
 
 const scheduleOf = (name) => fs.readFileSync(path.join(TOP, "examples", "schedules", "lacks", `${name}.schedule`), "utf8");
 const startOf = inPage("startOfLacking");
-const LOST = /^(\d+) was added once and never removed, and at the end the set does not have it$/; // as docs/CLASSIC.md tells it in short
+const LOST = /^(\d+) was added once and never removed, and at the end the set does not have it$/; // as docs/CLASSIC.md summarizes it
 const isTask = (name) => name !== inPage("NO_TASK");
 
-// The schedule breaks the list, as docs/CLASSIC.md says, or only its points are refused. It never breaks the list before its last call.
+// Checks that the schedule breaks the list as docs/CLASSIC.md says, or that only the order of its points is refused. It
+// must not break the list before its last call.
 function checkBroken(ask, name) {
   const schedule = scheduleOf(name);
   const { kind, says } = verdictOnLacking(ask, name, schedule);
@@ -42,7 +44,8 @@ function checkBroken(ask, name) {
   check(`${name} is a list of one kind`, verdictOnLacking(ask, name, ofOther).kind === "refused");
 }
 
-// Each event has a sentence and a picture. The correct list makes the same events up to one at which it departs.
+// Checks that each event has a sentence and a picture. The correct list must make the same events up to the one at
+// which the broken list departs from it.
 function checkDeparture(ask, name) {
   const trace = new Trace(ask("listset_lacking", name, scheduleOf(name), "trace").text, 2);
   check(`${name} stands in its trace`, trace.lacks === name && trace.kind === LACKING[name]);
@@ -59,7 +62,7 @@ function checkDeparture(ask, name) {
   check(`${name}: up to event ${event} they agree`, agree === event - 1 && common.total === event - 1);
 }
 
-// The row of the history says that it shows the set by the points. The list can have other keys.
+// Checks that the history's row states that it shows the set according to the points. The list can contain other keys.
 function checkContents(trace) {
   for (let count = 0; count <= trace.total; count++) {
     const drawn = inPage("drawContents")(trace, inPage("scaleOf")(trace, count, 860, true));
@@ -69,19 +72,20 @@ function checkContents(trace) {
   }
 }
 
-// The trace as a file: it follows the grammar and equals the engine's. With another name in it, it is refused.
+// Checks that the trace as a file follows the grammar and equals the engine's, and that it is refused if another name
+// is in it.
 function checkFile(ask, name) {
   const { text } = ask("listset_lacking", name, scheduleOf(name), "trace");
   check(`${name}: its trace is one: ${inPage("faultOfTrace")(text)}`, inPage("faultOfTrace")(text) === null);
   const compared = (given) => inPage("comparedTrace")(ask, new Trace(given, 2));
   check(`${name}: ${compared(text)}`, compared(text) === "trace from a file; the engine gives the same trace for its schedule");
-  const whole = compared(text.replace(/^lacks .*\n/m, "")); // as if the whole list had made it
+  const whole = compared(text.replace(/^lacks .*\n/m, "")); // as if the correct list had made it
   const event = departureOf(ask, new Trace(text, 2));
   check(`${name}: as one of the whole list: ${whole}`, whole.endsWith(`the proved replayer gives another, from its event ${event} on`));
   check(`${name}: a check that is none`, inPage("faultOfTrace")(text.replace(`lacks ${name}`, "lacks luck"))?.startsWith("line 3: "));
 }
 
-// An answer that is neither a verdict nor a trace is shown as it is.
+// Checks that an answer that is neither a verdict nor a trace is shown unchanged.
 function checkTroubles(ask) {
   const stopped = (name) => (one, ...texts) => (one === name ? { status: 1, text: "the engine stopped: unreachable" } : ask(one, ...texts));
   const unchecked = verdictOnLacking(stopped("listset_check_record"), "lock", scheduleOf("lock"));
@@ -91,20 +95,21 @@ function checkTroubles(ask) {
   check("no trace of the whole list", departureOf(stopped("listset_trace"), trace) === null);
   const tries = ["begin 0 add 5", "go 0 1", "begin 1 add 7", "go 1 10000", "go 1 10000"];
   const { text } = ask("listset_trace", `listset-schedule 1\nlist coarse\nthreads 2\nquota 4\n${tries.join("\n")}\n`);
-  const long = text.replaceAll(" line 9 ", " line 8 "); // more steps than a line of a schedule may have
+  const long = text.replaceAll(" line 9 ", " line 8 "); // more steps than a line of a schedule can have
   const compared = inPage("comparedTrace")(ask, new Trace(long));
   const refused = "a trace from a file; the proved replayer does not run its schedule: listset: line 8: Number";
   check(`a trace of no schedule: ${compared}`, inPage("faultOfTrace")(long) === null && compared === refused);
 }
 
-// The page names the calls that have no order.
+// Checks that the page names the calls that no order explains.
 function checkReasons(ask) {
   const { text } = inPage("scheduleOfDraft")(ask, `${scheduleOf("mark-at-key")}begin 1 add 7\ngo 1 out\n`, "mark-at-key");
   const later = verdictOnLacking(ask, "mark-at-key", text).says;
   check(`what comes later is not told: ${later}`, later.includes("remove(7) of B answers true, which leaves 7 not there, and contains(7) of A answers true."));
 }
 
-// A draft's line becomes steps of the broken list. It is refused as the engine refuses one of a correct list.
+// Checks that a draft's line is expanded into steps of the broken list, or is refused in the same way as one of a
+// correct list.
 function checkDrafts(ask) {
   const drafted = (name, lines) => inPage("scheduleOfDraft")(ask, `${startOf(name)}${lines.join("\n")}\n`, name);
   const lock = drafted("lock", ["begin 0 add 5", "go 0 to 7", "begin 1 add 4", "go 1 out", "go 0 out"]);
@@ -122,7 +127,8 @@ function checkDrafts(ask) {
   }
 }
 
-// A hand-in is judged by the list that its line names. A run is no solution if only its own order is refused.
+// Checks that a hand-in is judged on the list that its line names. A run is not a solution if only its own order is
+// refused.
 function checkHandedIn(ask) {
   const judge = (line) => inPage("judgedPart")(ask, [], line);
   for (const name of NAMES) {
@@ -143,7 +149,7 @@ function checkHandedIn(ask) {
   check("and that is no solution", !judge(`break mark-at-key ${points}`).isSolved);
 }
 
-// The sentences about a claim. The claim is right if no order explains the report.
+// Checks the sentences about a claim. The claim is right if no order explains the report.
 function checkClaims(ask, name) {
   const { report } = verdictOnLacking(ask, name, scheduleOf(name));
   const claim = Object.assign(new (inPage("OwnAnswer"))(inPage("exerciseOf")(report, "claim", false)), { isNone: true });
@@ -171,7 +177,7 @@ answer
   go 1 out
 `;
 
-// A lesson on a broken list is solved by breaking the list. Its goal can ask for more.
+// Checks that a lesson on a broken list is solved by breaking the list. Its goal can require more.
 function checkLesson(ask) {
   const tried = (text) => inPage("triedCourse")(ask, text);
   const { lessons, faults } = tried(LESSON);

@@ -1,4 +1,4 @@
-// Checks the contrasts of the colours in style/page.css: texts on their backgrounds, and visible edges.
+// Checks the contrasts of the colours in style/page.css: text against its background, and visible edges.
 "use strict";
 
 const TEXT = 4.5;
@@ -12,13 +12,14 @@ const GROUNDS_OF = {
   paper: ["ink"],
 };
 const THREADS = [0, 1, 2, 3, 4, 5, 6, 7];
-// The texts in the bars of the history, with the share of the thread's colour in the bar, for begun and for later calls.
+// The texts in the history's bars, each with the proportion of the thread's colour in the bar, for calls that have
+// begun and for later calls.
 const BARS = [
   { share: /\.bar rect \{[^}]*fill-opacity: ([.0-9]+)/, texts: ["ink", "soft"] },
   { share: /\.bar\.later rect \{[^}]*fill-opacity: ([.0-9]+)/, texts: ["pale"] },
 ];
 
-// Red, green and blue, from 0 to 255.
+// Returns the red, green and blue of a colour, from 0 to 255.
 function partsOfColour(colour) {
   const digits = colour.length === 4 ? [...colour.slice(1)].map((digit) => digit + digit).join("") : colour.slice(1);
   return [0, 2, 4].map((at) => parseInt(digits.slice(at, at + 2), 16));
@@ -43,7 +44,7 @@ function contrastOf(one, other) {
   return (light + 0.05) / (dark + 0.05);
 }
 
-// Returns the colours that a part of the style sheet defines, with those of the threads.
+// Returns the colours that a part of the style sheet defines, including those of the threads.
 function coloursIn(part) {
   const colours = {};
   for (const [, name, colour] of part.matchAll(/--([a-z-]+): (#[0-9a-f]{3,6});/g)) if (name !== "thread") colours[name] = colour;

@@ -1,4 +1,5 @@
-// node tests/compare.js CASES: compares the module with the program's answers, and each file of the page with its limits.
+// node tests/compare.js CASES: compares the module with the program's answers, and each file of the page with its size
+// limit.
 "use strict";
 
 const fs = require("fs");
@@ -17,8 +18,8 @@ function check(result, name, isGood) {
   else result.failed.push(name);
 }
 
-// Each trace is read, its schedule is the one that was given, and the state goes on and back to where it began. Some end
-// ceilings.
+// Checks that each trace is read, that its schedule is the given one, and that the state can go forward and back to
+// where it began. Some of the traces end ceilings.
 function checkTraces(result, engine, cases) {
   const replies = new Set();
   for (const { texts } of cases.filter((wanted) => wanted.function === "listset_trace")) {

@@ -1,5 +1,5 @@
-// node tests/handed.js: the texts that are handed in, as mail brings them, and the teacher's tool. Prints how many checks passed,
-// and what failed, as JSON.
+// node tests/handed.js: tests texts that are handed in, in the form in which mail delivers them, and the teacher's
+// tool. Prints as JSON how many checks passed and which failed.
 "use strict";
 
 const { spawnSync } = require("child_process");
@@ -29,7 +29,7 @@ const folded = (text, width) => text.replace(new RegExp(`(\\S{${width}})(?=\\S)`
 const atSpaces = (text) => text.replace(/^(?!student|course|listset).*$/gm, (line) => line.replaceAll(" ", "\n"));
 const coded = (text) => text.replaceAll("=", "=3D").replace(/(.{60}[^=]{3})(?=.)/g, "$1=\n");
 
-// The changes that mail makes to a text, and lines that surround it.
+// The changes that mail makes to a text, and the lines that it puts around it.
 const MAILED = {
   "as it is": (text) => text,
   "with CRLF": (text) => text.replaceAll("\n", "\r\n"),
@@ -70,7 +70,7 @@ function checkMail(course) {
   check("the course as it stands", class_[1].text === fs.readFileSync(BOOK, "utf8").replace(/\n$/, ""));
 }
 
-// Returns the output and the status of the teacher's tool for these files.
+// Returns the output and the exit status of the teacher's tool for these files.
 function said(folder, ...texts) {
   const files = texts.map((text, index) => {
     const file = path.join(folder, `${index}.txt`);
@@ -105,7 +105,7 @@ function checkTeacher(course, folder) {
   check(`two of one name: ${named.lines}`, named.status === 1 && named.lines.filter((line) => line.startsWith("Max: 2 rows with this name")).length === 2);
 }
 
-// The tasks of one assignment only, a folder, UTF-16, the table, and a wrong link.
+// Checks hand-ins for one assignment, in a folder and in UTF-16, the table, and a wrong link.
 function checkAssignment(course, folder) {
   const link = "https://lists.example/page/#assignment=Week+3&learn=one-lock";
   const [answer, other] = course.lessons.map(({ name, solution }) => ({ name, schedule: solution }));
@@ -127,7 +127,8 @@ function checkAssignment(course, folder) {
   }
 }
 
-// Copied solutions: schedules that two students share, however grouped, but not those of many, and the schedule of an example.
+// Checks that copied solutions are found: schedules that two students share, however their lines are grouped, but not
+// those that many share, and not the schedule of an example.
 function checkOwn(ask, course, folder) {
   const text = (student, solutions, lines = []) => handInText(NAME, student, solutions, lines);
   const own = ({ name, solution }, from, to) => ({ name, schedule: solution.replace(from, to) });
@@ -174,7 +175,7 @@ This is no line of a solution.
     'line 1: the text is incomplete: the final line "end" is missing',
     "The one lock: the address of a schedule is missing, from # on",
     "Two at once: missing: B has an add that answers true.",
-    "Two at once: Line 9 of the schedule is refused: the thread makes a step while it has no call pending.",
+    "Two at once: Line 9 of the schedule is refused: the thread has no pending call.",
     "The lost predecessor: the address is not that of a schedule",
     "The changed link: The list, the number of threads, the quota and the opening keys are to be those of the lesson.",
     "Marked, and still in the chain: there is more behind the address",
@@ -211,7 +212,7 @@ goal
   const bad = said(folder, own.replace("go 0 11", "go 0 12"));
   check(
     `its answer is refused: ${bad.lines}`,
-    bad.status === 1 && bad.lines[0].includes('line 12: first: its answer is refused at "go 0 12": the thread makes a step while it has no call pending'),
+    bad.status === 1 && bad.lines[0].includes('line 12: first: its answer is refused at "go 0 12": the thread has no pending call'),
   );
   const handed = "listset-lessons 2\ncourse Mine\nstudent Ada\nfirst #list=lazy&threads=2&quota=4&s=b0.add.5,g0.11&event=12\nend\n";
   const both = said(folder, own, handed);
@@ -225,7 +226,7 @@ goal
   );
 }
 
-// Wrong arguments and unreadable files are reported. The other files are still judged.
+// Checks that wrong arguments and unreadable files are reported, while the other files are still judged.
 function checkWords(folder) {
   for (const words of [[], ["--help"], ["-x", BOOK], ["--link"], [path.join(folder, "no-such-file")]]) {
     const { status, lines, fault } = told(...words);

@@ -1,5 +1,5 @@
-// node tests/judge.js: the reader's answers about a run, judged by the engine's check; and two lists side by side. Prints how many
-// checks passed, and what failed, as JSON.
+// node tests/judge.js: tests the reader's answers about a run, which the engine's check judges, and two lists side by
+// side. Prints as JSON how many checks passed and which failed.
 "use strict";
 
 const fs = require("fs");
@@ -17,7 +17,7 @@ function check(name, isGood) {
 
 const wordIn = (report) => [...report.matchAll(/^place (\d+) (\S+)$/gm)].map(([, id, reply]) => `${id}-${reply}`);
 
-// At each level the replayer's order is right. A reversed order gets the verdict of `check`.
+// Checks at each level that the replayer's order is right, and that a reversed order gets the verdict of `check`.
 function checkLevels(ask, name, report) {
   const places = wordIn(report);
   for (const level in LEVELS) {
@@ -31,7 +31,7 @@ function checkLevels(ask, name, report) {
     check(`${name}, ${level}: its report is the engine's`, reportOfAnswer(own) === report);
     check(`${name}, ${level}: and back to its word`, wordOfAnswer(own) === places.join());
     const turned = answerOfWord(exercise, [...places].reverse().join());
-    const isOk = ask("listset_check", reportOfAnswer(turned)).text.trim() === "ok"; // two adds of two keys may be turned round
+    const isOk = ask("listset_check", reportOfAnswer(turned)).text.trim() === "ok"; // two adds of different keys can be swapped
     const said = verdictOn(ask, turned);
     check(`${name}, ${level}: turned round: ${said.says}`, said.isRight === isOk && !said.says.startsWith("refused"));
     const isAsked = exercise.calls.some((call) => call.ended !== null);
@@ -39,7 +39,7 @@ function checkLevels(ask, name, report) {
   }
 }
 
-// The claim "no order" is right for a report of a broken list, and wrong for a run.
+// Checks that the claim "no order" is right about a report of a broken list, and wrong about a run.
 function checkClaims(ask, name, report) {
   const claimOf = (exercise) => verdictOn(ask, Object.assign(new OwnAnswer(exercise), { isNone: true }));
   check(`${name}: there is an order`, claimOf(exerciseOf(report, "claim")).isRight === false);
@@ -51,7 +51,7 @@ function checkClaims(ask, name, report) {
   check(`${name}: its order: ${refused.says}`, refused.isRight === false && !refused.says.startsWith("refused"));
 }
 
-// No sentence of a run reveals the answer.
+// Checks that no sentence of a run gives away the answer.
 function checkHidden(ask, name, schedule) {
   const trace = new (inPage("Trace"))(ask("listset_trace", schedule).text);
   const state = new (inPage("State"))(trace);
@@ -65,7 +65,8 @@ function checkHidden(ask, name, schedule) {
   }
 }
 
-// A contains that takes effect in another thread's step: placed by moments, with a wrong reply, and at a wrong moment.
+// Checks a contains that takes effect in another thread's step: placed by moments, with a wrong reply, and at a wrong
+// moment.
 function checkByHand(ask) {
   const report = ask("listset_replay", ask("listset_example", "read-in-anothers-step").text).text;
   const answer = new OwnAnswer(exerciseOf(report, "replies"));
@@ -96,7 +97,7 @@ function checkByHand(ask) {
   check("replies of a ceiling", repliesOf(ceiling, { operation: "ceiling" }).join() === "nothing,at-5,at-9");
 }
 
-// A pending call is in the order if it has changed the set, and can be left out otherwise.
+// Checks that a pending call must be in the order if it has changed the set, and may be left out otherwise.
 function checkOpenCalls(ask) {
   const head = "listset-schedule 1\nlist lazy\nthreads 2\nquota 4\nbegin 0 add 5\n";
   const judgedAs = (steps, word) => {
@@ -109,7 +110,7 @@ function checkOpenCalls(ask) {
   check("put in", judgedAs(4, "0-true,1-false").isRight === false);
 }
 
-// Returns the labels of a drawing's bars, and those that cover an earlier one.
+// Returns the labels of a drawing's bars, and those of them that cover an earlier one.
 function labelsOver(drawing) {
   const labels = [...drawing.matchAll(/<text class="call" x="([^"]*)" y="([^"]*)">(.*?)<\/text>/g)];
   const ends = {};
@@ -121,7 +122,8 @@ function labelsOver(drawing) {
   return { labels, over };
 }
 
-// No label of the history covers another at any event, and each label keeps its place from the call's begin on.
+// Checks that no label in the history covers another one at any event, and that each label stays in its place once the
+// call has begun.
 function checkHistoryLabels(traces) {
   const [drawCalls, scaleOf] = ["drawCalls", "scaleOf"].map(inPage);
   let signs = 0;
@@ -141,7 +143,8 @@ function checkHistoryLabels(traces) {
   check(`the labels of the examples are whole: ${signs} are signs`, signs === 0);
 }
 
-// No label of a bar covers another, on a wide page and on a phone, whatever was answered, for numbered runs too.
+// Checks that no label of a bar covers another one, on a wide page and on a phone, whatever was answered, and for
+// numbered runs too.
 function checkLabels(ask, schedules) {
   const [drawJudged, judgeScale] = ["drawJudged", "judgeScale"].map(inPage);
   const judgedAt = (exercise, answer, width) => ({ exercise, answer, scale: judgeScale(exercise, width), moment: 0, count: 0 });
@@ -168,7 +171,7 @@ function saidOf(ask, lines) {
 
 const barsIn = (drawn) => drawn.split('<g class="bar ').length - 1;
 
-// The judge decides recorded calls: texts with the page's words about them.
+// Checks the page's words about recorded calls, which the judge decides.
 function checkRecorded(ask) {
   const wanted = {
     "call 0 add 5 1 4 true\ncall 1 contains 5 2 3 false\nkey 5\nend": "ok Linearizable: an order explains these 2 calls and leaves the keys.",
@@ -189,7 +192,7 @@ function checkRecorded(ask) {
   check(`many calls: ${many.reasons}`, drawn === 40 && many.reasons.at(-1) === "The first 40 calls are drawn.");
 }
 
-// The record of a recording or a report agrees with the program's own line.
+// Checks that the record for a recording or a report agrees with the line that the program prints.
 function checkRecords(ask, reports) {
   const recorded = path.join(__dirname, "..", "..", "tests", "transcripts", "data", "recorded");
   const texts = fs.readdirSync(recorded).map((file) => fs.readFileSync(path.join(recorded, file), "utf8"));
@@ -207,7 +210,7 @@ function checkRecords(ask, reports) {
   }
 }
 
-// A refusal names two calls that contradict each other. Only these are drawn.
+// Checks that a refusal names two calls that contradict each other, and that only these are drawn.
 function checkRefusals(ask) {
   const both = saidOf(ask, inPage("RECORDED_EXAMPLE"));
   const reasons = [
@@ -218,7 +221,7 @@ function checkRefusals(ask) {
   check(`two adds of one key: ${both.reasons.join(" ")}`, both.kind === "none" && both.reasons.join() === reasons.join());
   const drawn = inPage("drawRecorded")(both.calls, 600);
   check("its calls as bars", barsIn(drawn) === 2 && />add\(5\)<tspan [^>]*> true</.test(drawn) && !drawn.includes("cursor"));
-  const late = 1760000000000000000n; // a clock of nanoseconds
+  const late = 1760000000000000000n; // a clock in nanoseconds
   const at = (moment) => String(late + BigInt(moment));
   const lines = [`0 contains 5 ${at(1)} ${at(2)} false`, `1 add 7 ${at(3)} ${at(4)} true`, `2 contains 7 ${at(5)} ${at(6)} false`];
   const stale = saidOf(ask, `${TITLE}${lines.map((line) => `call ${line}\n`).join("")}key 7\nend`);
@@ -235,7 +238,7 @@ function checkRefusals(ask) {
   check(`left otherwise: ${left}`, left.join() === unchanged.join());
 }
 
-// The words for answers that no short text gets.
+// Checks the words for answers that no short text gets.
 function checkAnswers(ask) {
   const said = (text) => inPage("verdictOnCalls")(ask, { text: `${text}\n` }, TITLE);
   const { kind, reasons, calls } = said("verdict none\nkey 7\nclash true\nfirst call 2 add 7 50 60 true\nsecond call 3 contains 7 65 70 false");
@@ -250,7 +253,7 @@ function checkAnswers(ask) {
   }
 }
 
-// The record of a diagnosis, as the program writes it.
+// Checks that the record of a diagnosis is read as the program writes it.
 function checkDiagnosis() {
   const record = ["headline contains(3) returned true, expected false", "call 1 remove 3 5414 5432 true -", "call 0 contains 3 5420 - - expected false",
     "also 3 remove 2 5413 5417 true", "fact only contains is wrong", "likely contains does not look at a mark", "because a remove was still running"].join("\n");
@@ -261,7 +264,7 @@ function checkDiagnosis() {
   check("no diagnosis", inPage("diagnosisIn")("") === null);
 }
 
-// An error in recorded calls is reported by the program's line and its sentence on the cause.
+// Checks that an error in recorded calls is reported with the program's line and its sentence about the cause.
 function checkFaultsOfCalls(ask) {
   const { kind, says } = saidOf(ask, `${TITLE}call 0 add 5 7 8 true\ncall 1 add 6 5 9 true\nend\n`);
   const told = "the call does not end after it begins; or a line above has one of its moments, or a call of the same thread that is pending";
@@ -269,7 +272,7 @@ function checkFaultsOfCalls(ask) {
   check(`a fault: ${says}`, kind === "fault" && says === `listset: line 3: History: ${why}.`);
 }
 
-// An answer that is no verdict is shown, and does not count as a verdict.
+// Checks that an answer that is not a verdict is shown, and does not count as one.
 function checkTroubles(ask) {
   const answer = answerOfWord(exerciseOf(ask("listset_replay", ask("listset_example", "snip").text).text, "points"), "2-true,0-true,1-true");
   const stopped = () => ({ status: 1, text: "the engine stopped: unreachable" });
@@ -281,7 +284,7 @@ function checkTroubles(ask) {
   check(`nor of a claim: ${claim.says}`, claim.isRight === null && claim.says === untold);
 }
 
-// Two lists: each turn makes a step in both. A list whose call has returned waits.
+// Checks two lists side by side: each turn makes a step in both. A list whose call has returned waits.
 function checkSides(ask) {
   const [Sides, readProgram, programText] = ["Sides", "readProgram", "programText"].map(inPage);
   const program = readProgram("0: add 5, remove 5\n t1 : contains 5\n");

@@ -1,6 +1,6 @@
-// node tests/lessons.js: the lessons as text, their goals, and what a lesson says of a try. Prints how many checks passed, and what
-// failed, as JSON. recorded.txt has schedules of each lesson, with the conditions of its goal that the run of each is known to meet, up to
-// the event that is refused.
+// node tests/lessons.js: tests the lessons as texts, their goals, and what a lesson says about an attempt. Prints as
+// JSON how many checks passed and which failed. recorded.txt has schedules for each lesson, and the conditions of its
+// goal that each run is known to meet, up to the event that is refused.
 "use strict";
 
 const fs = require("fs");
@@ -20,9 +20,9 @@ function check(name, isGood) {
 
 const scheduleOf = (lesson, events) => scheduleText(lesson, events.split(",").map(inPage("longLine")));
 
-const SPLIT = ["one-lock"]; // whose conditions have been split since: a schedule meets all of them where it met all before
+const SPLIT = ["one-lock"]; // lessons whose conditions have been split since: a schedule meets all of them if it met all of the old ones
 
-// The goals are met by the runs known to meet them, and by no others.
+// Checks that the goals are met by exactly the runs that are known to meet them.
 function checkRecorded(ask, { lessons }) {
   for (const line of fs.readFileSync(path.join(__dirname, "recorded.txt"), "utf8").trimEnd().split("\n")) {
     const [name, bits, events] = line.split(" ");
@@ -52,7 +52,7 @@ function checkBook(ask, { name, lessons, faults }) {
   }
 }
 
-// For each lesson, the most likely wrong attempt, and how the text of its dead end begins.
+// For each lesson, the most likely wrong attempt, and how the text about its dead end begins.
 const LIKELY = {
   "one-lock": { lines: ["go 0 out"], deadEnd: "The add of thread 0 has ended before that of thread 1." },
   "hand-over-hand": { lines: ["go 0 out", "go 1 out"], deadEnd: "Both calls have ended" },
@@ -68,7 +68,7 @@ const LIKELY = {
   "ceiling-in-anothers-step": { lines: ["go 0 out"], deadEnd: "This ceiling has answered 7" },
 };
 
-// The words about a wrong attempt: the first missing condition, and the lesson's dead end.
+// Checks the words about a wrong attempt: the first missing condition, and the lesson's dead end.
 function checkTries(ask, { lessons }) {
   const lesson = lessons.find(({ name }) => name === "in-anothers-step");
   const tries = [
@@ -89,14 +89,14 @@ function checkTries(ask, { lessons }) {
   for (const one of lessons) check(`${one.name}: a solution is no dead end`, judged(ask, one, one.solution).deadEnd === null);
 }
 
-// Schedules that are not looked at, each with the reason.
+// Checks that schedules that are not examined have a reason.
 function checkReasons(ask, [lesson]) {
   const answer = lesson.solution;
   const reasons = [
     [answer.replace("quota 4", "quota 5"), "The list, the number of threads"],
     [answer.replace("list coarse", "list fine"), "The list, the number of threads"],
     [answer.replace("schedule 1", "schedule 2").replace("quota 4\n", "quota 4\nopening 1\n"), "The list, the number of threads"],
-    [`${answer}go 0 1\n`, "Line 15 of the schedule is refused: the thread makes a step while it has no call pending."],
+    [`${answer}go 0 1\n`, "Line 15 of the schedule is refused: the thread has no pending call."],
     [`${answer}begin 0 add 05\n`, "The schedule is refused: listset: line 15: Number."],
     [`${answer}begin 0 contains 9\ngo 0 999\n`, "A solution has at most 1000 events."],
   ];
@@ -110,7 +110,7 @@ function checkReasons(ask, [lesson]) {
   );
 }
 
-// A change of the text, the line that the error names (by a part of it), and the error.
+// A change of the text, a part of the line that the error should name, and the error.
 const BROKEN = [
   ["listset-course 1", "listset-course 2", "listset-course 2", 'expected "listset-course 1" here'],
   [/^course .*$/m, "", "listset-course 1", 'expected the line "course NAME"'],
@@ -132,7 +132,7 @@ const BROKEN = [
   ["  say At that moment the node is still in the chain.\n", "", "  step S: in the chain", 'a goal ends with a line "say .."'],
 ];
 
-// Errors in a text, each reported with its line.
+// Checks that each error in a text is reported with its line.
 function checkFaults() {
   for (const [from, to, mark, says] of BROKEN) {
     const given = TEXT.replace(from, to);
@@ -154,22 +154,22 @@ function checkFaults() {
   }
 }
 
-// Starts and answers may be drafts, which the engine makes schedules.
+// Checks that starts and answers can be drafts, which the engine expands into schedules.
 function checkDrafts(ask, { lessons }) {
   const drafted = TEXT.replace("  go 1 7\n  begin 0 contains 5\n  go 0 3\n", "  go 1 to 12\n  begin 0 contains 5\n  go 0 out\n");
   const course = triedCourse(ask, drafted);
   const [plain, own] = [lessons, course.lessons].map((all) => all.find(({ name }) => name === "marked-in-chain"));
   check(`a draft is its schedule: ${JSON.stringify(course.faults)}`, drafted !== TEXT && own.solution === plain.solution);
   const [{ fault }] = triedCourse(ask, TEXT.replace("  go 1 7\n", "  go 1 to 99\n")).faults;
-  const refused = 'marked-in-chain: its answer is refused at "go 1 to 99": the thread makes a step while it has no call pending';
+  const refused = 'marked-in-chain: its answer is refused at "go 1 to 99": the thread has no pending call';
   check(`one that is refused: ${fault}`, fault.startsWith(refused));
 }
 
-// A lesson is also checked when it is read.
+// Checks that a lesson is also tested when it is read.
 function checkTrials(ask) {
   const trials = [
     ["  begin 0 add 5\n", "  begin 0 ad 5\n", "one-lock: its start is refused at \"begin 0 ad 5\": expected "],
-    ["  go 0 7\n", "  go 0 70\n", "one-lock: its answer is refused at \"go 0 70\": the thread makes a step while it has no call pending"],
+    ["  go 0 7\n", "  go 0 70\n", "one-lock: its answer is refused at \"go 0 70\": the thread has no pending call"],
     ["  go 2 1\n  go 0 1\n", "  go 2 1\n", "one-lock: its answer does not solve it: missing: Thread 0 tries to lock the list"],
     ["begin 1 remove 5\nquestion", "begin 1 remove 5\n  go 1 7\n  begin 0 contains 5\n  go 0 3\nquestion",
       "marked-in-chain: its start meets the goal already"],
@@ -185,7 +185,8 @@ function checkTrials(ask) {
   check("CRLF, a mark of order and tabs are no fault", triedCourse(ask, other).faults.length === 0);
 }
 
-// The course on the teachers' page is valid, also when indented. Its goal asks for what its question asks.
+// Checks that the course on the teachers' page is valid, also when it is indented, and that its goal requires what its
+// question asks.
 function checkOwnCourse(ask) {
   const text = inPage("OWN_COURSE");
   const indented = text.replace(/^(?=.)/gm, "    ");

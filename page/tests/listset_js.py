@@ -1,5 +1,7 @@
-"""Compares page/listset.js, in node, with the program on words drawn at random: both outputs and the status. Of wrong words the status is
-the same, nothing is on the output, and both begin with the same line and show a usage of the same command, or none. page/test compares the engine itself on many texts."""
+"""Compares page/listset.js, run by node, with the program for random arguments: both outputs and the exit status. For
+wrong arguments, the exit status must be equal, the output must be empty, and both error texts must begin with the same
+line and show the usage of the same command, or none. page/test compares the engine itself on many texts.
+"""
 
 import os
 import random
@@ -13,24 +15,26 @@ FLAGS = "--chain --svg --broken -- - -x --svg=yes --no-such".split()
 OPTIONS = ["--from 3", "--from", "--from=9", "--from --", "--to 9", "--to=x", "--to=", "--from -5", "--from==3", "--width 40", "--width 0", "--from 4294967295",
            "--lacks lock", "--lacks luck", "--lacks=", "--lacks"]
 VALUES = "no-such-file . ./- Snip snip full lazy 2 4 9 00 -1 18446744073709551616".split()
-LONG_CALLS = 1_800_000  # of a recording of more than 64 MiB, which other texts may not have
+LONG_CALLS = 1_800_000  # of a recording of more than 64 MiB, a size that other texts must not have
 REFUSED = "listset-schedule 1\nlist lazy\nthreads 2\nquota 4\nbegin 0 add 5\ngo 0 3\nbegin 0 add 7\n"
 
 
 def said(words, text=b"", output=subprocess.PIPE):
-    """What a program writes on its output and on standard error, and its status."""
+    """Returns what a program writes to its output and to standard error, and its exit status."""
     done = subprocess.run(words, input=text, stdout=output, stderr=subprocess.PIPE, timeout=SECONDS)
     return done.stdout, done.stderr, done.returncode
 
 
 def parts_of_error(text):
-    """Of a text about wrong words its first line, and the program and command of its usage."""
+    """Returns the first line of an error about arguments, and the program and command in its usage."""
     lines = text.split(b"\n")
     return lines[0], [it.split()[:3] for it in lines if it.startswith(b"Usage: ")]
 
 
 def difference(words, ours, due):
-    """A line that tells how the two differ, or None. Of words that are wrong the program's text is clap's, whose tips differ."""
+    """Returns a line that says how the two differ, or None. For wrong arguments, the program's text is clap's, whose tips
+    may differ.
+    """
     if due[1].startswith(b"error: "):
         is_right = (ours[0], ours[2]) == (due[0], due[2]) == (b"", 2) and parts_of_error(ours[1]) == parts_of_error(due[1])
     else:
@@ -39,7 +43,7 @@ def difference(words, ours, due):
 
 
 def compared_unwritten(program, script, words):
-    """The same of an output that takes no bytes, and of one that is closed."""
+    """Compares the two with an output that accepts no bytes, and with a closed one."""
     with open("/dev/full", "wb") as full:
         ours, due = (said([*which, *words], output=full) for which in (script, program))
     closed, due_closed = (said(["sh", "-c", 'exec "$@" >&-', "sh", *which, *words]) for which in (script, program))
@@ -48,14 +52,14 @@ def compared_unwritten(program, script, words):
 
 
 def drawn_words(dice):
-    """A command, with some words that it may take or not."""
+    """Returns a command with some arguments that it may or may not accept."""
     some = [dice.choice(dice.choice([FLAGS, OPTIONS, OPTIONS, VALUES])) for _ in range(dice.choice([0, 1, 1, 2, 2, 3, 4]))]
     command = dice.choice(COMMANDS)
     return [command, *(["lazy", "2", "4", "9", "8"] if command == "gen" and dice.random() < 0.5 else []), *" ".join(some).split()]
 
 
 def asked(program, names):
-    """The words to compare, each with a text for the standard input, which is read where they name no file."""
+    """Returns the arguments to compare, each with a text for standard input, which is read if they name no file."""
     dice, schedule = random.Random(1), said([*program, "example", names[0]])[0]
     report = said([*program, "replay"], schedule)[0]
     texts = [schedule, report, REFUSED.encode(), b""]
@@ -72,7 +76,7 @@ def asked(program, names):
 
 
 def in_node(program, script, names):
-    """How many passed, and a line for each that failed."""
+    """Returns how many comparisons passed, and a line for each that failed."""
     def compared(given):
         words, text = given
         return difference(words, said([*script, *words], text), said([*program, *words], text))

@@ -1,13 +1,14 @@
-// node page/tests/memory.js: the heap of the module (wasm/heap.c) until memory is refused. Blocks stand apart and within the memory,
-// which ends 16 MiB below 4 GiB (page/build); what is refused leaves the heap as it was.
+// node page/tests/memory.js: tests the module's heap (wasm/heap.c) until an allocation is refused. Blocks must not
+// overlap and must lie within the memory, which ends 16 MiB below 4 GiB (page/build). A refused allocation must leave
+// the heap unchanged.
 "use strict";
 
 const fs = require("fs");
 const path = require("path");
 
 const LAST = 2 ** 32 - 2 ** 24;
-const HEAD = 16; // bytes before a block, of its 2^k
-const MANY = 5000; // blocks, more than there is memory for
+const HEAD = 16; // the bytes before a block, out of its 2^k
+const MANY = 5000; // more blocks than fit in the memory
 
 const built = new WebAssembly.Module(fs.readFileSync(process.argv[2] ?? path.join(__dirname, "..", "listset.wasm")));
 const failed = [];
@@ -18,7 +19,7 @@ function check(what, is) {
   else failed.push(what);
 }
 
-// As many blocks of a size as there are, and then what is still to be had.
+// Allocates as many blocks of a size as possible, and then whatever is still available.
 function fill(size) {
   const { memory, page_alloc: alloc, page_free: free } = new WebAssembly.Instance(built, { env: { read: () => -1n } }).exports;
   const blocks = [];

@@ -1,5 +1,6 @@
-// What `judge --only KEY` prints of random recordings: the recording of the key; if no order explains its calls, a part of them that the judge
-// refuses in the same two lines, and whose opening state is the only one that the calls before it leave.
+// Tests what `judge --only KEY` prints for random recordings: the recording of the key or, if no order explains its
+// calls, a part of them. The judge must refuse this part with the same two lines, and its opening state must be the
+// only one in which the earlier calls can leave the key.
 "use strict";
 
 const { startedEngine } = require("../in_node.js");
@@ -22,7 +23,8 @@ function replyOf(keys, { word, key }) {
   return word === "add" ? !is : is;
 }
 
-// Calls that overlap, with a wrong reply now and then, and some pending at the end; the keys at the start and the end.
+// Returns random overlapping calls, of which some have a wrong reply and some are pending at the end, with the opening
+// and the final keys.
 function drawn(count) {
   const opening = KEYS.filter(() => below(2) === 0);
   const [keys, pending, calls, wrong] = [new Set(opening), [], [], below(3) > 0 ? 3 : 0];

@@ -1,5 +1,5 @@
-// node tests/parts.js: the parts of the page that need no browser, by the committed module: some sentences, addresses, and what is kept
-// beside the page.
+// node tests/parts.js: tests the parts of the page that need no browser, with the committed module: some sentences,
+// addresses, and files that are kept beside the page.
 "use strict";
 
 const { createHash } = require("crypto");
@@ -20,7 +20,7 @@ const traceOf = (engine, schedule) =>
   new (inPage("Trace"))(engine.ask("listset_trace", schedule).text, inPage("versionOf")(schedule));
 const withoutTags = (text) => text.replace(/<[^>]*>/g, "");
 
-// Each example has a question, a deciding point, and the events that decide it, each with its own sentence.
+// Checks that each example has a question, a deciding point, and the events that decide it, each with its own sentence.
 function checkTurns(engine) {
   for (const [name, { question, turnsOn, without, turns }] of Object.entries(inPage("CLASSICS"))) {
     check(`${name}: it has a question, and what it turns on`, question.endsWith("?") && turnsOn.length > 40 && turns.length > 1);
@@ -36,7 +36,7 @@ function sentencesOf(engine, schedule) {
   return trace.events().map((_, index) => withoutTags(inPage("sentenceOf")(inPage("momentAt")(state, index + 1))));
 }
 
-// How sentences end that no generated run has often (tests/sentences.js reads the others back).
+// Checks the ends of sentences that are rare in generated runs (tests/sentences.js checks the others).
 function checkSentences(engine) {
   const last = (kind, quota, ...lines) =>
     sentencesOf(engine, ["listset-schedule 1", `list ${kind}`, "threads 2", `quota ${quota}`, ...lines, ""].join("\n")).pop();
@@ -50,7 +50,7 @@ function checkSentences(engine) {
   for (const [end, ...run] of wanted) check(`${end} is not how this ends: ${last(...run)}`, last(...run).endsWith(end));
 }
 
-const RUN_17 = "9e6e9361cbb54bb9"; // the sum of the schedule of #seed=lazy.2.5.2.17
+const RUN_17 = "9e6e9361cbb54bb9"; // the checksum of the schedule at #seed=lazy.2.5.2.17
 const refusalOf = (hash) => refusalBy(() => inPage("readAddress")(hash));
 
 const refusalBy = (deed) => {
@@ -62,7 +62,7 @@ const refusalBy = (deed) => {
   }
 };
 
-// Each link into a run, on the pages made of docs/, is a valid address, and its run has the event.
+// Checks that each link into a run on the pages made from docs/ is a valid address, and that its run has the event.
 function checkDocs(engine) {
   const lengthOf = (line) => (line.startsWith("go ") ? Number(line.split(" ")[2]) : Number(line.startsWith("begin ")));
   for (const page of ["how-it-works", "classic", "tables"]) {
@@ -77,7 +77,8 @@ function checkDocs(engine) {
   }
 }
 
-// Each page that Read links to exists, with the heading that the link names. One is the table of progress.
+// Checks that each page to which Read links exists and has the heading that the link names. One of them is the table of
+// progress.
 function checkRead() {
   const links = inPage("PAGES").map(([href]) => href);
   check("Read leads to the table of progress", links.includes("tables.html#progress"));
@@ -90,7 +91,8 @@ function checkRead() {
   }
 }
 
-// A number gives everyone the same run, small enough to judge, with overlapping calls. The run in README.md stays the same.
+// Checks that a number gives everyone the same run, which is small enough to judge and has overlapping calls. The run
+// in README.md must not change.
 function checkSeeds(engine) {
   const ask = (name, ...texts) => engine.ask(name, ...texts);
   for (const kind of Object.keys(inPage("LISTS"))) {
@@ -115,7 +117,7 @@ function checkSeeds(engine) {
 
 const HEAD = "listset-schedule 2\nlist coarse\nthreads 2\nquota 4\n";
 
-// An error in a text is explained by the program's sentence on its cause.
+// Checks that an error in a text is explained with the program's sentence about its cause.
 function checkFaults(engine) {
   const ask = (name, ...texts) => engine.ask(name, ...texts);
   const saidOf = (text) => inPage("scheduleOfDraft")(ask, text).fault ?? ask("listset_trace", text).text;
@@ -132,7 +134,7 @@ function checkFaults(engine) {
   check(`a broken list is of one kind: ${ofOther}`, ofOther === "listset: line 2: Kind\n");
 }
 
-// Each form of address in README.md is valid.
+// Checks that each form of address in README.md is valid.
 function checkForms() {
   const table = fs.readFileSync(path.join(folder, "README.md"), "utf8").split("| Address |")[1].split("\n\n")[0];
   const cells = [...table.matchAll(/^\|([^|]*)\|/gm)].map(([, cell]) => cell);
@@ -146,7 +148,8 @@ function checkForms() {
   }
 }
 
-// Each text comes back from its address, to the byte. A wrong address is refused, and its wrong part is named.
+// Checks that each text can be recovered from its address, byte by byte, and that a wrong address is refused with its
+// wrong part named.
 function checkAddresses(engine, texts) {
   const addressOf = inPage("addressOf");
   const readAddress = inPage("readAddress");
@@ -177,7 +180,7 @@ function checkAddresses(engine, texts) {
   check("two things", refusalOf("#example=snip&list=lazy") === 'the address names an example, and has "list" too');
 }
 
-// A broken list is named by number or name, and belongs to the list that the address names.
+// Checks that a broken list can be named by number or by name, and belongs to the list that the address names.
 function checkLacking(readAddress) {
   for (const [at, [name, kind]] of Object.entries(inPage("LACKING")).entries()) {
     const named = [name, at + 1].map((which) => readAddress(`#list=${kind}&threads=2&quota=4&lacks=${which}`).lacks);
@@ -196,7 +199,8 @@ function checkLacking(readAddress) {
   for (const [hash, fault] of Object.entries(faults)) check(`${hash}: ${refusalOf(hash)}`, refusalOf(hash) === fault);
 }
 
-// At each event the current box of the set has its text inside, or across its edge if it is the last box and too narrow.
+// Checks at each event that the text of the set's current box is inside of the box. Only in the last box may it cross
+// the edge, if the box is too narrow.
 function checkContents(engine, texts) {
   const [scaleOf, drawContents] = ["scaleOf", "drawContents"].map(inPage);
   let boxes = 0;
@@ -211,7 +215,7 @@ function checkContents(engine, texts) {
   check("boxes of contents were drawn", boxes > 500);
 }
 
-// The traces in more.js equal the engine's.
+// Checks that the traces in more.js equal the engine's.
 function checkTraces(engine, names) {
   const traces = inPage("more").TRACES;
   check("the list of the examples beside the page", inPage("more").EXAMPLES === engine.ask("listset_examples", "").text);
@@ -225,7 +229,8 @@ function checkTraces(engine, names) {
 const areApart = (one, other) => one.x + one.wide <= other.x + 1 || other.x + other.wide <= one.x + 1 || one.y + one.high <= other.y + 1 || other.y + other.high <= one.y + 1;
 const ROOMS = [{ wide: 1280, high: 300 }, { wide: 900, high: 240 }, { wide: 351, high: 320 }];
 
-// Everything on the stage is inside it, and no node or hand covers another, at any event of the examples and of a run with many nodes.
+// Checks that everything on the stage is inside of it, and that no node or hand covers another one, at each event of
+// the examples and of a run with many nodes.
 function checkStage(engine, texts) {
   let hands = 0;
   for (const [text, size] of texts.flatMap((text) => ROOMS.map((size) => [text, size]))) {
@@ -243,7 +248,7 @@ function checkStage(engine, texts) {
       hands += list.hands.length;
       const isIn = ({ x, y, wide, high }) => x >= -1 && y >= -1 && x + wide <= width + 1 && y + high <= height + 1;
       const overlaps = (many) => many.some((one, at) => many.slice(at + 1).some((other) => !areApart(one, other)));
-      const isLow = nodes.some(({ aside }) => aside) && list.units.isLow; // in the gaps of the chain, a little lower
+      const isLow = nodes.some(({ aside }) => aside) && list.units.isLow; // nodes in the gaps of the chain are drawn a little lower
       const found = [all.every(isIn) ? "" : "outside", !isLow && overlaps(nodes) ? "nodes" : "", overlaps(all.slice(nodes.length)) ? "hands" : "", scale >= form.least ? "" : "small"];
       return found.filter((what) => what !== "").map((what) => `${what} at event ${index + 1}`);
     });
@@ -255,7 +260,8 @@ function checkStage(engine, texts) {
   check(`a long chain is folded: ${items.length}, ${units.width}`, items.length <= 14 && units.width * units.scale <= 1281 && items.some(({ names }) => names.length > 20));
 }
 
-// Five threads add, remove and look, one to three steps each in turn, on each list.
+// Returns for each list a schedule in which five threads take turns of one to three steps each to add, remove and look
+// for keys.
 function crowded(engine) {
   const calls = ["add 5", "remove 5", "add 7", "contains 7", "remove 7"].map((call, thread) => `begin ${thread} ${call}`);
   const turns = Array.from({ length: 60 }, (_, turn) => `go ${(turn * 3) % 5} ${1 + (turn % 3)}`);
@@ -271,8 +277,9 @@ function longerBy(engine, text, line) {
   return engine.ask("listset_trace", longer).text.includes("\nrefused ") ? text : longer;
 }
 
-// Each thread of a call stands at a line of the proved code: at one that begins a call up to its first step alone, at one that ends
-// a call just before its answer, in `find` where that walks again; and at each line that makes a row a thread stood.
+// Checks that each thread with a call is shown at a line of the proved code: before its first step only at a line that
+// begins a call, just before its reply at one that ends a call, and in `find` while that traverses again. A thread must
+// have been shown at every line that makes a row.
 function checkListing(engine, texts) {
   const met = new Set();
   const wrong = texts.flatMap((text) => {
@@ -289,7 +296,8 @@ function checkListing(engine, texts) {
   check(`lines at which no thread stood: ${lines.filter((line) => !met.has(line))}`, lines.every((line) => met.has(line)));
 }
 
-// What is wrong with the line of a thread that makes this event next, in a list of none or one. The ceilings of two lists have none.
+// Returns what is wrong with the line shown for the thread that makes this event next, as a list with at most one
+// entry. The ceilings of two lists have no line.
 function wrongLine(trace, event, held, met) {
   const { kind } = trace;
   const found = inPage("codeOf")(kind, held.call);
@@ -307,7 +315,7 @@ function wrongLine(trace, event, held, met) {
   return isGood ? [] : [`${kind}, event ${event.number}: row ${held.pc} at ${found.file}:${line}`];
 }
 
-// The colour of each text on each of its backgrounds, light and dark, and the edges of the controls.
+// Checks the colour of each text on each of its backgrounds, light and dark, and the edges of the controls.
 function checkColours() {
   const sheet = ["page.css", "drawings.css"].map((name) => fs.readFileSync(path.join(folder, "style", name), "utf8")).join("");
   const contrasts = contrastsOf(sheet);

@@ -1,5 +1,7 @@
-"""What the program answers to texts and words, as cases for the page's engine: each function that takes a text, on each example, on generated
-schedules, drafts, recorded calls and reports, and on broken ones; pictures by options, broken lists, values of gen, and the names."""
+"""Makes cases for the page's engine from the program's answers to texts and arguments: each function that takes a text, on
+each example, on generated schedules, drafts, recorded calls and reports, and on damaged ones; pictures with options,
+broken lists, arguments of gen, and names.
+"""
 
 import base64
 import hashlib
@@ -11,32 +13,34 @@ from concurrent.futures import ThreadPoolExecutor
 
 TOP = pathlib.Path(__file__).resolve().parent.parent.parent
 LISTS = ["coarse", "fine", "optimistic", "lazy", "lock-free"]
-GENERATED = 80  # of each list
+GENERATED = 80  # schedules for each list
 BROKEN = 300
 SECONDS = 900
 DATA = TOP / "tests" / "transcripts" / "data"
 LACKS = TOP / "examples" / "schedules" / "lacks"
 OF_SCHEDULES = {"replay": ["replay"], "trace": ["trace"], "trace_with_chains": ["trace", "--chain"], "show": ["show"], "show_svg": ["show", "--svg"]}
 OF_TEXTS = {**OF_SCHEDULES, "check": ["check"], "draft": ["draft"], "judge": ["judge"]}
-DRAWN = 600  # of options, and of values of gen
-OF_A_FILE = b"\nlistset judge FILE, with a file, also says what is wrong\n"  # below a refusal of a pipe; the module has it as listset_why
+DRAWN = 600  # the number of random cases with options, and with arguments of gen
+OF_A_FILE = b"\nlistset judge FILE, with a file, also says what is wrong\n"  # printed below a refusal from a pipe; the module returns it from listset_why
 MOMENTS = ["1", "3", "9", "12", "40", "0", "x", "", "4294967295"]
 VALUES = ["1", "2", "3", "8", "20", "", "x", "00", "-1", "18446744073709551615", "18446744073709551616"]
 
 
 class Program:
-    """The program by its path."""
+    """The program at this path."""
 
     def __init__(self, path):
         self.path = path
 
     def program_answers(self, *words, text=b""):
-        """What it prints, on its output or as the line about a trouble, and its status."""
+        """Returns what it prints, on its output or as the line about an error, and its exit status."""
         done = subprocess.run([self.path, *words], input=text, stdout=subprocess.PIPE, stderr=subprocess.PIPE, timeout=SECONDS)
         return done.stdout + done.stderr, done.returncode
 
     def case(self, function, words, *texts, given=b""):
-        """The texts for a function of the module, and what the program prints for the words, with what it is given on its input."""
+        """Returns a case: the texts for a function of the module, and what the program prints for the arguments, with
+        `given` as its input.
+        """
         output, status = self.program_answers(*words, text=given)
         output = output.removesuffix(OF_A_FILE)
         return {"function": f"listset_{function}", "words": words, "texts": [base64.b64encode(it).decode() for it in texts], "status": status,
@@ -47,8 +51,9 @@ class Program:
 
 
 def generated(program, dice):
-    """Schedules of each list, of few threads and of many, with room and without; some with a ceiling in place of each `contains`, of which
-    some end at a refused event; and a long one."""
+    """Yields schedules for each list, with few threads and many, with and without free slots. In some, `ceiling` replaces
+    each `contains`; some of these end at a refused event. One schedule is long.
+    """
     for kind in LISTS:
         yield program.program_answers("gen", kind, "4", "300", "1100", "4", "1")[0]
         for number in range(GENERATED):
@@ -58,7 +63,7 @@ def generated(program, dice):
 
 
 def broken(dice, texts, many=BROKEN):
-    """Texts with one to three bytes changed, dropped or put in, and some that are cut."""
+    """Yields texts in which one to three bytes are changed, dropped or inserted, and some that are cut off."""
     for _ in range(many):
         text = bytearray(dice.choice(texts))
         for _ in range(dice.randrange(1, 4)):
@@ -68,7 +73,7 @@ def broken(dice, texts, many=BROKEN):
 
 
 def texts_of(program, dice):
-    """Texts of all kinds, right and wrong."""
+    """Yields texts of all kinds, right and wrong."""
     names = program.names_of_examples()
     examples = [program.program_answers("example", *flag, name)[0] for name in names for flag in ([], ["--broken"])]
     of_versions = [re.sub(rb"(?<=^listset-schedule )\d", version, text) for text in examples for version in (b"1", b"2", b"3", b"02", b"2 ")]
@@ -81,8 +86,9 @@ def texts_of(program, dice):
 
 
 def cases_of_options(program, dice, texts):
-    """Texts by functions with options, right and wrong, of which those that are not given are empty; and the schedules that break the broken
-    lists, and drawn ones, on these."""
+    """Yields texts for the functions with options. The options are right or wrong; those that are not given are empty.
+    Also yields the schedules that break the broken lists, and random ones, for these lists.
+    """
     files = {it.stem: it.read_bytes() for it in sorted(LACKS.glob("*.schedule"))}
     for _ in range(DRAWN):
         function, lacks = dice.choice([*OF_SCHEDULES]), dice.choice([*files, "luck"])
@@ -98,7 +104,7 @@ def cases_of_options(program, dice, texts):
 
 
 def cases_of_values(program, dice):
-    """Values of gen, most of them right; and names."""
+    """Yields arguments of gen, most of them right, and names."""
     for _ in range(DRAWN):
         values = [dice.choice([*LISTS * 4, "", "skip"]), *(dice.choice(VALUES[:4] * 6 + VALUES) for _ in range(dice.choice([5, 5, 5, 3, 0])))]
         yield program.case("gen", ["gen", "--", *values], "\0".join(values).encode(), b"")
@@ -110,7 +116,7 @@ def cases_of_values(program, dice):
 
 
 def all_cases(path):
-    """The cases, each with the function of the module and what the program of this path answers."""
+    """Returns the cases: for each, the function of the module, and what the program at this path answers."""
     program, dice = Program(path), random.Random(26)
     texts = texts_of(program, dice)
     made = [*cases_of_values(program, dice), *cases_of_options(program, dice, texts)]

@@ -1,22 +1,23 @@
-// node tests/sentences.js: no sentence about a generated run says what is not so. The runs are of each list and of each broken one. A
-// sentence is read back: the keys that it compares, what it says of a key that is there or is not, whether what it adds, removes, unlinks
-// or marks is so in the chain, who holds a lock, and what it says of the thread's next step and reply.
+// node tests/sentences.js: checks that no sentence about a generated run is false. There are runs of each list and of
+// each broken list. Each sentence is parsed, and these are checked against the run: the keys that it compares, the keys
+// that it calls present or absent, whether the chain shows what it says is added, removed, unlinked or marked, who
+// holds a lock, and what it says about the thread's next step and reply.
 "use strict";
 
 const fs = require("fs");
 const path = require("path");
 const { inPage, startedEngine } = require("../in_node.js");
 
-const RUNS = 60; // of each list
-const LEAST = 100000; // sentences in all
+const RUNS = 60; // for each list
+const LEAST = 100000; // the minimum number of sentences
 const result = { passed: 0, failed: [] };
 
 const numberOf = (key) => ({ "−∞": -Infinity, "+∞": Infinity })[key] ?? Number(key);
 
 const isMarkOf = (event, node, thread) => event.word === `${node}.link` && event.to.endsWith("*") && thread === inPage("letterOf")(event.thread);
 
-// The words of a sentence, and whether they are false, given the words in its brackets: of what was found, of the chain and the locks as
-// they are then (chain, keys, lockOf, linkOf), of the thread, and of its next step and its call.
+// Words of a sentence, and a test whether they are false. The test receives the bracketed words, what was found, the
+// chain and the locks at that moment (chain, keys, lockOf, linkOf), the thread, its next step, and its call.
 const CLAIMS = [
   [/key: (\S+)\. .*above (\d+)/, ([saw, key]) => numberOf(saw) <= numberOf(key)],
   [/key: (\S+)\. .*is below (\d+)/, ([saw, key]) => numberOf(saw) >= numberOf(key)],
@@ -77,9 +78,9 @@ function falseIn(sentence, facts) {
   };
   return CLAIMS.filter(isFalse).map(([words]) => words.source);
 }
-const seen = new Set(); // the claims that some sentence made
+const seen = new Set(); // the claims that some sentence has made
 
-// Returns the sentences of a run, each with its false parts.
+// Returns the sentences of a run, each with the parts of it that are false.
 function readRun(trace) {
   const state = new (inPage("State"))(trace);
   const events = trace.events();
@@ -93,7 +94,7 @@ function readRun(trace) {
   });
 }
 
-// Runs of broken lists that are not generated at random, as lines after those of the initial keys 3 and 7.
+// Runs of broken lists that are written by hand, as lines that follow the opening keys 3 and 7.
 const BY_HAND = {
   "marks-in-validation": ["begin 0 remove 7", "go 0 4", "begin 1 remove 3", "go 1 10", "begin 1 remove 7", "go 1 10", "go 0 8"],
   "mark-in-remove": ["begin 0 remove 3", "go 0 3", "begin 1 remove 3", "go 1 5", "go 0 3"],

@@ -1,4 +1,4 @@
-// The state of the page without a browser: the effect of actions, what is visible, the address and the title.
+// Tests the page's state without a browser: the effects of actions, what is visible, the address and the title.
 "use strict";
 
 const { inPage } = require("../in_node.js");

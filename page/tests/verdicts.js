@@ -1,20 +1,21 @@
-// node tests/verdicts.js [CASES]: what the page says of recordings, of runs of broken lists and of the reader's own orders, all drawn at random,
-// is true: each sentence is a property, which a search of all orders decides; also what the diagnosis of a refused recording says. Prints how many
-// checks passed, and what failed, as JSON.
+// node tests/verdicts.js [CASES]: checks that what the page says about recordings, about runs of broken lists and about
+// the reader's own orders is true. All of them are random. Each sentence is a property that a search of all orders
+// decides, as is what the diagnosis of a refused recording says. Prints as JSON how many checks passed and which
+// failed.
 "use strict";
 
 const fs = require("fs");
 const path = require("path");
 const { inPage, startedEngine } = require("../in_node.js");
 
-const CASES = Number(process.argv[2] ?? 150); // of each kind
+const CASES = Number(process.argv[2] ?? 150); // for each kind
 const result = { passed: 0, failed: [] };
-const met = new Set(); // patterns
+const met = new Set(); // the patterns that some sentence has matched
 const [verdictOnCalls, verdictOnLacking, verdictOn] = ["verdictOnCalls", "verdictOnLacking", "verdictOn"].map(inPage);
 const [OwnAnswer, exerciseOf, readReport, LACKING] = ["OwnAnswer", "exerciseOf", "readReport", "LACKING"].map(inPage);
 const LAST = Infinity;
 
-// ---- numbers drawn at random, the same in each run
+// ---- random numbers, the same in each run
 
 let seed = 1;
 function draw(most) {
@@ -25,7 +26,7 @@ function draw(most) {
 }
 const pick = (some) => some[draw(some.length)];
 
-// ---- a search of all orders; a call has a thread, an operation, a key, begun, ended and a reply, which are null while it is pending
+// ---- a search of all orders; a call has a thread, an operation, a key, begun, ended and a reply; the last two are null while it is pending
 
 function replyOf({ operation, key }, keys, hasRoom) {
   if (operation === "ceiling") {
@@ -43,7 +44,7 @@ function keysAfter({ operation, key }, keys) {
   return operation === "add" && !keys.includes(key) ? [...keys, key].sort((one, other) => one - other) : keys;
 }
 
-// The sets that the orders leave which explain the calls, as texts.
+// Returns the sets that are left by the orders that explain the calls, as texts.
 function leftByOrders(all, opening, quota = Infinity) {
   const calls = all.filter((call) => call.ended !== null || mayChange(call));
   const isBefore = (one, other) => one.ended !== null && one.ended < other.begun;
@@ -65,7 +66,7 @@ function leftByOrders(all, opening, quota = Infinity) {
   return left;
 }
 
-// A call as the judge reads it: a ceiling, and an add that answered full, look at a key.
+// Returns a call as the judge reads it: a ceiling, or an add that returned full, reads a key.
 function asLook(call) {
   if (call.reply === "full") return { ...call, operation: "contains", reply: "false" };
   if (call.operation !== "ceiling" || call.reply === null) return call;
@@ -73,7 +74,7 @@ function asLook(call) {
   return { ...call, operation: "contains", key: Number(found ?? call.key), reply: String(found !== undefined) };
 }
 
-// Returns the states in which the calls of a key can leave it, from a given state.
+// Returns the states in which the calls of a key can leave it, starting from a given state.
 function waysLeft(calls, key, isThere) {
   const ofKey = calls.map(asLook).filter((call) => call.key === key);
   return [...leftByOrders(ofKey, isThere ? [key] : [])].map((keys) => keys !== "");
@@ -81,9 +82,9 @@ function waysLeft(calls, key, isThere) {
 
 const quotaIn = (report) => Number(/^quota (\d+)$/m.exec(report)[1]);
 
-// ---- what is judged, and the properties of the sentences
+// ---- cases, and the properties of sentences
 
-// A case: the calls, the opening keys and the keys left, or null if these are not known, and the quota.
+// A case has the calls, the opening keys, the final keys (null if they are unknown), and the quota.
 const isExplained = ({ calls, opening, keys, quota }) => {
   const left = leftByOrders(calls, opening, quota);
   return keys === null ? left.size > 0 : left.has(keys.join());
@@ -104,7 +105,7 @@ function callIn(calls, text) {
   return callNamed(calls, name, reply ?? null).find((call) => call.begun === Number(begun));
 }
 
-// The properties of a recording's sentences. `said` keeps the facts from earlier sentences.
+// The properties of the sentences about a recording. `said` keeps the facts from earlier sentences.
 const OF_RECORDING = [
   [/^Linearizable: an order explains (?:this one call|these (\d+) calls)(, whatever keys it leaves| and leaves the keys)\. This verdict is about this recording only\.$/,
     (it, [count, keys]) => isExplained(it) && Number(count ?? 1) === it.calls.length + it.padding.length && keys.startsWith(",") === (it.keys === null)],
@@ -153,7 +154,7 @@ function isSecond(it, said, text) {
   return said.second !== undefined && needs(said.second) === (need === "present") && said.isPresent !== (need === "present");
 }
 
-// Decides whether no call that brings the key into this state, and answered true or is pending, overlaps a time.
+// Returns whether no call that brings the key into this state, and returned true or is pending, overlaps a period.
 function isNoneBetween(it, key, operation, since, until) {
   return !it.calls.some((call) => call.key === key && call.operation === operation && mayChange(call) && call.begun < until && since < (call.ended ?? LAST));
 }
@@ -163,7 +164,7 @@ function checkSentences(properties, it, sentences) {
   for (const sentence of sentences) checkSentence(properties, it, sentence, said);
 }
 
-// `said` is what the sentences before have said, `line` what else the line of this one has.
+// Checks a sentence. `said` has what earlier sentences said, and `line` the rest of this sentence's line.
 function checkSentence(properties, it, sentence, said, line) {
   const [pattern, holds] = properties.find(([one]) => one.test(sentence)) ?? [null, () => false];
   met.add(pattern);
@@ -207,7 +208,7 @@ function drawnRecording() {
   return { calls, padding, opening, keys: left, quota: Infinity, text };
 }
 
-// Returns right calls of other keys, one after another: of few calls a diagnosis has no likely cause.
+// Returns correct calls of other keys, which do not overlap. They make the recording long enough for a likely cause.
 function paddingAfter(last) {
   const made = [["contains", "false"], ["add", "true"], ["add", "false"], ["contains", "true"], ["remove", "true"], ["remove", "false"]];
   const ofKeys = [11, 13, 15].flatMap((key) => [...made, ...made, ...made, ...made].map(([operation, reply]) => ({ thread: 3, operation, key, reply })));
@@ -222,7 +223,7 @@ function checkRecording(ask) {
   if (kind === "none") checkWhy(ask, it);
 }
 
-// Returns the call of the recording that a line of a diagnosis describes.
+// Returns the call in the recording that a line of a diagnosis describes.
 function callOfLine(it, words) {
   const [thread, operation, key, begun] = words;
   return it.calls.find((call) => call.thread === Number(thread) && call.operation === operation && call.key === Number(key) && call.begun === Number(begun)
@@ -238,7 +239,7 @@ function checkWhy(ask, it) {
   return checkText(ask, it, told);
 }
 
-// Checks that the text of a diagnosis has the statements of its record, and a bar for each call.
+// Checks that the text of a diagnosis contains the statements in its record, and a bar for each call.
 function checkText(ask, it, told) {
   const isOfCount = (line) => /^(contradiction: | {2}(need key|and (no|only)) )/.test(line);
   const lines = ask("listset_why", it.text).text.split("\n").filter((line) => line !== "" && !isOfCount(line));
@@ -260,7 +261,7 @@ function checkText(ask, it, told) {
   return result.failed.push(`the text and the record differ:\n${lines.join("\n")}\n${JSON.stringify(told)} on\n${it.text}`);
 }
 
-// ---- what is wrong in a recording, by the same engine: a headline, calls and facts
+// ---- what is wrong in a recording, as found by the same engine: a headline, calls and facts
 
 const holdsReply = (call) => call.ended !== null;
 const turned = (call) => ({ ...call, reply: call.reply === "true" ? "false" : "true" });
@@ -269,7 +270,8 @@ const needsKey = (call) => (call.reply === "true") === (call.operation !== "add"
 const ofKey = (it, key) => it.calls.filter((call) => call.key === key);
 const opens = (it, key) => it.opening.includes(key);
 
-// Whether calls of a key have an order from a state of it, which leaves it so, if that is given.
+// Returns whether some order explains the calls of a key from one of its states and, if `left` is given, leaves that
+// state.
 function hasOrder(calls, key, isThere, left = null) {
   const ways = waysLeft(calls, key, isThere);
   return left === null ? ways.length > 0 : ways.includes(left);
@@ -277,15 +279,16 @@ function hasOrder(calls, key, isThere, left = null) {
 const leftOf = (it, key) => (it.keys === null ? null : it.keys.includes(key));
 const hasOrderOf = (it, key) => hasOrder(ofKey(it, key), key, opens(it, key), leftOf(it, key));
 
-// Returns the calls as known at a moment: a change that ends later can have been made, any other later call is left out.
+// Returns what is known about the calls at a moment: a change that ends later may have taken effect, and any other
+// later call is left out.
 const knownBy = (calls, moment) => calls.flatMap((call) => {
   if (call.begun > moment) return [];
   if (call.ended !== null && call.ended <= moment) return [call];
   return isChange(call) ? [{ ...call, ended: null, reply: null }] : [];
 });
 
-// The moments after which a key's calls can be looked at by themselves, and its state: the first, and those at which no change runs and the
-// calls or the changes before leave but one state.
+// Returns the moments after which a key's calls can be considered separately, each with the key's state: the first
+// moment, and those at which no change runs and the earlier calls or changes leave only one state.
 function startsOf(calls, key, isThere) {
   const changes = calls.filter(isChange);
   const found = [[0, isThere]];
@@ -304,7 +307,8 @@ function startsOf(calls, key, isThere) {
   return found;
 }
 
-// Returns the stretches of calls around a call: the state before, the calls, and the final state if the stretch reaches the end.
+// Yields the stretches of calls around a call: the state before them, the calls, and the final state if the stretch
+// reaches the end.
 function* around(it, key, call) {
   const calls = ofKey(it, key);
   for (const [start, isThere] of startsOf(calls, key, opens(it, key)).filter(([moment]) => moment < call.begun)) {
@@ -316,7 +320,8 @@ function* around(it, key, call) {
   }
 }
 
-// Decides whether the calls around a call have an order if and only if it has the other reply: with the changes of the key, or with all calls.
+// Returns whether the calls around a call are linearizable exactly if it has the opposite reply, considering only the
+// key's changes or all calls.
 function isExpected(it, call) {
   const changes = knownBy(ofKey(it, call.key).filter((one) => isChange(one) && one !== call), call.ended);
   const fits = (one, others, isThere, left) => hasOrder([...others, one], call.key, isThere, left);
@@ -325,7 +330,8 @@ function isExpected(it, call) {
   return [...around(it, call.key, call)].some(({ calls, isThere, left }) => calls.includes(call) && isOnlyTurned(calls.filter((one) => one !== call), isThere, left));
 }
 
-// Decides whether the calls around a call, or all calls of the key, have an order if one change of the key is added at some moment.
+// Returns whether the calls around a call, or all calls of the key, become linearizable if one change of the key is
+// added at some moment.
 function isGone(it, key, wasThere, call) {
   const calls = ofKey(it, key);
   const near = call ?? [...calls].sort((one, other) => other.begun - one.begun)[0];
@@ -335,8 +341,8 @@ function isGone(it, key, wasThere, call) {
     [0, ...part.flatMap(({ begun, ended }) => [begun, ended ?? begun])].some((moment) => hasOrder([...part, change(moment)], key, isThere, left)));
 }
 
-// Returns the answers of an operation that have no order together with the other operations, each answer tried alone. Returns null if the
-// other operations have no order by themselves.
+// Returns the answers of an operation that cannot be explained together with the other operations, each answer tried by
+// itself. Returns null if the other operations alone are not linearizable.
 function wrongAnswers(it, operation, isAside) {
   const wrong = [];
   let count = 0;
@@ -348,7 +354,7 @@ function wrongAnswers(it, operation, isAside) {
     count += answers.length;
     wrong.push(...answers.filter((call) => !hasOrder([...others, call], key, opens(it, key), left)));
   }
-  // whether the answers that fit alone have an order together too
+  // whether the answers that can be explained one by one can also be explained together
   const isAll = keysOf(it).every((key) => hasOrder(ofKey(it, key).filter((call) => !wrong.includes(call)), key, opens(it, key), isAside ? null : leftOf(it, key)));
   return { wrong, count, isAll };
 }
@@ -358,7 +364,7 @@ const inTime = (call, since, until) => call.begun <= until && since <= (call.end
 const runsBeside = (it, call, operation) => it.calls.some((one) => one !== call && one.key === call.key && one.operation === operation && isChange(one) && inTime(one, call.begun, call.ended));
 
 function isHeadline(it, why, [key, gone, operation, ofCall, reply, expected]) {
-  // without a reply that was expected, the call need not be drawn
+  // if no opposite reply was expected, the call need not be drawn
   const told = expected === undefined ? it.calls.map((call) => ({ call, mark: "-" })) : why.shown;
   const named = told.filter(({ call }) => call.operation === operation && call.key === Number(ofCall) && call.reply === reply);
   const isMarked = ({ call, mark }) => mark === `expected ${turned(call).reply}` && expected === turned(call).reply;
@@ -378,7 +384,8 @@ function isTold(it, { wrong, count: answers, isAll }, [operation, atLeast, count
   return Number(found) === someFound && Number(missed) === someMissed;
 }
 
-// Whether what leaves a key and what needs it contradict each other somewhere, and no two calls overlap meanwhile.
+// Returns whether somewhere a call that leaves a key and a call that needs it contradict each other, although no two
+// calls overlap in between.
 function isWrongAlone(it) {
   return keysOf(it).some((key) => {
     const ended = ofKey(it, key).filter(holdsReply);
@@ -492,7 +499,7 @@ const OF_LACKING = [
   [/^Broken: (.*), which leaves (\d+) (there|not there), and (.*)\.$/, (it, [first, key, state, second]) => isToldSo(it, Number(key), [first, state === "there"], second)],
 ];
 
-// Decides whether the judge decides a report: each call answered true or false, and no thread can exceed the quota.
+// Returns whether the judge can decide a report: each call returned true or false, and no thread can exceed the quota.
 function isDecided({ calls, quota }) {
   const adds = [0, 1, 2].map((thread) => calls.filter((call) => call.thread === thread && call.operation === "add" && mayChange(call)).length);
   return calls.every(({ reply }) => reply === null || /^(true|false)$/.test(reply)) && Math.max(...adds) <= quota;
@@ -503,7 +510,8 @@ function isLost({ calls, opening, keys }, key) {
   return made("add") === 1 && made("remove") === 0 && !opening.includes(key) && !keys.includes(key);
 }
 
-// Decides whether calls of these names, or the opening or final state of the key, contradict each other, and no other call could change that.
+// Returns whether two calls, or a call and the opening or final state of the key, contradict each other, and no other
+// call could have changed that. The calls are given by name.
 function isToldSo(it, key, first, second) {
   const looks = it.calls.map((call) => ({ ...asLook(call), told: `${nameIn(call)} ${call.ended === null ? "is open" : `answers ${call.reply}`}` }));
   const named = (told) => looks.filter((call) => call.key === key && call.told === told);
@@ -515,7 +523,8 @@ function isToldSo(it, key, first, second) {
   return firsts.some((one) => seconds.some((other) => isNoneBetween(ofKey, key, isPresent ? "remove" : "add", one?.begun ?? 0, other?.ended ?? LAST)));
 }
 
-// A run of a broken list, from its start or after the schedule that breaks it: each line is tried, and kept if the list takes it.
+// Returns a random run of a broken list, from its start or after the schedule that breaks it. Each line is tried, and
+// kept if the list accepts it.
 function drawnRun(ask, name) {
   const breaking = path.join(__dirname, "..", "..", "examples", "schedules", "lacks", `${name}.schedule`);
   const opening = [3, 7].filter(() => draw(3) > 0);
@@ -542,7 +551,7 @@ function checkLacking(ask, name) {
   return checkSentences(OF_LACKING, it, [...says.split(/(?<=\.) /), ...(kind === "broken" ? [inPage("TO_BREAK")] : [])]);
 }
 
-// ---- the reader's own order of a run
+// ---- the reader's own order for a run
 
 const OF_OWN = [
   [/^Still missing: (.*)\.$/, (it, [told]) => {
@@ -568,7 +577,8 @@ const OF_OWN = [
 
 const nameIn = (call) => `${call.operation}(${call.key}) of ${"ABCD"[call.thread]}`;
 
-// The places of the reader's order: each call, the one before it, the set before and after it, what it is said to answer and what is due.
+// Returns the places of the reader's order: each call, the one before it, the set before and after it, the reply it is
+// said to have, and the correct reply.
 function stepsOf(it) {
   let [keys, before] = [it.opening, null];
   const steps = [{ after: keys }];
@@ -585,7 +595,7 @@ function stepsOf(it) {
 
 const faultsOf = (it) => stepsOf(it).slice(1).filter(({ call, answer, said }) => answer !== said || (call.reply ?? "true") !== said);
 
-// An answer with points somewhere in the bars of the calls.
+// Returns an answer with points at random places in the bars of the calls.
 function placedAnswer(exercise) {
   const answer = new OwnAnswer(exercise);
   for (const call of exercise.calls.filter(({ ended }) => draw(ended === null ? 2 : 30) > 0)) {
@@ -595,7 +605,7 @@ function placedAnswer(exercise) {
   return answer;
 }
 
-// An answer that is handed in: the order of the run, with a call moved or missing.
+// Returns an answer to hand in: the order of the run, with a call moved or missing.
 function writtenAnswer(exercise) {
   const pieces = exercise.places.map(({ call, reply }) => `${call}-${reply}`);
   if (draw(2) === 0) pieces.splice(draw(pieces.length), 0, ...pieces.splice(draw(pieces.length), 1));
@@ -624,7 +634,7 @@ async function main() {
     checkLacking(ask, Object.keys(LACKING)[number % Object.keys(LACKING).length]);
     checkOwn(ask);
   }
-  // (a recording of few calls has few of the facts for a likely cause)
+  // (a recording with few calls has few of the facts from which a cause is guessed)
   const isRare = (pattern) => /^\^because|which do not increase|have no order\\\.|at first, and/.test(pattern.source);
   const properties = [...OF_RECORDING, ...OF_LACKING, ...OF_OWN];
   result.failed.push(...properties.filter(([pattern]) => CASES >= 150 && !met.has(pattern) && !isRare(pattern)).map(([pattern]) => `no case has ${pattern}`));

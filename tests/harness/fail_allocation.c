@@ -1,5 +1,7 @@
-/* Refuses one allocation of the program: the one with the number REFUSE. Allocations inside the C library do not count.
- * Loaded before the C library (LD_PRELOAD), so that the program's malloc and realloc are these. */
+/*
+ * Refuses one allocation of a program, the one with the number REFUSE. Allocations within the C library are not
+ * counted. It is loaded before the C library (LD_PRELOAD), so the program calls this malloc and realloc.
+ */
 
 extern void *__libc_malloc(unsigned long size);
 extern void *__libc_realloc(void *block, unsigned long size);

@@ -1,5 +1,5 @@
-// Tests the largest set of each list: its opening keys, and below them one key for each slot of its seats. Calls walk
-// past all of them, and the set is closed.
+// Tests a set of maximum size for each list. It has the maximum number of opening keys and, below them, one key for
+// each slot of its seats. Calls traverse all of them, and the set is closed.
 #include "listset.h"
 
 #include <stdio.h>
@@ -15,13 +15,13 @@ static void expect(int kind, const char *what, size_t found, size_t due) {
   wrong++;
 }
 
-// Adds decreasing keys. Each new node comes directly after the head.
+// Adds decreasing keys, so that each new node comes directly after the head.
 static void fill(int kind, listset_seat *seat, uint32_t first) {
   for (uint32_t number = QUOTA; number > 0; number--) expect(kind, "add", listset_add(seat, first + number - 1).is, LISTSET_TRUE);
 }
 
-// Splits all other seats off the first one, fills each, and gathers it again. A seat that has gathered another cannot
-// be split later.
+// Splits all other seats off the first one, fills each, and gathers it again. A seat that has gathered another one
+// cannot be split any more.
 static void fill_all(int kind, listset_seat *first) {
   listset_seat others[SEATS] = {LISTSET_NONE};
   for (uint32_t number = 1; number < SEATS; number++) expect(kind, "split", listset_split(first, &others[number]), LISTSET_OK);

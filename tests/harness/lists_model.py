@@ -1,6 +1,7 @@
-"""A model of the five lists. It executes the rows of docs/TABLES.md literally, one step of a thread after
-another, on the nodes' words (key, link, lock) and a thread's registers (pred, curr, ..). A broken list is
-modelled by the rows that differ."""
+"""A model of the five lists. It executes the rows of docs/TABLES.md literally, one step of a thread at a time, on the
+nodes' words (key, link, lock) and a thread's registers (pred, curr, ..). A broken list is modelled by the rows that
+differ.
+"""
 
 import collections
 import re
@@ -11,7 +12,7 @@ from harness.programs import TOP
 TAIL_KEY = 4294967297
 REGISTERS = ["pred", "curr", "succ", "node", "pkey", "ckey"]
 
-# ---- the five tables, from docs/TABLES.md
+# ---- the five step tables, from docs/TABLES.md
 
 Table = collections.namedtuple("Table", "rows begin add remove leave")
 PAGE = re.split(r"^## ", (TOP / "docs/TABLES.md").read_text(encoding="utf-8"), flags=re.M)
@@ -19,20 +20,21 @@ SECTIONS = {it.split("\n")[0]: re.sub(r"`|\*\*", "", it) for it in PAGE}
 
 
 def row_of(step, then):
-    """Parses a row: its step, and the parts of what follows."""
+    """Parses a row: its step, and what to do after the step."""
     then = then.replace("if pred is", "pred is").replace(" that there is none", " nothing").removesuffix(" whatever was seen")
     return step.split(), [it.strip() for it in then.split(";")]
 
 
 def rows_of(text):
-    """Parses the rows of a table: number, step and what follows."""
+    """Parses the rows of a table. A row has a number, a step, and what to do after it."""
     cells = re.findall(r"^\|? *(\d+) \|([^|]*)\|([^|\n]*)", text, re.M)
     return {int(number): row_of(step.strip(), then.strip()) for number, step, then in cells}
 
 
 def table(one):
-    """Returns the table of a list: its rows; the row where its calls begin; and the rows where add, remove
-    and leave continue (some lists leave by returning)."""
+    """Returns a list's table: its rows, the row in which calls begin, and the rows in which add, remove and leave continue
+    (some lists leave by returning).
+    """
     own, reads = SECTIONS[one.type], SECTIONS["Reads without locks"] if one.has_reads() else ""
     places = {word: int(row) for text in (own, reads) for word, row in re.findall(r"(begin|begins|add|remove|leave|ceiling) at row (\d+)", text)}
     begin = {"contains": places.get("begins", places["begin"]), "ceiling": places.get("ceiling", places["begin"])}
@@ -42,9 +44,9 @@ def table(one):
 
 TABLES = {it.word: table(it) for it in lists.lists() if it.type in SECTIONS}
 
-# The broken lists, as described at the end of docs/CLASSIC.md: the list of each, and the rows that differ. To
-# `pass` a lock is to attempt to take it and to continue in any case. `curr^` is a link to curr with the mark
-# in pkey.
+# The broken lists as described at the end of docs/CLASSIC.md: the list each is based on, and the rows that differ. To
+# `pass` a lock means to attempt to take it and to continue in any case. `curr^` is a link to curr with the mark in
+# pkey.
 LACKING = {
     "lock": ("coarse", "1 | pass list.lock | 2"),
     "second-lock": ("fine", ""),  # (ROWS_OF_ONE_LOCK)
@@ -72,12 +74,12 @@ LACKING = {
     "mark-at-key": ("lock-free", "22 | load curr.link | answers true"),
     "new-slot": ("lock-free", ""),  # (each add uses the first slot)
 }
-# The row that replaces another for a remove that holds one lock: it first looks at a key, and locks a node
-# only to walk past it
+# The rows that are replaced for a remove that holds one lock. It first looks at a key, and locks a node only to move
+# past it.
 ROWS_OF_ONE_LOCK = {3: 4, 4: 5, 5: 3, 12: 13}
 
-# The tests in a table, for a thread, the value s that its step saw, the key word K, and the value that an
-# exchange expects
+# The conditions in a table, for a thread, the value s that its step saw, the key word K, and the value that an exchange
+# expects.
 TESTS = {
     "below K": lambda it, s, key, old: s < key,
     "K": lambda it, s, key, old: s == key,
@@ -107,7 +109,7 @@ class Thread:
 
 
 class List:
-    """The words of a list and its threads. Steps one thread after another."""
+    """The words and the threads of a list. Executes one step of a thread at a time."""
 
     def __init__(self, kind, threads, quota, opening, lacks=None):
         self.table, self.quota, self.threads, self.lacks = TABLES[kind], quota, [Thread() for _ in range(threads)], lacks
@@ -123,8 +125,9 @@ class List:
             self.words[4 + 3 * node] = 2 * after
 
     def chain(self):
-        """Returns the keys from the head to the tail. (The chain of a broken list can be a circle, and can
-        have a slot without a key.)"""
+        """Returns the keys from the head to the tail. (The chain of a broken list can be a cycle, and can contain a slot
+        without a key.)
+        """
         node, told = self.words[4] // 2, []
         while node > 1 and len(told) < len(self.words) // 3:
             link = self.words[4 + 3 * node]
@@ -139,12 +142,12 @@ class List:
             setattr(it, name, 0)
 
     def node(self, t, name):
-        """Returns the node that a name in a row means."""
+        """Returns the node to which a name in a row refers."""
         own = 2 + t * self.quota + (0 if self.lacks == "new-slot" else self.threads[t].used)
         return {"head": 0, "own": own}[name] if name in ("head", "own") else getattr(self.threads[t], name)
 
     def index(self, t, name):
-        """Returns the index of the word that a row names."""
+        """Returns the index of the word to which a row refers."""
         node, part = name.split(".")
         return 0 if node == "list" else 3 + 3 * self.node(t, node) + ["key", "link", "lock"].index(part)
 
@@ -156,7 +159,7 @@ class List:
         return 2 * self.node(t, name.rstrip("*^")) + mark
 
     def action(self, t, step):
-        """Returns the access of a row's step."""
+        """Returns the memory access of a row's step."""
         kind, *words = step
         if kind == "load":
             return "load", self.index(t, words[0])
@@ -167,8 +170,7 @@ class List:
         return "exchange", self.index(t, words[0]), self.value(t, words[2]), self.value(t, words[4])
 
     def go(self, t):
-        """Makes one step of a thread. Returns its access, the value that it saw, and its reply if the call
-        ends."""
+        """Executes one step of a thread. Returns its access, the value that it saw, and the reply if the call ends."""
         it = self.threads[t]
         it.change = None
         step, parts = self.table.rows[it.pc]
@@ -183,8 +185,7 @@ class List:
         return action, seen, reply
 
     def follow(self, it, parts, seen, old):
-        """Executes what follows a step, up to the first part whose test is true. Returns the reply if the
-        call ends."""
+        """Executes what follows a step: the first part whose condition is true. Returns the reply if the call ends."""
         for part in parts:
             test, is_test, then = part.rpartition(": ")
             if is_test and not TESTS[test](it, seen, it.call.key + 1, old):
@@ -197,8 +198,9 @@ class List:
         return reply
 
     def do(self, it, done, seen):
-        """Executes one part. Returns the reply if the call ends. (Changes of the set are read from the chain,
-        except for a broken list.)"""
+        """Executes one part. Returns the reply if the call ends. (Changes of the set are read from the chain, except on a
+        broken list.)
+        """
         if done.isdigit():
             it.pc = int(done)
         elif " = " in done:
@@ -218,7 +220,7 @@ class List:
         return None
 
     def decide(self, it, found):
-        """Decides what to do at the key word where a walk has stopped."""
+        """Decides what to do at the key word at which a traversal has stopped."""
         word, same = it.call.word, found == it.call.key + 1
         if word == "add" and not same and it.used < self.quota:
             it.pc = self.table.add

@@ -1,5 +1,8 @@
-// node one_file.js PAGE replay: prints the report of the schedule on standard input, with the engine in the page, which
-// is one HTML file. Runs the scripts of the page that need no browser.
+// Prints the report of the schedule on standard input, with the engine in PAGE, a page in one HTML file:
+//
+//     node one_file.js PAGE replay
+//
+// Runs the page's scripts that do not need a browser.
 "use strict";
 
 const fs = require("fs");

@@ -1,22 +1,22 @@
-"""Tests that the commands of tests/transcripts/*.md print exactly what these pages have, and those of README
-and the other pages what they show.
+"""Tests that the commands in tests/transcripts/*.md print exactly what these pages show, and that the commands in README
+and the other pages print what these show.
 
-A heading `## NAME` begins a test. Its lines with an indent of four spaces are commands and their output:
+A heading `## NAME` begins a test. Lines with an indent of four spaces are commands and their output:
 
-    $ COMMAND     run by bash, in a folder of its own with the files of tests/transcripts/data; `listset` is the program there
-    > LINE        the next line of the command (as of a here-document)
+    $ COMMAND     run by bash, in a new folder with the files of tests/transcripts/data; `listset` is the program there
+    > LINE        the next line of the command (as in a here-document)
     ! LINE        a line of standard error; ! alone is an empty one
-    ? N           the status; 0 if there is no such line
+    ? N           the exit status; 0 if there is no such line
     .             after a command: its output has no newline at its end
     LINE          any other line: a line of the output
 
-All other lines are prose. The commands of one test run in turn, in one folder. A command that runs for 300
-seconds fails. No command pipes `listset` into `head`, since head can end before the program has written
-everything.
+All other lines are prose. The commands of a test run one after another in the same folder. A command that runs for 300
+seconds fails. No command pipes `listset` into `head`, since head can exit before the program has written everything.
 
-In any other page a test is a block of lines with an indent of four spaces, or below ```sh, and the first
-line is a command. Its folder has the files of the repository, and ./listset is the program there. Output
-followed by standard error is compared, without the status. A line .. stands for any number of lines."""
+In the other pages, a test is a block that is indented by four spaces or follows ```sh, and whose first line is a
+command. Its folder has the files of the repository, and ./listset is the program there. The output followed by standard
+error is compared, but not the exit status. A line .. matches any number of lines.
+"""
 
 import os
 import re
@@ -36,19 +36,19 @@ INDENT = "    "
 
 @dataclass
 class PageCommand:
-    """A command, its line number, and the lines that the page has below it."""
+    """A command, its line number, and the lines that the page shows below it."""
 
     command: list
     number: int
     lines: list = field(default_factory=list)
 
     def told(self):
-        """Returns what the command prints, according to the page."""
+        """Returns what the command should print, according to the page."""
         return "\n".join(self.lines).rstrip("\n").split("\n") if any(self.lines) else []
 
 
 def steps_of(lines, first):
-    """Returns the commands in lines. The first line has this number."""
+    """Returns the commands in some lines. `first` is the number of the first line."""
     steps = []
     for number, line in enumerate(lines, first):
         if line.startswith("$ "):
@@ -61,7 +61,7 @@ def steps_of(lines, first):
 
 
 def tests_of(page):
-    """Returns the tests of a page: name and steps of each."""
+    """Returns the tests of a page, each with its name and steps."""
     number = 1
     for section in re.split(r"^(?=## )", page.read_text(encoding="utf-8"), flags=re.MULTILINE):
         lines = section.split("\n")
@@ -73,7 +73,7 @@ def tests_of(page):
 
 
 def tests_shown(page):
-    """Returns the tests of a page that shows commands to a reader: line and steps of each."""
+    """Returns the tests of a page that shows commands to a reader, each with its line and steps."""
     text = page.read_text(encoding="utf-8")
     for block in SHOWN_BLOCK.finditer(text):
         shown = re.sub("^```(?:sh)?$|^    ", "", block[0], flags=re.MULTILINE).strip("\n").split("\n")
@@ -83,7 +83,7 @@ def tests_shown(page):
 
 
 def lines_of_transcript(run):
-    """Returns what a run printed, in the form of a page."""
+    """Formats what a run printed like a transcript page."""
     output, faults = (text.decode("utf-8", "backslashreplace") for text in (run.stdout, run.stderr))
     lines = output.split("\n")
     lines = lines[:-1] if lines[-1] == "" else [*lines, "."]
@@ -92,7 +92,7 @@ def lines_of_transcript(run):
 
 
 def lines_as_shown(run):
-    """Returns what a run printed, as a reader sees it."""
+    """Formats what a run printed as a reader would see it."""
     return (run.stdout + run.stderr).decode("utf-8", "backslashreplace").splitlines()
 
 
@@ -105,7 +105,7 @@ def repository_in(work, program):
 
 
 def printed_by_commands(page, steps, program, room):
-    """Runs the steps in one folder, and returns what each prints."""
+    """Runs the steps in one folder, and returns what each step prints."""
     is_shown = page.parent != PAGES
     (room / "bin").mkdir()
     (room / "bin/listset").symlink_to(program)
@@ -117,13 +117,13 @@ def printed_by_commands(page, steps, program, room):
 
 
 def is_as_shown(told, printed):
-    """Decides whether the page has what was printed. A line .. of the page stands for any number of lines."""
+    """Returns whether the page matches what was printed. A line .. of the page matches any number of lines."""
     pieces = [re.escape(line) + "\n" if line != LEFT_OUT else "(?:.*\n)*?" for line in told]
     return re.fullmatch("".join(pieces), "".join(f"{line}\n" for line in printed))
 
 
 def print_what_the_page_has(page, steps, program, room):
-    """Checks that the commands of a test print what its page has."""
+    """Checks that the commands of a test print what the page shows."""
     for step, printed in zip(steps, printed_by_commands(page, steps, program, room)):
         told, where = step.told(), f"{page.relative_to(TOP)}:{step.number}"
         if not (page.parent != PAGES and is_as_shown(told, printed)):
@@ -131,7 +131,7 @@ def print_what_the_page_has(page, steps, program, room):
 
 
 def show(name, page, steps, program, room):
-    """Prints the test as its page should have it now."""
+    """Prints the test as the page should show it now."""
     print(f"\n## {name}\n")
     for step, lines in zip(steps, printed_by_commands(page, steps, program, room)):
         print(f"{INDENT}$ " + f"\n{INDENT}> ".join(step.command))
@@ -140,7 +140,7 @@ def show(name, page, steps, program, room):
 
 
 class Page(pytest.File):
-    """A page of tests/transcripts."""
+    """A page in tests/transcripts."""
 
     def collect(self):
         for name, steps in tests_of(self.path):

@@ -1,17 +1,18 @@
-"""A model of the text picture of `show`, written from docs/TEXTS.md only: a column for each moment, a lane
-for each thread with begins, ends and points, the set at each change, and the order below. A Picture is
-that of a run (traces_model) or of a report (reports_model)."""
+"""A model of the text picture of `show`, written from docs/TEXTS.md alone. A picture has a column for each moment, a lane
+for each thread with begins, ends and points, the set after each change, and the order below. A Picture shows a run
+(traces_model) or a report (reports_model).
+"""
 
 import collections
 import functools
 
 GREATEST = 4294967295
-# The list; the number of events (None for a report); the calls; end and reply of each call, by number; the
-# places of the order; the set at each moment; the keys below; and why the order is refused and which event is
-# refused, or None
+# What a picture shows: the list; the number of events (None for a report); the calls; each call's end and reply, by
+# number; the places of the order; the set at each moment; the final keys; why the order is refused; and which event is
+# refused, or None.
 Picture = collections.namedtuple("Picture", "kind threads quota events calls ends order sets keys refusal refused")
 Place = collections.namedtuple("Place", "number reply at change")  # in a refused order a place has no moment
-# Why an order is refused: the message, the moment where the picture begins, and the number of an unknown call
+# Why an order is refused: the message, the moment at which the picture begins, and the number of an unknown call.
 Refusal = collections.namedtuple("Refusal", "said begun unknown")
 
 
@@ -28,7 +29,7 @@ def keys_text(keys, separator=","):
 
 
 class Drawn:
-    """A picture from one moment to another: its columns."""
+    """The part of a picture between two moments: its columns."""
 
     def __init__(self, picture, first, last):
         self.picture, self.first, self.has_points = picture, first, picture.refusal is None
@@ -96,8 +97,9 @@ class Drawn:
         return [f"refused {self.picture.refusal.said}"] if self.picture.refusal else []
 
     def side(self, place):
-        """Returns whether a place is before the picture (-1), in it (0) or after it (1), by its point or else
-        its bar. None for an unknown call."""
+        """Returns whether a place is before the drawn part (-1), in it (0) or after it (1), by its point or else by its
+        bar. Returns None for an unknown call.
+        """
         first = last = place.at
         if not self.has_points:
             if place.number >= len(self.picture.calls):
@@ -135,7 +137,7 @@ class Drawn:
         return [*told, *self.below(legend)]
 
     def in_svg(self):
-        """Returns texts that an SVG contains, and its numbers of points and of bars."""
+        """Returns texts that an SVG must contain, and its numbers of points and bars."""
         legend = "filled: changes the set    open: changes nothing, its reply fits there    dashed: still open"
         points = [it for it in self.picture.order if self.has_points and self.first <= it.at <= self.last]
         bars = [it for it in self.picture.calls if it.begun <= self.last and self.picture.ends.get(it.number, [GREATEST])[0] >= self.first]
@@ -143,7 +145,7 @@ class Drawn:
 
 
 def with_rows_of(width, drawn):
-    """Removes columns until no row is longer than the width, but keeps one column. An SVG has no width."""
+    """Removes columns until no row is longer than the width, but keeps at least one. An SVG has no width."""
     while width and len(drawn.columns) > 1 and (len(drawn.row_of_moments()) > width or max(map(len, drawn.rows())) > width):
         drawn.columns.pop()
         drawn.last = drawn.columns[-1]
@@ -151,8 +153,9 @@ def with_rows_of(width, drawn):
 
 
 def fitted(picture, first, last, width=None):
-    """Returns the picture in a window. For a refused order it begins at the refusal if no window is given and
-    not all moments fit."""
+    """Returns the picture in a window. If no window is given and not all moments fit, the picture of a refused order
+    begins at the refusal.
+    """
     drawn = with_rows_of(width, Drawn(picture, first, last))
     begun = picture.refusal.begun if picture.refusal else None
     if begun is not None and (first, last) == (1, GREATEST) and drawn.is_cut()[1]:

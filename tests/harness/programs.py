@@ -1,5 +1,6 @@
-"""Runs a program to its end and returns how it ends (`ran`), or its output if it must succeed (`well`). Also
-waits for conditions, and ends the processes of a folder."""
+"""Runs a program to its end and returns how it ended (`ran`), or its output if it must succeed (`well`). Also waits for
+conditions, and kills the processes of a folder.
+"""
 
 import contextlib
 import os
@@ -14,9 +15,9 @@ from toolchain import NEEDS, TOP
 
 PROVED, UNPROVED = TOP / "crates/listset/out/listset", TOP / "crates/listset/out/unproved/listset"
 KINDS = [it.word for it in lists.lists()]
-SECONDS = 300  # for each wait, even on a busy machine
+SECONDS = 300  # the limit for each wait, even on a busy machine
 LONG = 1800  # seconds, for a compiler and for a whole test
-# cargo for a single build, in half the time
+# cargo with settings for a single build, which takes half the time
 QUICK_CARGO = ["env", "CARGO_INCREMENTAL=0", "CARGO_PROFILE_DEV_DEBUG=0", "cargo"]
 
 
@@ -26,8 +27,9 @@ def not_installed(*commands):
 
 
 def ran(*words, text=None, seconds=SECONDS, **how):
-    """Runs a program and returns its status, output and standard error, unchanged. Its input is the text, or
-    nothing. If the text is bytes, the outputs are bytes too."""
+    """Runs a program and returns its exit status, output and standard error, unchanged. Its input is `text`, or empty. If
+    `text` is bytes, the outputs are bytes too.
+    """
     given = {"stdin": subprocess.DEVNULL} if text is None else {"input": text.encode() if isinstance(text, str) else text}
     done = subprocess.run([*map(str, words)], capture_output=True, timeout=seconds, **given, **how)
     if not isinstance(text, bytes):
@@ -36,14 +38,14 @@ def ran(*words, text=None, seconds=SECONDS, **how):
 
 
 def well(*words, seconds=LONG, **how):
-    """Runs a program that must end with status 0, and returns its output. Warnings are allowed."""
+    """Runs a program that must exit with status 0, and returns its output. Warnings are allowed."""
     done = ran(*words, seconds=seconds, **how)
     assert done.returncode == 0, f"{words[0]} ended so:\n{done.stdout[-3000:]}{done.stderr[-3000:]}".strip()
     return done.stdout
 
 
 def wants(run, status=0, output=None, tells=(), no=()):
-    """Checks how a run ended, and that its standard error contains these texts and not those."""
+    """Checks how a run ended, and that its standard error contains some texts and lacks others."""
     found = f"{' '.join(run.args)}: status {run.returncode}, output {run.stdout[:300]!r}, standard error {run.stderr[-600:]!r}"
     assert run.returncode == status and output in (None, run.stdout), found
     for text in tells:
@@ -62,7 +64,7 @@ def comes(condition, what):
 
 
 def is_running(process):
-    """Decides whether a process exists and is no zombie."""
+    """Returns whether a process exists and is not a zombie."""
     try:
         return pathlib.Path(f"/proc/{process}/stat").read_text().rpartition(")")[2].split()[0] != "Z"
     except OSError:
@@ -70,8 +72,7 @@ def is_running(process):
 
 
 def clear(folder):
-    """Ends the processes that run in this folder, or name it in their arguments or environment, and deletes
-    it."""
+    """Kills the processes that run in this folder, or name it in their arguments or environment, and deletes the folder."""
     for process in pathlib.Path("/proc").glob("[0-9]*"):
         with contextlib.suppress(OSError):
             has_it = any(str(folder).encode() in (process / it).read_bytes() for it in ("cmdline", "environ"))

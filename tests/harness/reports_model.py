@@ -1,5 +1,6 @@
-"""A model of the pictures of reports, written from docs/TEXTS.md only: the first fault of an order with its
-message, or else the first moments at which its calls can take effect. Also damages reports at random."""
+"""A model of the pictures of reports, written from docs/TEXTS.md alone: the message for the first fault of an order or, if
+there is none, the first moments at which its calls can take effect. Also damages reports at random.
+"""
 
 import collections
 import itertools
@@ -33,9 +34,9 @@ def read_report(text):
 
 
 def faults_of(report):
-    """Yields why an order is refused, in the order of the checks."""
+    """Yields the reasons for which an order is refused, in the order of the checks."""
     def about(said, number):
-        """Returns a refusal of a call. The picture begins with this call."""
+        """Returns a refusal that concerns a call. The picture begins at this call."""
         return Refusal(said, report.calls[number].begun, None)
 
     numbers = [it for it, _ in report.order]
@@ -54,7 +55,7 @@ def faults_of(report):
 
 
 def wrong_replies(report):
-    """Yields calls with another reply than in the history, or than the set has there, with the message."""
+    """Yields the calls whose reply differs from the history's or from the set's at their place, with the message."""
     held, after = SetModel(report.quota, report.opening), {0: "at first", 1: "after place 1", 2: "after places 1 and 2"}
     for place, (it, says) in enumerate(report.order):
         call, before = report.calls[it], keys_text(sorted(held.keys))
@@ -85,7 +86,7 @@ def first_fault(report):
 
 
 class Sets:
-    """The set at each moment, from the places of an order."""
+    """The set at each moment, computed from the places of an order."""
 
     def __init__(self, report, places):
         self.opening, self.changes = report.opening, [(it.at, report.calls[it.number]) for it in places if it.change]
@@ -98,7 +99,7 @@ class Sets:
 
 
 def places_of(report):
-    """Returns the places of an order, each at the first moment that its call and the places before it allow."""
+    """Returns the places of an order, each at the first moment that its call and the earlier places allow."""
     at = 0
     for it, reply in report.order:
         at = max(at, report.calls[it].begun)
@@ -111,26 +112,27 @@ def picture_of_report(it):
     return Picture(it.kind, it.threads, it.quota, None, it.calls, it.ends, places, Sets(it, places), it.keys, refusal, None)
 
 
-# ---- moments far apart, and damage
+# ---- moments that are far apart, and damaged reports
 
 
 def spread(it):
-    """Spreads the moments, up to 400,000,000."""
+    """Spreads the moments over the range up to 400,000,000."""
     last = max([1, *(one.begun for one in it.calls), *(end for end, _ in it.ends.values())])
     it.calls[:] = [one._replace(begun=one.begun * 400_000_000 // last) for one in it.calls]
     it.ends.update({number: (end * 400_000_000 // last, reply) for number, (end, reply) in it.ends.items()})
 
 
 def report_text(it):
-    """Returns a report as text."""
+    """Writes a report as text."""
     head = ["listset-report 2", f"list {it.kind}", f"threads {it.threads}", f"quota {it.quota}", *(f"opening {key}" for key in it.opening)]
     calls = (f"call {one.number} {one.thread} {one.word} {one.key} {one.begun} {' '.join(map(str, it.ends.get(one.number, ['open'])))}" for one in it.calls)
     return "\n".join([*head, *calls, *(f"place {number} {reply}" for number, reply in it.order), *(f"key {key}" for key in it.keys), "end", ""])
 
 
 def damage(draw, it):
-    """Damages a report: a place is lost, doubled, of an unknown call, moved, or has another reply; or a call
-    ended with another reply; or keys are lost, new, or out of order."""
+    """Damages a report. A place is lost, duplicated, moved, given another reply, or refers to an unknown call; or a call
+    ends with another reply; or final keys are lost, added, or reordered.
+    """
     at, other = (draw.randrange(max(1, len(it.order))) for _ in range(2))
     number, reply = it.order[at] if it.order else (0, "true")
     another = draw.choice(["true", "false", "full", "nothing", "at-3", f"at-{GREATEST}"])

@@ -1,5 +1,6 @@
-"""A client of `listset serve`: sends lines, reads the answers, one for each line, and disconnects in several
-ways. Also starts and ends the server, for tests/serve_clients.py."""
+"""A client of `listset serve`: sends lines, reads one answer for each, and disconnects in several ways. Also starts and
+stops the server, for tests/serve_clients.py.
+"""
 
 import contextlib
 import socket
@@ -13,7 +14,7 @@ SOON = 60
 
 
 class Server:
-    """The program as a server, with its port."""
+    """A running server, with its port."""
 
     def __init__(self, process, first=None):
         self.process, first = process, first or process.stdout.readline()
@@ -24,8 +25,9 @@ class Server:
         return socket.create_connection((address, self.port), timeout=SECONDS)
 
     def ends(self, sessions, least, most, keys):
-        """Checks the last lines of the server: this number of sessions, a number of calls in this range, and
-        these keys."""
+        """Checks the server's last lines: the number of sessions, that the number of calls is within a range, and the
+        final keys.
+        """
         lines = self.process.stdout.read().splitlines()
         assert self.process.wait(SECONDS) == 0
         calls = int(lines.pop(1).removeprefix("calls "))
@@ -49,7 +51,7 @@ def started(*words):
 
 @contextlib.contextmanager
 def serving(program, kind, seats, quota, sessions, before=()):
-    """Starts the program as a server. `before` are arguments before its own, such as those of a limit."""
+    """Starts the program as a server. `before` is a command that runs the program, for example with a limit."""
     with started(*before, program, "serve", kind, seats, quota, 0, sessions) as process:
         yield Server(process)
 
@@ -60,7 +62,7 @@ def read_all(connection):
 
 
 def read_lines(connection, count):
-    """Returns a number of answers, and checks that nothing else has arrived."""
+    """Returns `count` answers, and checks that nothing else has arrived."""
     text = b""
     while text.count(b"\n") < count:
         piece = connection.recv(4096)
@@ -70,20 +72,20 @@ def read_lines(connection, count):
 
 
 def asks(connection, lines, answers):
-    """Sends lines, and checks the answers and, after `BYE`, the end of the connection."""
+    """Sends lines, and checks the answers and the end of the connection after `BYE`."""
     connection.sendall(lines)
     assert read_lines(connection, answers.count(b"\n")) == answers, lines
     assert not (answers.endswith(b"BYE\n") and connection.recv(1)), lines
 
 
 def resets(connection):
-    """Disconnects so that the system resets the connection."""
+    """Disconnects in such a way that the system resets the connection."""
     connection.setsockopt(socket.SOL_SOCKET, socket.SO_LINGER, struct.pack("ii", 1, 0))
     connection.close()
 
 
 def speak_at_once(server, speakers):
-    """Runs clients in threads of their own, each on its own connection."""
+    """Runs clients in separate threads, each on its own connection."""
     def connected(speak):
         with server.connect() as connection:
             speak(connection)

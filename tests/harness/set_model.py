@@ -1,5 +1,6 @@
-"""The sequential set, as a model in Python: the reply of each call, as in a report. All tests that need the
-reply of a call use this model. It was written independently of the crates."""
+"""The sequential set as a Python model: the reply of each call, as spelled in a report. All tests that need replies use
+this model. It was written independently of the crates.
+"""
 
 import collections
 
@@ -7,8 +8,7 @@ CHANGES = ("add", "remove")  # the calls that change the set if they reply true
 
 
 def reply_of(word, key, keys, has_room=True):
-    """Returns the reply of a set with these keys. An `add` of a new key is `full` if its thread has no slot
-    left."""
+    """Returns the reply of a set with these keys. An `add` of a new key returns `full` if its thread has no slot left."""
     if word == "ceiling":
         above = [other for other in keys if other >= key]
         return f"at-{min(above)}" if above else "nothing"
@@ -18,12 +18,12 @@ def reply_of(word, key, keys, has_room=True):
 
 
 def fits_without_change(word, key, reply, keys, has_room=True):
-    """Decides whether a call that changes nothing can have this reply in a set with these keys."""
+    """Returns whether a call that changes nothing can have this reply in a set with these keys."""
     return reply == reply_of(word, key, keys, has_room) and not (word in CHANGES and reply == "true")
 
 
 class SetModel:
-    """A set in which each thread can add as many keys as the quota, or any number without a quota."""
+    """A set in which each thread can add as many keys as its quota, or any number if there is no quota."""
 
     def __init__(self, quota=None, keys=()):
         self.keys, self.quota, self.added = set(keys), quota, collections.Counter()

@@ -1,6 +1,6 @@
-"""A model of the run of a schedule (lists_model) and of the output of `trace`, written from docs/TEXTS.md
-only: a line for each event with what its step saw, the chain after a change, and the end and the point of
-each call."""
+"""A model of a schedule's run (lists_model) and of the output of `trace`, written from docs/TEXTS.md alone: a line for
+each event with the value that its step saw, the chain after a change, and the end and the point of each call.
+"""
 
 import collections
 
@@ -8,8 +8,8 @@ from harness.lists_model import REGISTERS, TAIL_KEY, Call, List
 from harness.set_model import fits_without_change
 
 Schedule = collections.namedtuple("Schedule", "version kind threads quota opening lines")
-# A run: the lines of its trace with chains, the calls and their ends, the set at each moment, the points of
-# each call, and the refused event
+# A run: the lines of its trace with chains, the calls and their ends, the set at each moment, the points of the calls,
+# and the refused event.
 Run = collections.namedtuple("Run", "trace calls ends sets points refused events")
 
 
@@ -59,8 +59,9 @@ def content(chain):
 
 
 class Tracing:
-    """A run in progress, and the parts of its Run so far. For a broken list the set follows its changes,
-    whatever the chain is."""
+    """A run in progress: what is known of its Run so far. For a broken list, the set follows the reported changes,
+    whatever the chain is.
+    """
 
     def __init__(self, plan, lacks):
         self.plan, self.list = plan, List(plan.kind, plan.threads, plan.quota, plan.opening, lacks)
@@ -76,7 +77,7 @@ class Tracing:
         return ("Busy" if is_begin else "Idle") if is_busy == is_begin else None
 
     def event(self, number, pieces):
-        """Makes an event of a line: a begin, or a step."""
+        """Executes a line's event, which is a begin or a step."""
         t, moment = int(pieces[1]), len(self.sets)
         told = f"event {moment} line {number} thread {t} "
         if pieces[0] == "begin":
@@ -90,8 +91,9 @@ class Tracing:
         self.tallies.append(tuple(self.counts))
 
     def changes(self, it, later):
-        """Returns what a step added and removed: from the chains before and after it or, for a broken list,
-        from its row."""
+        """Returns the keys that a step added and removed. They follow from the chains before and after it or, for a broken
+        list, from its row.
+        """
         if self.list.lacks:
             key = {it.call.key}
             self.keys = self.keys | key if it.change == "put" else self.keys - key if it.change else self.keys
@@ -119,9 +121,9 @@ class Tracing:
             self.chain = later
 
     def end(self, call, reply, moment):
-        """Ends a call. A call that changed nothing has its point at the first moment at which its reply is
-        correct. (In a broken list the point is at the end if there is no such moment, and `full` is always
-        correct.)"""
+        """Ends a call. A call that changed nothing has its point at the first moment at which its reply is correct. (If
+        there is no such moment in a broken list, the point is at the call's end. `full` is always correct there.)
+        """
         self.ends[call.number] = (moment, reply)
         if call.number not in self.points:
             states = zip([*self.sets, frozenset(self.keys)], [*self.tallies, tuple(self.counts)])

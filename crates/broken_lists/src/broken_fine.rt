@@ -1,4 +1,5 @@
-//! The steps of the two broken FineLists: one lacks the second lock of `remove`, the other hand-over-hand locking.
+//! Implements the steps of two broken FineLists: one omits the second lock in `remove`, the other does not lock hand
+//! over hand.
 ghost use Rattle.lset_steps.specs.Rows.{IsSmall};
 
 use lset_fine::fed_by;
@@ -26,8 +27,8 @@ fn with_one_lock(call: Call, local: Local) -> Local {
     }
 }
 
-/// Returns the state after a step of a FineList whose `remove` takes the lock of `pred` only. `seen` is the value that
-/// the step saw.
+/// Returns the state after a step of a FineList whose `remove` locks only `pred`. `seen` is the value that the step
+/// saw.
 pub(crate) fn fed_with_one_lock(local: &Local, seen: u64) -> Fed
     requires { IsSmall local.now }
 {
@@ -46,8 +47,8 @@ fn through_row_14(local: Local) -> Local {
     }
 }
 
-/// Returns the state after a step of a FineList without hand-over-hand locking: a walk releases the lock of `pred`
-/// before it takes the lock of `curr`. Row 14 is the release.
+/// Returns the state after a step of a FineList without hand-over-hand locking: a traversal unlocks `pred` before it
+/// locks `curr`. Row 14 unlocks `pred`.
 pub(crate) fn fed_pred_first(local: &Local, seen: u64) -> Fed
     requires { IsSmall local.now }
 {

@@ -1,4 +1,5 @@
-//! The steps of two broken LockFreeLists: one exchanges a link even if it is marked, the other never marks a node.
+//! Implements the steps of two broken LockFreeLists: one exchanges a link even if it is marked, the other never marks a
+//! node.
 ghost use Rattle.lset_steps.specs.Rows.{IsSmall};
 
 use lset_lock_free::{effect_of, fed_by, next_action};
@@ -7,12 +8,12 @@ use lset_steps::rows::{link_index, own_slot};
 use lset_steps::{Action, Fed, Local};
 use lset_words::{Key, Reply};
 
-/// Returns the link word that points to `node` and has the mark that the thread saw and keeps in `pkey`.
+/// Returns a link word that points to `node`, with the mark that the thread saw earlier and keeps in `pkey`.
 fn marked_as_seen(node: u64, local: &Local) -> u64 {
     node.wrapping_mul(2).wrapping_add(local.pkey)
 }
 
-/// Returns the next action of the list whose `add` exchanges the link of `pred` even if it is marked.
+/// Returns the next action of the list whose `add` exchanges `pred`'s link even if it is marked.
 pub(crate) fn next_whatever_mark(local: &Local) -> Action
     requires { IsSmall local.now }
 {
@@ -60,7 +61,7 @@ pub(crate) fn effect_whatever_mark(local: &Local, seen: u64) -> Option<(Key, boo
     }
 }
 
-/// Returns the state after a step of the list whose `remove` unlinks its node without marking it first.
+/// Returns the state after a step of the list whose `remove` unlinks a node without marking it first.
 pub(crate) fn fed_without_mark(local: &Local, seen: u64) -> Fed
     requires { IsSmall local.now }
 {

@@ -1,4 +1,4 @@
-//! Reads a schedule for a broken list, and reports the run.
+//! Reads a schedule for a broken list, runs it, and reports the run.
 ghost use Rattle.std.specs.Prelude.{◌≡◌, IfOk};
 ghost use Rattle.lset_words.specs.Words.{Opens};
 ghost use Rattle.lset_text.specs.declared.words.Version.TheVariants.{Two};
@@ -19,7 +19,8 @@ const KIND_LINE: u64 = 2;
 ///
 /// # Errors
 ///
-/// Returns the errors of `read_schedule`, and `Kind` in line 2 if the schedule names another list than `broken.kind()`.
+/// Returns the errors of `read_schedule`. Returns `Kind` in line 2 if the schedule names a list other than
+/// `broken.kind()`.
 pub fn read_broken_schedule(
     alloc: Global,
     broken: BrokenList,
@@ -41,14 +42,14 @@ fn run_calls(alloc: Global, broken: BrokenList, schedule: &Schedule) -> Result<R
     calls_of(alloc, schedule, run)
 }
 
-/// Reads a schedule for a broken list, runs it, and returns the report, of version 2. The order of the report has a
-/// call at each step that the list's table declares a linearization point. The order can fail to explain the calls.
+/// Reads a schedule for a broken list, runs it, and returns a report of version 2. The report's order has a call at
+/// each step that the list's table declares to be a linearization point. This order does not always explain the calls.
 /// Allocates.
 ///
 /// # Errors
 ///
-/// Returns the errors of `read_broken_schedule`, or the error of the event at which the run ends: the event is not
-/// enabled, or its step would access a word outside the table (`Lost`).
+/// Returns the errors of `read_broken_schedule`. If the run ends early, returns the line of the event at which it ends:
+/// the event is not enabled, or its step would access a word outside of the table (`Lost`).
 pub fn report_broken(alloc: Global, broken: BrokenList, text: &[u8]) -> Result<Report, LineFault>
     ensures { IfOk result (λ r. r.version ≡ Two) }
 {

@@ -1,4 +1,4 @@
-//! Runs a schedule on a broken list.
+//! Runs schedules on broken lists.
 ghost use Rattle.lset_schedule.specs.Plan.{opening_in, view};
 ghost use Rattle.lset_words.specs.Words.{Opens};
 
@@ -9,11 +9,12 @@ use lset_schedule::Schedule;
 use lset_words::layout_opening;
 use std::alloc::{AllocError, Global};
 
-/// Opens the run of a schedule on a broken list, before its first event. The list that the schedule names is ignored.
+/// Opens a run of a schedule on a broken list, before the first event. The list that the schedule names is ignored.
 ///
-/// The run reports each event and, with `chains`, the chain after each event that changed it. `calls_of` collects the
-/// calls of the run and an order of them. If `check_order` refuses this order, another order can still be legal. `schedule` must be
-/// within the limits, as every schedule from `read_schedule` is. Allocates; `AllocError` if that fails.
+/// The run reports each event and, if `chains` is true, the chain after each event that changed it. `calls_of` collects
+/// the calls of the run and an order of them. If `check_order` refuses this order, some other order can still explain
+/// the calls. `schedule` must be within the limits, as every schedule from `read_schedule` is. Returns `AllocError` if
+/// an allocation fails.
 pub fn broken_run(
     alloc: Global,
     broken: BrokenList,

@@ -19,8 +19,8 @@ pub struct BrokenWorld {
     locals: Vec<Local>,
 }
 
-/// Decides whether the numbers of a thread's state are within the limits of a list, so that no computation on them
-/// overflows.
+/// Returns `true` if all numbers in a thread's state are within the limits, so that computing with them cannot
+/// overflow.
 fn is_small(local: &Local) -> bool
     ensures { IsTrue result → IsSmall local.now }
 {
@@ -33,8 +33,8 @@ fn is_small(local: &Local) -> bool
         && local.node < MOST_NODES
 }
 
-/// Returns the value that `action` sees: for a store the value that it stores, otherwise the value of its word. `None` if
-/// the word is outside the table.
+/// Returns the value that `action` sees: the stored value for a store, otherwise the current value of the word. Returns
+/// `None` if the word is outside of the table.
 fn sight(words: &[u64], action: Action) -> Option<u64> {
     let (Action::Load(word) | Action::Exchange(word, _, _) | Action::Store(word, _)) = action;
     let held = *words.get(word as usize)?;
@@ -44,7 +44,7 @@ fn sight(words: &[u64], action: Action) -> Option<u64> {
     }
 }
 
-/// Makes the write of `action`, which saw `seen`: a store, or an exchange whose expected value was seen.
+/// Performs the write of `action`, if any: a store, or an exchange that saw the value it expected.
 fn write(words: &mut Vec<u64>, action: Action, seen: u64) {
     let (word, value) = match action {
         Action::Store(word, value) => (word, value),
@@ -57,7 +57,7 @@ fn write(words: &mut Vec<u64>, action: Action, seen: u64) {
 }
 
 impl BrokenWorld {
-    /// Returns a list that has the keys `keys`, before any event. Allocates; `AllocError` if that fails.
+    /// Opens a broken list with the keys `keys`, before the first event. Returns `AllocError` if an allocation fails.
     pub fn opened(
         alloc: Global,
         broken: BrokenList,
@@ -92,8 +92,8 @@ impl BrokenWorld {
         })
     }
 
-    /// Makes the next step of a thread. Returns `NoThread` if the thread does not exist, `Idle` if the thread has no pending
-    /// call, `Lost` if the step would access a word outside the table.
+    /// Makes the next step of a thread. Returns `NoThread` if the thread does not exist, `Idle` if the thread has no
+    /// pending call, and `Lost` if the step would access a word outside of the table.
     fn go(&mut self, thread: u32) -> Result<Told, Cause> {
         let broken = self.broken;
         let local = self.locals.get_mut(thread as usize).ok_or(Cause::NoThread)?;

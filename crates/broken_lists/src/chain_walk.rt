@@ -1,4 +1,4 @@
-//! The walk from the head through the words of a table, which can be any words: a broken list can leave no chain.
+//! Walks through a table's words from the head on. The words are arbitrary, since a broken list need not keep a chain.
 
 ghost use Rattle.std.specs.Prelude.{◌<◌, ◌^◌, IsTrue};
 
@@ -7,10 +7,10 @@ use lset_words::{key_index, link_index};
 use std::alloc::{AllocError, Global};
 use std::collections::BTreeSet;
 
-/// A limit for node numbers: no table has this many nodes, so a walk ends at such a number.
+/// An invalid node number: no table has this many nodes, so a walk ends here.
 const NO_NODE: u64 = 1 << 32;
 
-/// A node on the walk: its key and mark, and the number of the next node.
+/// A node on the walk: its key, its mark, and the number of the next node.
 #[derive(Clone, Copy)]
 struct Met {
     place: ChainKey,
@@ -22,7 +22,7 @@ fn word_at(words: &[u64], index: u64) -> u64 {
     words.get(index as usize).copied().unwrap_or(0)
 }
 
-/// Decides whether `node` is in the table and is neither head nor tail.
+/// Returns `true` if `node` is in the table and is neither the head nor the tail.
 fn is_met(words: &[u64], node: u64) -> bool
     ensures { IsTrue result → node < 2 ^ 32 }
 {
@@ -44,11 +44,11 @@ fn met_at(words: &[u64], node: u64) -> Option<Met> {
     })
 }
 
-/// Walks from the head and returns the key and the mark of each node before the tail. A link that leads out of the table
-/// ends the walk too.
+/// Walks the chain and returns the key and the mark of each node between head and tail. The walk also ends at a link
+/// that leads out of the table.
 ///
-/// The links of a broken list can form a circle, therefore the walk passes at most `words.len() / 3` nodes. Allocates;
-/// `AllocError` if that fails.
+/// The links of a broken list can form a cycle, so the walk visits at most `words.len() / 3` nodes. Returns
+/// `AllocError` if an allocation fails.
 pub(crate) fn chain_met(alloc: Global, words: &[u64]) -> Result<Vec<ChainKey>, AllocError> {
     let mut met = Vec::new(alloc);
     let mut node = word_at(words, link_index(0)) / 2;
@@ -64,8 +64,8 @@ pub(crate) fn chain_met(alloc: Global, words: &[u64]) -> Result<Vec<ChainKey>, A
     Ok(met)
 }
 
-/// Returns the keys of the unmarked nodes in `met`, each once, in increasing order. Allocates; `AllocError` if that
-/// fails.
+/// Returns the keys of the unmarked nodes in `met`, sorted and without duplicates. Returns `AllocError` if an
+/// allocation fails.
 pub(crate) fn keys_of(alloc: Global, met: &[ChainKey]) -> Result<Vec<u32>, AllocError> {
     let mut keys = BTreeSet::new(alloc);
     for place in met {

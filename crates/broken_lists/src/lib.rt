@@ -1,8 +1,8 @@
-//! The broken lists: each is one of the five lists with one check removed.
+//! Five correct lists with one check removed: the broken lists.
 //!
-//! A broken list has a name (`BrokenList`) and its steps (`flaws`). It does not keep the laws of a list, therefore it
-//! is no `Machine`, and `BrokenWorld` stores its state. `broken_run` runs a schedule on it. The calls of the run can be
-//! calls that no order explains.
+//! `BrokenList` names a broken list, and `flaws` has its steps. A broken list violates the laws of a list. Therefore it
+//! is not a `Machine`, and its state is a `BrokenWorld`. `broken_run` runs a schedule on it. There can be no order that
+//! explains the calls of such a run.
 #![tactic(auto)]
 
 mod broken_fine;

@@ -5,13 +5,13 @@ use lset_words::Kind;
 pub enum BrokenList {
     /// CoarseList: a call continues without the lock.
     Lock,
-    /// FineList: a `remove` holds only the lock of `pred`.
+    /// FineList: `remove` locks only `pred`.
     SecondLock,
-    /// FineList: a walk releases the lock of `pred` before it takes the lock of `curr`.
+    /// FineList: a traversal unlocks `pred` before it locks `curr`.
     HandOverHand,
-    /// OptimisticList: the validation checks only that `pred` links to `curr`.
+    /// OptimisticList: the validation only checks that `pred` links to `curr`.
     SecondWalk,
-    /// OptimisticList: the second walk compares keys in place of nodes.
+    /// OptimisticList: the second traversal compares keys instead of nodes.
     SameNode,
     /// LazyList: the validation ignores the marks.
     MarksInValidation,
@@ -21,13 +21,13 @@ pub enum BrokenList {
     MarkInCeiling,
     /// LockFreeList: `remove` unlinks a node without marking it first.
     Mark,
-    /// LockFreeList: `add` exchanges the link of `pred` even if `pred` is marked.
+    /// LockFreeList: `add` exchanges `pred`'s link even if `pred` is marked.
     MarkInAdd,
     /// LockFreeList: `remove` marks a node that is already marked.
     MarkInRemove,
-    /// LockFreeList: `contains` compares only the key and ignores the mark.
+    /// LockFreeList: `contains` compares keys and ignores the mark.
     MarkAtKey,
-    /// LockFreeList: every `add` uses the first slot of its thread.
+    /// LockFreeList: every `add` of a thread reuses the thread's first slot.
     NewSlot,
 }
 
@@ -68,7 +68,7 @@ impl BrokenList {
         }
     }
 
-    /// Returns the list from which the check was removed.
+    /// Returns the kind of list from which the check was removed.
     pub fn kind(self) -> Kind {
         match self {
             BrokenList::Lock => Kind::Coarse,
@@ -86,7 +86,7 @@ impl BrokenList {
     }
 }
 
-/// Returns the broken list with this name; `None` if no list has it.
+/// Returns the broken list with this name; `None` if there is none.
 pub fn named(name: &[u8]) -> Option<BrokenList> {
     for broken in &ALL {
         if broken.name().as_bytes() == name {

@@ -1,6 +1,7 @@
-//! The functions of `ffi_sets` as functions of C.
+//! Exports the functions of `ffi_sets` to C.
 //!
-//! Each function calls one function of `ffi_sets`, and has its clauses. Its parameter `alloc` has no bytes: C passes nothing for it.
+//! Each function calls the function of `ffi_sets` with the same clauses. The parameter `alloc` has size zero, so C
+//! passes nothing for it.
 #![tactic(auto)]
 
 ghost use Rattle.lset_words.specs.declared.Call.TheVariants.{Add, Remove, Contains, Ceiling};
@@ -13,12 +14,13 @@ ghost use Rattle.ffi_sets.specs.Sets.{GathersAt};
 use ffi_sets::CSeat;
 use std::alloc::Global;
 
-/// Opens a set of the list `kind`, 0 to 4 (coarse, fine, optimistic, lazy, lock-free), with `seats` seats, 1 to 64, a quota
-/// of 0 to 16,384, and at most 1,048,576 keys in strictly increasing order. `out`, which must be empty, gets a seat that
-/// contains all others. No other open set may have the same `number`: `listset_gather` compares the numbers of two seats.
+/// Opens a set of the list `kind` (0 coarse, 1 fine, 2 optimistic, 3 lazy, 4 lock-free) with 1 to 64 `seats`, a `quota`
+/// of 0 to 16,384, and at most 1,048,576 `keys` in strictly increasing order. Stores a seat in `out`, which must be
+/// empty; all other seats can be split off that seat. No other open set may have the same `number`, because
+/// `listset_gather` uses it to compare the sets of two seats.
 ///
-/// Returns `DONE`, or an error and changes nothing: `IS_SEAT` if `out` is not empty, `BAD_KIND`, `BAD_SEATS`, `BAD_QUOTA`,
-/// `BAD_KEYS`, or `OUT_OF_MEMORY` if an allocation failed. Does not block.
+/// Returns `DONE`. On an error, changes nothing and returns `IS_SEAT` if `out` is not empty, `BAD_KIND`, `BAD_SEATS`,
+/// `BAD_QUOTA`, `BAD_KEYS`, or `OUT_OF_MEMORY` if an allocation failed. Does not block.
 #[unsafe(no_mangle)]
 pub extern "C" fn listset_open(
     alloc: Global,
@@ -32,17 +34,19 @@ pub extern "C" fn listset_open(
     ffi_sets::open_set(alloc, kind, seats, quota, number, keys, out)
 }
 
-/// Splits a seat of the set off `seat`, into `out`, which must be empty.
+/// Splits a seat off `seat` and stores it in `out`, which must be empty.
 ///
-/// Returns `DONE`, or an error and changes nothing: `IS_SEAT` if `out` is not empty, `NO_SEAT` if `seat` is empty,
-/// `NO_MORE` if no seat can be split off it or it is a closed set, `OUT_OF_MEMORY` if an allocation failed. Does not block.
+/// Returns `DONE`. On an error, changes nothing and returns the first that applies: `IS_SEAT` if `out` is not empty,
+/// `NO_SEAT` if `seat` is empty, `NO_MORE` if no seat can be split off it or it is a closed set, `OUT_OF_MEMORY` if an
+/// allocation failed. Does not block.
 #[unsafe(no_mangle)]
 pub extern "C" fn listset_split(alloc: Global, seat: &mut CSeat, out: &mut CSeat) -> u8 {
     ffi_sets::split_seat(alloc, seat, out)
 }
 
-/// Adds `key` to the set. Returns 1 if `key` was absent, 0 if it was present, 2 if it is absent and the seat has used its quota.
-/// Returns 255 if `seat` is empty or a closed set. Blocks while another thread holds a lock that the call needs. Does not allocate.
+/// Adds `key` to the set. Returns 1 if the key was absent, 0 if it was present, and 2 if it is absent but the seat has
+/// used up its quota. Returns 255 if `seat` is empty or a closed set. Blocks while another thread holds a lock that the
+/// call needs. Does not allocate.
 #[unsafe(no_mangle)]
 pub extern "C" fn listset_add(alloc: Global, seat: &mut CSeat, key: u32) -> u8
     ensures { HasMade seat.old.full seat.old.held (Add (record { 0 = key })) result seat.new.full seat.new.held }
@@ -50,8 +54,8 @@ pub extern "C" fn listset_add(alloc: Global, seat: &mut CSeat, key: u32) -> u8
     ffi_sets::add_key(alloc, seat, key)
 }
 
-/// Removes `key` from the set. Returns 1 if `key` was present, 0 if it was absent, 255 if `seat` is empty or a closed set. Blocks
-/// while another thread holds a lock that the call needs. Does not allocate.
+/// Removes `key` from the set. Returns 1 if the key was present, 0 if it was absent, and 255 if `seat` is empty or a
+/// closed set. Blocks while another thread holds a lock that the call needs. Does not allocate.
 #[unsafe(no_mangle)]
 pub extern "C" fn listset_remove(alloc: Global, seat: &mut CSeat, key: u32) -> u8
     ensures { HasMade seat.old.full seat.old.held (Remove (record { 0 = key })) result seat.new.full seat.new.held }
@@ -59,8 +63,8 @@ pub extern "C" fn listset_remove(alloc: Global, seat: &mut CSeat, key: u32) -> u
     ffi_sets::remove_key(alloc, seat, key)
 }
 
-/// Returns 1 if `key` is in the set, 0 if it is not, 255 if `seat` is empty or a closed set. On a coarse, fine or optimistic list
-/// the call blocks while another thread holds a lock that it needs. Does not allocate.
+/// Returns 1 if `key` is in the set, 0 if it is not, and 255 if `seat` is empty or a closed set. On a coarse, fine or
+/// optimistic list, blocks while another thread holds a lock that the call needs. Does not allocate.
 #[unsafe(no_mangle)]
 pub extern "C" fn listset_contains(alloc: Global, seat: &mut CSeat, key: u32) -> u8
     ensures { HasMade seat.old.full seat.old.held (Contains (record { 0 = key })) result seat.new.full seat.new.held }
@@ -68,9 +72,9 @@ pub extern "C" fn listset_contains(alloc: Global, seat: &mut CSeat, key: u32) ->
     ffi_sets::contains_key(alloc, seat, key)
 }
 
-/// Finds the smallest key of the set that is at least `key`. Returns 3 and writes the key to `at`, or returns 4 if the set has no
-/// such key. Returns 255 if `seat` is empty or a closed set. On a coarse, fine or optimistic list the call blocks while another
-/// thread holds a lock that it needs. Does not allocate.
+/// Finds the smallest key in the set that is at least `key`. Returns 3 and writes the key to `at`, or returns 4 if
+/// there is no such key. Returns 255 if `seat` is empty or a closed set. On a coarse, fine or optimistic list, blocks
+/// while another thread holds a lock that the call needs. Does not allocate.
 #[unsafe(no_mangle)]
 pub extern "C" fn listset_ceiling(alloc: Global, seat: &mut CSeat, key: u32, at: &mut u32) -> u8
     ensures { HasCeiling seat.old.full seat.old.held (Ceiling (record { 0 = key })) result at.old at.new seat.new.full seat.new.held }
@@ -78,11 +82,12 @@ pub extern "C" fn listset_ceiling(alloc: Global, seat: &mut CSeat, key: u32, at:
     ffi_sets::ceiling_at(alloc, seat, key, at)
 }
 
-/// Returns 1 if `key` is in the set, 0 if it is not, without waiting for a lock. Makes no call and returns 254 on a coarse, fine or
-/// optimistic list, 255 if `seat` is empty or a closed set. Does not allocate.
+/// Returns 1 if `key` is in the set and 0 if it is not, without waiting for a lock. Makes no call and returns 254 on a
+/// coarse, fine or optimistic list, or 255 if `seat` is empty or a closed set. Does not allocate.
 ///
-/// No clause bounds the steps of the call. They follow a run of the list (`HasAnswered` in the clause), and in every run a `contains` of
-/// these lists makes at most `listset_most_reads` steps (`lset_steps::laws::bounded_reads`).
+/// No clause bounds the number of steps of the call. However, its steps are those of a run of the list (see
+/// `HasAnswered` in the clause), and in every run a `contains` of these lists makes at most `listset_most_reads` steps
+/// (`lset_steps::laws::bounded_reads`).
 #[unsafe(no_mangle)]
 pub extern "C" fn listset_contains_now(alloc: Global, seat: &mut CSeat, key: u32) -> u8
     ensures { result < 254 → HasMade seat.old.full seat.old.held (Contains (record { 0 = key })) result seat.new.full seat.new.held }
@@ -90,8 +95,8 @@ pub extern "C" fn listset_contains_now(alloc: Global, seat: &mut CSeat, key: u32
     ffi_sets::contains_key_now(alloc, seat, key)
 }
 
-/// Returns the maximum number of steps of a `contains` in the runs of a lazy or a lock-free list that was opened with `seats`, `quota`
-/// and `opening` keys; 0 if no set opens with these. Does not block or allocate.
+/// Returns the maximum number of steps that a `contains` makes in any run of a lazy or lock-free list opened with
+/// `seats`, `quota` and `opening` keys. Returns 0 if no set can be opened with these. Does not block or allocate.
 #[unsafe(no_mangle)]
 pub extern "C" fn listset_most_reads(seats: u32, quota: u32, opening: u32) -> u64
     ensures { IsWithin (record { threads = seats; quota = quota; opening = opening })
@@ -100,11 +105,11 @@ pub extern "C" fn listset_most_reads(seats: u32, quota: u32, opening: u32) -> u6
     ffi_sets::most_reads(seats, quota, opening)
 }
 
-/// Writes a receipt of all that `seat` has seen to `out`, which must be empty: its own calls, and all that the seats that it gathered
-/// and the receipts that it took had seen. `seat` is unchanged.
+/// Stores a receipt in `out`, which must be empty. The receipt stands for everything that `seat` has seen: its own
+/// calls, and everything seen by the seats that it gathered and the receipts that it accepted. `seat` does not change.
 ///
-/// Returns `DONE`, or changes nothing and returns the first error of these: `IS_SEAT` if `out` is not empty, `NO_SEAT` if `seat`
-/// is empty or a closed set, `OUT_OF_MEMORY` if an allocation failed. Does not block.
+/// Returns `DONE`. On an error, changes nothing and returns the first that applies: `IS_SEAT` if `out` is not empty,
+/// `NO_SEAT` if `seat` is empty or a closed set, `OUT_OF_MEMORY` if an allocation failed. Does not block.
 #[unsafe(no_mangle)]
 pub extern "C" fn listset_receipt_of(alloc: Global, seat: &mut CSeat, out: &mut CSeat) -> u8
     ensures { result ≡ 0 → HasGiven seat.old.full seat.old.held out.new.full out.new.held seat.new.full seat.new.held }
@@ -112,11 +117,12 @@ pub extern "C" fn listset_receipt_of(alloc: Global, seat: &mut CSeat, out: &mut 
     ffi_sets::give_receipt(alloc, seat, out)
 }
 
-/// Hands the receipt `given` to `seat`: the calls that `seat` makes from now on come after all calls that the receipt stands for.
-/// `given` is then empty. The caller must ensure that a seat and a receipt of one list and number are of one set.
+/// Passes the receipt `given` to `seat`. All later calls of `seat` come after every call that the receipt stands for.
+/// `given` is empty afterwards. The caller must ensure that a seat and a receipt with the same list and number belong
+/// to the same set.
 ///
-/// Returns `DONE`, or an error and changes nothing: `NO_SEAT` if one is empty, `NO_GATHER` if they are not a seat and a receipt
-/// of one list and number. Does not block or allocate.
+/// Returns `DONE`. On an error, changes nothing and returns `NO_SEAT` if one of them is empty, or `NO_GATHER` if they
+/// are not a seat and a receipt with the same list and number. Does not block or allocate.
 #[unsafe(no_mangle)]
 pub extern "C" fn listset_after(alloc: Global, seat: &mut CSeat, given: &mut CSeat) -> u8
     requires { GathersAt seat.old.full seat.old.held given.old.full given.old.held }
@@ -125,18 +131,18 @@ pub extern "C" fn listset_after(alloc: Global, seat: &mut CSeat, given: &mut CSe
     ffi_sets::take_receipt(alloc, seat, given)
 }
 
-/// Returns how many seats of its set `seat` contains, itself included, and writes to `all` how many the set has. Both are 0 if `seat`
-/// is empty or a closed set. Does not block or allocate.
+/// Returns how many of its set's seats `seat` contains, including itself, and writes the number of all seats of the set
+/// to `all`. Both are 0 if `seat` is empty or a closed set. Does not block or allocate.
 #[unsafe(no_mangle)]
 pub extern "C" fn listset_seats_within(alloc: Global, seat: &mut CSeat, all: &mut u32) -> u64 {
     ffi_sets::count_seats(alloc, seat, all)
 }
 
-/// Merges the seat `from`, with all seats that it contains, into `into`; `from` is then empty. The caller must ensure that two seats
-/// of one list and number are of one set.
+/// Merges the seat `from`, including all seats that it contains, into `into`. `from` is empty afterwards. The caller
+/// must ensure that two seats with the same list and number belong to the same set.
 ///
-/// Returns `DONE`, or an error and changes nothing: `NO_SEAT` if one is empty, `NO_GATHER` if they are not two seats of one
-/// list and number. Does not block or allocate.
+/// Returns `DONE`. On an error, changes nothing and returns `NO_SEAT` if one of them is empty, or `NO_GATHER` if they
+/// are not two seats with the same list and number. Does not block or allocate.
 #[unsafe(no_mangle)]
 pub extern "C" fn listset_gather(alloc: Global, into: &mut CSeat, from: &mut CSeat) -> u8
     requires { GathersAt into.old.full into.old.held from.old.full from.old.held }
@@ -144,23 +150,24 @@ pub extern "C" fn listset_gather(alloc: Global, into: &mut CSeat, from: &mut CSe
     ffi_sets::gather_seats(alloc, into, from)
 }
 
-/// Closes the set, all of whose seats `seat` must contain. `seat` is then a closed set with the final keys.
+/// Closes the set. `seat` must contain all of the set's seats; afterwards it is a closed set with the final keys.
 ///
-/// Returns `DONE`, or an error and changes nothing: `NO_SEAT` if `seat` is empty or a closed set, `SEATS_OUT` if other seats
-/// are out, `OUT_OF_MEMORY` if an allocation failed. Does not block.
+/// Returns `DONE`. On an error, changes nothing and returns `NO_SEAT` if `seat` is empty or a closed set, `SEATS_OUT`
+/// if it lacks some of the seats, or `OUT_OF_MEMORY` if an allocation failed. Does not block.
 #[unsafe(no_mangle)]
 pub extern "C" fn listset_close(alloc: Global, seat: &mut CSeat) -> u8 {
     ffi_sets::close_set(alloc, seat)
 }
 
-/// Copies the keys of the closed set `closed` to `room`, in strictly increasing order, if they fit. Returns the number of keys;
-/// 2^64 - 1 if `closed` is not a closed set. Does not block or allocate.
+/// Copies the keys of the closed set `closed` to `room` in strictly increasing order, if they fit. Returns the number
+/// of keys, or 2^64 - 1 if `closed` is not a closed set. Does not block or allocate.
 #[unsafe(no_mangle)]
 pub extern "C" fn listset_keys(alloc: Global, closed: &mut CSeat, room: &mut [u32]) -> usize {
     ffi_sets::give_keys(alloc, closed, room)
 }
 
-/// Drops what `seat` contains: `seat` is then empty. A set cannot be closed after one of its seats was dropped. Does not block.
+/// Drops the contents of `seat`, which is empty afterwards. A set cannot be closed once one of its seats has been
+/// dropped. Does not block.
 #[unsafe(no_mangle)]
 pub extern "C" fn listset_drop(alloc: Global, seat: &mut CSeat) {
     ffi_sets::let_go(alloc, seat);

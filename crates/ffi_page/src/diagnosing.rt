@@ -5,7 +5,7 @@ use tool_base::{Answer, Trouble};
 use tool_judge::{judge_bytes, with_count};
 use tool_why::{Diagnosis, Explained, RunReader, diagnose, diagnosis_record, explain};
 
-/// Returns an answer without a text.
+/// Returns an empty answer.
 fn nothing(alloc: Global) -> Answer {
     Answer {
         text: Vec::new(alloc),
@@ -13,7 +13,7 @@ fn nothing(alloc: Global) -> Answer {
     }
 }
 
-/// Returns the diagnosis of a recording. `None` if the text is no recording or some order explains its calls.
+/// Returns the diagnosis of a recording; `None` if the text is not a recording or some order explains its calls.
 fn diagnosis_of(alloc: Global, text: &[u8]) -> Result<Option<Diagnosis>, AllocError> {
     let mut reader = RunReader::new(alloc);
     reader.feed(text)?;
@@ -23,8 +23,8 @@ fn diagnosis_of(alloc: Global, text: &[u8]) -> Result<Option<Diagnosis>, AllocEr
     }
 }
 
-/// Returns the record of the diagnosis of a recording, with status 1. Returns an answer without a text, with status 0, if the text is no
-/// recording or some order explains its calls.
+/// Returns the diagnosis of a recording as a record, with status 1. If the text is not a recording or some order
+/// explains its calls, returns an empty answer with status 0.
 pub fn diagnose_recording(alloc: Global, text: &[u8]) -> Result<Answer, Trouble> {
     match diagnosis_of(alloc, text)? {
         Some(diagnosis) => Ok(Answer {
@@ -35,7 +35,7 @@ pub fn diagnose_recording(alloc: Global, text: &[u8]) -> Result<Answer, Trouble>
     }
 }
 
-/// Returns the lines of `judge FILE` below a verdict of `used` lines, with status 1.
+/// Returns the lines that `judge FILE` prints after a verdict of `used` lines, with status 1.
 fn explain_below<R: Read>(alloc: Global, input: &mut R, used: usize) -> Result<Answer, Trouble> {
     match explain(alloc, input, used)? {
         Some(Explained { count, text }) => Ok(Answer {
@@ -46,7 +46,7 @@ fn explain_below<R: Read>(alloc: Global, input: &mut R, used: usize) -> Result<A
     }
 }
 
-/// Returns the number of lines of a refusal; 0 of any other answer.
+/// Returns the number of lines in a refusal, and 0 for any other answer.
 fn refused_lines(verdict: &Answer) -> usize {
     if verdict.status == 0 {
         return 0;
@@ -55,8 +55,8 @@ fn refused_lines(verdict: &Answer) -> usize {
     ends.count()
 }
 
-/// Returns the lines of `judge FILE` below the verdict on a recording, with status 1. Returns an answer without a text, with status 0, if the
-/// text is no recording or some order explains its calls.
+/// Returns the lines that `judge FILE` prints after the verdict on a recording, with status 1. If the text is not a
+/// recording or some order explains its calls, returns an empty answer with status 0.
 pub fn diagnose_text(alloc: Global, text: &[u8]) -> Result<Answer, Trouble> {
     let used = match judge_bytes(alloc, text) {
         Ok(verdict) => refused_lines(&verdict),
@@ -70,8 +70,9 @@ pub fn diagnose_text(alloc: Global, text: &[u8]) -> Result<Answer, Trouble> {
     explain_below(alloc, &mut input, used)
 }
 
-/// Returns the lines of `judge FILE` below a verdict of `used` lines on the recording in the file with this number, with status 1. Returns
-/// an answer without a text, with status 0, if the file cannot be read, has no recording, or some order explains the calls.
+/// Returns the lines that `judge FILE` prints after a verdict of `used` lines, for the recording in the file with this
+/// descriptor, with status 1. If the file cannot be read, is not a recording, or some order explains its calls, returns
+/// an empty answer with status 0.
 pub fn diagnose_file(alloc: Global, file: i32, used: usize) -> Result<Answer, Trouble> {
     let mut input = HostInput { file };
     explain_below(alloc, &mut input, used)

@@ -4,7 +4,7 @@ ghost use Rattle.ffi_page.specs.Page.{Handed, IsHanded};
 
 use tool_base::{Answer, Trouble, line_of};
 
-/// Copies the text to the front of the buffer if it fits, and returns the text's length.
+/// Copies the text to the start of the buffer if it fits. Returns the length of the text.
 fn put(text: &[u8], room: &mut [u8]) -> usize
     ensures count { result ≡ length text.now }
     ensures handed { Handed text.now room.old room.new }
@@ -16,7 +16,8 @@ fn put(text: &[u8], room: &mut [u8]) -> usize
     count
 }
 
-/// Copies the result of a tool into the caller's buffer: the text of an answer, or the line about an error. Returns the length of the text.
+/// Copies the result of a tool into the caller's buffer: the text of an answer, or the line about the error. Returns
+/// the length of the text.
 pub fn hand(made: Result<Answer, Trouble>, room: &mut [u8], status: &mut u8) -> usize
     ensures { IsHanded (view made) room.old room.new status.new result }
 {

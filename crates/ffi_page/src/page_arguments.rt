@@ -3,7 +3,8 @@ ghost use Rattle.ffi_page.specs.Page.{words_in};
 
 use std::alloc::{AllocError, Global};
 
-/// Returns the arguments in the bytes. A zero byte separates two arguments; no argument of a command line has one.
+/// Returns the arguments in the bytes, which are separated by zero bytes. (An argument on a command line cannot contain
+/// a zero byte.)
 pub fn words_in(alloc: Global, bytes: &[u8]) -> Result<Vec<String>, AllocError>
     ensures { IfOk result (λ words. map string_bytes words.items ≡ words_in bytes.now) }
 {
@@ -16,7 +17,8 @@ pub fn words_in(alloc: Global, bytes: &[u8]) -> Result<Vec<String>, AllocError>
     Ok(words)
 }
 
-/// Returns the value of option `index`, from 0. `None` if the option was not given: it is missing, or it has no `=`.
+/// Returns the value of option `index` (from 0). Returns `None` if the option is not set, that is, if it is missing or
+/// has no `=`.
 pub fn option_at(words: &[String], index: usize) -> Option<&str> {
     words.get(index)?.as_str().strip_prefix('=')
 }

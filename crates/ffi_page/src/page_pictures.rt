@@ -6,7 +6,7 @@ use tool_judge::ShowJudged;
 use tool_replay::{ReplayBroken, Trace, print_example, read_example_request};
 use tool_show::{Show, read_show};
 
-/// Reads the options of `show`: the words from index `first` to the last. Returns the first option that is wrong as the error.
+/// Reads the options of `show` from the words at `first` and after. Returns the first wrong option as the error.
 fn show_by(svg: bool, words: &[String], first: usize) -> Result<Show, ValueName> {
     let from = option_at(words, first);
     let to = option_at(words, first.saturating_add(1));
@@ -14,15 +14,16 @@ fn show_by(svg: bool, words: &[String], first: usize) -> Result<Show, ValueName>
     read_show(svg, from, to, width)
 }
 
-/// Draws a schedule or a report, as text or as an SVG (`svg`), within the moments and the width of the options. The errors are
-/// those of `ShowJudged`, and `Bad` if an option is wrong.
+/// Draws a schedule or a report as text or, if `svg`, as an SVG, limited by the options to some moments and a width.
+/// Returns the errors of `ShowJudged`, and `Bad` if an option is wrong.
 pub fn draw_text(alloc: Global, text: &[u8], svg: bool, options: &[u8]) -> Result<Answer, Trouble> {
     let words = words_in(alloc, options)?;
     let show = show_by(svg, &words, 0)?;
     answer_text(alloc, &ShowJudged { show }, text)
 }
 
-/// Returns the answer of a command on a schedule of a broken list, within the moments and the width of the options after the command.
+/// Runs a command for a schedule on a broken list. The command is followed by options that limit the moments and the
+/// width.
 pub fn run_broken(
     alloc: Global,
     name: &[u8],
@@ -49,13 +50,13 @@ pub fn run_broken(
     }
 }
 
-/// Returns the trace of a schedule of a broken list.
+/// Returns the trace of a schedule on a broken list.
 fn trace(alloc: Global, broken: BrokenList, text: &[u8], chains: bool) -> Result<Answer, Trouble> {
     let lacks = Some(broken);
     answer_text(alloc, &Trace { chains, lacks }, text)
 }
 
-/// Returns the answer of `example`.
+/// Returns the answer of the command `example`.
 pub fn example_by(alloc: Global, name: Option<&[u8]>, broken: bool) -> Result<Answer, Trouble> {
     let request = read_example_request(name, broken)?;
     print_example(alloc, request)

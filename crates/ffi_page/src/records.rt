@@ -1,4 +1,4 @@
-//! Verdicts as records: lines of a word and its values.
+//! Writes verdicts as records, whose lines have a name and its values.
 
 use lset_judge::{Clash, Refusal, StreamCall, Verdict};
 use lset_picture::{Refusal as OrderRefusal, picture_of_report};
@@ -10,7 +10,7 @@ use std::alloc::{AllocError, Global};
 use tool_base::{Answer, Input, Trouble};
 use tool_judge::{Claim, claim_on, put_call};
 
-/// Writes one of the two sides of a clash, if it is a call.
+/// Writes one side of a contradiction, if it is a call.
 fn put_side(out: &mut String, side: &str, made: Option<StreamCall>) -> Result<(), AllocError> {
     let Some(call) = made else {
         return Ok(());
@@ -19,7 +19,7 @@ fn put_side(out: &mut String, side: &str, made: Option<StreamCall>) -> Result<()
     put_call(out, call)
 }
 
-/// Writes a clash: whether the key is present after the first call (or in the opening state), and the two calls.
+/// Writes a contradiction: whether the first call (or the opening state) leaves the key present, and the two calls.
 fn put_clash(out: &mut String, clash: Clash) -> Result<(), AllocError> {
     let was = clash.was == Presence::Present;
     writeln!(out, "clash {was}")?;
@@ -27,7 +27,7 @@ fn put_clash(out: &mut String, clash: Clash) -> Result<(), AllocError> {
     put_side(out, "second", clash.second)
 }
 
-/// Writes a refusal: the key, the moment if there is one, and the clash.
+/// Writes a refusal: the key, the moment if there is one, and the contradiction.
 fn put_none(out: &mut String, refusal: Refusal, clash: Option<Clash>) -> Result<(), AllocError> {
     let key = refusal.key.0;
     writeln!(out, "verdict none\nkey {key}")?;
@@ -49,7 +49,7 @@ fn put_set(out: &mut String, keys: &[u32]) -> Result<(), AllocError> {
     out.push_str("\n")
 }
 
-/// Writes the error of an order, and the keys of the set at the place of the error.
+/// Writes the first fault of an order, and the set's keys at that place.
 fn put_order(out: &mut String, refusal: &OrderRefusal) -> Result<(), AllocError> {
     match refusal {
         OrderRefusal::Unknown { call, .. } => writeln!(out, "order Unknown {call}"),
@@ -83,7 +83,7 @@ fn put_order(out: &mut String, refusal: &OrderRefusal) -> Result<(), AllocError>
     }
 }
 
-/// Writes the claim about all orders of a report.
+/// Writes what is known of all orders of a report.
 fn put_claim(out: &mut String, claim: Claim) -> Result<(), AllocError> {
     match claim {
         Claim::NotIncreasing => out.push_str("verdict none\n"),
@@ -94,7 +94,7 @@ fn put_claim(out: &mut String, claim: Claim) -> Result<(), AllocError> {
     }
 }
 
-/// Judges a recording. The answer is the record of the verdict. The errors are those of `judge_bytes`.
+/// Judges a recording and returns the verdict as a record. Returns the errors of `judge_bytes`.
 pub fn judge_recording(alloc: Global, text: &[u8]) -> Result<Answer, Trouble> {
     let mut reader = RecordingReader::new(alloc);
     reader.feed(text)?;
@@ -124,8 +124,8 @@ pub fn judge_recording(alloc: Global, text: &[u8]) -> Result<Answer, Trouble> {
     })
 }
 
-/// Judges a report. The answer is a record: `verdict own`, or the error of the report's order and the claim about all other orders. The
-/// errors are those of `Check`.
+/// Checks a report and returns a record: `verdict own`, or the fault of the report's order and what is known of all
+/// other orders. Returns the errors of `Check`.
 pub fn judge_report(alloc: Global, text: &[u8]) -> Result<Answer, Trouble> {
     let input = Input::new(text)?;
     let report = read_report(alloc, input.bytes())?;

@@ -1,4 +1,4 @@
--- What a call from C has done: the value of its seat before and after, and the number that it returned.
+-- What a call from C does: how it changes the value of its seat, and which number it returns.
 use Rattle.std.specs.Prelude.{◌≡◌, ℕ, Bool, true, false, Option, Some, None}
 use Rattle.lset_words.specs.declared.Call.{Call}
 use Rattle.lset_words.specs.declared.Reply.{Reply}
@@ -10,14 +10,15 @@ use Rattle.lset_live.specs.Explained.{HasAnswered}
 use Rattle.ffi_sets.specs.declared.held.Held.{Held}
 use Rattle.ffi_sets.specs.Sets.{table_in, set_in, seat_in, spare_in, keys_in, number_in, receipt_in, SameSet}
 
--- A call c from a seat: it was made and replied r; or it gave up, and the seat is lost; or the seat had been lost before.
+-- The effect of the call c from a seat: it was made and replied r, or it gave up and the seat is lost, or the seat had
+-- been lost before.
 abbrev pub HasCalledOf : Table → SetValue → Option SeatValue → Call → Option Reply → Option SeatValue → Type 0
 HasCalledOf T set (Some old) c (Some r) (Some new) = HasAnswered T set old c r new
 HasCalledOf T set (Some old) c None None = Unit {0}
 HasCalledOf T set None c None None = Unit {0}
 HasCalledOf T set old c r new = ⊥
 
--- the number of a reply; 255 for none
+-- The number that represents a reply; 255 if there is none.
 abbrev pub code_of : Option Reply → ℕ
 code_of (Some reply.False) = 0
 code_of (Some reply.True) = 1
@@ -30,21 +31,22 @@ abbrev pub CallsIn : Option Table → Option SetValue → Option SeatValue → C
 CallsIn (Some T) (Some set) old c r new = HasCalledOf T set old c r new
 CallsIn T set old c r new = r ≡ None
 
--- A call c from the value of a seat of C: list, set and number are unchanged, and so are the seats that can be split off. From a
--- receipt or a closed set no call is made.
+-- The call c from a value that C keeps. The list, the set, the number, and the seats that can be split off do not
+-- change. No call is made from a receipt or a closed set.
 pub record HasCalledHeld (h : Held) (c : Call) (r : Option Reply) (h' : Held) : Type 0 where
   pub same : SameSet h h'
   pub spare : spare_in h' ≡ spare_in h
   pub keys : keys_in h' ≡ keys_in h
   pub called : CallsIn (table_in h) (set_in h) (seat_in h) c r (seat_in h')
 
--- A call c from a seat of C returned n. From an empty seat n is 255, and the seat is still empty.
+-- The call c from a seat of C returned n. For an empty seat, n is 255 and the seat stays empty.
 abbrev pub HasMade : Bool → Held → Call → ℕ → Bool → Held → Type 0
 HasMade true h c n true h' = (r : Option Reply) × (n ≡ code_of r) × HasCalledHeld h c r h'
 HasMade false h c n false h' = n ≡ 255
 HasMade full h c n full' h' = ⊥
 
--- A ceiling c from a seat of C returned n. Its reply At k is written to the place a; any other reply leaves a unchanged.
+-- The ceiling c from a seat of C returned n. If its reply is At k, k was written to the place a; for any other reply, a
+-- is unchanged.
 abbrev pub at_of : Option Reply → ℕ → ℕ
 at_of (Some (reply.At k)) a = k.0
 at_of r a = a
@@ -54,12 +56,13 @@ HasCeiling true h c n a a' true h' = (r : Option Reply) × (n ≡ code_of r) × 
 HasCeiling false h c n a a' false h' = (n ≡ 255) × (a' ≡ a)
 HasCeiling full h c n a a' full' h' = ⊥
 
--- the receipt of all that a seat has seen
+-- A receipt of everything that a seat has seen.
 abbrev pub noted_by : Option SeatValue → Option ReceiptValue
 noted_by (Some s) = Some (record { set = s.set; events = s.events })
 noted_by None = None
 
--- The value h gave a receipt: the receipt is of the seat's set and number and of all that the seat has seen; h is unchanged.
+-- The value h issued a receipt for its set and number. The receipt stands for everything that the seat has seen, and h
+-- is unchanged.
 pub record HasNotedHeld (h given h' : Held) : Type 0 where
   pub same : SameSet h h'
   pub spare : spare_in h' ≡ spare_in h
@@ -71,7 +74,8 @@ abbrev pub HasGiven : Bool → Held → Bool → Held → Bool → Held → Type
 HasGiven true h true given true h' = HasNotedHeld h given h'
 HasGiven full h out given full' h' = ⊥
 
--- A seat took a receipt: it has now seen all that the receipt stands for. Its record and the seats that it contains are unchanged.
+-- A seat accepted a receipt: it has now seen everything that the receipt stands for. Its record and the seats that it
+-- contains are unchanged.
 abbrev pub HasHeededOf : Option SeatValue → Option ReceiptValue → Option SeatValue → Type 0
 HasHeededOf (Some old) (Some given) (Some new) = (new.set ≡ old.set) × (new.past ≡ old.past) × (new.held ≡ old.held)
     × StartsWith new.events old.events × StartsWith new.events given.events

@@ -1,4 +1,4 @@
-//! Calls from seats of C, and the numbers that the functions of C return.
+//! Makes calls from seats of C, and converts the results to numbers.
 ghost use Rattle.std.specs.Prelude.{◌≡◌, true, false};
 ghost use Rattle.ffi_sets.specs.Calls.{HasMade, code_of};
 
@@ -10,7 +10,8 @@ use lset_live::OpenFault;
 use lset_words::{Call, Reply};
 use std::alloc::Global;
 
-/// Returns the number of a reply: 0 for `False`, 1 for `True`, 2 for `Full`, 3 for `At`, 4 for `Nothing`; 255 for no reply.
+/// Converts a reply to a number: 0 for `False`, 1 for `True`, 2 for `Full`, 3 for `At`, 4 for `Nothing`, and 255 for no
+/// reply.
 pub fn reply_code(reply: Option<Reply>) -> u8
     ensures { result ≡ code_of reply }
 {
@@ -24,7 +25,7 @@ pub fn reply_code(reply: Option<Reply>) -> u8
     }
 }
 
-/// Returns the number of an error of `lset_live::open_with`.
+/// Converts an error of `lset_live::open_with` to a number.
 pub fn fault_code(fault: OpenFault) -> u8 {
     match fault {
         OpenFault::Seats => BAD_SEATS,
@@ -34,8 +35,8 @@ pub fn fault_code(fault: OpenFault) -> u8 {
     }
 }
 
-/// Makes a call from `seat` and returns the number of its reply. Returns 255 if `seat` is empty or a closed set, or if the call gave
-/// up, which loses the seat.
+/// Makes a call from `seat` and returns its reply as a number. Returns 255 if `seat` is empty or a closed set, or if
+/// the call gives up, which loses the seat.
 pub fn call_from_seat(alloc: Global, seat: &mut CSeat, call: Call) -> u8
     ensures { HasMade seat.old.full seat.old.held call result seat.new.full seat.new.held }
 {
@@ -47,8 +48,8 @@ pub fn call_from_seat(alloc: Global, seat: &mut CSeat, call: Call) -> u8
     reply_code(reply)
 }
 
-/// Allocates a box for `held` and puts the box into `seat`, which must be empty. Returns `DONE`, or `OUT_OF_MEMORY` if the allocation
-/// fails; `seat` is then still empty.
+/// Moves `held` into a new box and stores the box in `seat`, which must be empty. Returns `DONE`, or `OUT_OF_MEMORY` if
+/// the allocation fails; `seat` then stays empty.
 pub fn put_new(alloc: Global, seat: &mut CSeat, held: Held) -> u8
     requires { seat.old.full ≡ false }
     ensures { result ≡ 0 → (seat.new.full ≡ true) × (seat.new.held ≡ held) }

@@ -1,4 +1,4 @@
-//! What the functions of C do with a `Held`, by a match on its list.
+//! Implements the operations on a `Held` by matching on its list.
 ghost use Rattle.std.specs.Prelude.{◌≤◌, IfNone, IfSome};
 ghost use Rattle.ffi_sets.specs.Sets.{Gathers};
 ghost use Rattle.ffi_sets.specs.Calls.{HasCalledHeld, HasHeededHeld, HasNotedHeld};
@@ -10,7 +10,8 @@ use lset_live::OpenFault;
 use lset_words::{Call, Reply};
 use std::alloc::Global;
 
-/// Opens a set of list `kind`: 0 coarse, 1 fine, 2 optimistic, 3 lazy, 4 lock-free. Returns `None` for any other number. Allocates.
+/// Opens a set of the list `kind`: 0 coarse, 1 fine, 2 optimistic, 3 lazy, 4 lock-free. Returns `None` for any other
+/// number. Allocates.
 pub fn open_held(
     alloc: Global,
     kind: u8,
@@ -29,7 +30,8 @@ pub fn open_held(
     }))
 }
 
-/// Makes a call from the seat in `held`. Returns `None` if `held` has no seat, or if the call gave up, which loses the seat.
+/// Makes a call from the seat in `held`. Returns `None` if `held` has no seat, or if the call gives up, which loses the
+/// seat.
 pub fn call_held(held: &mut Held, call: Call) -> Option<Reply>
     ensures { HasCalledHeld held.old call result held.new }
 {
@@ -43,8 +45,8 @@ pub fn call_held(held: &mut Held, call: Call) -> Option<Reply>
     }
 }
 
-/// Returns the number that says why a `contains` from the seat in `held` can block: `MAY_BLOCK` on a coarse, fine or optimistic list,
-/// `NO_SEAT` if `held` has no seat. Returns `None` if each step of a `contains` is a load, as on the other lists.
+/// Returns why a `contains` from the seat in `held` can block: `MAY_BLOCK` on a coarse, fine or optimistic list,
+/// `NO_SEAT` if `held` has no seat. Returns `None` on the other lists, where every step of a `contains` is a load.
 pub fn why_reads_block(held: &Held) -> Option<u8>
     ensures { IfSome result (λ n. 254 ≤ n) }
 {
@@ -55,7 +57,7 @@ pub fn why_reads_block(held: &Held) -> Option<u8>
     }
 }
 
-/// Returns a receipt of all that the seat in `held` has seen; `None` if `held` has no seat.
+/// Returns a receipt of everything that the seat in `held` has seen; `None` if `held` has no seat.
 pub fn receipt_held(held: &mut Held) -> Option<Held>
     ensures { IfSome result (λ given. HasNotedHeld held.old given held.new) }
 {
@@ -69,8 +71,8 @@ pub fn receipt_held(held: &mut Held) -> Option<Held>
     })
 }
 
-/// Hands the receipt `given` to the seat in `into`. Returns `None`; or `given`, if these are not a seat and a receipt of one list and
-/// number.
+/// Passes the receipt `given` to the seat in `into`. Returns `given` if they are not a seat and a receipt with the same
+/// list and number, otherwise `None`.
 pub fn heed_held(into: &mut Held, given: Held) -> Option<Held>
     requires { Gathers into.old given }
     ensures { IfNone result (HasHeededHeld into.old given into.new) }
@@ -87,7 +89,8 @@ pub fn heed_held(into: &mut Held, given: Held) -> Option<Held>
     })
 }
 
-/// Returns how many seats of its set `held` contains, and how many the set has. Both are 0 if `held` has no seat.
+/// Returns how many of its set's seats `held` contains, and how many seats the set has. Both are 0 if `held` has no
+/// seat.
 pub fn counts_held(held: &Held) -> (u64, u32) {
     match held {
         Held::Coarse(of) => of.counts(),
@@ -99,7 +102,7 @@ pub fn counts_held(held: &Held) -> (u64, u32) {
     }
 }
 
-/// Returns whether a seat can be split off the seat in `held`.
+/// Returns `true` if a seat can be split off the seat in `held`.
 pub fn has_spare(held: &Held) -> bool {
     match held {
         Held::Coarse(of) => !of.spare.is_empty(),
@@ -111,8 +114,8 @@ pub fn has_spare(held: &Held) -> bool {
     }
 }
 
-/// Splits a seat off the seat in `held`. Returns the error `NO_MORE` if none can be split off, `OUT_OF_MEMORY` if the set cannot have
-/// one more owner.
+/// Splits a seat off the seat in `held`. Returns `NO_MORE` if none is left, and `OUT_OF_MEMORY` if the set cannot have
+/// another owner.
 pub fn split_held(held: &mut Held, alloc: Global) -> Result<Held, u8> {
     Ok(match held {
         Held::Coarse(of) => Held::Coarse(of.split(alloc)?),
@@ -124,7 +127,8 @@ pub fn split_held(held: &mut Held, alloc: Global) -> Result<Held, u8> {
     })
 }
 
-/// Merges the seat in `from` into the seat in `into`. Returns `None`; or `from`, if these are not two seats of one list and number.
+/// Merges the seat in `from` into the seat in `into`. Returns `from` if they are not two seats with the same list and
+/// number, otherwise `None`.
 pub fn gather_held(alloc: Global, into: &mut Held, from: Held) -> Option<Held>
     requires { Gathers into.old from }
 {
@@ -140,8 +144,8 @@ pub fn gather_held(alloc: Global, into: &mut Held, from: Held) -> Option<Held>
     })
 }
 
-/// Closes the set in `held` and returns its final keys. On an error it returns `held` with a number: `NO_SEAT` if `held` has no seat,
-/// `SEATS_OUT` if other seats of the set are out, `OUT_OF_MEMORY` if an allocation failed.
+/// Closes the set in `held` and returns its final keys. On an error, returns `held` and a number: `NO_SEAT` if `held`
+/// has no seat, `SEATS_OUT` if it lacks some of the set's seats, `OUT_OF_MEMORY` if an allocation failed.
 pub fn close_held(alloc: Global, held: Held) -> Result<Vec<u32>, (Held, u8)> {
     match held {
         Held::Coarse(of) => match of.close(alloc) {
@@ -177,8 +181,8 @@ fn put_keys(keys: &[u32], room: &mut [u32]) -> usize {
     count
 }
 
-/// Copies the keys of the closed set in `held` to the front of `room` if they fit. Returns the number of keys, or `usize::MAX` if `held`
-/// is not a closed set.
+/// Copies the keys of the closed set in `held` to the front of `room`, if they fit. Returns the number of keys, or
+/// `usize::MAX` if `held` is not a closed set.
 pub fn keys_held(held: &Held, room: &mut [u32]) -> usize {
     match held {
         Held::Closed(keys) => put_keys(keys, room),

@@ -1,4 +1,4 @@
-//! The value of a seat of C: a seat of a set, a receipt, or the keys of a closed set.
+//! Defines the value of a seat of C: a seat of a set, a receipt, or the keys of a closed set.
 ghost use Rattle.std.specs.Prelude.{◌≡◌, IfSome};
 ghost use Rattle.std.specs.Arc.{arc_value};
 ghost use Rattle.ffi_sets.specs.Facts.{AreOf, seat_of_prop, spare_of_prop};
@@ -13,7 +13,8 @@ use lset_steps::Machine;
 use std::alloc::Global;
 use std::sync::Arc;
 
-/// A seat of a set, with the set, the set's number, and the seats that can be split off it. `seat` is `None` after a call that gave up.
+/// A seat of a set, with the set, the set's number, and the seats that can be split off. `seat` is `None` once a call
+/// has given up.
 #[derive(Drop)]
 pub struct SeatOfSet<M: Bounded> {
     pub set: Arc<LiveSet<M>, Global>,
@@ -24,15 +25,15 @@ pub struct SeatOfSet<M: Bounded> {
     ghost spare_of: { AreOf (arc_value set) spare.items } by { spare_of_prop spare.items (arc_value set) },
 }
 
-/// A receipt of a set, with the set's number.
+/// A receipt for a set, with the set's number.
 #[derive(Drop)]
 pub struct ReceiptOfSet<M: Machine> {
     pub number: u64,
     pub receipt: Receipt<M>,
 }
 
-/// The value of a full seat of C: a seat of a set of one of the five lists, a receipt of such a set, or the keys of a closed set.
-/// `Nothing` stands in the box while a function has taken the value out.
+/// The value of a full seat of C: a seat of one of the five lists, a receipt for such a set, or the keys of a closed
+/// set. `Nothing` is a placeholder while a function has taken the value out of the box.
 #[derive(Drop)]
 pub enum Held {
     Coarse(SeatOfSet<CoarseList>),

@@ -1,4 +1,4 @@
-//! What the functions of C do with a seat of a set, for any list.
+//! Implements the operations on a seat for any list.
 ghost use Rattle.std.specs.Prelude.{◌≡◌, ◌↔◌, ◌+◌, ◌≤◌, [], Some, IfNone, IfSome, IsTrue, length, vec_capacity};
 ghost use Rattle.std.specs.Arc.{arc_value};
 ghost use Rattle.lset_words.specs.Words.{sizes};
@@ -16,7 +16,7 @@ use std::alloc::Global;
 use std::mem::replace;
 use std::sync::Arc;
 
-/// Opens a set and returns one of its seats; all others can be split off it.
+/// Opens a set and returns one of its seats, from which all others can be split off.
 pub fn open_of<M: Bounded>(
     alloc: Global,
     seats: u32,
@@ -37,7 +37,7 @@ pub fn open_of<M: Bounded>(
     })
 }
 
-/// Gathers all seats of `spare` into `seat`, and returns `seat`.
+/// Gathers all seats in `spare` into `seat` and returns `seat`.
 fn gathered<M: Bounded>(set: &LiveSet<M>, seat: Seat<M>, spare: Vec<Seat<M>>) -> Seat<M>
     requires seat { seat.set ≡ set.now }
     requires spare { AreOf set.now spare.items }
@@ -51,7 +51,7 @@ fn gathered<M: Bounded>(set: &LiveSet<M>, seat: Seat<M>, spare: Vec<Seat<M>>) ->
     into
 }
 
-/// Closes the set and returns its final keys in `room`. `seat` and `spare` must be all seats of the set.
+/// Closes the set and returns its final keys in `room`. `seat` and `spare` must be all of the set's seats.
 fn keys_left<M: Bounded>(
     set: LiveSet<M>,
     seat: Seat<M>,
@@ -68,7 +68,8 @@ fn keys_left<M: Bounded>(
 }
 
 impl<M: Bounded> SeatOfSet<M> {
-    /// Makes a call from this seat. Returns `None` if the seat was lost before, or if the call gave up, which loses the seat.
+    /// Makes a call from this seat. Returns `None` if the seat was already lost, or if the call gives up, which loses
+    /// the seat.
     pub fn call(&mut self, call: Call) -> Option<Reply>
         ensures set { arc_value self.new.set ≡ arc_value self.old.set }
         ensures number { self.new.number ≡ self.old.number }
@@ -83,7 +84,8 @@ impl<M: Bounded> SeatOfSet<M> {
         Some(reply)
     }
 
-    /// Splits a seat off this one. Returns the error `NO_MORE` if none remains, `OUT_OF_MEMORY` if the set cannot have one more owner.
+    /// Splits a seat off this one. Returns `NO_MORE` if none is left, and `OUT_OF_MEMORY` if the set cannot have
+    /// another owner.
     pub fn split(&mut self, alloc: Global) -> Result<SeatOfSet<M>, u8> {
         if self.spare.is_empty() {
             return Err(NO_MORE);
@@ -103,8 +105,8 @@ impl<M: Bounded> SeatOfSet<M> {
         })
     }
 
-    /// Merges `from`, with all seats that can be split off it, into this seat. Returns `None`; or `from`, if the two have two numbers
-    /// or one of them was lost.
+    /// Merges `from`, including all seats that can be split off it, into this seat. Returns `from` if the two have
+    /// different numbers or one of them was lost, otherwise `None`.
     pub fn gather(&mut self, alloc: Global, from: SeatOfSet<M>) -> Option<SeatOfSet<M>>
         requires { self.old.number ≡ from.number → arc_value self.old.set ≡ arc_value from.set }
     {
@@ -127,7 +129,7 @@ impl<M: Bounded> SeatOfSet<M> {
         None
     }
 
-    /// Returns a receipt of all that this seat has seen; `None` if the seat was lost.
+    /// Returns a receipt of everything that this seat has seen; `None` if the seat was lost.
     pub fn receipt(&mut self) -> Option<ReceiptOfSet<M>>
         ensures set { arc_value self.new.set ≡ arc_value self.old.set }
         ensures number { self.new.number ≡ self.old.number }
@@ -144,8 +146,8 @@ impl<M: Bounded> SeatOfSet<M> {
         })
     }
 
-    /// Hands a receipt to this seat, which has then seen all that the receipt stands for. Returns `None`; or `given`, if it has another
-    /// number or the seat was lost.
+    /// Passes a receipt to this seat, which has then seen everything that the receipt stands for. Returns `given` if it
+    /// has a different number or the seat was lost, otherwise `None`.
     pub fn after(&mut self, given: ReceiptOfSet<M>) -> Option<ReceiptOfSet<M>>
         requires { self.old.number ≡ given.number → arc_value self.old.set ≡ given.receipt.set }
         ensures set { arc_value self.new.set ≡ arc_value self.old.set }
@@ -165,7 +167,7 @@ impl<M: Bounded> SeatOfSet<M> {
         None
     }
 
-    /// Returns how many seats this one contains, itself included, and how many the set has.
+    /// Returns how many seats this one contains, including itself, and how many the set has.
     pub fn counts(&self) -> (u64, u32) {
         let spare = self.spare.len() as u64;
         let held = match &self.seat {
@@ -175,7 +177,7 @@ impl<M: Bounded> SeatOfSet<M> {
         (spare.saturating_add(held), self.set.seats())
     }
 
-    /// Returns whether this seat contains all seats of the set.
+    /// Returns `true` if this seat contains all seats of the set.
     fn has_all(&self) -> bool
         ensures { IsTrue result ↔ IsWhole (arc_value self.now.set) self.now.seat self.now.spare.items }
     {
@@ -188,9 +190,9 @@ impl<M: Bounded> SeatOfSet<M> {
         others as usize == self.spare.len()
     }
 
-    /// Closes the set and returns its final keys. On an error it returns itself with a number: `SEATS_OUT` if other seats are out;
-    /// `OUT_OF_MEMORY` if the allocation of room for all keys that there can be fails, or if the set has another owner, which happens
-    /// in no run.
+    /// Closes the set and returns its final keys. On an error, returns itself and a number: `SEATS_OUT` if it lacks
+    /// some of the set's seats; `OUT_OF_MEMORY` if the buffer for all possible keys cannot be allocated, or if the set
+    /// has another owner, which happens in no run.
     pub fn close(self, alloc: Global) -> Result<Vec<u32>, (SeatOfSet<M>, u8)> {
         if !self.has_all() {
             return Err((self, SEATS_OUT));

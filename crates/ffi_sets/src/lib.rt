@@ -1,8 +1,9 @@
-//! Running sets as functions over seats that C keeps. The crate `ffi_c` exports the functions.
+//! Provides running sets as functions on seats that C keeps. The crate `ffi_c` exports the functions.
 //!
-//! A seat of C (`CSeat`) is empty, or owns a seat of a set, a receipt, or the keys of a closed set. Each function accepts every argument
-//! that its types allow, and returns a number of `codes`. A call from a seat gives up after 2^64 - 1 rounds of a loop
-//! (`lset_live::Bounded`), since a function of C has no handle by which it may wait for ever.
+//! A seat of C (`CSeat`) is empty, or owns a seat of a set, a receipt, or the keys of a closed set. Each function
+//! accepts all arguments that its types allow, and returns one of the numbers in `codes`. A call from a seat gives up
+//! after 2^64 - 1 rounds of a loop (`lset_live::Bounded`), since a C function has no handle that would allow it to wait
+//! forever.
 #![tactic(auto)]
 
 mod answers;
@@ -36,12 +37,13 @@ use seat::{put, take};
 use std::alloc::Global;
 use std::mem::replace;
 
-/// Opens a set of the list `kind`, 0 to 4 (coarse, fine, optimistic, lazy, lock-free), with `seats` seats, 1 to 64, a quota
-/// of 0 to 16,384, and at most 1,048,576 keys in strictly increasing order. `out`, which must be empty, gets a seat that
-/// contains all others. No other open set may have the same `number`: `gather_seats` compares the numbers of two seats.
+/// Opens a set of the list `kind` (0 coarse, 1 fine, 2 optimistic, 3 lazy, 4 lock-free) with 1 to 64 `seats`, a `quota`
+/// of 0 to 16,384, and at most 1,048,576 `keys` in strictly increasing order. Stores a seat in `out`, which must be
+/// empty; all other seats can be split off that seat. No other open set may have the same `number`, because
+/// `gather_seats` uses it to compare the sets of two seats.
 ///
-/// Returns `DONE`, or an error and changes nothing: `IS_SEAT` if `out` is not empty, `BAD_KIND`, `BAD_SEATS`, `BAD_QUOTA`,
-/// `BAD_KEYS`, or `OUT_OF_MEMORY` if an allocation failed. Does not block.
+/// Returns `DONE`. On an error, changes nothing and returns `IS_SEAT` if `out` is not empty, `BAD_KIND`, `BAD_SEATS`,
+/// `BAD_QUOTA`, `BAD_KEYS`, or `OUT_OF_MEMORY` if an allocation failed. Does not block.
 pub fn open_set(
     alloc: Global,
     kind: u8,
@@ -62,11 +64,11 @@ pub fn open_set(
     }
 }
 
-/// Splits a seat of the set off `seat`, into `out`, which must be empty.
+/// Splits a seat off `seat` and stores it in `out`, which must be empty.
 ///
-/// Returns `DONE`, or changes nothing and returns the first error of these: `IS_SEAT` if `out` is not empty, `NO_SEAT` if
-/// `seat` is empty, `NO_MORE` if no seat can be split off it or it is a closed set, `OUT_OF_MEMORY` if an allocation
-/// failed. Does not block.
+/// Returns `DONE`. On an error, changes nothing and returns the first that applies: `IS_SEAT` if `out` is not empty,
+/// `NO_SEAT` if `seat` is empty, `NO_MORE` if no seat can be split off it or it is a closed set, `OUT_OF_MEMORY` if an
+/// allocation failed. Does not block.
 pub fn split_seat(alloc: Global, seat: &mut CSeat, out: &mut CSeat) -> u8 {
     if let Some(held) = take(alloc, out) {
         put(out, held);
@@ -79,7 +81,7 @@ pub fn split_seat(alloc: Global, seat: &mut CSeat, out: &mut CSeat) -> u8 {
         put(seat, held);
         return NO_MORE;
     }
-    // Allocate the box first: no seat is lost if the allocation fails.
+    // Allocate the box first, so that no seat is lost if the allocation fails.
     let Ok(mut made) = Box::new(alloc, Held::Nothing) else {
         put(seat, held);
         return OUT_OF_MEMORY;
@@ -96,33 +98,34 @@ pub fn split_seat(alloc: Global, seat: &mut CSeat, out: &mut CSeat) -> u8 {
     }
 }
 
-/// Adds `key` to the set. Returns 1 if `key` was absent, 0 if it was present, 2 if it is absent and the seat has used its quota.
-/// Returns 255 if `seat` is empty or a closed set. Blocks while another thread holds a lock that the call needs. Does not allocate.
+/// Adds `key` to the set. Returns 1 if the key was absent, 0 if it was present, and 2 if it is absent but the seat has
+/// used up its quota. Returns 255 if `seat` is empty or a closed set. Blocks while another thread holds a lock that the
+/// call needs. Does not allocate.
 pub fn add_key(alloc: Global, seat: &mut CSeat, key: u32) -> u8
     ensures { HasMade seat.old.full seat.old.held (Add (record { 0 = key })) result seat.new.full seat.new.held }
 {
     call_from_seat(alloc, seat, Call::Add(Key(key)))
 }
 
-/// Removes `key` from the set. Returns 1 if `key` was present, 0 if it was absent, 255 if `seat` is empty or a closed set. Blocks
-/// while another thread holds a lock that the call needs. Does not allocate.
+/// Removes `key` from the set. Returns 1 if the key was present, 0 if it was absent, and 255 if `seat` is empty or a
+/// closed set. Blocks while another thread holds a lock that the call needs. Does not allocate.
 pub fn remove_key(alloc: Global, seat: &mut CSeat, key: u32) -> u8
     ensures { HasMade seat.old.full seat.old.held (Remove (record { 0 = key })) result seat.new.full seat.new.held }
 {
     call_from_seat(alloc, seat, Call::Remove(Key(key)))
 }
 
-/// Returns 1 if `key` is in the set, 0 if it is not, 255 if `seat` is empty or a closed set. On a coarse, fine or optimistic list
-/// the call blocks while another thread holds a lock that it needs. Does not allocate.
+/// Returns 1 if `key` is in the set, 0 if it is not, and 255 if `seat` is empty or a closed set. On a coarse, fine or
+/// optimistic list, blocks while another thread holds a lock that the call needs. Does not allocate.
 pub fn contains_key(alloc: Global, seat: &mut CSeat, key: u32) -> u8
     ensures { HasMade seat.old.full seat.old.held (Contains (record { 0 = key })) result seat.new.full seat.new.held }
 {
     call_from_seat(alloc, seat, Call::Contains(Key(key)))
 }
 
-/// Finds the smallest key of the set that is at least `key`. Returns 3 and writes the key to `at`, or returns 4 if the set has no
-/// such key. Returns 255 if `seat` is empty or a closed set. On a coarse, fine or optimistic list the call blocks while another
-/// thread holds a lock that it needs. Does not allocate.
+/// Finds the smallest key in the set that is at least `key`. Returns 3 and writes the key to `at`, or returns 4 if
+/// there is no such key. Returns 255 if `seat` is empty or a closed set. On a coarse, fine or optimistic list, blocks
+/// while another thread holds a lock that the call needs. Does not allocate.
 pub fn ceiling_at(alloc: Global, seat: &mut CSeat, key: u32, at: &mut u32) -> u8
     ensures { HasCeiling seat.old.full seat.old.held (Ceiling (record { 0 = key })) result at.old at.new seat.new.full seat.new.held }
 {
@@ -137,11 +140,12 @@ pub fn ceiling_at(alloc: Global, seat: &mut CSeat, key: u32, at: &mut u32) -> u8
     reply_code(reply)
 }
 
-/// Returns 1 if `key` is in the set, 0 if it is not, without waiting for a lock. Makes no call and returns 254 on a coarse, fine or
-/// optimistic list, 255 if `seat` is empty or a closed set. Does not allocate.
+/// Returns 1 if `key` is in the set and 0 if it is not, without waiting for a lock. Makes no call and returns 254 on a
+/// coarse, fine or optimistic list, or 255 if `seat` is empty or a closed set. Does not allocate.
 ///
-/// No clause bounds the steps of the call. They follow a run of the list (`HasAnswered` in the clause), and in every run a `contains` of
-/// these lists makes at most `most_reads` steps (`lset_steps::laws::bounded_reads`).
+/// No clause bounds the number of steps of the call. However, its steps are those of a run of the list (see
+/// `HasAnswered` in the clause), and in every run a `contains` of these lists makes at most `most_reads` steps
+/// (`lset_steps::laws::bounded_reads`).
 pub fn contains_key_now(alloc: Global, seat: &mut CSeat, key: u32) -> u8
     ensures { result < 254 → HasMade seat.old.full seat.old.held (Contains (record { 0 = key })) result seat.new.full seat.new.held }
 {
@@ -157,8 +161,8 @@ pub fn contains_key_now(alloc: Global, seat: &mut CSeat, key: u32) -> u8
     reply_code(reply)
 }
 
-/// Returns the maximum number of steps of a `contains` in the runs of a lazy or a lock-free list that was opened with `seats`, `quota`
-/// and `opening` keys; 0 if no set opens with these. Does not block or allocate.
+/// Returns the maximum number of steps that a `contains` makes in any run of a lazy or lock-free list opened with
+/// `seats`, `quota` and `opening` keys. Returns 0 if no set can be opened with these. Does not block or allocate.
 pub fn most_reads(seats: u32, quota: u32, opening: u32) -> u64
     ensures { IsWithin (record { threads = seats; quota = quota; opening = opening })
         → result ≡ bound (record { threads = seats; quota = quota; opening = opening }) }
@@ -169,11 +173,11 @@ pub fn most_reads(seats: u32, quota: u32, opening: u32) -> u64
     }
 }
 
-/// Writes a receipt of all that `seat` has seen to `out`, which must be empty: its own calls, and all that the seats that it gathered
-/// and the receipts that it took had seen. `seat` is unchanged.
+/// Stores a receipt in `out`, which must be empty. The receipt stands for everything that `seat` has seen: its own
+/// calls, and everything seen by the seats that it gathered and the receipts that it accepted. `seat` does not change.
 ///
-/// Returns `DONE`, or changes nothing and returns the first error of these: `IS_SEAT` if `out` is not empty, `NO_SEAT` if `seat`
-/// is empty or a closed set, `OUT_OF_MEMORY` if an allocation failed. Does not block.
+/// Returns `DONE`. On an error, changes nothing and returns the first that applies: `IS_SEAT` if `out` is not empty,
+/// `NO_SEAT` if `seat` is empty or a closed set, `OUT_OF_MEMORY` if an allocation failed. Does not block.
 pub fn give_receipt(alloc: Global, seat: &mut CSeat, out: &mut CSeat) -> u8
     ensures { result ≡ 0 → HasGiven seat.old.full seat.old.held out.new.full out.new.held seat.new.full seat.new.held }
 {
@@ -192,11 +196,12 @@ pub fn give_receipt(alloc: Global, seat: &mut CSeat, out: &mut CSeat) -> u8
     }
 }
 
-/// Hands the receipt `given` to `seat`: the calls that `seat` makes from now on come after all calls that the receipt stands for.
-/// `given` is then empty. The caller must ensure that a seat and a receipt of one list and number are of one set.
+/// Passes the receipt `given` to `seat`. All later calls of `seat` come after every call that the receipt stands for.
+/// `given` is empty afterwards. The caller must ensure that a seat and a receipt with the same list and number belong
+/// to the same set.
 ///
-/// Returns `DONE`, or an error and changes nothing: `NO_SEAT` if one is empty, `NO_GATHER` if they are not a seat and a receipt
-/// of one list and number. Does not block or allocate.
+/// Returns `DONE`. On an error, changes nothing and returns `NO_SEAT` if one of them is empty, or `NO_GATHER` if they
+/// are not a seat and a receipt with the same list and number. Does not block or allocate.
 pub fn take_receipt(alloc: Global, seat: &mut CSeat, given: &mut CSeat) -> u8
     requires { GathersAt seat.old.full seat.old.held given.old.full given.old.held }
     ensures { result ≡ 0 → HasHeeded seat.old.full seat.old.held given.old.full given.old.held seat.new.full seat.new.held }
@@ -218,8 +223,8 @@ pub fn take_receipt(alloc: Global, seat: &mut CSeat, given: &mut CSeat) -> u8
     NO_GATHER
 }
 
-/// Returns how many seats of its set `seat` contains, itself included, and writes to `all` how many the set has. Both are 0 if `seat`
-/// is empty or a closed set. Does not block or allocate.
+/// Returns how many of its set's seats `seat` contains, including itself, and writes the number of all seats of the set
+/// to `all`. Both are 0 if `seat` is empty or a closed set. Does not block or allocate.
 pub fn count_seats(alloc: Global, seat: &mut CSeat, all: &mut u32) -> u64 {
     let (within, of_set) = match take(alloc, seat) {
         Some(held) => {
@@ -233,11 +238,11 @@ pub fn count_seats(alloc: Global, seat: &mut CSeat, all: &mut u32) -> u64 {
     within
 }
 
-/// Merges the seat `from`, with all seats that it contains, into `into`; `from` is then empty. The caller must ensure that two seats
-/// of one list and number are of one set.
+/// Merges the seat `from`, including all seats that it contains, into `into`. `from` is empty afterwards. The caller
+/// must ensure that two seats with the same list and number belong to the same set.
 ///
-/// Returns `DONE`, or an error and changes nothing: `NO_SEAT` if one is empty, `NO_GATHER` if they are not two seats of one
-/// list and number. Does not block or allocate.
+/// Returns `DONE`. On an error, changes nothing and returns `NO_SEAT` if one of them is empty, or `NO_GATHER` if they
+/// are not two seats with the same list and number. Does not block or allocate.
 pub fn gather_seats(alloc: Global, into: &mut CSeat, from: &mut CSeat) -> u8
     requires { GathersAt into.old.full into.old.held from.old.full from.old.held }
 {
@@ -258,10 +263,10 @@ pub fn gather_seats(alloc: Global, into: &mut CSeat, from: &mut CSeat) -> u8
     NO_GATHER
 }
 
-/// Closes the set, all of whose seats `seat` must contain. `seat` is then a closed set with the final keys.
+/// Closes the set. `seat` must contain all of the set's seats; afterwards it is a closed set with the final keys.
 ///
-/// Returns `DONE`, or an error and changes nothing: `NO_SEAT` if `seat` is empty or a closed set, `SEATS_OUT` if other seats
-/// are out, `OUT_OF_MEMORY` if an allocation failed. Does not block.
+/// Returns `DONE`. On an error, changes nothing and returns `NO_SEAT` if `seat` is empty or a closed set, `SEATS_OUT`
+/// if it lacks some of the seats, or `OUT_OF_MEMORY` if an allocation failed. Does not block.
 pub fn close_set(alloc: Global, seat: &mut CSeat) -> u8 {
     let Some(mut held) = take(alloc, seat) else {
         return NO_SEAT;
@@ -280,8 +285,8 @@ pub fn close_set(alloc: Global, seat: &mut CSeat) -> u8 {
     }
 }
 
-/// Copies the keys of the closed set `closed` to `room`, in strictly increasing order, if they fit. Returns the number of keys;
-/// 2^64 - 1 if `closed` is not a closed set. Does not block or allocate.
+/// Copies the keys of the closed set `closed` to `room` in strictly increasing order, if they fit. Returns the number
+/// of keys, or 2^64 - 1 if `closed` is not a closed set. Does not block or allocate.
 pub fn give_keys(alloc: Global, closed: &mut CSeat, room: &mut [u32]) -> usize {
     let Some(held) = take(alloc, closed) else {
         return usize::MAX;
@@ -291,7 +296,8 @@ pub fn give_keys(alloc: Global, closed: &mut CSeat, room: &mut [u32]) -> usize {
     count
 }
 
-/// Drops what `seat` contains: `seat` is then empty. A set cannot be closed after one of its seats was dropped. Does not block.
+/// Drops the contents of `seat`, which is empty afterwards. A set cannot be closed once one of its seats has been
+/// dropped. Does not block.
 pub fn let_go(alloc: Global, seat: &mut CSeat) {
     let _held = take(alloc, seat);
 }

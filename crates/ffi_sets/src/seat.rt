@@ -1,4 +1,4 @@
-//! A seat as C keeps it: a box behind a pointer.
+//! A seat as C keeps it: a pointer to a box.
 ghost use Rattle.std.specs.Prelude.{◌≡◌, true, false, MatchOption};
 ghost use Rattle.ffi_sets.specs.Owned.{seat_owns};
 ghost use Rattle.ffi_sets.specs.declared.held.Held.{Held};
@@ -24,7 +24,7 @@ impl Model for CSeat {
 }
 
 impl CSeat {
-    /// Returns an empty seat.
+    /// Creates an empty seat.
     pub fn none() -> CSeat
         ensures { result.full ≡ false }
     {
@@ -34,7 +34,7 @@ impl CSeat {
         }
     }
 
-    /// Returns a full seat that owns this box.
+    /// Creates a full seat that owns this box.
     fn of_loose(held: Loose<Held, Global>) -> CSeat
         ensures { (result.full ≡ true) × (result.held ≡ held.value) }
     {
@@ -45,7 +45,7 @@ impl CSeat {
         }
     }
 
-    /// Returns the box of a full seat; `None` if the seat is empty.
+    /// Returns the box of a full seat, `None` if the seat is empty.
     fn into_loose(self, alloc: Global) -> Option<Loose<Held, Global>>
         ensures { MatchOption result (self.full ≡ false) (λ l. (self.full ≡ true) × (l.value ≡ self.held)) }
     {
@@ -61,7 +61,7 @@ impl CSeat {
     }
 }
 
-/// Takes the box out of `seat`, which is then empty. Returns `None` if `seat` was empty.
+/// Takes the box out of `seat`, which is empty afterwards. Returns `None` if `seat` was empty.
 pub fn take(alloc: Global, seat: &mut CSeat) -> Option<Box<Held>>
     ensures told { MatchOption result (seat.old.full ≡ false) (λ b. (seat.old.full ≡ true) × (b.value ≡ seat.old.held)) }
     ensures left { seat.new.full ≡ false }
@@ -70,7 +70,7 @@ pub fn take(alloc: Global, seat: &mut CSeat) -> Option<Box<Held>>
     Some(held.into_box())
 }
 
-/// Puts a box into `seat`, which must be empty.
+/// Stores a box in `seat`, which must be empty.
 pub fn put(seat: &mut CSeat, held: Box<Held>)
     requires { seat.old.full ≡ false }
     ensures { (seat.new.full ≡ true) × (seat.new.held ≡ held.value) }

@@ -1,5 +1,5 @@
-//! The program: it gives the words of its command line and the system's streams to `lset_dispatch`, and ends with the status that
-//! comes back.
+//! The program: passes its command line and the system's streams to `lset_dispatch`, and exits with the status that it
+//! returns.
 #![tactic(auto)]
 
 use lset_command::VERSION;
@@ -9,15 +9,15 @@ use std::io::{self, ErrorKind, Write};
 use std::process::ExitCode;
 use tool_base::{Trouble, deliver, put};
 
-// The commit of the sources, and whether they are proved, if the program was built by what knows that: it puts words of these
-// lengths here (build/version_stamp.py).
+// The commit of the sources, and whether they are proved. The build overwrites these bytes in place if it knows both
+// (`build/version_stamp.py`), so the lengths are fixed.
 const BUILT: &str = "commit 0000000000000000000000000000000000000000\nproof unknown\n";
 
-// The line about an argument that std does not return as a `String`. (std opens no file of such a name either.)
+// The error for an argument that std does not return as a `String`. (std cannot open a file with such a name either.)
 const NOT_UTF8: &[u8] = b"listset: an argument is not UTF-8\n";
 
-/// Returns the words after the program's name. The error is of the kind `InvalidData` if one is not UTF-8; any other means that an
-/// allocation failed.
+/// Returns the arguments after the program's name. The error has the kind `InvalidData` if an argument is not UTF-8;
+/// any other kind means that an allocation failed.
 fn words_given(rt: &HostRuntime) -> io::Result<Vec<String>> {
     Ok(std::env::args(rt)?.skip(1).collect(rt.alloc())?)
 }
@@ -30,19 +30,19 @@ fn texts(alloc: Global, given: &[String]) -> Result<Vec<&str>, AllocError> {
     Ok(words)
 }
 
-/// Ends a program that has an argument that is not UTF-8.
+/// Exits because an argument is not UTF-8.
 fn end_without_text(rt: &HostRuntime) -> ExitCode {
     let _whole = put(&mut rt.stderr(), NOT_UTF8);
     ExitCode::from(2)
 }
 
-/// Ends a program whose arguments have no room in memory.
+/// Exits because no memory was available for the arguments.
 fn end_without_memory(rt: &HostRuntime) -> ExitCode {
     let (output, stderr) = (&mut io::writer(rt), &mut rt.stderr());
     ExitCode::from(deliver(Err(Trouble::Memory), output, stderr))
 }
 
-/// Prints what `--version` prints, and below it where the program comes from. Returns the exit status.
+/// Prints the text of `--version`, followed by the program's origin. Returns the exit status.
 fn tell_origin<W: Write, E: Write>(output: &mut W, stderr: &mut E) -> u8 {
     let is_whole = put(output, b"listset ")
         && put(output, VERSION.as_bytes())
@@ -59,7 +59,7 @@ fn asks_for_origin(words: &[&str]) -> bool {
     words.len() == 2 && words[0] == "--version" && words[1] == "--long"
 }
 
-// The runtime starts threads and opens sockets only if `main` itself passes it on.
+// The runtime can start threads and open sockets only if `main` itself passes it on.
 fn main(rt: HostRuntime) -> ExitCode {
     let given = match words_given(&rt) {
         Ok(given) => given,

@@ -1,5 +1,5 @@
--- The command line of the program: its commands and their values, as a simple command of clap. The definitions of clap say
--- which values the words give.
+-- The program's command line as a simple clap command: its subcommands and their values. clap's definitions say which
+-- values the arguments have.
 use Rattle.std.specs.Prelude.{◌≡◌, Result, IfOk, List, [], map, codes, Bool, true, false, ◌||◌, Option, Some, None, option_map, unwrap_or}
 use Rattle.std.specs.Prelude.{string_bytes, if◌then◌else◌, option_and_then}
 use Rattle.std.specs.List.{flat_map}
@@ -18,15 +18,15 @@ use Rattle.lset_command.specs.declared.command_line.Command.TheVariants.{Gen, Ru
 use Rattle.lset_command.specs.declared.command_line.Options.{Options}
 use Rattle.lset_command.specs.declared.command_line.Words.{Words}
 
--- a flag, `--NAME`
+-- A flag, `--NAME`.
 abbrev pub flag_rule : Text → Rule
 flag_rule name = record (new_rule name) { long = Some name; action = Some SetTrue }
 
--- an option of one value, `--NAME M`
+-- An option with a value, `--NAME M`.
 abbrev pub option_rule : Text → Rule
 option_rule name = record (new_rule name) { long = Some name; value_names = 1 }
 
--- `check [FILE]`, `draft [FILE]` and `explain [FILE]`, and the first rule of others
+-- `check [FILE]`, `draft [FILE]` and `explain [FILE]`; other commands start with the same rule
 abbrev pub file_app : Text → App
 file_app name = with_rule (new_app name) (new_rule (codes "FILE"))
 
@@ -56,7 +56,7 @@ trace_app = with_rule (with_rule (file_app (codes "trace")) (flag_rule (codes "c
 abbrev pub example_app : App
 example_app = with_rule (with_rule (new_app (codes "example")) (new_rule (codes "NAME"))) (flag_rule (codes "broken"))
 
--- `gen KIND THREADS QUOTA CALLS KEYS SEED`, and the first values of `run`
+-- `gen KIND THREADS QUOTA CALLS KEYS SEED`; `run` starts with the same values
 abbrev pub six_values : Text → App
 six_values name =
     with_rule (with_rule (with_rule (with_rule (with_rule (with_rule (new_app name)
@@ -86,7 +86,7 @@ serve_app =
 abbrev pub faults_app : App
 faults_app = with_rule (new_app (codes "faults")) (new_rule (codes "CAUSE"))
 
--- the program, which has a version; the words begin after its name
+-- The program, which has a version; its arguments begin after its name.
 abbrev pub listset : App
 listset =
     with_subcommand (with_subcommand (with_subcommand (with_subcommand (with_subcommand
@@ -108,44 +108,44 @@ listset =
 
 -- ---- the program's command in clap
 
--- the command is the app, and no argument of it is global
+-- The clap command corresponds to the app and has no global argument.
 abbrev pub IsApp : clap.Command → App → Type 0
 IsApp c a = (app_of c ≡ a) × ((out-Command c).has_globals ≡ false)
 
--- a command of the app, if any was made
+-- If a command is returned, it corresponds to the app.
 abbrev pub Makes : Result clap.Command AllocError → App → Type 0
 Makes made a = IfOk made (λ c. IsApp c a)
 
--- one more argument, if the command was made
+-- Adds an argument, if the command was created.
 abbrev pub MakesWithArg : Result clap.Command AllocError → Arg → Result clap.Command AllocError → Type 0
 MakesWithArg old arg new = (a : App) (r : Rule) → Makes old a → rule_of arg ≡ r → arg.global ≡ false → Makes new (with_rule a r)
 
--- one more subcommand, if both were made
+-- Adds a subcommand, if both commands were created.
 abbrev pub MakesWithSubcommand : Result clap.Command AllocError → Result clap.Command AllocError → Result clap.Command AllocError →
     Type 0
 MakesWithSubcommand old sub new = (a b : App) → Makes old a → Makes sub b → Makes new (with_subcommand a b.top)
 
 -- ---- the result of a parse
 
--- the names of flags and options; every other name is that of values
+-- The names of flags and options; all other names have values.
 abbrev pub is_option : Text → Bool
 is_option name = bytes_eq name (codes "svg") || (bytes_eq name (codes "from") || (bytes_eq name (codes "to")
     || (bytes_eq name (codes "width") || (bytes_eq name (codes "brief") || (bytes_eq name (codes "only")
     || (bytes_eq name (codes "chain") || (bytes_eq name (codes "broken") || bytes_eq name (codes "lacks"))))))))
 
--- the values of a name in the rows of a parse
+-- The values of this name among the rows of a parse.
 abbrev pub values_by : Text → List Row → List Text
 values_by name rows = if is_option name then [] else unwrap_or (all_of name rows) []
 
--- the values of a command, in order
+-- The values of a command, in order.
 abbrev pub values_in : List Row → List Text
 values_in rows = flat_map (λ row. values_by row.id rows) rows
 
--- whether the flag of a name is on; clap gives it the text `true` or `false`
+-- True if a flag is on. clap represents this by the text `true` or `false`.
 abbrev pub is_on : Text → List Row → Bool
 is_on name rows = option_map_or (λ text. bytes_eq text (codes "true")) (first_of name rows) false
 
--- the flags that are on, and the values of FILE and of the options, if they are given
+-- The flags that are on, and the values of FILE and of the options if they are given.
 pub record OptionValues : Type 0 where
   pub file : Option Text
   pub svg : Bool
@@ -172,7 +172,7 @@ options_in rows = record {
   lacks = first_of (codes "lacks") rows;
 }
 
--- the command of a name; a parse of the program's words finds only names of `listset`
+-- The command with this name; a parse only finds names that are in `listset`.
 unfoldable pub command_named : Text → Command
 command_named name =
     if bytes_eq name (codes "judge") then Judge
@@ -188,18 +188,18 @@ command_named name =
     else (if bytes_eq name (codes "explain") then Explain
     else Replay))))))))))
 
--- a command with its values, its flags and its options
+-- A command with its values, flags and options.
 pub record Choice : Type 0 where
   pub command : Command
   pub values : List Text
   pub options : OptionValues
 
--- the choice of a parse of the command line; `replay` if the words name no command
+-- What a parse of the command line chooses; `replay` if no command is named.
 abbrev pub choice_of : Option (Text × List Row) → Choice
 choice_of None = record { command = Replay; values = []; options = options_in [] }
 choice_of (Some found) = record { command = command_named found.0; values = values_in found.1; options = options_in found.1 }
 
--- ---- the words in the program
+-- ---- the arguments in the program
 
 abbrev pub options_of : Options → OptionValues
 options_of o = record {
@@ -218,7 +218,7 @@ options_of o = record {
 abbrev pub choice_in : Words → Choice
 choice_in w = record { command = w.command; values = map string_bytes w.values.items; options = options_of w.options }
 
--- the path of the file that a word names; `-` means standard input, and is no path
+-- The path of the file that an argument names; `-` means standard input and is not a path.
 abbrev pub path_in : Text → Option Text
 path_in word = if bytes_eq word (codes "-") then None else Some word
 

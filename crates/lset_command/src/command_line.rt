@@ -10,10 +10,10 @@ use clap::error::ErrorKind;
 use clap::{Arg, ArgAction, ArgMatches, Error};
 use std::alloc::{AllocError, Global};
 
-/// The text of `--version` after the program's name: the version, and in a second line the kit and the logic of the proof.
+/// The text of `--version` after the program's name: the version, then a line with the kit and the logic of the proof.
 pub const VERSION: &str = "0.1.0\nRattle kit 13, logic dac8208d650f15bf";
 
-// Helps on arguments and options.
+// Help texts for arguments and options.
 const KIND: &str = "List: coarse, fine, optimistic, lazy or lock-free";
 
 const THREADS: &str = "Number of threads: 1 to 64";
@@ -33,7 +33,7 @@ const PORT: &str = "Port to listen on: 0 to 65535; with 0 the system chooses";
 const SESSIONS: &str = "Number of client connections to serve before the end: 0 to 10000";
 
 const KEYS_FILE: &str =
-    "File of the keys with which the set opens, as a server prints them; standard input if -, no keys if missing";
+    "File with the opening keys, in the format that a server prints; - for standard input; no keys if missing";
 
 const FROM_OPTION: &str =
     "First moment to draw: 1 to the last one at which a call begins, takes effect or ends [default: 1]";
@@ -52,26 +52,26 @@ const NAME: &str = "Name of the schedule; without it the list of names is printe
 
 const CAUSE: &str = "Cause in an error line, such as Idle; without it every message is explained";
 
-const BROKEN_FLAG: &str = "Print the report that a broken list would give, if the example has one";
+const BROKEN_FLAG: &str = "Print the report that a broken list would produce, if the example has one";
 
 const BRIEF_FLAG: &str = "Print the verdict alone, and not what is wrong";
 
 const ONLY_OPTION: &str =
     "Print a recording of one key alone, or of the few calls that show its refusal";
 
-/// Texts of the help that other crates provide.
+/// Help texts that other crates provide.
 #[derive(Clone, Copy)]
 pub struct Helps<'a> {
-    /// The help on the command `faults`.
+    /// The help for the command `faults`.
     pub faults: &'a str,
-    /// The help on the option `--lacks`, with the names of the broken lists.
+    /// The help for the option `--lacks`, with the names of the broken lists.
     pub lacks: &'a str,
 }
 
 /// A command of the program.
 #[derive(Clone, Copy)]
 pub enum Command {
-    /// Replays a schedule. This is the command if no word is given.
+    /// Replays a schedule. This is the default command.
     Replay,
     /// Judges recorded calls.
     Judge,
@@ -79,11 +79,11 @@ pub enum Command {
     Check,
     /// Draws a schedule or a report.
     Show,
-    /// Prints what each step of a schedule did.
+    /// Prints what each step of a schedule does.
     Trace,
     /// Turns a draft into a schedule.
     Draft,
-    /// Prints a classic schedule.
+    /// Prints an example schedule.
     Example,
     /// Generates a schedule.
     Gen,
@@ -91,40 +91,40 @@ pub enum Command {
     Run,
     /// Serves sessions on one set.
     Serve,
-    /// Explains every error message, or those with one cause.
+    /// Explains all error messages, or those with one cause.
     Faults,
-    /// Explains the first error of a file.
+    /// Explains the first error in a file.
     Explain,
 }
 
-/// The flags that are on, and the values of options as they were given. A flag that a command does not have is off, and an
-/// option that it does not have is `None`.
+/// The flags that are on, and the values of the options as they were given. If a command does not have a flag or an
+/// option, the flag is off and the option is `None`.
 #[derive(Drop)]
 pub struct Options {
-    /// The argument FILE, which is among the values too. Without it `serve` reads nothing, and the other commands with this
-    /// argument read standard input.
+    /// The argument FILE, which is also among the values. Without it, `serve` reads nothing and the other commands read
+    /// standard input.
     pub file: Option<String>,
-    /// `show` draws an SVG.
+    /// Whether `show` draws an SVG.
     pub svg: bool,
     /// The first moment that `show` draws.
     pub from: Option<String>,
     /// The last moment that `show` draws.
     pub to: Option<String>,
-    /// The maximum number of characters of a row of `show`.
+    /// The maximum row length of `show`, in characters.
     pub width: Option<String>,
-    /// `judge` prints the verdict alone.
+    /// Whether `judge` prints only the verdict.
     pub brief: bool,
-    /// The key whose calls alone `judge` prints.
+    /// The only key whose calls `judge` prints.
     pub only: Option<String>,
-    /// `trace` prints the chain.
+    /// Whether `trace` prints the chain.
     pub chain: bool,
-    /// `example` prints the report of a broken list.
+    /// Whether `example` prints the report of a broken list.
     pub broken: bool,
-    /// The name of the broken list by which `replay`, `show` and `trace` run the schedule.
+    /// The broken list on which `replay`, `show` and `trace` run the schedule.
     pub lacks: Option<String>,
 }
 
-/// A command, with its arguments as they were given and in their order, its flags and its options.
+/// A command with its arguments as given, its flags and its options.
 #[derive(Drop)]
 pub struct Words {
     pub command: Command,
@@ -133,8 +133,8 @@ pub struct Words {
 }
 
 impl Words {
-    /// Returns the path of the file that the command reads, if it reads one. The argument `-` means standard input; a file
-    /// of that name has the path `./-`.
+    /// Returns the path of the file that the command reads, if any. The argument `-` means standard input; use `./-`
+    /// for a file of that name.
     pub fn path(&self) -> Option<&str>
         ensures { option_map (λ path. path.now) result ≡ path_of (choice_in self.now) }
     {
@@ -143,7 +143,7 @@ impl Words {
     }
 }
 
-// A value that `clap` lets be missing.
+// Creates an argument that `clap` treats as optional.
 fn value<'a>(alloc: Global, name: &'a str, help: &'a str) -> Arg<'a>
     ensures rule { rule_of result ≡ new_rule name.entry.now }
     ensures local { result.global ≡ false }
@@ -161,7 +161,7 @@ fn flag<'a>(alloc: Global, name: &'a str, help: &'a str) -> Arg<'a>
         .help(help)
 }
 
-// An option of one value.
+// Creates an option with one value.
 fn value_option<'a>(alloc: Global, name: &'a str, value_name: &'a str, help: &'a str) -> Arg<'a>
     ensures rule { rule_of result ≡ option_rule name.entry.now }
     ensures local { result.global ≡ false }
@@ -172,8 +172,8 @@ fn value_option<'a>(alloc: Global, name: &'a str, value_name: &'a str, help: &'a
         .help(help)
 }
 
-// Returns the command with one more argument, if the command was made. The callers have no `?`: the drops on its way out
-// would take most of their proofs.
+// Adds an argument, if the command was created. The callers use this instead of `?`, because the drops at each early
+// return would take most of their proofs.
 fn and_arg<'a>(
     command: Result<clap::Command<'a>, AllocError>,
     arg: Arg<'a>,
@@ -183,7 +183,7 @@ fn and_arg<'a>(
     command?.arg(arg)
 }
 
-// Returns the command with one more subcommand, if both were made.
+// Adds a subcommand, if both commands were created.
 fn and_subcommand<'a>(
     command: Result<clap::Command<'a>, AllocError>,
     subcommand: Result<clap::Command<'a>, AllocError>,
@@ -263,8 +263,8 @@ fn example_command<'a>(alloc: Global) -> Result<clap::Command<'a>, AllocError>
         .arg(flag(alloc, "broken", BROKEN_FLAG))
 }
 
-// The usage is written out, since `clap` would print each value in brackets: it lets values be missing. The tool of the
-// command names the first missing value.
+// Creates a command whose usage text is written out. `clap` treats all values as optional and would print each in
+// brackets. The command's tool names the first missing value.
 fn command_with_usage<'a>(
     alloc: Global,
     name: &'a str,
@@ -383,7 +383,7 @@ fn check_command<'a>(alloc: Global) -> Result<clap::Command<'a>, AllocError>
     )
 }
 
-// The help on `faults` is the text that it prints.
+// Creates the command `faults`, whose help is the text that it prints.
 fn faults_command<'a>(alloc: Global, help: &'a str) -> Result<clap::Command<'a>, AllocError>
     ensures { Makes result faults_app }
 {
@@ -430,7 +430,7 @@ fn program_command<'a>(alloc: Global, helps: Helps<'a>) -> Result<clap::Command<
     and_subcommand(program, explain_command(alloc))
 }
 
-// Returns whether a name is that of a flag or an option.
+// Returns `true` if this is the name of a flag or an option.
 fn is_option(name: &str) -> bool
     ensures { result ≡ is_option name.now }
 {
@@ -440,7 +440,7 @@ fn is_option(name: &str) -> bool
     )
 }
 
-// Appends the texts of a name in `found`, if the name is that of values. There can be none.
+// Appends the values found for a name, if the name has values.
 fn push_values(
     alloc: Global,
     values: &mut Vec<String>,
@@ -472,7 +472,7 @@ fn values_of(alloc: Global, found: &ArgMatches<'_>) -> Result<Vec<String>, Alloc
     Ok(values)
 }
 
-// Returns whether a flag is on.
+// Returns `true` if a flag is on.
 fn is_on(found: &ArgMatches<'_>, name: &str) -> bool
     ensures { result ≡ is_on name.now (rows_of (found_of found.now)) }
 {
@@ -482,7 +482,7 @@ fn is_on(found: &ArgMatches<'_>, name: &str) -> bool
     }
 }
 
-// Returns the value of an option. `None` if the option is not given.
+// Returns the value of an option; `None` if the option was not given.
 fn option_text(
     alloc: Global,
     found: &ArgMatches<'_>,
@@ -513,7 +513,7 @@ fn options_of(alloc: Global, found: &ArgMatches<'_>) -> Result<Options, AllocErr
     })
 }
 
-// Returns no flag and no option.
+// Returns options with nothing set.
 fn no_options() -> Options
     ensures { options_of result ≡ options_in [] }
 {
@@ -531,7 +531,7 @@ fn no_options() -> Options
     }
 }
 
-// Returns the command with a name that `program_command` lists.
+// Returns the command with this name, which `program_command` lists.
 #[tactic(auto, unfolding(crate::specs::CommandLine::command_named))]
 fn command_named(name: &str) -> Command
     ensures { result ≡ command_named name.now }
@@ -554,13 +554,13 @@ fn command_named(name: &str) -> Command
 
 /// Parses the command line, without the program's name, with `clap`.
 ///
-/// The commands and options are those of the help. No words at all mean `replay` without arguments. Arguments and options are
-/// returned as they were given: they can be missing or wrong. An argument that begins with `-` and is longer needs `--` before
-/// it. Allocates.
+/// The commands and options are those listed in the help. An empty command line means `replay` without arguments.
+/// Arguments and options are returned as given: they can be missing or wrong. An argument that begins with `-` and is
+/// longer than that must come after `--`. Allocates.
 ///
 /// # Errors
 ///
-/// The error has the text for the user, and an exit code:
+/// The error has the text for the user and an exit code:
 /// - 0: the user asked for the help or the version;
 /// - 2: the command line is wrong, and the text says how;
 /// - any, if `is_out_of_memory`: an allocation failed.
@@ -570,7 +570,8 @@ pub fn words_given<'a>(
     helps: Helps<'a>,
 ) -> Result<Words, Error>
     ensures taken { IfOk result (λ w. choice_in w ≡ choice_of (subcommand_of listset (texts words.entry.now))) }
-    // clap's definition has no error for words that are accepted, and the kind of each error but a failed allocation
+    // Fails exactly if clap's definition of a parse fails, and with an error of the same kind, unless an allocation
+    // failed.
     ensures refused { FailsBy (fault_of listset (texts words.entry.now)) result }
 {
     let matches = program_command(alloc, helps)?.try_get_matches_from(words)?;
@@ -591,7 +592,7 @@ pub fn words_given<'a>(
     })
 }
 
-/// Returns whether an error of `words_given` means that an allocation failed.
+/// Returns `true` if an error of `words_given` means that an allocation failed.
 pub fn is_out_of_memory(error: &Error) -> bool
     ensures { IsTrue result ↔ (kind_of error.now ≡ OutOfMemory) }
 {

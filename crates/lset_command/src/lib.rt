@@ -1,4 +1,4 @@
-//! The program's command line: which command it names, its arguments, its flags and its options.
+//! Parses the program's command line into a command with its arguments, flags and options.
 #![tactic(auto)]
 
 mod command_line;

@@ -1,5 +1,5 @@
--- What command lines ask for. Commands that are not named here, broken lists and `judge --only` have no clause: they are safe, and
--- tested.
+-- What command lines ask for. Commands that are not named here, broken lists and `judge --only` have no clause. They
+-- are memory-safe and tested, but not proved.
 use Rattle.std.specs.Prelude.{Bool, true, false, List, Option, Some, None, Result, Ok, Err}
 use Rattle.clap.specs.Words.{Text}
 use Rattle.lset_command.specs.CommandLine.{Choice, OptionValues}
@@ -12,7 +12,7 @@ use Rattle.tool_base.specs.Arguments.{random_request_of}
 use Rattle.lset_dispatch.specs.declared.job.Job.{Job}
 use Rattle.lset_dispatch.specs.declared.job.Job.TheVariants.{Replay, Judge, Verdict, Check, Gen}
 
--- a job, or the first value or option that is missing or wrong
+-- A job, or the first value or option that is missing or wrong.
 abbrev pub Asked : Type 0
 Asked = Result Job ValueName
 
@@ -21,7 +21,7 @@ abbrev pub asked_replay : Option Text → Option Asked
 asked_replay None = Some (Ok (Replay None))
 asked_replay (Some name) = None
 
--- `judge`, with the verdict alone or with what is wrong
+-- `judge`, with only the verdict or with all details
 abbrev pub asked_judge : Option Text → Bool → Option Asked
 asked_judge None true = Some (Ok Verdict)
 asked_judge None false = Some (Ok Judge)
@@ -38,11 +38,11 @@ asked_by command.Check values options = Some (Ok Check)
 asked_by command.Gen values options = Some (asked_gen (random_request_of values))
 asked_by other values options = None
 
--- the job of a command line, for the commands with a clause
+-- The job that a command line asks for, if its command has a clause.
 abbrev pub asked : Choice → Option Asked
 asked choice = asked_by choice.command choice.values choice.options
 
--- a job that a command line can ask for
+-- A job for which a command line can ask.
 abbrev pub IsKnown : Job → Type 0
 IsKnown (Gen random) = IsAccepted random.threads random.quota random.keys
 IsKnown job = Unit {0}

@@ -1,4 +1,5 @@
-//! The lines of `judge` below a refusal: what is wrong in a file, or a hint to use a file. (A pipe is read once.)
+//! Appends lines to a refusal of `judge`: what is wrong in a file, or a hint to use a file. (A pipe can be read only
+//! once.)
 
 ghost use Rattle.std.specs.Prelude.{ℕ, List};
 ghost use Rattle.tool_base.specs.Tools.{view};
@@ -17,7 +18,7 @@ const OF_A_FILE: &[u8] = b"\nlistset judge FILE, with a file, also says what is 
 const FAILED: &[u8] =
     b"\nwhat is wrong is not told: memory ran out, or the file has changed since it was judged\n";
 
-/// Returns the number of lines of a refusal; 0 of any other answer.
+/// Returns the number of lines in a refusal, and 0 for any other answer.
 fn refused_lines(made: &Result<Answer, Trouble>) -> usize {
     match made {
         Ok(answer) if answer.status != 0 => {
@@ -28,7 +29,7 @@ fn refused_lines(made: &Result<Answer, Trouble>) -> usize {
     }
 }
 
-/// Returns the lines about what is wrong in a recording, below a verdict of `used` lines.
+/// Returns the lines that say what is wrong in a recording, for a verdict that takes up `used` lines.
 fn explanation<R: Read>(
     alloc: Global,
     input: &mut R,
@@ -40,7 +41,7 @@ fn explanation<R: Read>(
     }
 }
 
-/// Appends what is wrong in the recording in a file to the answer on it, if the answer is a refusal. Allocates; blocks as the file does.
+/// If the answer is a refusal, appends what is wrong in the file's recording. Allocates. Blocks while reading the file.
 pub(crate) fn explained<H: Files>(
     rt: &H,
     alloc: Global,
@@ -62,7 +63,7 @@ pub(crate) fn explained<H: Files>(
     }
 }
 
-/// Appends the hint to use a file to the answer on a recording of a pipe, if the answer is a refusal.
+/// If the answer is a refusal of a recording from a pipe, appends the hint to use a file.
 pub(crate) fn pointed(made: Result<Answer, Trouble>) -> Result<Answer, Trouble>
     ensures { (bytes : List ℕ) → Judges bytes (view made) → Judges bytes (view result) }
 {

@@ -22,9 +22,9 @@ use std::time::Clock;
 use tool_base::{Answer, FAULTS, Trouble, deliver, put};
 use tool_explain::{explain_input, explain_unopened};
 
-/// Ends a run whose command line `words_given` refused, and returns the exit status. Writes the help or the version to `output`
-/// if the user asked for it, status 0; else what is wrong to `stderr`, status 2. If an allocation failed, writes the line about
-/// that to `stderr`, status 3. A help that is not written whole is a failed write, status 1.
+/// Ends a run whose command line `words_given` refused, and returns the exit status. If the user asked for the help or
+/// the version, writes it to `output` with status 0. Otherwise, writes what is wrong to `stderr` with status 2. If an
+/// allocation failed, writes that to `stderr` with status 3. If the help cannot be written completely, the status is 1.
 fn decline<W: Write, E: Write>(alloc: Global, error: &Error, output: &mut W, stderr: &mut E) -> u8
     ensures { Declines (kind_of error.now)
         (W.contents output.old) (W.contents output.new) (E.contents stderr.old) (E.contents stderr.new) result }
@@ -44,7 +44,7 @@ fn decline<W: Write, E: Write>(alloc: Global, error: &Error, output: &mut W, std
     }
 }
 
-/// Returns the help on `--lacks`: the names of the broken lists, each with its list.
+/// Returns the help for `--lacks`: the names of the broken lists, each with the list it is based on.
 fn lacks_help(alloc: Global) -> Result<String, AllocError> {
     let mut help = String::from_str(alloc, "Run a broken list, with one check removed")?;
     for (number, broken) in ALL.iter().enumerate() {
@@ -55,13 +55,13 @@ fn lacks_help(alloc: Global) -> Result<String, AllocError> {
     Ok(help)
 }
 
-/// Parses the command line, without the program's name. No words at all mean `replay`. The help on `faults` is the text of the
-/// command `faults`. Allocates.
+/// Parses the command line, without the program's name. An empty command line means `replay`. The help for `faults` is
+/// the text of the command `faults`. Allocates.
 ///
 /// # Errors
 ///
-/// The error has the text for the user: the help or the version, if the user asked for it (`exit_code` 0), or what is wrong
-/// with the command line (`exit_code` 2). If `is_out_of_memory`, an allocation failed.
+/// The error has the text for the user: the help or the version if the user asked for it (`exit_code` 0), or what is
+/// wrong with the command line (`exit_code` 2). If `is_out_of_memory` is true, an allocation failed.
 pub fn tool_words(alloc: Global, words: &[&str]) -> Result<Words, Error>
     ensures taken { IfOk result (λ w. choice_in w ≡ choice_of (subcommand_of listset (texts words.entry.now))) }
     ensures refused { FailsBy (fault_of listset (texts words.entry.now)) result }
@@ -79,14 +79,14 @@ pub fn tool_words(alloc: Global, words: &[&str]) -> Result<Words, Error>
     }
 }
 
-/// Returns whether the command is `explain`.
+/// Returns `true` if the command is `explain`.
 fn asks_to_explain(words: &Words) -> bool
     ensures { IsTrue result → words.now.command ≡ Explain }
 {
     matches!(words.command, Command::Explain)
 }
 
-/// Explains a file, or why it cannot be opened.
+/// Explains a file, or explains why it cannot be opened.
 fn explain_file<H: Files>(rt: &H, alloc: Global, path: &str) -> Result<Answer, Trouble> {
     match File::open(rt, path) {
         Ok(mut file) => explain_input(alloc, path, &mut file),
@@ -94,11 +94,13 @@ fn explain_file<H: Files>(rt: &H, alloc: Global, path: &str) -> Result<Answer, T
     }
 }
 
-/// Runs the program on its command line, without the program's name, and returns the exit status. Reads the named file through
-/// `rt`, or `input` if no file or `-` is named. Writes the result to `output`, or what is wrong to `stderr`.
+/// Runs the program on its command line, without the program's name, and returns the exit status. Reads the named file
+/// through `rt`, or reads `input` if the file is `-` or none is named. Writes the result to `output`, or what is wrong
+/// to `stderr`.
 ///
-/// `serve` opens with the keys of its FILE or, if that is `-`, of `input`; without FILE it reads nothing. If a word is wrong, no
-/// file is opened. Allocates. `run` and `serve` start threads on `rt` and block until they end; `serve` listens on `rt`.
+/// `serve` opens with the keys in its FILE or, if FILE is `-`, in `input`; without FILE, it reads nothing. If an
+/// argument is wrong, no file is opened. Allocates. `run` and `serve` start threads on `rt` and block until they end.
+/// `serve` listens on `rt`.
 pub fn run_words<
     H: Files + Net<Listener = TcpListener, Stream = TcpStream> + Threads + Wait + Clock + Sync,
     R: Read,

@@ -12,14 +12,14 @@ use tool_base::{
 use tool_replay::{ExampleRequest, Trace, read_example_request};
 use tool_show::{Show, read_show};
 
-/// What a command line asks for, without the file that the command reads.
+/// What a command line asks for, except for the file that the command reads.
 #[derive(Clone, Copy)]
 pub(crate) enum Job {
     Replay(Option<BrokenList>),
     Judge,
-    /// The verdict of `judge` alone.
+    /// Print only the verdict of `judge`.
     Verdict,
-    /// The recording of one key.
+    /// Print the recording of one key.
     OneKey(u32),
     Check,
     Show(Show),
@@ -28,18 +28,18 @@ pub(crate) enum Job {
     Example(ExampleRequest),
     Gen(RandomRequest),
     Run(LivesRequest),
-    /// A set that opens empty.
+    /// Serve a set that opens empty.
     Serve(ServeRequest),
-    /// A set that opens with the keys of the input.
+    /// Serve a set that opens with the keys in the input.
     ServeKeys(ServeRequest),
-    /// All error messages.
+    /// Print all error messages.
     Faults,
     Fault(FaultName),
-    /// An explanation of the standard input.
+    /// Explain standard input.
     Explain,
 }
 
-/// Returns the broken list that the option `--lacks` names. `None` if the option is not given.
+/// Returns the broken list that the option `--lacks` names; `None` if the option is not given.
 fn find_broken(lacks: &Option<String>) -> Result<Option<BrokenList>, ValueName> {
     match lacks {
         None => Ok(None),
@@ -47,7 +47,7 @@ fn find_broken(lacks: &Option<String>) -> Result<Option<BrokenList>, ValueName> 
     }
 }
 
-/// Reads the job of `replay`.
+/// Reads the arguments of `replay`.
 fn read_replay(lacks: &Option<String>) -> Result<Job, ValueName>
     ensures asked { IfSome (asked_replay (option_map string_bytes lacks.now)) (λ r. result ≡ r) }
     ensures known { IfOk result IsKnown }
@@ -58,12 +58,12 @@ fn read_replay(lacks: &Option<String>) -> Result<Job, ValueName>
     }
 }
 
-/// Reads a key.
+/// Parses a key.
 fn read_key(text: &str) -> Result<u32, ValueName> {
     number(text.as_bytes(), 0, u32::MAX).ok_or(ValueName::Key)
 }
 
-/// Reads the job of `judge`.
+/// Reads the arguments of `judge`.
 fn read_judge(brief: bool, only: &Option<String>) -> Result<Job, ValueName>
     ensures asked { IfSome (asked_judge (option_map string_bytes only.now) brief) (λ r. result ≡ r) }
     ensures known { IfOk result IsKnown }
@@ -75,7 +75,7 @@ fn read_judge(brief: bool, only: &Option<String>) -> Result<Job, ValueName>
     }
 }
 
-/// Reads the job of `show`.
+/// Reads the arguments of `show`.
 fn read_show_job(options: &Options) -> Result<Job, ValueName>
     ensures { IfOk result IsKnown }
 {
@@ -90,7 +90,7 @@ fn read_show_job(options: &Options) -> Result<Job, ValueName>
     Ok(Job::Show(Show { lacks, ..show }))
 }
 
-/// Reads the job of `example`.
+/// Reads the arguments of `example`.
 fn read_example(words: &Words) -> Result<Job, ValueName>
     ensures { IfOk result IsKnown }
 {
@@ -102,7 +102,7 @@ fn read_example(words: &Words) -> Result<Job, ValueName>
     Ok(Job::Example(example))
 }
 
-/// Reads the job of `serve`.
+/// Reads the arguments of `serve`.
 fn read_serve(words: &Words) -> Result<Job, ValueName>
     ensures { IfOk result IsKnown }
 {
@@ -113,7 +113,7 @@ fn read_serve(words: &Words) -> Result<Job, ValueName>
     }
 }
 
-/// Reads the job of `faults`.
+/// Reads the arguments of `faults`.
 fn read_faults(words: &Words) -> Result<Job, ValueName>
     ensures { IfOk result IsKnown }
 {
@@ -123,7 +123,7 @@ fn read_faults(words: &Words) -> Result<Job, ValueName>
     }
 }
 
-/// Reads the job of a command line. The error is the first value or option that is missing or wrong.
+/// Returns the job that a command line asks for, or the first value or option that is missing or wrong.
 pub(crate) fn read_job(words: &Words) -> Result<Job, ValueName>
     ensures asked { IfSome (asked (choice_in words.now)) (λ r. result ≡ r) }
     ensures known { IfOk result IsKnown }

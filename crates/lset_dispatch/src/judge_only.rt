@@ -1,4 +1,4 @@
-//! `judge --only KEY`: the recording of one key.
+//! Implements `judge --only KEY`, which prints the recording of one key.
 
 use lset_recording::RecordingReader;
 use std::alloc::Global;
@@ -6,12 +6,12 @@ use std::io::Read;
 use tool_base::{Answer, READ_SIZE, Trouble, ValueName};
 use tool_why::{RunReader, recording_of_key};
 
-/// Returns the recording of the calls of a key in the recording on an input, or of the few that show its refusal. Allocates; blocks as the
-/// input does.
+/// Returns a recording with the calls of one key, or with the few of them that show why the key is refused. Allocates.
+/// Blocks while reading the input.
 ///
 /// # Errors
 ///
-/// Those of `judge_input`; `Bad(ValueName::Key)` if no call is of the key.
+/// Returns the errors of `judge_input`, and `Bad(ValueName::Key)` if the key has no calls.
 pub(crate) fn print_key<R: Read>(
     alloc: Global,
     input: &mut R,

@@ -1,5 +1,5 @@
-//! The program over its command line: parses the words, runs the command on its input, and reports words that are wrong. Only
-//! the system's arguments and the bytes of files are outside.
+//! The program, from its command line on: parses the arguments, runs the command on its input, and reports wrong
+//! arguments. Only the system's arguments and the bytes of files come from outside.
 #![tactic(auto)]
 
 mod below_refusal;

@@ -53,7 +53,7 @@ fn judge<R: Read, W: Write, E: Write>(
     deliver(pointed(made), output, stderr)
 }
 
-/// Judges the input, and prints the verdict alone.
+/// Judges the input and prints only the verdict.
 fn judge_verdict<R: Read, W: Write, E: Write>(
     alloc: Global,
     input: &mut R,
@@ -67,7 +67,7 @@ fn judge_verdict<R: Read, W: Write, E: Write>(
     deliver(made, output, stderr)
 }
 
-/// Judges the open file at a path. The file is read again to print what is wrong in a refused recording.
+/// Judges the open file at a path. If the recording is refused, reads the file again to print what is wrong.
 fn judge_file<H: Files, R: Read, W: Write, E: Write>(
     rt: &H,
     alloc: Global,
@@ -84,8 +84,8 @@ fn judge_file<H: Files, R: Read, W: Write, E: Write>(
     deliver(made, output, stderr)
 }
 
-/// Runs a job, and returns the exit status. Writes the result to `output`, or one line about an error to `stderr`. Some
-/// jobs read `input`. Allocates. `run` and `serve` start threads on `rt` and block until they end; `serve` listens on
+/// Runs a job and returns the exit status. Writes the result to `output`, or one line about an error to `stderr`. Some
+/// jobs read `input`. Allocates. `run` and `serve` start threads on `rt` and block until they end. `serve` listens on
 /// `rt`.
 pub(crate) fn run_job<
     H: Net<Listener = TcpListener, Stream = TcpStream> + Threads + Wait + Clock + Sync,
@@ -123,8 +123,8 @@ pub(crate) fn run_job<
     }
 }
 
-/// Runs a job on the file at a path, as `run_job` does on an input. Returns the exit status. If the file cannot be
-/// opened, writes the line about that to `stderr`.
+/// Runs a job on the file at a path, like `run_job` on an input, and returns the exit status. If the file cannot be
+/// opened, writes a line about that to `stderr`.
 pub(crate) fn run_on_file<
     H: Files + Net<Listener = TcpListener, Stream = TcpStream> + Threads + Wait + Clock + Sync,
     W: Write,

@@ -1,4 +1,4 @@
-//! Computes the columns of a picture in a window: one for each moment at which something happens.
+//! Computes the columns of a picture within a window. There is one column for each moment at which something happens.
 use crate::MOST_WIDTH;
 use crate::beginning::clash_begins;
 use crate::drawn_moments::{moments_shown, next_moment};
@@ -8,8 +8,7 @@ use lset_text::{call_word, reply_word};
 use lset_words::{Call, CallRecord, Reply};
 use std::alloc::{AllocError, Global};
 
-/// A sign on a thread's row at a moment: a call begins; takes effect and changes the set; takes effect without a
-/// change; ends.
+/// A sign on a thread's row: a call begins, takes effect and changes the set, takes effect without a change, or ends.
 #[derive(Clone, Copy)]
 pub(crate) enum Sign {
     Begin(Call),
@@ -25,8 +24,8 @@ pub(crate) struct Mark {
     pub sign: Sign,
 }
 
-/// A column: the signs of one moment, the text of the set (empty if it is not shown here), and the column's width in
-/// characters.
+/// A column of the picture: the signs at one moment, the set as text (empty if it is not shown here), and the column
+/// width in characters.
 #[derive(Drop)]
 pub(crate) struct Column {
     pub moment: u32,
@@ -43,8 +42,8 @@ pub(crate) enum Side {
     After,
 }
 
-/// A drawing: its columns, whether the picture's points are known, the first and the last moment drawn, and whether
-/// anything happens before or after them.
+/// The columns of a picture, and what was left out: whether the linearization points are known, the first and last
+/// moments drawn, and whether anything happens outside of them.
 #[derive(Drop)]
 pub(crate) struct Drawing {
     pub columns: Vec<Column>,
@@ -56,12 +55,13 @@ pub(crate) struct Drawing {
 }
 
 impl Drawing {
-    /// Decides whether anything happens at a moment that is not drawn.
+    /// Returns `true` if anything happens at a moment that is not drawn.
     pub fn is_cut(&self) -> bool {
         self.before || self.after
     }
 
-    /// Returns the window to draw if not all moments fit: for a refused order it begins at the clash.
+    /// Returns a window that begins at the clash, if not all moments fit and the order is refused. Otherwise returns
+    /// `None`.
     pub fn window_of_clash(&self, picture: &Picture, window: Window) -> Option<Window> {
         if !(self.after && window.is_whole()) {
             return None;
@@ -70,7 +70,8 @@ impl Drawing {
         Some(Window { from, ..window })
     }
 
-    /// Returns the position of the moments from `first` to `last`, or from `first` on if `last` is `None`.
+    /// Returns where the moments `first` to `last` lie relative to the drawn ones. If `last` is `None`, the range has
+    /// no end.
     pub fn side_of(&self, first: u32, last: Option<u32>) -> Side {
         match last {
             _ if self.last < first => Side::After,
@@ -79,7 +80,7 @@ impl Drawing {
         }
     }
 
-    /// Returns the position of a call's bar.
+    /// Returns where a call's bar lies relative to the drawn moments.
     pub fn side_of_bar(&self, made: CallRecord) -> Side {
         match made.ended {
             Some((end, _)) => self.side_of(made.begun, Some(end)),
@@ -99,7 +100,7 @@ fn add_begun(marks: &mut Vec<Mark>, picture: &Picture, moment: u32) -> Result<()
     Ok(())
 }
 
-/// Adds the points of a moment. Returns whether a call changes the set there.
+/// Adds the linearization points at a moment. Returns `true` if a call changes the set there.
 fn add_points(marks: &mut Vec<Mark>, picture: &Picture, moment: u32) -> Result<bool, AllocError> {
     let mut changes = false;
     for (index, point) in points_of(picture).iter().enumerate() {
@@ -143,7 +144,7 @@ pub(crate) fn put_call(out: &mut String, call: Call) -> Result<(), AllocError> {
     write!(out, "{word} {key}")
 }
 
-/// Writes a sign and what separates it from the next one: the bar continues after every sign but the last.
+/// Writes a sign and its separator: a bar continues after every sign but the last.
 fn put_sign(out: &mut String, sign: Sign) -> Result<(), AllocError> {
     match sign {
         Sign::Begin(call) => {
@@ -160,7 +161,7 @@ fn put_sign(out: &mut String, sign: Sign) -> Result<(), AllocError> {
     }
 }
 
-/// Appends the signs of one thread, such as `[add 5-*-`.
+/// Appends all signs of one thread in a column, such as `[add 5-*-`.
 pub(crate) fn put_signs(out: &mut String, marks: &[Mark], thread: u32) -> Result<(), AllocError> {
     for mark in marks {
         if mark.thread == thread {
@@ -170,7 +171,7 @@ pub(crate) fn put_signs(out: &mut String, marks: &[Mark], thread: u32) -> Result
     Ok(())
 }
 
-/// Returns the width of a column: its longest entry with the separator, at most `MOST_WIDTH`.
+/// Returns the width of a column: the length of its longest entry plus the separator, capped at `MOST_WIDTH`.
 fn width_of(alloc: Global, moment: u32, marks: &[Mark], set: &str) -> Result<usize, AllocError> {
     let mut most = format!(in alloc; "{moment} ")?.len();
     if set.len() >= most {
@@ -184,8 +185,8 @@ fn width_of(alloc: Global, moment: u32, marks: &[Mark], set: &str) -> Result<usi
     Ok(most.min(MOST_WIDTH))
 }
 
-/// Computes the columns of these moments. The set is shown in the first column and in each with a change, if points are
-/// known.
+/// Computes the columns at these moments. If the points are known, the set is shown in the first column and after each
+/// change.
 fn columns_at(
     alloc: Global,
     picture: &Picture,
@@ -216,7 +217,7 @@ fn columns_at(
     Ok(columns)
 }
 
-/// Computes the drawing of a picture in a window. Allocates.
+/// Lays out a picture within a window.
 pub(crate) fn drawing_in(
     alloc: Global,
     picture: &Picture,
@@ -236,7 +237,7 @@ pub(crate) fn drawing_in(
     Ok(drawing)
 }
 
-/// Sets `last` to the moment of the last column, and `after` accordingly.
+/// Sets `last` to the moment of the last column, and updates `after` to match.
 pub(crate) fn end_at_last(picture: &Picture, drawing: &mut Drawing) {
     if let Some(column) = drawing.columns.last() {
         drawing.last = column.moment;

@@ -19,9 +19,9 @@ fn clashes_in(keys: &[u32], refusal: &Refusal, number: usize, made: &CallRecord)
     }
 }
 
-/// Decides whether the call `made`, with this number, is drawn as a clash: the refusal of the order names it or, if the
-/// keys are wrong, its key is in only one of the order's final keys and the report's keys. No call clashes if the order
-/// is not refused.
+/// Returns `true` if the call `made`, with this number, is drawn as a clash. A call clashes if the refusal names it or,
+/// if the final keys are wrong, if its key is only in the order's or only in the report's final keys. If the order is
+/// accepted, no call clashes.
 pub(crate) fn is_clash(picture: &Picture, number: usize, made: &CallRecord) -> bool {
     match &picture.refusal {
         None => false,

@@ -1,17 +1,17 @@
-//! Finds the moments at which something happens in a picture.
+//! Finds the moments of a picture at which something happens.
 
 use crate::MOST_COLUMNS;
 use crate::picture::{Picture, Window, points_of};
 use std::alloc::{AllocError, Global};
 
-/// Decides whether a window that begins at `from`, counted from 1, has no column because every call begins, takes
-/// effect and ends before it. For a picture without calls the answer is no.
+/// Returns `true` if every call begins, takes effect and ends before the moment `from` (counted from 1), so that a
+/// window from there is empty. Returns `false` for a picture without calls.
 pub fn is_past_the_last(picture: &Picture, from: u32) -> bool {
     let is_empty = picture.history.calls().is_empty() && points_of(picture).is_empty();
     !is_empty && next_moment(picture, u64::from(from)).is_none()
 }
 
-/// Returns the earlier of `best` and `moment`, or `best` if `moment` is before `from`.
+/// Returns the earlier of `best` and `moment`. Ignores `moment` if it is before `from`.
 fn sooner(best: Option<u32>, from: u64, moment: u32) -> Option<u32> {
     match best {
         _ if u64::from(moment) < from => best,
@@ -20,7 +20,7 @@ fn sooner(best: Option<u32>, from: u64, moment: u32) -> Option<u32> {
     }
 }
 
-/// Returns the first moment, not before `from`, at which a call begins, takes effect or ends.
+/// Returns the first moment, at or after `from`, at which a call begins, takes effect or ends.
 pub(crate) fn next_moment(picture: &Picture, from: u64) -> Option<u32> {
     let mut best = None;
     for made in picture.history.calls() {
@@ -35,7 +35,7 @@ pub(crate) fn next_moment(picture: &Picture, from: u64) -> Option<u32> {
     best
 }
 
-/// Returns the moments of a window that have a column.
+/// Returns the moments within a window that get a column.
 pub(crate) fn moments_shown(
     alloc: Global,
     picture: &Picture,

@@ -1,19 +1,19 @@
-//! Computes the set below a picture, and writes sets as text.
+//! Computes the sets shown below a picture, and writes sets as text.
 use crate::MOST_KEYS_SHOWN;
 use crate::picture::{Picture, Standing, standing_at};
 use lset_words::Call;
 use std::alloc::{AllocError, Global};
 use std::collections::BTreeSet;
 
-/// The set after the changes of the first `next` places.
+/// The set after the first `next` places of an order.
 #[derive(Drop)]
 pub(crate) struct Reached {
     keys: BTreeSet<u32>,
-    /// How many places have been applied.
+    /// The number of places applied so far.
     next: usize,
 }
 
-/// Returns the set of the opening keys.
+/// Returns the set before the first place: the opening keys.
 pub(crate) fn reached_at_first(alloc: Global, picture: &Picture) -> Result<Reached, AllocError> {
     let mut keys = BTreeSet::new(alloc);
     for key in picture.history.opening() {
@@ -35,8 +35,8 @@ fn change_set(keys: &mut BTreeSet<u32>, call: Call) -> Result<(), AllocError> {
     Ok(())
 }
 
-/// Returns the call of a place that changes the set. `Some(None)` if the place changes nothing, `None` if it has no
-/// point or its point is after the moment.
+/// Returns the call of a place if it changes the set, `Some(None)` if it changes nothing, or `None` if the place has no
+/// point up to this moment.
 fn settled(standing: Standing, moment: u32) -> Option<Option<Call>> {
     let point = standing.point?;
     if moment < point.moment {
@@ -48,7 +48,7 @@ fn settled(standing: Standing, moment: u32) -> Option<Option<Call>> {
     }
 }
 
-/// Applies the changes up to a moment.
+/// Applies all changes up to a moment.
 pub(crate) fn go_on(
     reached: &mut Reached,
     picture: &Picture,
@@ -69,7 +69,7 @@ pub(crate) fn go_on(
     Ok(())
 }
 
-/// Writes the first keys of a set of `count` keys, with a separator between two, and the number of further keys.
+/// Writes the keys `first` of a set of `count` keys, separated by `separator`, and how many more there are.
 fn put_keys(
     out: &mut String,
     separator: &str,
@@ -99,7 +99,7 @@ pub(crate) fn put_set(out: &mut String, keys: &[u32]) -> Result<(), AllocError> 
     out.push_str("}")
 }
 
-/// Returns the text of a set. Reads no more keys than are shown.
+/// Returns a set as text. Reads only the keys that are shown.
 pub(crate) fn set_text(alloc: Global, reached: &Reached) -> Result<String, AllocError> {
     let mut first = Vec::new(alloc);
     let mut others = reached.keys.iter();
@@ -115,7 +115,7 @@ pub(crate) fn set_text(alloc: Global, reached: &Reached) -> Result<String, Alloc
     Ok(out)
 }
 
-/// Appends the line of the final keys, such as `keys  5 9`.
+/// Appends the line with the final keys, such as `keys  5 9`.
 pub(crate) fn put_keys_line(out: &mut String, keys: &[u32]) -> Result<(), AllocError> {
     out.push_str("keys")?;
     if !keys.is_empty() {

@@ -1,7 +1,7 @@
-//! Pictures of histories, as text or SVG.
+//! Draws histories as text or SVG.
 //!
-//! A picture has a bar for each call, the point where the call takes effect, the set below, and the order. It states
-//! why an order is refused, or which event of a schedule is.
+//! A picture has a bar for each call, a mark at its linearization point, the set over time, and the order. If the order
+//! is refused, the picture says why; if a schedule's event is refused, it says which one.
 #![tactic(auto)]
 
 mod beginning;
@@ -30,8 +30,8 @@ pub use text::write_picture;
 /// The maximum number of columns of a picture.
 const MOST_COLUMNS: usize = 64;
 
-/// The maximum number of keys shown of a set. The number of further keys is printed.
+/// The maximum number of keys that are printed for a set. After them comes the number of further keys.
 const MOST_KEYS_SHOWN: usize = 8;
 
-/// The maximum width of a column. No entry of a history with an order is wider.
+/// The maximum width of a column. No entry of a linearizable history is wider.
 const MOST_WIDTH: usize = 255;

@@ -1,4 +1,4 @@
-//! Writes the lines above and below the rows of a picture: the heading, which moments are drawn, and the order.
+//! Writes the lines above and below the rows of a picture: the heading, the range of moments drawn, and the order.
 use crate::columns::{Drawing, Side, put_call};
 use crate::drawn_sets::put_keys_line;
 use crate::picture::{Picture, Standing, standing_at};
@@ -28,8 +28,8 @@ pub(crate) fn put_heading(out: &mut String, picture: &Picture) -> Result<(), All
     Ok(())
 }
 
-/// Appends which moments are drawn, and the options that draw those before and after them, such as
-/// `moments 20 to 33 of 35; --to 19 goes before; --from 34 goes on`.
+/// Appends the range of moments drawn, and the options that show the moments before and after them, such as `moments 20
+/// to 33 of 35; --to 19 goes before; --from 34 goes on`.
 pub(crate) fn put_cut(
     out: &mut String,
     picture: &Picture,
@@ -81,8 +81,8 @@ fn put_place(out: &mut String, number: usize, standing: Standing) -> Result<(), 
     writeln!(out, " {reply}{no_change}{still_open}")
 }
 
-/// Returns the position of a place: that of its point or, without a point, that of its call's bar. `None` if the
-/// history has no such call.
+/// Returns where a place lies relative to the drawn moments, by its point or else by its call's bar. `None` if the
+/// history does not have the call.
 fn side_of(standing: Standing, drawing: &Drawing) -> Option<Side> {
     match standing.point {
         Some(point) => Some(drawing.side_of(point.moment, Some(point.moment))),
@@ -90,8 +90,8 @@ fn side_of(standing: Standing, drawing: &Drawing) -> Option<Side> {
     }
 }
 
-/// Decides whether a place whose call is not in the history is written: if all moments are drawn, or if the refusal
-/// names the call.
+/// Returns `true` if a place whose call is not in the history is printed: all moments are drawn, or the refusal names
+/// the call.
 fn is_told(picture: &Picture, drawing: &Drawing, place: Placed) -> bool {
     match &picture.refusal {
         _ if !drawing.is_cut() => true,
@@ -100,15 +100,15 @@ fn is_told(picture: &Picture, drawing: &Drawing, place: Placed) -> bool {
     }
 }
 
-/// The numbers of places that are not drawn: before the drawn moments, after them, and of calls that the history has
-/// not.
+/// How many places were not printed: those before the drawn moments, those after them, and those whose call is not in
+/// the history.
 struct LeftOut {
     before: usize,
     after: usize,
     unknown: usize,
 }
 
-/// Writes the places that are drawn, and returns how many are not.
+/// Writes the places that are drawn, and returns how many are left out.
 fn put_places(
     out: &mut String,
     picture: &Picture,
@@ -137,7 +137,7 @@ fn put_places(
     })
 }
 
-/// Writes how many places are not drawn.
+/// Writes how many places are left out.
 fn put_left_out(out: &mut String, left: LeftOut) -> Result<(), AllocError> {
     let LeftOut {
         before,
@@ -165,8 +165,8 @@ fn put_order(out: &mut String, picture: &Picture, drawing: &Drawing) -> Result<(
     put_left_out(out, left)
 }
 
-/// Appends the lines below the rows: the order with the number of places left out, the final keys, `legend` if the
-/// points are known, and at last the refused event of a schedule, if any.
+/// Appends the lines below the rows: the order, how many places are left out, the final keys, `legend` if the points
+/// are known, and the refused event of a schedule, if any.
 pub(crate) fn put_lines_below(
     out: &mut String,
     picture: &Picture,

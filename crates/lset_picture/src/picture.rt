@@ -2,26 +2,26 @@ use crate::refusal::Refusal;
 use lset_history::History;
 use lset_words::{CallRecord, Kind, Placed, Point};
 
-/// A picture of a history: the bars are its calls, by number.
+/// What a picture shows of a run or report: a history, an order of its calls, and the final keys.
 ///
-/// `points` never decrease along the order. They are drawn if there is one for each place and the order is not refused.
+/// `points` never decrease along the order. They are drawn only if each place has one and the order is not refused.
 #[derive(Drop)]
 pub struct Picture {
     pub kind: Kind,
     pub history: History,
-    /// The number of events made; `None` for the picture of a report.
+    /// The number of events executed; `None` for the picture of a report.
     pub events: Option<u32>,
     pub order: Vec<Placed>,
     /// One point for each place of the order; empty if the order is refused.
     pub points: Vec<Point>,
     pub keys: Vec<u32>,
     pub refusal: Option<Refusal>,
-    /// The line number of a schedule's first event that is not enabled, and the name of the cause.
+    /// The first event of a schedule that is not enabled: its line number, and the name of the cause.
     pub refused: Option<(u64, &'static str)>,
 }
 
-/// The first and the last moment to draw, counted from 1. Only the first 64 moments in a window at which something
-/// happens are drawn.
+/// The first and the last moment to draw, counted from 1. At most 64 moments are drawn, namely the first at which
+/// something happens.
 #[derive(Clone, Copy)]
 pub struct Window {
     pub from: u32,
@@ -29,18 +29,18 @@ pub struct Window {
 }
 
 impl Window {
-    /// Decides whether the window has every moment.
+    /// Returns `true` if the window includes every moment.
     pub fn is_whole(self) -> bool {
         self.from <= 1 && self.to == u32::MAX
     }
 }
 
-/// Decides whether the points are known: the order is not refused, and each place has a point.
+/// Returns `true` if the linearization points are known: the order is not refused, and each place has a point.
 pub(crate) fn are_known(picture: &Picture) -> bool {
     picture.refusal.is_none() && picture.points.len() == picture.order.len()
 }
 
-/// Returns the points that are drawn: all if they are known, otherwise none.
+/// Returns the points to draw: all of them if they are known, otherwise none.
 pub(crate) fn points_of(picture: &Picture) -> &[Point] {
     if are_known(picture) {
         &picture.points
@@ -49,7 +49,7 @@ pub(crate) fn points_of(picture: &Picture) -> &[Point] {
     }
 }
 
-/// A place of the order, with its call if the history has it, and its point if it is known.
+/// A place in the order, its call if the history has it, and its linearization point if known.
 #[derive(Clone, Copy)]
 pub(crate) struct Standing {
     pub placed: Placed,

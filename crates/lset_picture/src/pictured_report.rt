@@ -5,8 +5,8 @@ use lset_report::Report;
 use lset_words::{Effect, Point};
 use std::alloc::{AllocError, Global};
 
-/// Returns a linearization point for each place of an order that explains its calls (Herlihy and Wing): the later of
-/// the begin of its call and the point of the place before.
+/// Computes a linearization point for each place of an order that explains the history: the begin of its call, or the
+/// previous place's point if that is later.
 fn first_points(
     alloc: Global,
     history: &History,
@@ -26,11 +26,11 @@ fn first_points(
     Ok(points)
 }
 
-/// Returns the picture of a report: its history, its order and its keys. If the order explains the history and leaves
-/// exactly the keys, the picture has points; otherwise it has the fault that `check_order` finds, and no points.
+/// Returns the picture of a report. If the order explains the history and leaves exactly the final keys, each place
+/// gets a linearization point. Otherwise the picture has no points, but the fault that `check_order` finds.
 ///
-/// Takes about as long as `check_order`. Allocates; `AllocError` if that fails. (The pictures are those of Herlihy and
-/// Wing's histories.)
+/// Takes about as long as `check_order`. Returns `AllocError` if an allocation fails. (Such pictures of histories are
+/// due to Herlihy and Wing.)
 pub fn picture_of_report(alloc: Global, report: Report) -> Result<Picture, AllocError> {
     let order = report.order.as_slice();
     let refusal = why_refused(alloc, &report.history, order, &report.keys)?;

@@ -1,25 +1,25 @@
-//! Writes the elements of an SVG, one on a line, and computes their positions. All numbers are in pixels.
+//! Writes SVG elements, one per line, and computes their positions in pixels.
 use crate::columns::Column;
 use std::alloc::AllocError;
 
-/// The classes that colour a thread's elements. They are used in turn.
+/// The CSS classes for threads' colours, assigned in turn.
 const THREADS: [&str; 8] = [
     "thread-0", "thread-1", "thread-2", "thread-3", "thread-4", "thread-5", "thread-6", "thread-7",
 ];
 
-/// Returns the class of the elements of a thread.
+/// Returns the CSS class for a thread's elements.
 pub(crate) fn thread_class(thread: u32) -> &'static str {
     THREADS[(thread % 8) as usize]
 }
 
-/// A position on the sheet: the distances from the left and from the top.
+/// A position on the sheet, in pixels from the left and from the top.
 #[derive(Clone, Copy)]
 pub(crate) struct Spot {
     pub x: u64,
     pub y: u64,
 }
 
-/// Returns the distance of a moment from the left: the widths of the columns of earlier moments come before.
+/// Returns the x position of a moment: the total width of the columns before it.
 pub(crate) fn x_of(columns: &[Column], moment: u64) -> u64 {
     let mut x = 88u64;
     for column in columns {
@@ -30,22 +30,22 @@ pub(crate) fn x_of(columns: &[Column], moment: u64) -> u64 {
     x
 }
 
-/// Returns the distance of the right end of the columns from the left.
+/// Returns the x position of the right edge of the columns.
 pub(crate) fn right_edge(columns: &[Column]) -> u64 {
     x_of(columns, 4_294_967_296)
 }
 
-/// Returns the distance of a thread's row from the top. The row of the set is one row below the last thread.
+/// Returns the y position of a thread's row. The set's row is directly below the last thread's.
 pub(crate) fn lane_y(thread: u32) -> u64 {
     40 * u64::from(thread) + 90
 }
 
-/// Returns the distance from the top of line `number` of the text below the rows.
+/// Returns the y position of line `number` in the text below the rows.
 pub(crate) fn line_y(threads: u32, number: usize) -> u64 {
     40 * u64::from(threads) + 126 + 16 * number.min(1_000_000) as u64
 }
 
-/// Appends a text with these classes that begins at `start`.
+/// Appends a text element with these classes, starting at `start`.
 pub(crate) fn put_text(
     out: &mut String,
     class: &str,
@@ -60,12 +60,12 @@ pub(crate) fn put_text(
     )
 }
 
-/// Appends a text in the plain colour.
+/// Appends a text element in the default colour.
 pub(crate) fn put_plain(out: &mut String, x: u64, y: u64, text: &str) -> Result<(), AllocError> {
     put_text(out, "plain", "", Spot { x, y }, text)
 }
 
-/// Appends a line of a class from `start` to `end`.
+/// Appends a line element of this class from `start` to `end`.
 pub(crate) fn put_line(
     out: &mut String,
     class: &str,
@@ -80,7 +80,7 @@ pub(crate) fn put_line(
     )
 }
 
-/// Appends a circle with these classes around `centre`.
+/// Appends a circle element with these classes, centred at `centre`.
 pub(crate) fn put_circle(
     out: &mut String,
     kind: &str,

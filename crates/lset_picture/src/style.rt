@@ -1,7 +1,7 @@
-/// The style sheet of each SVG, by class. Its rules apply inside the SVG only, even if the SVG is part of a page.
+/// The style sheet that every SVG contains. Its rules stay inside the SVG, even if it is embedded in a page.
 ///
-/// The threads' colours differ for readers who do not see all colours, and each has a contrast of at least 4.5 to its
-/// ground. A clash is thick as well as red.
+/// The threads' colours can be told apart by colour-blind readers, and each has a contrast of at least 4.5 against the
+/// background. A clash is drawn thick as well as red.
 pub(crate) const STYLE: &str = "\
 <style>
 .listset { color: #1b1f24 }

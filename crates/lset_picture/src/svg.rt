@@ -1,5 +1,5 @@
-//! Writes a picture as an SVG: a line for each call, a circle for each point, the set below them, and the order as
-//! text.
+//! Writes a picture as an SVG: a line for each call, a circle for each linearization point, the set below them, and the
+//! order as text.
 use crate::columns::{Drawing, Side, drawing_in, put_call};
 use crate::drawn_clashes::is_clash;
 use crate::orders::{put_cut, put_heading, put_lines_below};
@@ -16,17 +16,17 @@ use std::alloc::{AllocError, Global};
 const LEGEND: &str =
     "filled: changes the set    open: changes nothing, its reply fits there    dashed: still open";
 
-/// The number of characters up to which a line of text widens the sheet.
+/// The maximum number of characters for which a line of text widens the sheet.
 const MOST_CHARACTERS: usize = 255;
 
-/// The lines above the rows: the heading, and why the order is refused (empty if it is not).
+/// The lines above the rows: the heading, and the reason if the order is refused (otherwise empty).
 #[derive(Clone, Copy)]
 struct Above<'a> {
     heading: &'a str,
     refusal: &'a str,
 }
 
-/// Begins the sheet, with its title, style and ground. It is wide enough for the columns and the lines of text.
+/// Opens the SVG with its title, style and background. The sheet is wide enough for the columns and the lines of text.
 fn put_sheet(
     out: &mut String,
     threads: u32,
@@ -52,7 +52,8 @@ fn put_sheet(
     out.push_str("<rect class=\"ground\" width=\"100%\" height=\"100%\"/>\n")
 }
 
-/// Adds the lines above the rows: the heading, why the order is refused, and which moments are drawn if some are not.
+/// Adds the lines above the rows: the heading, the reason if the order is refused, and the range of moments if not all
+/// are drawn.
 fn put_above(
     alloc: Global,
     out: &mut String,
@@ -74,7 +75,7 @@ fn put_above(
     Ok(())
 }
 
-/// Adds the labels of the rows, the moments and the sets.
+/// Adds the text of the rows: thread names, moments and sets.
 fn put_labels(
     alloc: Global,
     out: &mut String,
@@ -110,7 +111,7 @@ fn put_columns(
     Ok(())
 }
 
-/// Adds the line of a call.
+/// Adds the line that represents a call.
 fn put_bar(
     alloc: Global,
     out: &mut String,
@@ -129,7 +130,7 @@ fn put_bar(
     put_line(out, &class, Spot { x, y }, Spot { x: end, y })
 }
 
-/// Adds the text of a call above its begin, if it begins in the window.
+/// Adds a call's text above its begin, if that is in the window.
 fn put_begin(
     alloc: Global,
     out: &mut String,
@@ -147,7 +148,7 @@ fn put_begin(
     put_text(out, thread_class(made.thread), clash, Spot { x, y }, &call)
 }
 
-/// Adds the reply after the end of a call, if the end is in the window.
+/// Adds a call's reply after its end, if that is in the window.
 fn put_end(
     alloc: Global,
     out: &mut String,
@@ -168,7 +169,7 @@ fn put_end(
     put_text(out, thread_class(made.thread), clash, Spot { x, y }, &text)
 }
 
-/// Adds the bars of the calls that are at least partly in the window. A call that clashes is marked.
+/// Adds the bars of all calls that overlap the window. A clashing call is marked.
 fn put_bars(
     alloc: Global,
     out: &mut String,
@@ -191,7 +192,7 @@ fn put_bars(
 }
 
 /// Returns the position of a place's point, its thread, and whether it changes the set; `None` if the point is unknown
-/// or not drawn.
+/// or outside of the window.
 fn dot_of(standing: Standing, drawing: &Drawing) -> Option<(Spot, u32, bool)> {
     let (made, point) = (standing.made?, standing.point?);
     if point.moment < drawing.from || drawing.last < point.moment {
@@ -202,7 +203,7 @@ fn dot_of(standing: Standing, drawing: &Drawing) -> Option<(Spot, u32, bool)> {
     Some((Spot { x, y }, made.thread, point.change))
 }
 
-/// Adds a circle for each point if `circles`, otherwise a thin line from each point down to the set.
+/// Adds the points: as circles if `circles` is true, otherwise as thin lines down to the set.
 fn put_points(
     out: &mut String,
     picture: &Picture,
@@ -227,7 +228,7 @@ fn put_points(
     Ok(())
 }
 
-/// Adds the rows: labels, moments and sets, then the thin lines, the bars, and the circles on top.
+/// Adds the rows in drawing order: labels, moments and sets, then the thin lines, the bars, and the circles on top.
 fn put_rows(
     alloc: Global,
     out: &mut String,
@@ -249,14 +250,14 @@ fn put_below(out: &mut String, threads: u32, below: &str) -> Result<(), AllocErr
     Ok(())
 }
 
-/// Draws a picture as an SVG, with the moments in `window`, counted from 1, but only the first 64 at which something
-/// happens.
+/// Draws a picture as an SVG. It shows the moments in `window`, counted from 1, but at most the first 64 at which
+/// something happens.
 ///
-/// If a window of all moments does not fit, the drawing of a refused order begins with the call that the refusal is
-/// about. A call is a line in the colour of its thread, dashed if it is pending, thick if it clashes in a refused order
-/// (`is_clash`). A point is a circle, filled if the set changes, with a thin line down to the set. The order is below
-/// as text. The style sheet has a dark ground for readers who prefer one. The SVG has no script and refers to nothing
-/// outside. Allocates; `AllocError` if that fails.
+/// If `window` asks for all moments and they do not fit, the drawing of a refused order begins at the call that the
+/// refusal names. A call is a line in its thread's colour: dashed if it is pending, thick if it clashes in a refused
+/// order (`is_clash`). A linearization point is a circle, filled if the call changes the set, with a thin line down to
+/// the set. The order is below, as text. The style sheet has a dark background for readers who prefer one. The SVG has
+/// no script and no external references. Returns `AllocError` if an allocation fails.
 pub fn write_svg(alloc: Global, picture: &Picture, window: Window) -> Result<Vec<u8>, AllocError> {
     let mut drawing = drawing_in(alloc, picture, window)?;
     if let Some(window) = drawing.window_of_clash(picture, window) {

@@ -1,4 +1,4 @@
--- The recorder is ready for each enabled event of a run, and stays the recorder of the run after it.
+-- At each enabled event of a run, the recorder can record the event. Afterwards it still matches the run.
 use Rattle.std.proofs.Common.{◌≡◌, ℕ, suc, ◌+◌, ◌<◌, ◌⊎◌, inl, inr, List, sym, refl, subst, ap, ◌∙◌, add-one, arith}
 use Rattle.lset_words.specs.Account.{Account, Enters}
 use Rattle.lset_words.specs.Words.{Opening, sizes}
@@ -20,7 +20,7 @@ use Rattle.lset_replay.proofs.KeyChanges.{HoldsKeys}
 use Rattle.lset_replay.proofs.FollowedRuns.{TellsKeys, holds_keys, shown}
 use Rattle.lset_replay.proofs.RecorderReady.{may_begin, may_step}
 
--- The effect of an event is its entry in the log.
+-- The effect that the machine reports for an event is the event's entry in the log.
 pub told_entry : (T : Table) (s : State) (e : Event) → entry_told e (told T s e) ≡ entry_of T s e
 told_entry T s (Begin t call) = refl
 told_entry T s (Go t) = refl
@@ -38,7 +38,7 @@ run_more T op es k r e = record {
     last_or_before : (j k : ℕ) → j < suc k → (j ≡ k) ⊎ (j < k)
     last_or_before j k l = grind arith
 
--- ---- the invariant after each event
+-- ---- the invariant after another event
 module _ (T : Table) (op : Opening) (events : List LineEvent) (k : ℕ) (w : WorldState)
     (r : Recorder) (h : HasFollowed T op events k w r) (next : LineEvent) (there : ComesNext events k next) where
   abbrev es : ℕ → Event
@@ -85,7 +85,7 @@ module _ (T : Table) (op : Opening) (events : List LineEvent) (k : ℕ) (w : Wor
       by_cause step.NoThread f = f
       by_cause cause f = f
 
-  -- The recorder is ready, if the runs of the list have accounts.
+  -- The recorder can record the next event, if the list's runs have accounts.
   module _ (accounts : TellsKeys T) where
     open shown T op events use {log, contents, counts}
 

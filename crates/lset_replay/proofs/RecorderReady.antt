@@ -1,4 +1,4 @@
--- The recorder is ready for the next event of a run.
+-- The recorder is always ready to record the next event of a run.
 use Rattle.std.proofs.Common.{◌≡◌, ℕ, zero, suc, ◌<◌, ◌≤◌, ◌^◌, Bool, true, false, List, [], ◌∷◌, get_or, sym, refl, subst, ap, ◌∙◌, arith, ◌&&◌, length}
 use Rattle.std.specs.Prelude.{All, if◌then◌else◌, Contains as InList, ◌==◌, Option, None, is_none, IfSome}
 use Rattle.std.proofs.lemmas.List.Elements.{All-from_get_or, All-map}
@@ -27,7 +27,7 @@ use Rattle.lset_replay.specs.Trace.{Trace, trace_at, trace_after, trace_of, MayS
 use Rattle.lset_replay.proofs.ReplayKept.{Follows, follows_beginning}
 use Rattle.lset_replay.proofs.StepKept.{follows_step}
 
--- ---- the opening keys in a trace before its first event
+-- ---- the opening keys, before the first event
 
 one_upto : (i : ℕ) → i < 1 → get_or (0 ∷ []) i 0 ≤ 0
 one_upto zero l = omega arith
@@ -66,7 +66,7 @@ module _ (op : Opening) (contents : Contents) (opens : (k : ℕ) → (contents 0
 module _ (op : Opening) (last : ℕ) (log : Log) (contents : Contents) (counts : Counts)
     (account : Account op last log contents counts)
     (low : HoldsKeys last contents) where
-  -- THE TRACE of a run meets its invariant.
+  -- THE TRACE of every run satisfies its invariant.
   entered : (k : ℕ) → k < last → (s : Trace) → (e : Entry) → log k ≡ e → Enters op.threads op.quota log contents counts k e
       → Follows op log contents counts k s
       → Follows op log contents counts (suc k) (trace_after (suc k) e s)
@@ -162,7 +162,7 @@ module _ (op : Opening) (last : ℕ) (log : Log) (contents : Contents) (counts :
           may_change contents k (moments_of r.changes) now.upto now.keys change en.content,
         )
 
--- There are at most as many calls as events.
+-- There are never more calls than events.
 pub few_calls : (log : Log) (k : ℕ) → length (calls_at log k) ≤ k
 few_calls log zero = omega arith
 few_calls log (suc k) = at (log k) refl (few_calls log k)

@@ -1,4 +1,4 @@
--- The trace after the first events of a run: the history, the pending calls, the points of the calls.
+-- The trace after the first events of a run: its history, its pending calls, and their linearization points.
 use Rattle.std.proofs.lemmas.Grind.{common_steps}
 use Rattle.std.proofs.Common.{◌≡◌, ◌≢◌, ℕ, suc, ◌+◌, ◌<◌, ◌≤◌, true, false, inl, inr, List, [], ◌∷◌, ◌++◌, length, map, sym, refl}
 use Rattle.std.proofs.Common.{subst, ap, ◌∙◌, arith, length-set, get_or-set_same, get_or-set_other}
@@ -24,14 +24,14 @@ use Rattle.lset_history.specs.Changes.{is_present, IsBounded}
 use Rattle.lset_history.proofs.ChangeLaws.{all_upto_later}
 use Rattle.lset_replay.proofs.KeyChanges.{Tells, changes_by, quiet_keys}
 
--- A PENDING CALL of a thread, at moment k
+-- A PENDING CALL of a thread at moment k
 pub record IsWatched (log : Log) (contents : Contents) (counts : Counts) (k t : ℕ) (o : OpenCall) : Type 0 where
   pub here : OpenNumber (calls_at log k) t o.number o.call o.begun
   pub since : o.begun ≤ k
-  -- until its change, the count of its thread stays the same
+  -- until the call changes the set, its thread's count stays the same
   pub steady : has_changed log t k ≡ false → (m : ℕ) → o.begun ≤ m → m ≤ k → counts m t ≡ counts k t
 
--- THE POINT of a call
+-- THE LINEARIZATION POINT of a call
 abbrev pub PlaceBy : ℕ → Contents → Counts → TracedCall → Option ℕ → Option (ℕ × Reply) → Option Linearized → Type 0
 PlaceBy q contents counts x (Some m) ended p = p ≡ Some (changed_at m)
 PlaceBy q contents counts x None None p = p ≡ None
@@ -41,7 +41,7 @@ PlaceBy q contents counts x None (Some end) p =
 abbrev pub PlaceOf : ℕ → Contents → Counts → TracedCall → Option Linearized → Type 0
 PlaceOf q contents counts x p = PlaceBy q contents counts x x.changed x.ended p
 
--- THE TRACE after k events
+-- THE TRACE after k events describes the run so far
 pub record Follows (op : Opening) (log : Log) (contents : Contents) (counts : Counts) (k : ℕ) (s : Trace) : Type 0 where
   pub history : s.calls ≡ history_at log k
   pub seats : length s.under_way ≡ op.threads
@@ -55,7 +55,7 @@ pub record Follows (op : Opening) (log : Log) (contents : Contents) (counts : Co
   pub placed : (i : ℕ) → i < length (calls_at log k)
       → PlaceOf op.quota contents counts (traced_at (calls_at log k) i) (place_at s.places i)
 
--- ---- the effect of a step on the parts of a trace
+-- ---- what a step does to each part of a trace
 abbrev pub change_place : Option Change → ℕ → Option Linearized → Option Linearized
 change_place None m p = p
 change_place (Some c) m p = Some (changed_at m)
@@ -134,7 +134,8 @@ module _ (m t : ℕ) where
 pub calls_are : (log : Log) (k : ℕ) (e : Entry) → log k ≡ e → calls_at log (suc k) ≡ calls_after (suc k) e (calls_at log k)
 calls_are log k e at = ap (λ z. calls_after (suc k) z (calls_at log k)) at
 
--- A pending call keeps its facts, if the count of its thread stays the same until its change.
+-- The facts about a pending call still hold at the next moment, if its thread's count stays the same until the call
+-- changes the set.
 module _ (log : Log) (contents : Contents) (counts : Counts) (k u : ℕ) (o : OpenCall)
     (quiet : has_changed log u (suc k) ≡ false → (has_changed log u k ≡ false) × (counts (suc k) u ≡ counts k u))
     (w : IsWatched log contents counts k u o) where

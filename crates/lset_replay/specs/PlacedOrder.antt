@@ -1,4 +1,4 @@
--- The order of placement, from the linearization point of each call.
+-- The order of the calls, sorted by their linearization points.
 use Rattle.std.specs.Prelude.{◌≡◌, ℕ, suc, List, [], ◌∷◌, Option, Some, None, AllPairs}
 use Rattle.std.specs.List.Sorted.{IsPermutation}
 use Rattle.lset_words.specs.declared.history.Placed.{Placed}
@@ -10,14 +10,14 @@ use Rattle.lset_replay.specs.declared.places.Linearized.{Linearized}
 abbrev pub point_of : Linearized → Point
 point_of p = record { moment = p.moment; change = p.change }
 
--- The calls that have a linearization point, by their numbers
+-- The calls that have a linearization point, in the order of their numbers.
 abbrev pub pointed_from : ℕ → List (Option Linearized) → List Pointed
 pointed_from number [] = []
 pointed_from number (None ∷ ps) = pointed_from (suc number) ps
 pointed_from number (Some p ∷ ps) =
     record { point = point_of p; placed = record { call = number; reply = p.reply } } ∷ pointed_from (suc number) ps
 
--- The order of these calls by their points: by moment; at one moment the change first, then by number
+-- The order is sorted by linearization points: by moment and, at one moment, the change first, then by call number.
 pub record IsOrderOf (ps : List (Option Linearized)) (order : List Placed) : Type 0 where
   pub sorted : List Pointed
   pub moved : IsPermutation (pointed_from 0 ps) sorted

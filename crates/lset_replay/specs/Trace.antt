@@ -1,4 +1,4 @@
--- The fields of a recorder, as a function of the effects of the events.
+-- The fields of a recorder, computed from the effects of the events.
 use Rattle.std.specs.Prelude.{◌≡◌, ℕ, zero, suc, ◌-◌, ◌<◌, ◌≤◌, Bool, true, false, not, List, [], ◌∷◌, ◌++◌, length, replicate}
 use Rattle.std.specs.Prelude.{Option, Some, None, slice_index_or, slice_set, IsSomeAnd}
 use Rattle.lset_words.specs.declared.Call.{Call}
@@ -22,15 +22,15 @@ use Rattle.lset_replay.specs.declared.recorder.Recorder.{Recorder}
 
 -- ---- a pending call
 
--- Whether a reply of a call that changes nothing is correct if the call's key is present (true) or if it is absent (false). For a
--- ceiling, the key is the one in the reply.
+-- True if the reply needs the key to be present, false if it needs the key to be absent. Applies to calls that change
+-- nothing. For a ceiling, the key is the one in the reply.
 abbrev pub needs_key : Call → Reply → Bool
 needs_key (call.Add k) reply.False = true
 needs_key (call.Contains k) reply.True = true
 needs_key (call.Ceiling k) r = true
 needs_key c r = false
 
--- The key in the reply of a ceiling; None if the reply is Nothing
+-- The key in the reply of a ceiling; None if the reply is Nothing.
 abbrev pub found_in : Reply → Option ℕ
 found_in (reply.At k) = Some k.0
 found_in reply.Nothing = None
@@ -38,14 +38,14 @@ found_in reply.True = None
 found_in reply.False = None
 found_in reply.Full = None
 
--- Whether the key is present or absent, as the reply needs it, at a moment
+-- True at the moments at which the key is present. For a ceiling, at the moments at which its reply is correct.
 abbrev pub shows : (ℕ → List ℕ) → Call → Reply → ℕ → Bool
 shows changes (call.Add k) r = λ m. is_present changes k.0 m
 shows changes (call.Remove k) r = λ m. is_present changes k.0 m
 shows changes (call.Contains k) r = λ m. is_present changes k.0 m
 shows changes (call.Ceiling k) r = has_ceiling changes k.0 (found_in r)
 
--- The first moment of the call, up to a last one, at which its reply is correct if the call changes nothing
+-- The first moment of the call, up to `last`, at which its reply is correct if the call changes nothing.
 abbrev pub fit : (ℕ → List ℕ) → OpenCall → Reply → ℕ → Option ℕ
 fit changes o reply last = first_passing (needs_key o.call reply) (shows changes o.call reply) o.begun (last - o.begun)
 
@@ -58,7 +58,8 @@ abbrev pub read_at : Option ℕ → Reply → Option Linearized
 read_at None reply = None
 read_at (Some moment) reply = Some (record { moment = moment; reply = reply; change = false })
 
--- The point of a call that ends with a reply: the point of its change, if it has made one, else the first moment that fits
+-- The linearization point of a completed call: its change if it made one, otherwise the first moment at which its reply
+-- is correct.
 abbrev pub settled : Option Linearized → Option ℕ → Reply → Option Linearized
 settled (Some p) moment reply = Some p
 settled None moment reply = read_at moment reply
@@ -145,14 +146,14 @@ abbrev pub entry_told : Event → Told → Entry
 entry_told (event.Begin thread call) told = began thread call
 entry_told (event.Go thread) told = stepped thread told.change told.answer
 
--- A thread with a pending call, which can make a change or end
+-- The thread has a pending call, which can change the set or end at this moment.
 pub record MayStep (h : HistoryValue) (under_way : List (Option OpenCall)) (places : List (Option Linearized))
     (thread moment : ℕ) : Type 0 where
   pub of_a_thread : thread < length under_way
   pub goes : IsSomeAnd (open_call_at under_way thread) (λ o.
       (o.number < length places) × (o.begun ≤ moment) × MayEnd h o.number moment)
 
--- A change that can be recorded: it comes after all others, and the key is not already present or absent
+-- The change can be recorded: no recorded change is later, and the key is not already present or absent.
 abbrev pub MayChange : (ℕ → List ℕ) → ℕ → Option Change → Type 0
 MayChange changes moment None = Unit {0}
 MayChange changes moment (Some (k, present)) =

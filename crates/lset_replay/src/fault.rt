@@ -4,17 +4,17 @@ ghost use Rattle.lset_replay.specs.declared.fault.ReplayFault.TheVariants.{Memor
 use std::alloc::AllocError;
 use thiserror::Error;
 
-/// An error of `replay`: the first event that is not enabled, with the number of its line in the schedule's text (counted
-/// from 1, the header included); or a failed allocation.
+/// Why a replay fails: the first event that is not enabled, with its line number in the schedule's text (counted from
+/// 1, header included), or a failed allocation.
 #[derive(Clone, Copy, Debug, PartialEq, Eq, Error)]
 pub enum ReplayFault {
-    /// There is no such thread.
+    /// The schedule has no such thread.
     #[error("line {0}: NoThread")]
     NoThread(u64),
-    /// The thread begins a call while it has one pending.
+    /// The thread already has a pending call.
     #[error("line {0}: Busy")]
     Busy(u64),
-    /// The thread makes a step while it has no call pending.
+    /// The thread has no pending call.
     #[error("line {0}: Idle")]
     Idle(u64),
     /// An allocation failed.

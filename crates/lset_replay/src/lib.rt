@@ -1,6 +1,9 @@
-//! Replays schedules step by step and reports the run: the history of the calls, an order that explains the history, and the
-//! final keys. `replay` is proved; it collects the calls in a `Recorder`. A `Run` returns the effect of each event, on broken
-//! lists too, and `calls_of` collects its calls. Traces and pictures use `Run` and `calls_of`, which are tested, not proved.
+//! Replays schedules step by step and reports the runs. A report has the history of the calls, an order that explains
+//! the history, and the final keys.
+//!
+//! `replay` is proved; it collects the calls in a `Recorder`. Traces and pictures use `Run`, which reports the effect
+//! of each event, and `calls_of`, which collects a run's calls. Both also work on broken lists; they are tested, not
+//! proved.
 #![tactic(auto)]
 
 mod events;

@@ -1,4 +1,4 @@
-//! The moments of a run at which keys were added and removed.
+//! Records the moments at which keys are added and removed during a run.
 
 ghost use Rattle.std.specs.Prelude.{◌≡◌, ℕ, ◌<◌, ◌≤◌, All};
 ghost use Rattle.std.specs.List.Sorted.{IsStrictlyIncreasing};
@@ -10,7 +10,7 @@ use lset_history::Changes;
 use lset_words::{Key, Reply};
 use std::alloc::{AllocError, Global};
 
-/// The changes of the set, up to the last moment of a run.
+/// The changes to the set up to the latest moment of a run.
 #[derive(Drop)]
 pub(crate) struct Moments {
     changes: Changes,
@@ -24,7 +24,7 @@ fn is_there(changes: &Changes, key: u32, moment: u32) -> bool
     changes.first(key, true, moment, moment).0.is_some()
 }
 
-/// Records that a key was added (`present` is true) or removed, unless it is already present or absent.
+/// Records that a key was added (if `present`) or removed, unless the key already was in that state.
 fn note_key(changes: &mut Changes, key: u32, present: bool, moment: u32) -> Result<(), AllocError>
     requires counted { 0 < moment }
     requires later { (k : ℕ) → All (λ m. m < moment) (moments_of changes.old k) }
@@ -37,7 +37,7 @@ fn note_key(changes: &mut Changes, key: u32, present: bool, moment: u32) -> Resu
 }
 
 impl Moments {
-    /// Returns the moments before the first event of a run that opens with these keys.
+    /// Creates the record for a run that opens with these keys, before the first event.
     pub(crate) fn opened(alloc: Global, keys: &[u32]) -> Result<Moments, AllocError>
         requires { IsStrictlyIncreasing keys.now }
     {
@@ -51,8 +51,8 @@ impl Moments {
         self.last
     }
 
-    /// Advances to the next moment and records its change, if any: the key, and whether it is added (`true`) or removed. A key
-    /// that is already present or absent is not recorded again.
+    /// Advances to the next moment and records the change, if any: the key, and `true` if it was added or `false` if it
+    /// was removed. A change that leaves the key as it was is ignored.
     pub(crate) fn go_on(&mut self, change: Option<(Key, bool)>) -> Result<(), AllocError> {
         if self.last == u32::MAX {
             return Err(AllocError);
@@ -64,8 +64,8 @@ impl Moments {
         Ok(())
     }
 
-    /// Returns the first moment of a pending call at which this reply is correct if the call changes nothing. If there is no
-    /// such moment, returns the last moment.
+    /// Returns the first moment of a pending call at which this reply would be correct if the call changes nothing. If
+    /// there is no such moment, returns the current one.
     pub(crate) fn fit(&self, open: OpenCall, reply: Reply) -> u32 {
         let begun = open.begun.min(self.last);
         fit(&self.changes, OpenCall { begun, ..open }, reply, self.last).unwrap_or(self.last)

@@ -7,7 +7,7 @@ use lset_report::{Pointed, order_of, sort_by_points};
 use lset_words::{Placed, Point};
 use std::alloc::{AllocError, Global};
 
-/// Returns the calls that have a linearization point, by their numbers.
+/// Returns the calls that have a linearization point, in the order of their numbers.
 fn pointed_calls(alloc: Global, places: &[Option<Linearized>]) -> Result<Vec<Pointed>, AllocError>
     requires { length places.now ≤ MOST_EVENTS }
     ensures { IfOk result (λ v. v.items ≡ pointed_from 0 places.now) }
@@ -30,8 +30,8 @@ fn pointed_calls(alloc: Global, places: &[Option<Linearized>]) -> Result<Vec<Poi
     Ok(pointed)
 }
 
-/// Returns the order of the calls with these linearization points: by moment; at one moment the change first, then the
-/// other calls by their numbers. Allocates; `AllocError` if that fails.
+/// Returns the calls in the order of their linearization points: by moment and, at one moment, with the change first
+/// and the other calls by number. Returns `AllocError` if an allocation fails.
 pub(crate) fn in_order(
     alloc: Global,
     places: &[Option<Linearized>],

@@ -3,7 +3,7 @@ ghost use Rattle.lset_replay.specs.Trace.{needs_key, found_in, changed_at, read_
 
 use lset_words::{Call, Effect, Presence, Reply};
 
-/// A pending call: the call, its number, and the moment at which it began.
+/// A pending call, with its number and the moment at which it began.
 #[derive(Clone, Copy)]
 pub(crate) struct OpenCall {
     pub number: u32,
@@ -11,8 +11,8 @@ pub(crate) struct OpenCall {
     pub begun: u32,
 }
 
-/// Returns whether this reply is correct if the call's key is present (`true`) or if it is absent (`false`), for a call that
-/// changes nothing. For a `ceiling`, the key is the one in the reply.
+/// Returns `true` if this reply needs the call's key to be present, `false` if it needs the key to be absent. Applies
+/// to calls that change nothing. For a `ceiling`, the key is the one in the reply.
 pub(crate) fn needs_key(call: Call, reply: Reply) -> bool
     ensures { result ≡ needs_key call reply }
 {
@@ -20,7 +20,7 @@ pub(crate) fn needs_key(call: Call, reply: Reply) -> bool
         || matches!(call.effect(reply), Effect::Sees(Presence::Present))
 }
 
-/// Returns the key in the reply of a `ceiling`, or `None` if the reply is `Nothing`.
+/// Returns the key in a `ceiling`'s reply; `None` if the reply is `Nothing`.
 pub(crate) fn found_in(reply: Reply) -> Option<u32>
     ensures { result ≡ found_in reply }
 {
@@ -30,7 +30,7 @@ pub(crate) fn found_in(reply: Reply) -> Option<u32>
     }
 }
 
-/// The linearization point of a call: the moment, the reply, and whether the call changes the set at that moment.
+/// The linearization point of a call: the moment, the reply, and whether the call changes the set then.
 #[derive(Clone, Copy)]
 pub(crate) struct Linearized {
     pub moment: u32,
@@ -39,7 +39,7 @@ pub(crate) struct Linearized {
 }
 
 impl Linearized {
-    /// Returns the linearization point of a call that changes the set at `moment`. Its reply is `True`.
+    /// Creates the linearization point of a call that changes the set at `moment`. The call's reply is `True`.
     pub fn changed(moment: u32) -> Linearized
         ensures { result ≡ changed_at moment }
     {
@@ -50,8 +50,8 @@ impl Linearized {
         }
     }
 
-    /// Returns the linearization point of a call that changes nothing. `moment` is the moment at which its reply is correct;
-    /// `None` if there is no such moment.
+    /// Creates the linearization point of a call that changes nothing, at a moment at which its reply is correct.
+    /// Returns `None` if there is no such moment.
     pub fn read(moment: Option<u32>, reply: Reply) -> Option<Linearized>
         ensures { result ≡ read_at moment reply }
     {

@@ -27,8 +27,8 @@ use lset_steps::{Event, Told};
 use lset_words::{Call, Key, Reply};
 use std::alloc::{AllocError, Global};
 
-/// The recorder of a run: the history so far, the pending call of each thread, the linearization point of each call that has
-/// one, and the moments at which keys were added and removed.
+/// Records a run: the history so far, each thread's pending call, the linearization points found so far, and the
+/// moments at which keys were added and removed.
 #[derive(Drop)]
 pub(crate) struct Recorder {
     pub history: History,
@@ -38,7 +38,7 @@ pub(crate) struct Recorder {
 }
 
 impl Recorder {
-    /// Returns the recorder before any event of a schedule. Allocates; `AllocError` if that fails.
+    /// Creates the recorder for a schedule, before the first event. Returns `AllocError` if an allocation fails.
     pub fn new(alloc: Global, schedule: &Schedule) -> Result<Recorder, AllocError>
         requires { Opens (opening_in (view schedule.now)) }
         ensures trace { IfOk result (λ r. trace_of r ≡ no_trace r.history.opening) }
@@ -64,7 +64,8 @@ impl Recorder {
         }
     }
 
-    // Few events begin, change or end a call. Their code is not inlined, so that the loop over the other events stays small.
+    // Not inlined: few events begin or end a call or change the set, and the loop over all other events stays small
+    // this way.
     #[inline(never)]
     fn begin(&mut self, thread: u32, call: Call, moment: u32) -> Result<(), AllocError>
         requires may { MayBegin self.old.history thread moment }
@@ -137,7 +138,7 @@ impl Recorder {
         self.under_way[thread as usize] = None;
     }
 
-    /// Records an event and its effect; `moment` is the moment after it. Can allocate.
+    /// Records an event and its effect. `moment` is the number of the event, counted from 1. Can allocate.
     #[inline(always)]
     pub fn follow(&mut self, event: Event, told: Told, moment: u32) -> Result<(), AllocError>
         requires { MayRecord self.old moment event told }

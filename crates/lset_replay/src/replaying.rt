@@ -32,7 +32,7 @@ fn refusal(cause: StepFault, line: u64) -> ReplayFault
     }
 }
 
-/// Makes and records the events of the lines in turn. The first line has the number `first`.
+/// Makes and records the events of the lines in turn. `first` is the number of the first line.
 fn follow<M: Machine>(
     world: &mut World<M>,
     recorder: &mut Recorder,
@@ -63,7 +63,7 @@ fn follow<M: Machine>(
     Ok(())
 }
 
-/// Replays a schedule on the list of the machine `M`.
+/// Replays a schedule on the machine `M`.
 fn replay_on<M: Machine>(alloc: Global, schedule: &Schedule) -> Result<Report, ReplayFault>
     requires { IsInLimits (view schedule.now) }
     ensures replays { Replays M.table (view schedule.now) result }
@@ -92,7 +92,7 @@ fn replay_on<M: Machine>(alloc: Global, schedule: &Schedule) -> Result<Report, R
     })
 }
 
-/// The replay of a schedule, as a task for the list of any kind.
+/// A replay, as a task that can run on any kind of list.
 #[derive(Clone, Copy)]
 struct Replaying<'a> {
     alloc: Global,
@@ -113,29 +113,29 @@ impl Task for Replaying<'_> {
     }
 }
 
-/// Executes a schedule on the list of its kind, and returns the history of the run, a linearization of it, and the remaining
+/// Executes a schedule and returns a report with the history of the run, a linearization of it, and the final keys.
+///
+/// `schedule` must be within the limits: 1 to 64 threads, a quota of 0 to 16,384, at most 1,048,576 opening keys in
+/// strictly increasing order, and at most 1,000,000 events. Every schedule from `read_schedule` is. The report has the
+/// schedule's version. `write_report` accepts the report if that version has words for the schedule's calls and opening
 /// keys.
 ///
-/// `schedule` must be within the limits, as every schedule from `read_schedule` is: 1 to 64 threads, a quota of 0 to 16,384,
-/// at most 1,048,576 opening keys in strictly increasing order, and at most 1,000,000 events. If its version has its calls
-/// and opening keys, `write_report` takes the report, which has the same version.
-///
 /// A call that changed the set is placed at the event of its change, even if it is pending. Any other completed call is
-/// placed at the first moment of the call at which its reply is correct. (Linearizability is Herlihy and Wing's.)
+/// placed at the first of its moments at which its reply is correct. (Linearizability is due to Herlihy and Wing.)
 ///
-/// As in `crates/first_program`:
+/// Example, from `crates/first_program`:
 ///
 ///     let schedule = read_schedule(alloc, text.as_bytes())?;
 ///     Ok(replay(alloc, &schedule)?)
 ///
 /// # Errors
 ///
-/// For the first event that is not enabled, with the number of its line:
-/// - `NoThread`: there is no such thread;
-/// - `Busy`: the thread begins a call while it has one pending;
-/// - `Idle`: the thread makes a step while it has no call pending.
+/// Fails at the first event that is not enabled, and returns the number of its line:
+/// - `NoThread`: the schedule has no such thread;
+/// - `Busy`: the thread already has a pending call;
+/// - `Idle`: the thread has no pending call.
 ///
-/// `Memory`: an allocation failed. Does not block.
+/// Returns `Memory` if an allocation fails. Does not block.
 pub fn replay(alloc: Global, schedule: &Schedule) -> Result<Report, ReplayFault>
     requires { IsInLimits (view schedule.now) }
     ensures replays { Replays (table_of schedule.now.kind) (view schedule.now) result }

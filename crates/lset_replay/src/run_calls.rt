@@ -1,4 +1,4 @@
-//! The calls of a run, collected from the effects of its events.
+//! Collects the calls of a run from the effects of its events.
 ghost use Rattle.lset_words.specs.Words.{Opens};
 ghost use Rattle.lset_schedule.specs.Plan.{opening_in, view};
 
@@ -13,19 +13,19 @@ use lset_text::Cause;
 use lset_words::{Placed, Point, Reply};
 use std::alloc::{AllocError, Global};
 
-/// The calls of a run up to its last event, or up to the first event that cannot be made.
+/// The calls of a run, up to its last event or to the first event that is refused.
 #[derive(Drop)]
 pub struct RunCalls {
     pub history: History,
-    /// The calls that take effect, in the order in which they do.
+    /// The calls that take effect, in that order.
     pub order: Vec<Placed>,
-    /// The linearization point of each place of the order (Herlihy and Wing).
+    /// The linearization point of each place in the order (Herlihy and Wing).
     pub points: Vec<Point>,
     /// The final keys.
     pub keys: Vec<u32>,
-    /// The number of events that were made.
+    /// The number of events made.
     pub events: u32,
-    /// The line number of the event that cannot be made, and the cause; `None` if all events were made.
+    /// The refused event's line number and the cause; `None` if all events were made.
     pub refused: Option<(u64, Cause)>,
 }
 
@@ -47,7 +47,7 @@ impl Calls {
         })
     }
 
-    /// Records the effect of an event on its call, if the event begins, changes or ends the call.
+    /// Records an event's effect on its call, if the event begins or ends the call or changes the set.
     #[inline(always)]
     fn keep(&mut self, event: Event, made: MadeEvent) -> Result<(), AllocError> {
         match made.call {
@@ -56,7 +56,8 @@ impl Calls {
         }
     }
 
-    /// Records the effect of an event on the call with this number. (A history accepts each call of a run, if memory suffices.)
+    /// Records an event's effect on the call with this number. (A history accepts every call of a run unless an
+    /// allocation fails.)
     #[inline(never)]
     fn keep_turn(&mut self, number: u32, event: Event, made: MadeEvent) -> Result<(), AllocError> {
         let moment = made.moment;
@@ -93,7 +94,7 @@ impl Calls {
         }
     }
 
-    /// Returns the places, in the order in which the calls take effect.
+    /// Returns the places in the order in which their calls take effect.
     fn sorted(&self, alloc: Global) -> Result<Vec<Pointed>, AllocError> {
         let mut pointed = Vec::new(alloc);
         for place in &self.places {
@@ -106,7 +107,7 @@ impl Calls {
     }
 }
 
-/// Makes the events of a schedule, up to the first that cannot be made. Returns the line of that event and the cause.
+/// Makes the events of a schedule until one is refused. Returns that event's line number and the cause.
 fn make_all<W: Steps + Drop>(
     schedule: &Schedule,
     run: &mut Run<W>,
@@ -126,13 +127,13 @@ fn make_all<W: Steps + Drop>(
     Ok(None)
 }
 
-/// Makes the events of a schedule, up to the first that cannot be made, and returns the calls of the run. `run` must be before
-/// its first event.
+/// Makes the events of a schedule until one is refused, and returns the calls of the run. `run` must not have made an
+/// event yet.
 ///
-/// A call that changed the set is placed at the event of its change, even if it is pending. Any other completed call is placed
-/// at the first moment of the call at which its reply is correct. If a broken list has no such moment, the call is placed at
-/// its end. For a correct list, history, order and keys are those that `replay` returns. `schedule` must be within the limits,
-/// as every schedule from `read_schedule` is. Allocates; `AllocError` if that fails.
+/// A call that changed the set is placed at the event of its change, even if it is pending. Any other completed call is
+/// placed at the first of its moments at which its reply is correct. On a broken list, a call that has no such moment
+/// is placed at its end. On a correct list, the history, the order and the keys equal those from `replay`. `schedule`
+/// must be within the limits, as every schedule from `read_schedule` is. Returns `AllocError` if an allocation fails.
 pub fn calls_of<W: Steps + Drop>(
     alloc: Global,
     schedule: &Schedule,

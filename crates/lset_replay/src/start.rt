@@ -1,4 +1,4 @@
-//! The start of a schedule's run.
+//! Creates the world and the run in which a schedule starts.
 ghost use Rattle.std.specs.Prelude.{◌≡◌, IfOk};
 ghost use Rattle.lset_words.specs.Words.{Opens, sizes};
 ghost use Rattle.lset_schedule.specs.Plan.{opening_in, view};
@@ -10,7 +10,7 @@ use lset_steps::{Machine, World};
 use lset_words::layout_opening;
 use std::alloc::{AllocError, Global};
 
-/// Returns the world before any event of a schedule. Allocates.
+/// Creates the world for a schedule, before its first event. Allocates.
 pub(crate) fn world_of<M: Machine>(
     alloc: Global,
     schedule: &Schedule,
@@ -28,9 +28,9 @@ pub(crate) fn world_of<M: Machine>(
     World::<M>::opened(alloc, layout, keys)
 }
 
-/// Returns the run of a schedule before its first event, on the list of the machine `M`. If `chains` is true, the run also
-/// returns the chain after each event that changed it. `schedule` must be within the limits, as every schedule from
-/// `read_schedule` is. Allocates; `AllocError` if that fails.
+/// Creates the run of a schedule on the machine `M`, before its first event. If `chains` is true, each event that
+/// changes the chain comes with the new chain. `schedule` must be within the limits, as every schedule from
+/// `read_schedule` is. Returns `AllocError` if an allocation fails.
 pub fn run_of<M: Machine>(
     alloc: Global,
     schedule: &Schedule,

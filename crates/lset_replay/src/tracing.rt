@@ -1,4 +1,4 @@
-//! Runs whose events are made one by one, each with its effect.
+//! Runs a schedule event by event and reports the effect of each.
 
 ghost use Rattle.std.specs.List.Sorted.{IsStrictlyIncreasing};
 
@@ -16,17 +16,19 @@ pub trait Steps {
     /// Returns the local state of thread `t`; `None` if there is no such thread.
     fn held(&self, t: u32) -> Option<Local>;
 
-    /// Returns the next access of thread `t` and the value that it will see; `None` if the thread makes no access.
+    /// Returns the next access of thread `t`, and the value that the access will find; `None` if the thread will access
+    /// nothing.
     fn ahead(&self, t: u32) -> Option<(Action, u64)>;
 
-    /// Makes an event and returns its effect. A refused event changes nothing; the error is `NoThread`, `Busy`, `Idle` or, on a
-    /// broken list only, `Lost`.
+    /// Makes an event and returns its effect. A refused event changes nothing. The error is `NoThread`, `Busy` or
+    /// `Idle`; on a broken list, it can also be `Lost`.
     fn make(&mut self, event: Event) -> Result<Told, Cause>;
 
-    /// Returns the keys from the head to the tail, each with whether its node is marked. Allocates; `AllocError` if that fails.
+    /// Walks the chain from head to tail. Returns each key, and whether its node is marked. Returns `AllocError` if an
+    /// allocation fails.
     fn met(&self) -> Result<Vec<ChainKey>, AllocError>;
 
-    /// Returns the keys of the unmarked nodes of the chain, in increasing order. Allocates; `AllocError` if that fails.
+    /// Returns the keys of the chain's unmarked nodes in increasing order. Returns `AllocError` if an allocation fails.
     fn keys(&self) -> Result<Vec<u32>, AllocError>;
 }
 
@@ -58,7 +60,7 @@ impl<M: Machine> Steps for World<M> {
     }
 }
 
-/// A pending call, and the moment at which it changed the set, if it has.
+/// A pending call, and the moment at which it changed the set, if it did.
 #[derive(Clone, Copy)]
 struct Pending {
     open: OpenCall,
@@ -71,12 +73,12 @@ fn thread_of(event: Event) -> u32 {
     }
 }
 
-/// Returns whether the word with this index is the key or the link of a node.
+/// Returns `true` if the word with this index is the key or the link of a node.
 fn is_node_word(word: u64) -> bool {
     word > 2 && word % 3 != 2
 }
 
-/// Returns whether an event writes the key or the link of a node. No other event changes the chain.
+/// Returns `true` if an event writes a node's key or link. No other event can change the chain.
 fn writes_node(deed: Deed) -> bool {
     match deed {
         Deed::Begin(_) | Deed::Access(Action::Load(_), _) => false,
@@ -85,7 +87,7 @@ fn writes_node(deed: Deed) -> bool {
     }
 }
 
-/// A run whose events are made one by one, each with its effect.
+/// A run that makes its events one by one and reports the effect of each.
 #[derive(Drop)]
 pub struct Run<W: Steps + Drop> {
     alloc: Global,
@@ -97,9 +99,9 @@ pub struct Run<W: Steps + Drop> {
 }
 
 impl<W: Steps + Drop> Run<W> {
-    /// Returns the run before its first event, in a world that opens with these keys. If `chains` is true, each event that
-    /// changes the chain or a mark in it comes with the chain after it. This takes a walk along the chain for each event that
-    /// writes the key or the link of a node.
+    /// Creates a run in a world that opens with these keys, before the first event. If `chains` is true, each event
+    /// that changes the chain or a mark comes with the new chain. This costs a walk along the chain at each event that
+    /// writes a node's key or link.
     pub fn opened(alloc: Global, world: W, keys: &[u32], chains: bool) -> Result<Run<W>, AllocError>
         requires { IsStrictlyIncreasing keys.now }
     {
@@ -114,18 +116,18 @@ impl<W: Steps + Drop> Run<W> {
         })
     }
 
-    /// Returns the world after the last event.
+    /// Returns the world after the events made so far.
     pub fn world(&self) -> &W {
         &self.world
     }
 
-    /// Returns the number of the last event, counted from 1; 0 before the first event.
+    /// Returns the number of the latest event, counted from 1; 0 before the first event.
     pub fn last(&self) -> u32 {
         self.moments.last()
     }
 
-    /// Makes an event and returns its effect on the set and on its call. The inner error is the cause if the event cannot be
-    /// made. Can allocate; `AllocError` if that fails.
+    /// Makes an event and returns its effect on the set and on its call. If the event is refused, the inner error is
+    /// the cause. Returns `AllocError` if an allocation fails.
     #[inline(always)]
     pub fn step(&mut self, event: Event) -> Result<Result<MadeEvent, Cause>, AllocError> {
         let told = match self.world.make(event) {
@@ -136,7 +138,7 @@ impl<W: Steps + Drop> Run<W> {
         Ok(self.follow(event, told).ok_or(Cause::Lost))
     }
 
-    /// Makes an event as `step` does, and returns it for a trace.
+    /// Makes an event like `step`, and returns it in the form for a trace.
     pub fn make(&mut self, next: LineEvent) -> Result<Result<TracedEvent, Cause>, AllocError> {
         let ahead = self.look(next.event);
         let made = match self.step(next.event)? {
@@ -157,7 +159,8 @@ impl<W: Steps + Drop> Run<W> {
         }))
     }
 
-    /// Returns the local state of the event's thread before the event, and what the event will do; `None` if it cannot be made.
+    /// Returns the local state of the event's thread, and what the event is about to do; `None` if the event would be
+    /// refused.
     fn look(&self, event: Event) -> Option<(Local, Deed)> {
         let deed = match event {
             Event::Begin(_, call) => Deed::Begin(call),
@@ -169,7 +172,7 @@ impl<W: Steps + Drop> Run<W> {
         Some((self.world.held(thread_of(event))?, deed))
     }
 
-    /// Records the effect of an event; `None` if its thread has no call.
+    /// Records the effect of an event. Returns `None` if its thread has no call.
     #[inline(always)]
     fn follow(&mut self, event: Event, told: Told) -> Option<MadeEvent> {
         let made = MadeEvent {
@@ -186,7 +189,8 @@ impl<W: Steps + Drop> Run<W> {
         }
     }
 
-    // Few events begin, change or end a call. Their code is not inlined, so that the loop over the other events stays small.
+    // Not inlined: few events begin or end a call or change the set, and the loop over all other events stays small
+    // this way.
     #[inline(never)]
     fn begin(&mut self, made: MadeEvent, call: Call) -> Option<MadeEvent> {
         let seat = self.pending.get_mut(made.thread as usize)?;
@@ -238,7 +242,7 @@ impl<W: Steps + Drop> Run<W> {
         CallEnd { reply, moment }
     }
 
-    /// Returns the chain after an event, if chains are asked for and the chain differs from the last one that was returned.
+    /// Returns the chain after an event, if chains were requested and the chain differs from the last one returned.
     fn changed_chain(&mut self, deed: Deed) -> Result<Option<Vec<ChainKey>>, AllocError> {
         let Some(told) = &mut self.chain else {
             return Ok(None);

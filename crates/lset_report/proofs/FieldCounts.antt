@@ -1,4 +1,4 @@
--- The number of fields of each kind of line.
+-- Counts the fields in each kind of line.
 use Rattle.std.proofs.Common.{◌≡◌, ℕ, ◌<◌, ◌⊎◌, inl, inr, List, [], ◌∷◌, length, Err, refl, arith}
 use Rattle.lset_text.specs.declared.words.Version.{Version}
 use Rattle.lset_text.specs.declared.words.Version.TheVariants.{One, Two}
@@ -35,7 +35,7 @@ is_call One s a b c (d ∷ more) some (inl opening) = rw opening refl
 is_call Two s a b c (d ∷ more) some (inl opening) = rw opening refl
 is_call v s a b c (d ∷ more) some (inr calls) = rw calls refl
 
--- A line with more fields than any call
+-- No call's line has this many fields.
 pub call_many : (v : Version) (w i t a b c d e : List ℕ) (parts : List (List ℕ)) → 0 < length parts
     → Err wrong.Line ≡ first_of v wrong.Line (open_kind ∷ ended_kind ∷ []) (w ∷ i ∷ t ∷ a ∷ b ∷ c ∷ d ∷ e ∷ parts)
 call_many v w i t a b c d e [] some = absurd (omega arith)

@@ -1,4 +1,4 @@
--- The test of a call's line decides MayFollow, and the fields of CallsSoFar decide the test.
+-- Correctness of `may_follow`: the test decides MayFollow, and the fields of CallsSoFar suffice for the test.
 use Rattle.std.proofs.Common.{inl, inr, ◌≡◌, ◌≢◌, ℕ, ◌<◌, ◌&&◌, ◌||◌, not, ltb, eqb, Bool, true, false, List, [], ◌∷◌, ◌++◌, length, get_or}
 use Rattle.std.proofs.Common.{Option, Some, None, refl, sym, ap, ◌∙◌, arith, ⊎_elim, zero, suc, replicate}
 use Rattle.std.proofs.Math.ListN.{set}
@@ -32,7 +32,7 @@ not_or false b = refl
 abbrev Apart : ℕ → CallRecord → Type 0
 Apart m y = (m ≢ y.begun) × IfSome y.ended (λ (d : ℕ × Reply). m ≢ d.0)
 
--- A moment is neither the begin nor the end of a call, or of any call of a list.
+-- Decides whether a moment differs from the begin and the end of a call, or of every call in a list.
 apart_by : (m begun : ℕ) (o : Option (ℕ × Reply)) → Decides (not (eqb begun m || ends_at m o)) ((m ≢ begun) × IfSome o (λ d. m ≢ d.0))
 apart_by m begun None = grind (arith, nat_tests)
 apart_by m begun (Some e) = grind (arith, nat_tests)
@@ -60,7 +60,7 @@ idles : (calls : List CallRecord) (t m : ℕ)
 idles calls t m = Decides-by_and (λ y. not (eqb y.thread t) || ended_before m y.ended) _ (λ ys. is_idle ys t m)
     (λ y. idle_by t m y.thread y.ended) refl (λ _ _. refl) calls
 
--- The parts of the test
+-- The conditions that the test checks, one by one.
 record May (threads : ℕ) (calls : List CallRecord) (x : CallRecord) : Type 0 where
   low : x.thread < threads
   begins : begins_later calls x.begun ≡ true
@@ -120,7 +120,7 @@ pub history_more : (threads : ℕ) (calls : List CallRecord) (x : CallRecord) �
     → may_follow threads calls x ≡ true → IsHistory threads (calls ++ x ∷ [])
 history_more threads calls x h may = history_begun threads calls x h (may_ok threads calls x may)
 
--- ---- the invariant after a further call
+-- ---- the invariant still holds after another call
 
 begins_pushed : (calls : List CallRecord) (x : CallRecord) (last : ℕ) → ((m : ℕ) → begins_later calls m ≡ ltb last m)
     → begins_later calls x.begun ≡ true → (m : ℕ) → begins_later (calls ++ x ∷ []) m ≡ ltb x.begun m
@@ -143,7 +143,8 @@ taken_pushed calls x m past =
     list_any-append (is_entry m) calls (x ∷ []) ∙ ap (λ c. is_taken calls m || c) (or-false (is_entry m x))
     ∙ ap (λ c. is_taken calls m || (c || ends_at m x.ended)) other
 
--- The last ends after a further end of a thread, if the thread's earlier end is another moment
+-- After a thread's next call ends, the last ends are the earlier ones and the new one. The moment must differ from the
+-- thread's earlier end.
 last_end_set : (ends : List ℕ) (t m v : ℕ) → t < length ends → eqb (get_or ends t 0) m ≡ false
     → is_last_end (set ends t v) m ≡ (is_last_end ends m || eqb v m)
 last_end_set [] t m v low old = absurd (omega (arith, low))
@@ -165,7 +166,7 @@ idle_step : (calls : List CallRecord) (x : CallRecord) (t m : ℕ)
 idle_step calls x t m =
     list_all-append (idle_at t m) calls (x ∷ []) ∙ ap (λ b. is_idle calls t m && b) (and-true (idle_at t m x))
 
--- No call is pending, and the last end is before a moment.
+-- No call is pending, and the last end is before this moment.
 abbrev is_over : Bool → ℕ → ℕ → Bool
 is_over busy end m = not busy && ltb end m
 
@@ -200,7 +201,7 @@ idle_other calls x t m other =
     let apart : idle_at t m x ≡ true = or_left _ _ (not_from_false _ (ne_eqb x.thread t (λ same. other (sym same)))) in
     idle_step calls x t m ∙ ap (λ b. is_idle calls t m && b) apart ∙ and-true (is_idle calls t m)
 
--- ---- the invariant without calls
+-- ---- the invariant holds before the first call
 
 none_at : (n m : ℕ) → 0 < m → is_last_end (replicate n 0) m ≡ false
 none_at zero m some = refl

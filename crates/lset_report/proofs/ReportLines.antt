@@ -1,4 +1,4 @@
--- A line of a report is read from its text, and from no other bytes.
+-- A line of a report is read from its text only: no other bytes are read as the line.
 use Rattle.std.proofs.Common.{◌≡◌, ℕ, ◌<◌, ◌^◌, inl, inr, Bool, false, List, [], ◌∷◌, Option, Some, None, refl, ap, arith, codes}
 use Rattle.std.specs.Fmt.{decimal}
 use Rattle.std.specs.List.{AllByRecursion}
@@ -43,7 +43,7 @@ pieces_of told.End = codes "end" ∷ []
 abbrev pub line_text : Line → List ℕ
 line_text l = line_of (pieces_of l)
 
--- The numbers of a line are in range, and the version has words for it.
+-- The line's numbers are in range, and the version has the words that the line uses.
 abbrev pub IsLine : Version → Line → Type 0
 IsLine v (told.Opening k) = (k < 2 ^ 32) × (v ≡ Two)
 IsLine v (told.Call n x) =
@@ -52,7 +52,7 @@ IsLine v (told.Place p) = IsPlace v p
 IsLine v (told.Key k) = k < 2 ^ 32
 IsLine v told.End = Unit {0}
 
--- The report has no line of a later section.
+-- The report has no lines of a later section.
 abbrev pub Reaches : Section → ReportValue → Type 0
 Reaches section.Opening r = (r.history.calls ≡ []) × (r.order ≡ []) × (r.keys ≡ [])
 Reaches section.Calls r = (r.order ≡ []) × (r.keys ≡ [])
@@ -60,16 +60,16 @@ Reaches section.Order r = r.keys ≡ []
 Reaches section.Keys r = Unit {0}
 Reaches section.Done r = Unit {0}
 
--- ---- the bytes are the text of the line that is read
+-- ---- if bytes are read as a line, they are the text of the line
 
--- A line that can follow the lines of a report
+-- This line can follow the lines of a report.
 abbrev pub IsNext : Version → ReportValue → Line → Type 0
 IsNext v r l = IsLine v l × Reaches (section_after l) r
 
 abbrev Known : Version → ReportValue → LineKind Line → Type 0
 Known v r = Knows v pieces_of (IsNext v r)
 
--- A call's line, with any end
+-- A call's line with a given end, or with none.
 abbrev call_with : CallWord → ℕ → ℕ → ℕ → ℕ → Option (ℕ × Reply) → Line
 call_with w n t k b o = told.Call n (record { thread = t; call = with_key w (record { 0 = k }); begun = b; ended = o })
 
@@ -80,7 +80,7 @@ called : (v : Version) (w : CallWord) (n t k b : ℕ) (o : Option (ℕ × Reply)
 called v Add n t k b o nl tl kl bs bl some ends has = (refl, (nl, tl, bs, some, (bl, kl, ends, has)))
 called v w n t k b o nl tl kl bs bl some ends has = (refl, (nl, tl, bs, some, (bl, kl, ends, has)))
 
--- A call's line whose end has any form
+-- Reads a call's line, for each form that its end can take.
 call_known : (v : Version) (r : ReportValue) (f : Form) (end : Told f → Option (ℕ × Reply)) → Reaches section.Calls r → ArePieces f
     → ((e : Told f) → AllFit v f e → (spell f e ≡ end_pieces (end e)) × IfSome (end e) (λ (x : ℕ × Reply). 0 < x.0) × IsEnd v (end e))
     → Known v r (call_form f, λ t. call_told t.1 (end t.1.1.1.1.1.1))
@@ -128,7 +128,7 @@ kinds_known v section.Order r reached = order_known v r reached
 kinds_known v section.Keys r reached = keys_known v r
 kinds_known v section.Done r reached = tt
 
--- ---- the text of a line is read
+-- ---- the text of a line is read as the line
 
 abbrev pub IsTold : Version → List (LineKind Line) → Line → Type 0
 IsTold v ks l = IsMade v pieces_of ks l
@@ -169,12 +169,12 @@ key_told v k low = inl ((tt, (k, tt)), refl, (tt, (any_fits k low, tt)))
 pub end_told_so : (v : Version) → IsTold v from_keys told.End
 end_told_so v = inr (refl, inl ((tt, tt), refl, (tt, tt)))
 
--- ---- in the section that was reached
+-- ---- lines of the section that the reader has reached
 
 abbrev pub reached : List CallRecord → List Placed → List ℕ → Section
 reached cs ps ks = later ks (later ps (later cs section.Opening section.Calls) section.Order) section.Keys
 
--- A line has none of these forms.
+-- The line matches none of these forms.
 abbrev Has : Version → LineKind Line → Line → Bool
 Has v k l = have_form v k.0 (pieces_of l)
 

@@ -1,4 +1,5 @@
--- A stable sort of places by their ranks. If the places were sorted by number, the result is in the order of [Placement].
+-- A stable sort of places by rank. If the places were sorted by call number, the result is in the order that
+-- [Placement] demands.
 use Rattle.std.proofs.Common.{◌≡◌, ℕ, ◌<◌, ◌≤◌, ◌⊎◌, inl, inr, Bool, true, false, not, ◌&&◌, List, [], ◌∷◌, refl, sym, ◌∙◌, arith}
 use Rattle.std.specs.Prelude.{◌==◌, if◌then◌else◌, AllPairs}
 use Rattle.std.specs.List.{filter, AllByRecursion}
@@ -15,7 +16,7 @@ use Rattle.lset_report.specs.Order.{rank_of, HasSmallerNumber, IsPlacedBefore, A
 tie_is : (a b : ℕ) → (not (is_lt (nat_cmp a b)) && not (is_lt (nat_cmp b a))) ≡ (b == a)
 tie_is a b = grind (arith, nat_tests)
 
--- Pairs of a list whose ranks do not fall and whose elements of one rank are in an order
+-- A list is sorted by rank, and elements of equal rank are in a given order.
 module _ {X : Type 0} (rank : X → ℕ) (Less : X → X → Type 0) where
   abbrev of_rank : X → List X → List X
   of_rank x xs = filter (λ y. rank y == rank x) xs
@@ -41,7 +42,7 @@ module _ {X : Type 0} (rank : X → ℕ) (Less : X → X → Type 0) where
       later z true p = p.1
       later z false p = p
 
-  -- A stable sort keeps the order of the elements of one rank.
+  -- A stable sort keeps elements of equal rank in their order.
   abbrev earlier : X → X → Bool
   earlier x y = is_lt (nat_cmp (rank x) (rank y))
 
@@ -60,7 +61,7 @@ by_ranks xs ys moved increase stable = record {
   stable = ranks_stay rank_of HasSmallerNumber xs ys stable;
 }
 
--- Places that were sorted by number are, after the sort, in the order of [Placement].
+-- If places were sorted by call number, sorting them by rank puts them in the order that [Placement] demands.
 pub sorted_rises : (xs ys : List Pointed) → AreByPoints xs ys → AllPairs HasSmallerNumber xs → AllPairs IsPlacedBefore ys
 sorted_rises xs ys are numbers = pairs_std IsPlacedBefore ys (in_order rank_of HasSmallerNumber ys
     (pairs_rec (λ x y. rank_of x ≤ rank_of y) ys (λ i j d l m. are.increase i j d (omega arith) m))

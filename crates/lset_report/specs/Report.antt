@@ -1,4 +1,4 @@
--- The value of a report.
+-- Reports as values, for use in contracts.
 use Rattle.std.specs.Prelude.{ℕ, List}
 use Rattle.lset_words.specs.declared.Kind.{Kind}
 use Rattle.lset_words.specs.declared.history.Placed.{Placed}
@@ -6,7 +6,7 @@ use Rattle.lset_history.specs.History.{HistoryValue}
 use Rattle.lset_text.specs.declared.words.Version.{Version}
 use Rattle.lset_report.specs.declared.report.Report.{Report}
 
--- A report, with lists in place of vectors
+-- The value of a report: lists replace the vectors.
 pub record ReportValue : Type 0 where
   pub version : Version
   pub kind : Kind

@@ -1,4 +1,4 @@
--- The invariant of CallsSoFar: its fields decide which call can follow.
+-- The invariant of CallsSoFar: its fields suffice to decide which call can come next.
 use Rattle.std.specs.Prelude.{◌≡◌, ℕ, ◌<◌, ◌&&◌, ◌==◌, nat_lt, not, Bool, true, false, List, length, Option, Some, None, slice_index_or}
 use Rattle.std.specs.List.{list_any}
 use Rattle.lset_words.specs.declared.Reply.{Reply}
@@ -9,7 +9,7 @@ use Rattle.lset_report.specs.ReportReading.{begins_later, is_taken, is_idle}
 abbrev pub threads_of : CallsSoFar → ℕ
 threads_of s = s.history.opening.threads
 
--- The moment of an end; 0 if there is no end
+-- The moment at which a call ended; 0 if it is pending.
 abbrev pub end_moment : Option (ℕ × Reply) → ℕ
 end_moment None = 0
 end_moment (Some end) = end.0
@@ -18,11 +18,11 @@ abbrev pub is_open : Option (ℕ × Reply) → Bool
 is_open None = true
 is_open (Some end) = false
 
--- Whether a moment, counted from 1, is the end of some thread's last call
+-- True if the last call of some thread ended at this moment, counted from 1.
 abbrev pub is_last_end : List ℕ → ℕ → Bool
 is_last_end ends moment = list_any (λ end. end == moment) ends
 
--- Whether a call ends after its begin, at a moment that is not the end of a thread's last call
+-- True if a call ends after it begins, at a moment that is not the end of any thread's last call.
 abbrev pub ends_apart : List ℕ → ℕ → Option (ℕ × Reply) → Bool
 ends_apart ends begun None = true
 ends_apart ends begun (Some end) = nat_lt begun end.0 && not (is_last_end ends end.0)
@@ -32,11 +32,11 @@ ends_well_by ends x = ends_apart ends x.begun x.ended
 
 -- THE INVARIANT of CallsSoFar:
 pub record Tracks (s : CallsSoFar) : Type 0 where
-  -- last_begun is the begin of the last call,
+  -- last_begun is the moment at which the last call began,
   pub begins : (m : ℕ) → begins_later s.history.calls m ≡ nat_lt s.last_begun m
-  -- a moment after it is taken only by the end of a thread's last call,
+  -- a later moment is taken exactly if some thread's last call ended at it,
   pub taken : (m : ℕ) → s.last_begun < m → is_taken s.history.calls m ≡ is_last_end s.last_ends.items m
-  -- and for each thread: the end of its last call, and whether it is pending.
+  -- and for each thread, last_ends and busy say when its last call ended and whether it is pending.
   pub ends : length s.last_ends.items ≡ threads_of s
   pub each : length s.busy.items ≡ threads_of s
   pub idle : (t m : ℕ) → t < threads_of s → 0 < m

@@ -1,4 +1,5 @@
--- The report of a text, or its first error: line by line, and in each line in the order of the checks.
+-- The grammar of reports: which report a text spells or, if none, its first error. Lines are checked one by one; within
+-- a line, the checks have a fixed order.
 use Rattle.std.specs.Prelude.{◌≡◌, ◌≢◌, ◌⊎◌, ℕ, ◌+◌, ◌<◌, ◌≤◌, ◌^◌, ◌==◌, ◌&&◌, ◌||◌, not, nat_lt, Bool, true, false, List, []}
 use Rattle.std.specs.Prelude.{◌∷◌, ◌++◌, length, codes, Option, Some, None, Result, Ok, Err, if◌then◌else◌, slice_index_or}
 use Rattle.std.specs.List.{list_any, list_all, AllByRecursion}
@@ -36,7 +37,7 @@ use Rattle.lset_report.specs.Texts.{title, last_line, report_text}
 
 -- ---- reports that have a text
 
--- The bounds of a call that its history does not imply: key and moments are at most 4294967295
+-- What the history of a call does not imply: its key and its moments are at most 4294967295.
 abbrev pub IsEnd : Version → Option (ℕ × Reply) → Type 0
 IsEnd version None = Unit {0}
 IsEnd version (Some end) = (end.0 < 2 ^ 32) × HasReply version end.1
@@ -47,13 +48,14 @@ IsCall version x = (x.begun < 2 ^ 32) × ((key_of x.call).0 < 2 ^ 32) × IsEnd v
 abbrev pub IsPlace : Version → Placed → Type 0
 IsPlace version p = (p.call < 2 ^ 32) × HasReply version p.reply
 
--- The maximum number of final keys. A set that opens with keys can come to have more.
+-- The maximum number of final keys. If a set opens with keys, it can reach more than an empty one.
 abbrev pub most_keys : Version → ℕ
 most_keys One = MOST_KEYS
 most_keys Two = MOST_KEYS_OPENED
 
--- A report that has a text: its set can open with these sizes and keys, its calls are a history, its version has words for its
--- opening keys, calls and replies, and all numbers and counts are within their limits. Order and keys are arbitrary.
+-- A report that has a text: a set can open with its sizes and keys, its calls are a history, its version has words for
+-- its opening keys, calls and replies, and all numbers are within the limits. The order and the final keys are
+-- arbitrary.
 pub record IsReport (r : ReportValue) : Type 0 where
   pub opens : Opens r.history.opening
   pub opening : HasOpening r.version r.history.opening.keys
@@ -70,12 +72,12 @@ pub record IsReport (r : ReportValue) : Type 0 where
 abbrev pub opening_kind : LineKind ReportLine
 opening_kind = (opening_form, λ t. told.Opening t.1.0)
 
--- The line of a call, from its number, its thread, its word, its key, its begin and its end
+-- The line of a call, built from its number, thread, operation, key, begin and end.
 abbrev pub call_told : {X : Type 0} → ℕ × (ℕ × (CallWord × (ℕ × (ℕ × X)))) → Option (ℕ × Reply) → ReportLine
 call_told t end = told.Call t.0
     (record { thread = t.1.0; call = with_key t.1.1.0 (record { 0 = t.1.1.1.0 }); begun = t.1.1.1.1.0; ended = end })
 
--- The form of a call's line, up to its end
+-- The form of a call's line up to the call's end.
 abbrev pub call_form : Form → Form
 call_form end = piece.word (codes "call") ∷ piece.any ∷ piece.any ∷ piece.call ∷ piece.any ∷ piece.moment ∷ end
 
@@ -100,7 +102,7 @@ key_kind = (piece.word (codes "key") ∷ piece.any ∷ [], λ t. told.Key t.1.0)
 abbrev pub end_kind : LineKind ReportLine
 end_kind = (piece.word (codes "end") ∷ [], λ t. told.End)
 
--- The sections come in a fixed order. Each can be empty.
+-- The sections come in a fixed order. Any of them can be empty.
 abbrev pub from_keys : List (LineKind ReportLine)
 from_keys = key_kind ∷ end_kind ∷ []
 
@@ -110,12 +112,12 @@ from_order = place_kind ∷ from_keys
 abbrev pub from_calls : List (LineKind ReportLine)
 from_calls = open_kind ∷ ended_kind ∷ from_order
 
--- Only a text of version 2 has opening keys.
+-- Only version 2 has lines of opening keys.
 abbrev pub from_opening : Version → List (LineKind ReportLine)
 from_opening One = from_calls
 from_opening Two = opening_kind ∷ from_calls
 
--- THE NEXT LINES that are allowed in a text of a version, in a section
+-- THE LINES that can come next in a section, by version
 abbrev pub kinds : Version → Section → List (LineKind ReportLine)
 kinds version section.Opening = from_opening version
 kinds version section.Calls = from_calls
@@ -123,9 +125,9 @@ kinds version section.Order = from_order
 kinds version section.Keys = from_keys
 kinds version section.Done = []
 
--- ---- a line after the lines above it
+-- ---- whether a line can follow the lines above it
 
--- Whether a call ended at a moment
+-- True if a call ended at this moment.
 abbrev pub ends_at : ℕ → Option (ℕ × Reply) → Bool
 ends_at moment None = false
 ends_at moment (Some end) = end.0 == moment
@@ -136,11 +138,11 @@ is_entry moment y = y.begun == moment || ends_at moment y.ended
 abbrev pub is_taken : List CallRecord → ℕ → Bool
 is_taken calls moment = list_any (is_entry moment) calls
 
--- Whether a moment, counted from 1, is after the begin of each call
+-- True if a moment, counted from 1, is after the begin of every call.
 abbrev pub begins_later : List CallRecord → ℕ → Bool
 begins_later calls moment = nat_lt 0 moment && list_all (λ y. nat_lt y.begun moment) calls
 
--- Whether a call has ended before a moment
+-- True if a call ended before this moment.
 abbrev pub ended_before : ℕ → Option (ℕ × Reply) → Bool
 ended_before moment None = false
 ended_before moment (Some end) = nat_lt end.0 moment
@@ -148,12 +150,12 @@ ended_before moment (Some end) = nat_lt end.0 moment
 abbrev pub is_idle : List CallRecord → ℕ → ℕ → Bool
 is_idle calls thread moment = list_all (λ y. not (y.thread == thread) || ended_before moment y.ended) calls
 
--- Whether an end is after the begin, at a moment that no other call has
+-- True if an end is after the call's begin, at a moment at which no other call begins or ends.
 abbrev pub ends_later : List CallRecord → ℕ → Option (ℕ × Reply) → Bool
 ends_later calls begun None = true
 ends_later calls begun (Some end) = nat_lt begun end.0 && not (is_taken calls end.0)
 
--- Whether a call can follow the calls of a history
+-- True if a call can be appended to a history.
 abbrev pub may_follow : ℕ → List CallRecord → CallRecord → Bool
 may_follow threads calls x =
     nat_lt x.thread threads
@@ -162,7 +164,7 @@ may_follow threads calls x =
     && (not (is_taken calls x.begun)
     && is_idle calls x.thread x.begun)))
 
--- The line, if its section has room for it
+-- Returns the line if its section is not full.
 abbrev pub counted : ℕ → ℕ → ReportLine → Result ReportLine Cause
 counted most count l = if nat_lt count most then Ok l else Err wrong.TooMany
 
@@ -175,7 +177,8 @@ following r number x l = if is_next r number x then Ok l else Err wrong.History
 abbrev pub increasing : ReportValue → ℕ → ReportLine → Result ReportLine Cause
 increasing r k l = if is_above r.history.opening.keys k then Ok l else Err wrong.Opening
 
--- The line, if there is room for it, an opening key is above the last one, and a call can follow the calls
+-- Returns the line if its section is not full, an opening key is greater than the one before it, and a call can follow
+-- the calls so far.
 abbrev pub judged : ReportValue → ReportLine → Result ReportLine Cause
 judged r (told.Opening k) = counted MOST_OPENING (length r.history.opening.keys) (told.Opening k) >>= increasing r k
 judged r (told.Call number x) = counted MOST_CALLS (length r.history.calls) (told.Call number x) >>= following r number x
@@ -183,7 +186,7 @@ judged r (told.Place p) = counted MOST_PLACES (length r.order) (told.Place p)
 judged r (told.Key k) = counted (most_keys r.version) (length r.keys) (told.Key k)
 judged r told.End = Ok told.End
 
--- The line of these bytes, if it can follow the report of the lines above
+-- Parses a line that can follow the lines above it.
 abbrev pub line_after : Section → ReportValue → List ℕ → Result ReportLine Cause
 line_after s r line = line_in r.version wrong.Line (kinds r.version s) line >>= judged r
 
@@ -210,9 +213,9 @@ with_line r (told.Place p) = record r { order = r.order ++ p ∷ [] }
 with_line r (told.Key k) = record r { keys = r.keys ++ k ∷ [] }
 with_line r told.End = r
 
--- ---- texts, as their parts between newlines: whole lines, and the rest after the last newline
+-- ---- texts, split at newlines: complete lines, then the rest after the last newline
 
--- The result of some lines: the section that they reached, and their report
+-- The state after some lines: the section reached, and the report so far.
 pub record SoFar : Type 0 where
   pub section : Section
   pub report : ReportValue
@@ -223,7 +226,7 @@ with_told s l = record { section = section_after l; report = with_line s.report 
 abbrev pub step : SoFar → List ℕ → Result SoFar Cause
 step s line = made (with_told s) (line_after s.section s.report line)
 
--- A text ends after the line `end`.
+-- A text is complete after the line `end`.
 abbrev pub is_done : Section → Bool
 is_done section.Opening = false
 is_done section.Calls = false
@@ -250,7 +253,7 @@ no_lines version h = record {
 abbrev pub nothing_told : Version → HeaderTold → SoFar
 nothing_told version h = record { section = section.Opening; report = no_lines version h }
 
--- The version that the first line states
+-- The version that the first line of a text names.
 abbrev pub version_told : List (List ℕ) → Version
 version_told parts = version_in (title Two) parts
 
@@ -264,7 +267,7 @@ report_of parts = versioned_from text parts >>= λ last. Ok last.report
 abbrev pub reading : List ℕ → Result ReportValue LineFault
 reading bytes = report_of (cut_at 10 bytes)
 
--- Bytes that are read are the text of the result, and the text of each report is read.
+-- Reading and writing agree: if bytes are read, they are the text of the result, and every report's text is read.
 abbrev pub ReportsReadBack : Type 0
 ReportsReadBack = (r : ReportValue) (bytes : List ℕ)
     → (IsReport r → reading (report_text r) ≡ Ok r)
@@ -272,22 +275,23 @@ ReportsReadBack = (r : ReportValue) (bytes : List ℕ)
 
 -- ---- failed allocations
 
--- When Memory can be returned for a line: after the line's other checks. `parts` are the parts of a text from the line `first`
--- on; the last one follows the last newline. With ample memory, reading the text returns `read`.
+-- When reading can fail with Memory at a line: only after the line has passed its other checks. `parts` are the parts
+-- of the text from line `first` on, the last one being what follows the last newline. `read` is the result if no
+-- allocation fails.
 pub record RunsOut (first : ℕ) (parts : List (List ℕ)) (read : Result ReportValue LineFault) (e : LineFault) : Type 0 where
   pub cause : e.cause ≡ wrong.Memory
-  -- the line is the last one of the header or a later one, since the header's lines do not allocate,
+  -- the line is the last header line or a later one (the header does not allocate),
   pub after_header : last_of_header ≤ e.line
-  -- it is a whole line of the text,
+  -- it is a complete line of the text,
   pub index : ℕ
   pub line_is : e.line ≡ first + index
   pub whole : index + 1 < length parts
-  -- but not `end`, for which nothing is allocated,
+  -- it is not `end`, which does not allocate,
   pub asks : slice_index_or parts index [] ≢ last_line
-  -- and neither it nor a line above it has an error.
+  -- and no line up to this one has an error.
   pub good : IsFaultlessTo e.line read
 
--- The function's result, seen by `view`, is the report or the first error of the bytes, or an allocation failed.
+-- The result, seen through `view`, is the report that the bytes spell, or their first error, or a failed allocation.
 abbrev pub Gives : {X : Type 0} → (X → ReportValue) → Result X LineFault → List ℕ → Type 0
 Gives view (Ok x) bytes = reading bytes ≡ Ok (view x)
 Gives view (Err e) bytes = (reading bytes ≡ Err e) ⊎ RunsOut 1 (cut_at 10 bytes) (reading bytes) e

@@ -1,4 +1,4 @@
--- [Report text]: the only spelling of each report, in its version.
+-- [Report text]: each report has exactly one spelling in its version.
 use Rattle.std.specs.Prelude.{ℕ, ◌+◌, List, [], ◌∷◌, ◌++◌, map, codes, Option, Some, None}
 use Rattle.std.specs.Fmt.{decimal}
 use Rattle.std.specs.List.{AllByRecursion}
@@ -22,7 +22,7 @@ title Two = codes "listset-report 2"
 abbrev pub header_in : ReportValue → Header
 header_in r = record { kind = r.kind; threads = r.history.opening.threads; quota = r.history.opening.quota }
 
--- The end of a call: its moment and its reply, or `open`
+-- The end of a call: its moment and its reply, or `open` while it is pending.
 abbrev pub end_pieces : Option (ℕ × Reply) → List (List ℕ)
 end_pieces (Some end) = decimal end.0 ∷ reply_text end.1 ∷ []
 end_pieces None = codes "open" ∷ []
@@ -31,7 +31,7 @@ abbrev pub call_line : ℕ → CallRecord → List ℕ
 call_line number x = line_of (codes "call" ∷ decimal number ∷ decimal x.thread ∷ call_text x.call ∷ decimal ((key_of x.call).0)
     ∷ decimal x.begun ∷ end_pieces x.ended)
 
--- The lines of the calls, by their numbers
+-- The lines of the calls, in the order of their numbers.
 abbrev pub call_lines : ℕ → List CallRecord → List (List ℕ)
 call_lines number [] = []
 call_lines number (x ∷ xs) = call_line number x ∷ call_lines (number + 1) xs
@@ -53,9 +53,9 @@ report_lines r = header_lines (title r.version) (header_in r) ++ opening_lines r
 abbrev pub report_text : ReportValue → List ℕ
 report_text r = text_of (report_lines r)
 
--- ---- reports whose version has words for all of them
+-- ---- reports whose version has words for everything in them
 
--- A call is pending, or the version has a word for its reply.
+-- The call is pending, or the version has a word for its reply.
 abbrev pub HasEnd : Version → Option (ℕ × Reply) → Type 0
 HasEnd version None = Unit {0}
 HasEnd version (Some end) = HasReply version end.1
@@ -65,8 +65,8 @@ HasWordsIn One calls order = AllByRecursion (λ (x : CallRecord). HasCall One x.
     × AllByRecursion (λ (p : Placed). HasReply One p.reply) order
 HasWordsIn Two calls order = Unit {0}
 
--- A report of version 1 has no opening keys, and none of the calls and replies that version 2 added. Version 2 has words for
--- every report.
+-- A report of version 1 has no opening keys and none of the calls and replies that version 2 added. A report of version
+-- 2 always qualifies.
 pub record HasWordsOfVersion (r : ReportValue) : Type 0 where
   pub opening : HasOpening r.version r.history.opening.keys
   pub words : HasWordsIn r.version r.history.calls r.order

@@ -1,5 +1,5 @@
-//! Reports of runs: reading and writing their text. A report has the opening keys, a history of calls, an order of the calls,
-//! and the final keys. Nothing in this crate runs a list.
+//! Reads and writes reports of runs. A report contains the opening keys, a history of calls, an order of these calls,
+//! and the final keys. This crate does not run a list.
 #![tactic(auto)]
 
 mod order;

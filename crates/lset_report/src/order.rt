@@ -4,7 +4,7 @@ ghost use Rattle.lset_report.specs.Order.{rank_of, placed_in, points_in, AreByPo
 use lset_words::{Placed, Point};
 use std::alloc::{AllocError, Global};
 
-/// A place of an order, and the linearization point of its call.
+/// A place in an order, with the linearization point of its call.
 #[derive(Clone, Copy)]
 pub struct Pointed {
     pub point: Point,
@@ -12,7 +12,7 @@ pub struct Pointed {
 }
 
 impl Pointed {
-    /// Returns the rank of the place: a smaller rank comes earlier.
+    /// Returns the place's rank. Places with a smaller rank come first.
     fn rank(&self) -> u64
         ensures { result ≡ rank_of self.now }
     {
@@ -21,8 +21,8 @@ impl Pointed {
     }
 }
 
-/// Sorts places by their points: by moment, and at one moment the change first. The sort is stable: the other places of one
-/// moment keep their order. Allocates; if that fails, returns `AllocError`, and the places are in no known order.
+/// Sorts places by their linearization points: by moment and, at one moment, with the change first. The sort is stable.
+/// Returns `AllocError` if an allocation fails; the places are then in an unspecified order.
 pub fn sort_by_points(places: &mut Vec<Pointed>) -> Result<(), AllocError>
     ensures { OnOk result (AreByPoints places.old.items places.new.items) }
 {
@@ -30,7 +30,7 @@ pub fn sort_by_points(places: &mut Vec<Pointed>) -> Result<(), AllocError>
     Ok(())
 }
 
-/// Returns the order that has these places. Allocates; `AllocError` if that fails.
+/// Returns the order made of these places. Returns `AllocError` if an allocation fails.
 pub fn order_of(alloc: Global, places: &[Pointed]) -> Result<Vec<Placed>, AllocError>
     ensures { IfOk result (λ v. v.items ≡ placed_in places.now) }
 {
@@ -41,7 +41,7 @@ pub fn order_of(alloc: Global, places: &[Pointed]) -> Result<Vec<Placed>, AllocE
     Ok(order)
 }
 
-/// Returns the linearization points of these places. Allocates; `AllocError` if that fails.
+/// Returns the linearization points of these places. Returns `AllocError` if an allocation fails.
 pub fn points_of(alloc: Global, places: &[Pointed]) -> Result<Vec<Point>, AllocError>
     ensures { IfOk result (λ v. v.items ≡ points_in places.now) }
 {

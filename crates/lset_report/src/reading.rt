@@ -32,13 +32,13 @@ use lset_words::{CallRecord, MOST_OPENING, Placed};
 use report_lines::{Line, Section, line_of_report};
 use std::alloc::{AllocError, Global};
 
-/// The last line of the header.
+/// The number of the last header line.
 const LAST_OF_HEADER: u64 = 4;
 
-/// The first line after the header.
+/// The number of the first line after the header.
 const FIRST_LINE: u64 = LAST_OF_HEADER + 1;
 
-/// The part of a report that was read so far.
+/// The part of a report that has been read so far.
 #[derive(Drop)]
 pub(crate) struct Reader {
     pub version: Version,
@@ -50,7 +50,7 @@ pub(crate) struct Reader {
     pub keys: Vec<u32>,
 }
 
-/// Returns the maximum number of keys of a report of a version.
+/// Returns the maximum number of final keys in a report of this version.
 fn most_keys(version: Version) -> usize
     ensures { result ≡ most_keys version }
 {
@@ -78,7 +78,7 @@ impl Reader {
         })
     }
 
-    /// Returns whether a call has the next number and can follow the calls that were read.
+    /// Returns `true` if a call has the next number and can follow the calls read so far.
     fn is_next(&self, number: u32, made: CallRecord) -> bool
         requires { Holds self.now }
         ensures { result ≡ is_next (so_far self.now) number made }
@@ -86,8 +86,8 @@ impl Reader {
         number as usize == self.calls.history.calls().len() && self.calls.may_follow(made)
     }
 
-    /// Returns the line if it can follow the lines that were read: there is room for it, an opening key is above the last one,
-    /// a call can follow the calls. Else returns the cause.
+    /// Checks that the line can follow the lines read so far: its section is not full, an opening key is greater than
+    /// the one before it, and a call can follow the earlier calls. Returns the line, or the cause of the refusal.
     fn judged(&self, line: Line) -> Result<Line, Cause>
         requires { Holds self.now }
         ensures { result ≡ judged (so_far self.now) line }
@@ -194,7 +194,7 @@ impl Reader {
     }
 }
 
-/// Returns the version of a report's text, from its first line.
+/// Returns the version of a report, which its first line states.
 fn version_told(bytes: &[u8]) -> Version
     ensures { result ≡ version_told (cut_at 10 bytes.now) }
 {
@@ -213,35 +213,35 @@ fn report(alloc: Global, bytes: &[u8]) -> Result<Report, ReportFault>
     Ok(reader.into_report())
 }
 
-/// Reads a report, of either version, from its bytes. Allocates.
+/// Reads a report of either version from its bytes. Allocates.
 ///
-/// Line 1 decides the version. In version 2 lines of opening keys come before all calls, in strictly increasing order. In
-/// version 1 a line with `opening`, `ceiling`, `nothing` or `at-5` is refused as `Line`. The function does not check that the
-/// order explains the history and leaves the keys: `check_order` does. With n bytes it takes about `n log n` steps,
-/// whatever the numbers are.
+/// The first line states the version. In version 2, lines of opening keys can precede the calls, in strictly increasing
+/// order. In version 1, a line with `opening`, `ceiling`, `nothing` or a reply such as `at-5` is refused with `Line`.
+/// The function does not check that the order explains the history and leaves the final keys; use `check_order` for
+/// that. Reading n bytes takes about `n log n` steps, whatever numbers they contain.
 ///
 /// # Errors
 ///
-/// The first wrong line, and the first check that it fails. `NotEnded` comes before all others; these come in the order of
-/// `Cause`. If the bytes end before a header line, the error is the one of that line. `Memory`, in place of any other
-/// result, if an allocation fails: its line is the last line that was read, which is not `end`. Neither this line nor a
-/// line above it has another error.
+/// Returns the first wrong line with the first check that it fails. `NotEnded` takes precedence over all other errors;
+/// the others are checked in the order of `Cause`. If the bytes end before a header line, the error is the one for that
+/// line. Returns `Memory` instead if an allocation fails: its line is the last line read. That line is not `end`, and
+/// no line up to it has another error.
 #[tactic(auto, using(crate::proofs::ReportTexts::found_in, crate::proofs::ReportTexts::only_in))]
 pub fn read_report(alloc: Global, bytes: &[u8]) -> Result<Report, ReportFault>
-    // The result is a report with a history, and the bytes are its text.
+    // On success, the report's calls are a history, and the bytes are the report's text.
     ensures found { IfOk result (λ r. IsReport (view r) × (bytes.now ≡ report_text (view r))) }
-    // `write_report` can write the result: its version has words for all of it.
+    // `write_report` can write the result, since its version has words for everything in it.
     ensures words { IfOk result (λ r. HasWordsOfVersion (view r)) }
-    // The text of each such report is read, unless memory runs out.
+    // The text of every such report is read, unless an allocation fails.
     ensures only { (r : ReportValue) → IsReport r → bytes.now ≡ report_text r
         → MatchResult result (λ s. view s ≡ r) (λ e. e.cause ≡ Cause.Memory) }
-    // The error, and the lines for which `Memory` can be returned.
+    // The error is exact, and `Memory` is only possible at these lines.
     ensures exact { Gives view result bytes.now }
 {
     report(alloc, bytes)
 }
 
-/// Lemma: `read_report` returns the only report whose text the bytes are, and it reads the text of every report.
+/// Lemma: the bytes that `read_report` accepts are the text of its result, and it accepts the text of every report.
 pub fn reports_read_back()
     ensures { ReportsReadBack }
 {}

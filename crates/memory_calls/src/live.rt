@@ -1,4 +1,4 @@
-//! Running sets of each list, from opening to the final keys.
+//! Exercises running sets of each list, from opening to the final keys.
 
 use crate::prelude::*;
 use lset_coarse::CoarseList;
@@ -29,7 +29,8 @@ fn add_six<M: Running, R: Wait>(rt: &R, set: &LiveSet<M>, seat: &mut Seat<M>) ->
     Ok(())
 }
 
-/// Changes the set so that it has the keys 1, 2, 4, 5 and 6, and looks for a removed key and for the next larger one.
+/// Changes the set until it contains the keys 1, 2, 4, 5 and 6, then looks for a removed key and for the next larger
+/// one.
 fn change_and_look<M: Running, R: Wait>(
     rt: &R,
     alloc: Global,
@@ -47,7 +48,7 @@ fn change_and_look<M: Running, R: Wait>(
     check(set.ceiling(rt, seat, Key(3)) == Reply::At(Key(4)))
 }
 
-/// Makes a call without a runtime, so that it cannot block, and expects this reply.
+/// Makes a call without a runtime, which therefore cannot block, and expects this reply.
 fn call_within<M: Running>(
     alloc: Global,
     calls: &mut Calls,
@@ -65,7 +66,7 @@ fn call_within<M: Running>(
     Ok(seat)
 }
 
-/// Makes a call of each kind. The keys are unchanged at the end.
+/// Makes one call of each operation. The keys are unchanged at the end.
 fn call_each_within<M: Running>(
     alloc: Global,
     calls: &mut Calls,
@@ -80,7 +81,7 @@ fn call_each_within<M: Running>(
     call_within(alloc, calls, set, seat, Call::Remove(key), Reply::True)
 }
 
-/// Makes the typed calls of a seat that has slots, or has used all its slots. The keys are unchanged at the end.
+/// Makes the typed calls of a seat that still has slots, or has used them all. The keys are unchanged at the end.
 fn call_typed<M: Running, R: Wait>(
     rt: &R,
     alloc: Global,
@@ -101,7 +102,7 @@ fn call_typed<M: Running, R: Wait>(
     check(!seat.remove(rt, set, Key(3)))
 }
 
-/// Hands a receipt from each of two seats to the other.
+/// Passes a receipt from each of two seats to the other.
 fn pass_receipts<M: Running>(
     alloc: Global,
     calls: &mut Calls,
@@ -119,7 +120,7 @@ fn pass_receipts<M: Running>(
     Ok(())
 }
 
-/// Runs a session over bytes in memory, with an answer of each kind except `FULL`.
+/// Runs a session over bytes in memory, with every kind of answer except `FULL`.
 fn answer_session<M: Running, R: Wait>(
     rt: &R,
     alloc: Global,
@@ -159,7 +160,7 @@ fn gather_and_close<M: Running>(
     check(keys.as_slice() == [1, 2, 4, 5, 6].as_slice())
 }
 
-/// Opens a set, makes calls from both seats, and closes it.
+/// Opens a set, makes calls from both seats, and closes the set.
 fn running_set<M: Running, R: Wait>(rt: &R, alloc: Global, calls: &mut Calls) -> Result<()> {
     let (set, mut zero, mut one) = opened::<M>(alloc, calls)?;
     change_and_look(rt, alloc, calls, &set, &mut zero)?;
@@ -171,7 +172,7 @@ fn running_set<M: Running, R: Wait>(rt: &R, alloc: Global, calls: &mut Calls) ->
     gather_and_close(alloc, calls, set, zero, one)
 }
 
-/// Makes typed calls with `key`, which is absent before and present after them.
+/// Makes typed calls with `key`, which is absent before and present afterwards.
 fn add_typed<M: Running, R: Wait>(
     rt: &R,
     set: &LiveSet<M>,
@@ -186,7 +187,7 @@ fn add_typed<M: Running, R: Wait>(
 
 const MANY: u32 = 1_100;
 
-/// Adds keys in decreasing order, each right after the head, and removes them.
+/// Adds keys in decreasing order, so that each becomes the first, and removes them.
 fn fill_and_empty<M: Running, R: Wait>(rt: &R, set: &LiveSet<M>, seat: &mut Seat<M>) -> Result<()> {
     add_typed(rt, set, seat, u32::MAX)?;
     for key in (0..MANY).rev() {
@@ -198,7 +199,8 @@ fn fill_and_empty<M: Running, R: Wait>(rt: &R, set: &LiveSet<M>, seat: &mut Seat
     Ok(())
 }
 
-/// Makes more than a thousand calls of each kind, with small keys and the largest key, from a seat that has gathered another.
+/// Makes more than a thousand calls of each operation, with small keys and with the largest one, from a seat that has
+/// gathered another.
 fn many_calls<M: Running, R: Wait>(rt: &R, alloc: Global, calls: &mut Calls) -> Result<()> {
     let (set, mut seats) = answer!(calls, "open", OpenFault::Memory, open::<M>(alloc, 2, 1_101))?;
     let one = last_seat(&set, &mut seats)?;

@@ -1,4 +1,4 @@
-//! The imports of the groups of calls, and the bound on their runtime.
+//! The imports that all groups of calls share, and the bound on their runtime.
 pub use crate::refused_calls::{Calls, check};
 pub use anyhow::{Error, Result};
 pub use lset_lazy::LazyList;

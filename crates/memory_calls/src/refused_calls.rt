@@ -1,7 +1,7 @@
 use anyhow::{Error, Result};
 use std::alloc::{AllocError, Global};
 
-/// Returns an error unless `is_as_wanted`: the result is not the expected one.
+/// Returns an error if `is_as_wanted` is false, that is, if a result is not the expected one.
 pub fn check(is_as_wanted: bool) -> Result<()> {
     if is_as_wanted {
         Ok(())
@@ -10,10 +10,10 @@ pub fn check(is_as_wanted: bool) -> Result<()> {
     }
 }
 
-/// The progress of the program: its last call, and the call that returned `Memory`.
+/// The progress of the program: the latest call, and the call that returned `Memory`.
 #[derive(Drop)]
 pub struct Calls {
-    /// The name of the last call.
+    /// The name of the latest call.
     pub name: &'static str,
     /// The name of the call that returned `Memory`.
     pub refused: Option<&'static str>,
@@ -27,7 +27,8 @@ impl Calls {
         }
     }
 
-    /// Returns whether the last call may return `Memory`. Only one allocation fails, so only the first such call may.
+    /// Returns `true` if the latest call may return `Memory`. Only one allocation fails, so only the first such call
+    /// may.
     pub fn may_be_refused(&mut self) -> bool {
         if self.refused.is_some() {
             return false;
@@ -36,8 +37,8 @@ impl Calls {
         true
     }
 
-    /// Allocates a block of memory in the name of the next call. The allocations after that block, up to the next announcement, are
-    /// those of this call.
+    /// Announces the next call by allocating a block. All allocations after this block, up to the next announcement,
+    /// belong to the call.
     pub fn announce(&mut self, alloc: Global, name: &'static str) -> Result<(), AllocError> {
         self.name = name;
         if Box::new(alloc, 0).is_ok() || self.may_be_refused() {

@@ -4,8 +4,8 @@ use lset_history::{History, HistoryFault, Oracle};
 use lset_steps::{Event, StepFault, World};
 use lset_words::layout;
 
-/// Adds a key, at most 5, with 15 steps. The add of 5 needs 15; after the end of a shorter call the steps return `Idle`, which
-/// is ignored.
+/// Adds a key, at most 5, by making 15 steps, which suffice for the key 5. If the call ends earlier, the remaining
+/// steps return `Idle`, which is ignored.
 fn add(world: &mut World<CoarseList>, key: u32) -> Result<(), StepFault> {
     world.step(Event::Begin(0, Call::Add(Key(key))))?;
     for _ in 0..15 {
@@ -14,7 +14,7 @@ fn add(world: &mut World<CoarseList>, key: u32) -> Result<(), StepFault> {
     Ok(())
 }
 
-/// Expects the content of a list's world after five adds.
+/// Checks the content of a list's world after five adds.
 pub fn worlds(alloc: Global, calls: &mut Calls) -> Result<()> {
     let sizes = layout(1, 5)?;
     let mut world = answer!(calls, "World::new", AllocError, World::new(alloc, sizes))?;
@@ -26,14 +26,14 @@ pub fn worlds(alloc: Global, calls: &mut Calls) -> Result<()> {
     check(content.as_slice() == [1, 2, 3, 4, 5].as_slice())
 }
 
-/// Expects exactly these keys in the sequential set.
+/// Checks that the sequential set contains exactly these keys.
 fn oracle_has(alloc: Global, oracle: &Oracle, calls: &mut Calls, keys: &[u32]) -> Result<()> {
     calls.announce(alloc, "Oracle::keys")?;
     let found = answer!(calls, "Oracle::keys", AllocError, oracle.keys())?;
     check(found.as_slice() == keys)
 }
 
-/// Adds the keys 1 to 12, more than one node of the set of keys has.
+/// Adds the keys 1 to 12, which do not fit in one node of the key set.
 fn fill(oracle: &mut Oracle, calls: &mut Calls) -> Result<()> {
     for key in 1..=12 {
         let add = Call::Add(Key(key));

@@ -1,4 +1,4 @@
-//! Random schedules on each broken list: at least one run has an order that is refused.
+//! Random schedules on each broken list. For each list, the order of at least one run must be refused.
 
 use crate::prelude::*;
 use broken_lists::{ALL, BrokenList, BrokenWorld, broken_run};
@@ -6,7 +6,7 @@ use lset_replay::{Steps, calls_of};
 use lset_schedule::read_schedule;
 use lset_text::{call_word, kind_word};
 
-/// The number of runs to try for each list. Each list is refused earlier.
+/// The maximum number of runs per list. For each list, an earlier run is refused.
 const RUNS: u64 = 2_000;
 
 const EVENTS: u32 = 120;
@@ -24,7 +24,8 @@ fn drawn_call(rng: &mut Pcg32) -> Call {
     }
 }
 
-/// Returns a random schedule of two threads on a broken list. A thread makes a few steps before the other continues.
+/// Returns a random schedule for two threads on a broken list. A thread makes a few steps before the other one
+/// continues.
 fn drawn_schedule(alloc: Global, broken: BrokenList, seed: u64) -> Result<String, Fail> {
     let mut rng = Pcg32::seed_from_u64(seed);
     let layout = layout_opening(2, 2, 1)?;
@@ -50,7 +51,7 @@ fn drawn_schedule(alloc: Global, broken: BrokenList, seed: u64) -> Result<String
     Ok(text)
 }
 
-/// Runs a random schedule and decides whether its order is refused.
+/// Runs a random schedule. Returns `true` if its order is refused.
 fn is_run_refused(alloc: Global, broken: BrokenList, seed: u64) -> Result<bool, Fail> {
     let text = drawn_schedule(alloc, broken, seed)?;
     let schedule = read_schedule(alloc, text.as_bytes())?;
@@ -62,7 +63,7 @@ fn is_run_refused(alloc: Global, broken: BrokenList, seed: u64) -> Result<bool, 
     )
 }
 
-/// Decides whether one of the random runs is refused.
+/// Returns `true` if one of the random runs is refused.
 fn is_refused(alloc: Global, broken: BrokenList) -> Result<bool, Fail> {
     for seed in 0..RUNS {
         if is_run_refused(alloc, broken, seed)? {

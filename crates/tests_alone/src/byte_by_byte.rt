@@ -1,5 +1,5 @@
-//! Inputs that arrive byte by byte, as from a slow recorder, and an output that accepts one byte at a time: tens of
-//! thousands of reads or writes.
+//! Inputs that arrive byte by byte, as from a slow recorder, and an output that accepts one byte at a time. Each test
+//! makes tens of thousands of reads or writes.
 use crate::failing_devices::{Plan, WHOLE, Writer};
 use crate::prelude::*;
 use std::io::{self, Read};
@@ -7,10 +7,10 @@ use tool_base::{Answer, deliver};
 use tool_judge::judge_input;
 use tool_replay::tool_check;
 
-/// The number of calls, one after another.
+/// The number of calls, which do not overlap.
 const CALLS: u32 = 4_000;
 
-/// A reader that returns one byte of its text at a time.
+/// A reader that returns its text one byte at a time.
 #[derive(Drop)]
 struct Drops {
     text: String,
@@ -29,7 +29,7 @@ impl Read for Drops {
     }
 }
 
-/// Returns a recording of `CALLS` calls.
+/// Returns a recording with `CALLS` calls.
 fn recording(alloc: Global) -> Result<String, AllocError> {
     let mut text = String::from_str(alloc, "listset-calls 1\n")?;
     for number in 0..CALLS {
@@ -57,7 +57,7 @@ fn a_recording_comes_byte_by_byte(rt: HostRuntime) -> Result<(), Fail> {
     }
 }
 
-/// The order of the report is empty, so `check` refuses it: call 0 is missing.
+/// `check` refuses the report because its order is empty: call 0 is missing.
 #[test]
 fn a_report_comes_byte_by_byte(rt: HostRuntime) -> Result<(), Fail> {
     let alloc = rt.alloc();

@@ -1,11 +1,11 @@
-//! Contradictions by counting: calls of a key between which the key has to change back more often than it can.
+//! Contradictions found by counting: between some calls, a key must change back more often than it can.
 
 use crate::prelude::*;
 use crate::test_histories::{FIVE, reply_of};
 use lset_judge::{Count, find_count};
 use tool_judge::put_count;
 
-/// Returns a completed call of key 5. Its reply is true or false.
+/// Returns a completed call of key 5 with the reply true or false.
 fn ended(thread: u32, call: Call, begun: u64, end: u64, is_true: bool) -> StreamCall {
     StreamCall {
         thread,
@@ -15,8 +15,8 @@ fn ended(thread: u32, call: Call, begun: u64, end: u64, is_true: bool) -> Stream
     }
 }
 
-/// Returns calls that contradict each other: an `add` that returned true between two calls of `contains`, and one `remove`,
-/// although two are needed.
+/// Returns contradicting calls: an `add` that returned true between two calls of `contains`, but only one `remove`
+/// where two are needed.
 fn two_looks() -> [StreamCall; 4] {
     [
         ended(3, Call::Contains(FIVE), 3176, 3177, true),
@@ -73,7 +73,7 @@ fn opening_and_final_keys_are_counted(rt: HostRuntime) -> Result<(), Fail> {
     Ok(())
 }
 
-/// Returns a random call of key 5 at two moments, with any reply. Some calls are pending.
+/// Returns a random call of key 5 between two moments, with a random reply. Some calls are pending.
 fn any_call(random: &mut Pcg32, thread: u32, one: u64, other: u64) -> StreamCall {
     let call = match random.next_u32() % 4 {
         0 | 1 => Call::Add(FIVE),
@@ -94,7 +94,7 @@ fn any_call(random: &mut Pcg32, thread: u32, one: u64, other: u64) -> StreamCall
     }
 }
 
-/// Returns a few random calls of key 5, in the order of their begins, at the moments from 1 on.
+/// Returns a few random calls of key 5 in the order in which they began, starting at moment 1.
 fn any_calls(alloc: Global, random: &mut Pcg32) -> Result<Vec<StreamCall>, AllocError> {
     let count = 2 + random.next_u32() % 7;
     let mut moments: Vec<u64> = Vec::new(alloc);
@@ -133,8 +133,8 @@ fn is_explained(
     Ok(matches!(judge.close(keys_of(left))?, Verdict::Linearizable))
 }
 
-/// Decides whether a count proves its contradiction: its calls are among `calls`, and the changes that could turn the
-/// key back are fewer than needed.
+/// Returns `true` if a count proves its contradiction: its calls are among `calls`, and fewer calls than needed can
+/// change the key back.
 fn names_enough(calls: &[StreamCall], count: &Count) -> bool {
     count.calls.iter().all(|call| calls.contains(call))
         && count.backs.iter().all(|call| calls.contains(call))

@@ -10,14 +10,14 @@ pub const CANNOT_WRITE: &[u8] = b"listset: cannot write\n";
 /// A call number that is never reached.
 pub const NEVER: usize = usize::MAX;
 
-/// A way in which a call of a device fails.
+/// How a call of a device fails.
 #[derive(Clone, Copy)]
 pub enum Failure {
-    /// An error after which the loops of std repeat the call.
+    /// Fails with an error after which std's loops repeat the call.
     Interrupted,
     BrokenPipe,
-    /// A write of no byte, or a flush that fails with `WriteZero`. Never used for readers: a read of no byte is the end
-    /// of the text.
+    /// Writes no byte, or fails a flush with `WriteZero`. Not used for readers, for which a read of no byte means the
+    /// end of the text.
     Nothing,
 }
 
@@ -39,8 +39,8 @@ impl Failure {
     }
 }
 
-/// The plan of a device: call number `fails_at`, from 0, fails, and all calls after it succeed. A call moves at most
-/// `most` bytes.
+/// When a device fails: call number `fails_at`, counted from 0, fails, and all later calls succeed. A call transfers at
+/// most `most` bytes.
 #[derive(Clone, Copy)]
 pub struct Plan {
     pub most: usize,
@@ -48,7 +48,7 @@ pub struct Plan {
     pub failure: Failure,
 }
 
-/// A failure, and the number of bytes that one call moves.
+/// A failure, and the number of bytes that a call transfers.
 pub type Way = (Failure, usize);
 
 pub fn planned((failure, most): Way, fails_at: usize) -> Plan {
@@ -59,7 +59,7 @@ pub fn planned((failure, most): Way, fails_at: usize) -> Plan {
     }
 }
 
-/// A plan without a failure: each call moves all bytes.
+/// A plan without failure, in which each call transfers all bytes.
 pub const WHOLE: Plan = Plan {
     most: usize::MAX,
     fails_at: NEVER,
@@ -101,7 +101,7 @@ impl Read for Reader {
 pub struct Writer {
     pub taken: Vec<u8>,
     plan: Plan,
-    /// The number of writes and flushes.
+    /// The number of calls of `write` and `flush`.
     pub calls: usize,
 }
 
@@ -114,9 +114,9 @@ impl Writer {
         }
     }
 
-    /// Decides whether the writer has a prefix of the text, received at least one byte at each call before the failing
-    /// one, and was not called again. Assumes that no flush came before. A write at the end of a piece of the text can
-    /// have fewer bytes than the writer accepts.
+    /// Returns `true` if the writer received a prefix of the text, at least one byte with every call before the failing
+    /// one, and was not called again. Assumes that no flush came before. A write at the end of a piece of text can have
+    /// fewer bytes than the writer accepts.
     pub fn stopped_within(&self, text: &[u8]) -> bool {
         let calls = self.plan.fails_at;
         let bytes = self.taken.len();

@@ -1,5 +1,5 @@
-//! Runs of the program in which each read and each write fails in turn. The tests in `transcripts` check what the runs
-//! print.
+//! Runs the program with a failure at each read and each write in turn. The tests in `transcripts` check what the
+//! program prints.
 use crate::failing_devices::{
     CANNOT_READ, CANNOT_WRITE, Failure, Plan, Reader, WHOLE, Way, Writer, planned,
 };
@@ -16,22 +16,22 @@ type Row = (&'static [&'static str], &'static str);
 const SCHEDULE: &str =
     "listset-schedule 1\nlist coarse\nthreads 1\nquota 4\nbegin 0 add 5\ngo 0 7\n";
 
-/// A schedule with a step of a thread that has no pending call.
+/// A schedule in which a thread without a pending call makes a step.
 const IDLE: &str =
     "listset-schedule 1\nlist coarse\nthreads 1\nquota 4\nbegin 0 add 5\ngo 0 1\ngo 0 7\n";
 
 const REPORT: &str =
     "listset-report 1\nlist coarse\nthreads 1\nquota 4\ncall 0 0 add 5 1 8 true\nplace 0 true\nkey 5\nend\n";
 
-/// A report whose order lacks its call.
+/// A report whose order omits its call.
 const LEFT_OUT: &str =
     "listset-report 1\nlist coarse\nthreads 1\nquota 4\ncall 0 0 add 5 1 8 true\nkey 5\nend\n";
 
-/// A recording that has a linearization.
+/// A recording that is linearizable.
 const EXPLAINED: &str =
     "listset-calls 1\nopening 7\ncall 0 add 5 1 4 true\ncall 1 remove 7 2 - -\nkey 5\nend\n";
 
-/// A recording in which two calls add one key, and both return true.
+/// A recording in which two calls add the same key and both return true.
 const BOTH: &str = "listset-calls 1\ncall 0 add 5 1 4 true\ncall 1 add 5 2 3 true\nkey 5\nend\n";
 
 /// A recording without its last line.
@@ -39,14 +39,14 @@ const UNENDED: &str = "listset-calls 1\ncall 0 add 5 1 4 true\nkey 5\n";
 
 const DRAFT: &str = "listset-draft 2\nlist coarse\nthreads 1\nquota 4\nbegin 0 add 5\ngo 0 out\n";
 
-/// A schedule of one `contains`, for the broken LazyList whose `contains` ignores the mark.
+/// A schedule with one `contains`, for the broken LazyList that ignores marks in `contains`.
 const LOOK: &str =
     "listset-schedule 2\nlist lazy\nthreads 1\nquota 0\nbegin 0 contains 5\ngo 0 2\n";
 
-/// The output of a server that left one key.
+/// The output of a server with one final key.
 const PRINTED: &str = "listening 127.0.0.1:4711\nsessions 1\ncalls 1\nkey 7\n";
 
-/// Runs that write to the output, followed by runs that write only a line about an error.
+/// Runs that write to the output, then runs that write only an error line.
 const ROWS: [Row; 31] = [
     (&["replay"], SCHEDULE),
     (&["check"], REPORT),
@@ -81,10 +81,10 @@ const ROWS: [Row; 31] = [
     (&["skip"], ""),
 ];
 
-/// A server of no session, which opens with the keys in its input.
+/// A server that accepts no session and opens with the keys in its input.
 const SERVER: Row = (&["serve", "lazy", "1", "4", "0", "0", "-"], PRINTED);
 
-/// The exit status of a run, and its devices.
+/// A completed run: its exit status and its devices.
 #[derive(Drop)]
 struct Run {
     status: u8,
@@ -93,7 +93,7 @@ struct Run {
     stderr: Writer,
 }
 
-/// Returns the text without the line that names a server's port, since the port differs between runs.
+/// Returns the text without the line with a server's port, which differs between runs.
 fn without_port(text: &[u8]) -> &[u8] {
     if !text.starts_with(b"listening ") {
         return text;
@@ -105,12 +105,12 @@ fn without_port(text: &[u8]) -> &[u8] {
 }
 
 impl Run {
-    /// Decides whether the run wrote this line about an error, and nothing to the output.
+    /// Returns `true` if the run wrote this error line and nothing to the output.
     fn wrote_only(&self, line: &[u8]) -> bool {
         self.output.calls == 0 && self.stderr.taken.as_slice() == line
     }
 
-    /// Decides whether two runs wrote the same bytes and returned the same status.
+    /// Returns `true` if two runs wrote the same bytes and returned the same status.
     fn is_as(&self, other: &Run) -> bool {
         self.status == other.status
             && without_port(&self.output.taken) == without_port(&other.output.taken)
@@ -118,7 +118,7 @@ impl Run {
     }
 }
 
-/// Runs a row with the plans of its input, its output and `stderr`.
+/// Runs a row, with plans for its input, its output and `stderr`.
 fn run_on<R: Host>(rt: &R, alloc: Global, (words, input): Row, plans: [Plan; 3]) -> Run {
     let [of_input, output, stderr] = plans;
     let mut input = Reader::new(input, of_input);
@@ -145,7 +145,7 @@ const WRITES: [Way; 3] = [
     (Failure::Nothing, 7),
 ];
 
-/// An upper bound for the calls that a run makes on a device.
+/// The maximum number of calls that a run makes on a device.
 const MOST_CALLS: usize = 10_000;
 
 #[derive(Clone, Copy)]
@@ -156,7 +156,7 @@ enum Device {
 }
 
 impl Device {
-    /// Returns the plans of a run in which only this device fails.
+    /// Returns the plans for a run in which only this device fails.
     fn plans(self, plan: Plan) -> [Plan; 3] {
         match self {
             Device::Input => [plan, WHOLE, WHOLE],
@@ -165,7 +165,7 @@ impl Device {
         }
     }
 
-    /// Returns how often the device was called in a run.
+    /// Returns how often a run called the device.
     fn calls(self, run: &Run) -> usize {
         match self {
             Device::Input => run.input.calls,
@@ -174,7 +174,7 @@ impl Device {
         }
     }
 
-    /// Returns how many bytes a run without a failure moves on this device.
+    /// Returns how many bytes this device transfers in a run without failures.
     fn moved(self, (_words, input): Row, whole: &Run) -> usize {
         match self {
             Device::Input if whole.input.calls == 0 => 0,
@@ -184,9 +184,9 @@ impl Device {
         }
     }
 
-    /// Decides whether a run in which the device failed did the right thing. After a failed read nothing is written to
-    /// the output. After a failed write the output is a prefix of the text. If the line about an error cannot be
-    /// written, the status does not change.
+    /// Returns `true` if a run reacted correctly to the device's failure. After a failed read, nothing is written to
+    /// the output. After a failed write, the output is a prefix of the text. If the error line cannot be written, the
+    /// status does not change.
     fn is_met(self, whole: &Run, run: &Run) -> bool {
         match self {
             Device::Input => run.status == 1 && run.wrote_only(CANNOT_READ),
@@ -202,8 +202,8 @@ impl Device {
     }
 }
 
-/// Runs a row with a failure at each call of the device in turn, until a run ends without a failure. Returns the number
-/// of runs that failed.
+/// Runs a row repeatedly, each time with a failure at the next call of the device, until a run ends without a failure.
+/// Returns the number of runs that failed.
 fn each_call_fails<R: Host>(
     rt: &R,
     alloc: Global,
@@ -258,7 +258,7 @@ fn a_failed_line_about_an_error_keeps_the_status(rt: HostRuntime) -> Result<(), 
     each_row_fails(&rt, rt.alloc(), Device::Stderr, &WRITES)
 }
 
-/// A read or a write of the output fails, and then a write of the line about it: the status is still 1.
+/// A read or write fails, and then the error line cannot be written: the status is still 1.
 #[test]
 fn the_status_stays_if_a_device_and_the_line_about_it_fail(rt: HostRuntime) {
     for (device, line) in [(Device::Input, CANNOT_READ), (Device::Output, CANNOT_WRITE)] {
@@ -271,13 +271,13 @@ fn the_status_stays_if_a_device_and_the_line_about_it_fail(rt: HostRuntime) {
     }
 }
 
-/// A schedule in which a thread attempts to take a lock that the other thread holds. Its trace is written in several
-/// pieces of 15,360 bytes.
+/// A schedule in which one thread attempts to take a lock that the other thread holds. Its trace is written in pieces
+/// of 15,360 bytes.
 const TRIES: &str = "listset-schedule 1\nlist coarse\nthreads 2\nquota 4\n\
     begin 0 add 5\ngo 0 1\nbegin 1 add 7\ngo 1 2000\n";
 
-/// The output accepts up to 4,096 bytes a call. After a failed write it has a prefix of the trace, and is not called
-/// again.
+/// The output accepts up to 4,096 bytes per call. After a failed write, it contains a prefix of the trace and is not
+/// called again.
 #[test]
 fn a_failed_write_of_a_long_trace_leaves_a_prefix(rt: HostRuntime) -> Result<(), Fail> {
     let row: Row = (&["trace"], TRIES);
@@ -297,7 +297,7 @@ fn a_failed_write_of_a_long_trace_leaves_a_prefix(rt: HostRuntime) -> Result<(),
     Err(Fail::new("no run ends without a failure"))
 }
 
-/// The port is taken. The status is 1 even if the line about it cannot be written.
+/// The port is taken. The status is 1 even if the error line cannot be written.
 #[test]
 fn a_server_on_a_taken_port_exits_with_status_1(rt: HostRuntime) -> Result<(), Fail> {
     let alloc = rt.alloc();
@@ -322,7 +322,7 @@ fn a_server_on_a_taken_port_exits_with_status_1(rt: HostRuntime) -> Result<(), F
     Ok(())
 }
 
-/// `tool_gen` and `tool_run` write and return what the program does for the same arguments.
+/// `tool_gen` and `tool_run` write and return the same as the program with these arguments.
 #[test]
 fn tool_gen_and_tool_run_do_what_the_program_does(rt: HostRuntime) -> Result<(), Fail> {
     let alloc = rt.alloc();

@@ -1,11 +1,11 @@
-//! The largest histories and recordings. A test has a minute; a search of all pairs of calls would take longer.
+//! The largest histories and recordings. Each test has a minute, and comparing all pairs of calls would take longer.
 
 use crate::prelude::*;
 use crate::test_histories::{FIVE, in_turn, increasing_keys};
 use lset_judge::{Judged, judge};
 use lset_recording::{RecordingAnswer, RecordingReader};
 
-/// The maximum number of calls of a report.
+/// The maximum number of calls in a report.
 const MOST_CALLS: u32 = 1_000_000;
 
 fn true_calls<F: Fn(u32) -> Call>(
@@ -20,7 +20,7 @@ fn true_calls<F: Fn(u32) -> Call>(
     Ok(calls)
 }
 
-/// The threads call in turn. Each call finds a key of its own in a set with the largest number of opening keys.
+/// The threads take turns. Each call finds a different key in a set with the maximum number of opening keys.
 #[test]
 fn a_million_calls_are_judged(rt: HostRuntime) -> Result<(), Fail> {
     let alloc = rt.alloc();
@@ -37,7 +37,7 @@ fn a_million_calls_are_judged(rt: HostRuntime) -> Result<(), Fail> {
     Ok(())
 }
 
-/// Decides whether the history is refused with this key and this moment.
+/// Returns `true` if the history is refused with this key and this moment.
 fn is_refused(
     alloc: Global,
     history: &History,
@@ -51,7 +51,7 @@ fn is_refused(
 /// How often key 5 is added and removed.
 const TIMES: u32 = 100_000;
 
-/// Returns a history in which the threads in turn add and remove key 5, and a last `contains` returns `last`.
+/// Returns a history in which threads take turns to add and remove key 5, and a final `contains` returns `last`.
 fn in_and_out(alloc: Global, last: Reply) -> Result<History, Fail> {
     let mut calls = true_calls(alloc, 2 * TIMES, |number| {
         if number % 2 == 0 {
@@ -75,7 +75,7 @@ fn a_wrong_reply_after_many_changes_of_a_key_is_found(rt: HostRuntime) -> Result
     Ok(())
 }
 
-/// Returns an order of all calls of the history, one after another. The last reply is `last`.
+/// Returns an order with all calls of the history in turn. The reply at the last place is `last`.
 fn in_their_turn(alloc: Global, last: Reply) -> Result<Vec<Placed>, AllocError> {
     let mut order = Vec::new(alloc);
     for number in 0..2 * TIMES {
@@ -91,8 +91,8 @@ fn in_their_turn(alloc: Global, last: Reply) -> Result<Vec<Placed>, AllocError> 
     Ok(order)
 }
 
-/// An order of many calls has an error at its end: the last call has a wrong reply, is missing, occurs twice or is
-/// unknown, or the keys are wrong.
+/// The order of many calls has a fault at its end: the last call has a wrong reply, is missing, occurs twice or is
+/// unknown, or the final keys are wrong.
 #[test]
 fn a_fault_at_the_end_of_a_long_order_is_found(rt: HostRuntime) -> Result<(), Fail> {
     let alloc = rt.alloc();
@@ -120,7 +120,7 @@ fn a_fault_at_the_end_of_a_long_order_is_found(rt: HostRuntime) -> Result<(), Fa
 /// The number of keys, each with one call.
 const MANY_KEYS: u32 = 500_000;
 
-/// All keys are added and none remains, or all are removed from a set that opened empty. The first key is named.
+/// All keys are added but none is final, or all are removed from a set that opened empty. The first key is named.
 #[test]
 fn the_first_of_many_wrong_keys_is_named(rt: HostRuntime) -> Result<(), Fail> {
     let alloc = rt.alloc();
@@ -133,7 +133,7 @@ fn the_first_of_many_wrong_keys_is_named(rt: HostRuntime) -> Result<(), Fail> {
     Ok(())
 }
 
-/// The number of threads, each of which adds a key of its own. No call ends.
+/// The number of threads, each of which adds its own key. No call ends.
 const MANY_PENDING: u32 = 100_000;
 
 #[test]
@@ -155,7 +155,7 @@ fn many_pending_calls_are_judged(rt: HostRuntime) -> Result<(), Fail> {
 /// More keys than a list can open with.
 const MORE_KEYS: u32 = 1_100_000;
 
-/// One `contains` for each key.
+/// Makes one `contains` for each key.
 #[test]
 fn more_keys_than_a_list_can_have_are_judged(rt: HostRuntime) -> Result<(), Fail> {
     let keys = increasing_keys(rt.alloc(), MORE_KEYS)?;
@@ -173,12 +173,12 @@ fn more_keys_than_a_list_can_have_are_judged(rt: HostRuntime) -> Result<(), Fail
     Ok(())
 }
 
-/// The number of opening keys of a recording.
+/// The number of opening keys in a recording.
 const LONG_KEYS: u32 = 200_000;
 
 const LONG_CALLS: u32 = 100_000;
 
-/// Feeds a line of a call, byte by byte.
+/// Feeds a call's line to the reader byte by byte.
 fn feed_call(alloc: Global, reader: &mut RecordingReader, number: u32) -> Result<(), Fail> {
     let (thread, key) = (number % 8, number % LONG_KEYS);
     let begun = 2 * u64::from(number) + 1;
@@ -190,7 +190,7 @@ fn feed_call(alloc: Global, reader: &mut RecordingReader, number: u32) -> Result
     Ok(())
 }
 
-/// Feeds a line `word K` for each key K.
+/// Feeds a line `word K` for each key K to the reader.
 fn feed_keys(alloc: Global, reader: &mut RecordingReader, word: &str) -> Result<(), Fail> {
     for key in 0..LONG_KEYS {
         let line = format!(in alloc; "{word} {key}\n")?;

@@ -1,5 +1,4 @@
-//! The tests without threads of their own: the hand-worked cases of the libraries that no page in `transcripts` has,
-//! sizes and times, and devices that fail.
+//! The tests that start no threads: cases worked by hand, sizes and times, and failing devices.
 #![tactic(auto)]
 
 #[cfg(test)]

@@ -1,4 +1,4 @@
-//! Functions of the libraries that allocate, at each size from 0 to 200: each succeeds, with the right answer.
+//! Library functions that allocate, for each size from 0 to 200. All must succeed with the right result.
 
 use crate::prelude::*;
 use crate::test_histories::{in_turn, increasing_keys};
@@ -9,7 +9,7 @@ use lset_schedule::{programs, read_schedule, write_schedule};
 
 const MOST_SIZE: u32 = 200;
 
-/// Returns a number of threads, from 1 to `MOST_THREADS`, that varies with the size.
+/// Returns a number of threads from 1 to `MOST_THREADS` that depends on the size.
 fn threads_of(size: u32) -> u32 {
     1 + size % MOST_THREADS
 }
@@ -37,8 +37,8 @@ fn lists_open_at_each_size(rt: HostRuntime) -> Result<(), Fail> {
     Ok(())
 }
 
-/// Reads and writes a schedule and the report of its run. Both are unchanged, and the order explains the run. Returns
-/// the number of calls.
+/// Reads and writes a schedule and the report of its run. Both must be unchanged, and the order must explain the run.
+/// Returns the number of calls.
 fn is_replayed<R: Abort>(rt: &R, alloc: Global, text: &[u8]) -> Result<usize, Fail> {
     let schedule = read_schedule(alloc, text)?;
     assert!(rt; write_schedule(alloc, &schedule)?.as_slice() == text);
@@ -50,7 +50,7 @@ fn is_replayed<R: Abort>(rt: &R, alloc: Global, text: &[u8]) -> Result<usize, Fa
     Ok(read.history.calls().len())
 }
 
-/// Generates a schedule of up to `size` calls for each thread, and replays it.
+/// Generates a schedule with up to `size` calls per thread, and replays it.
 fn has_schedule<M: Machine, R: Abort>(rt: &R, alloc: Global, size: u32) -> Result<(), Fail> {
     let (threads, seed) = (threads_of(size), u64::from(size));
     let schedule = generate::<M>(alloc, threads, size, size, 1 + size, seed)?;
@@ -59,8 +59,8 @@ fn has_schedule<M: Machine, R: Abort>(rt: &R, alloc: Global, size: u32) -> Resul
     Ok(())
 }
 
-/// Returns a schedule in which one thread looks for each of `size` opening keys. In a LazyList this takes two more
-/// steps than for the previous key.
+/// Returns a schedule in which one thread looks for each of `size` opening keys. On a LazyList, each key takes two more
+/// steps than the previous one.
 fn looks_for_each(alloc: Global, size: u32) -> Result<String, Fail> {
     let mut text = String::from_str(alloc, "listset-schedule 2\nlist lazy\nthreads 1\nquota 0\n")?;
     for key in 0..size {
@@ -94,7 +94,8 @@ fn schedules_and_reports_are_right_at_each_size(rt: HostRuntime) -> Result<(), F
     Ok(())
 }
 
-/// Opens a sequential set with `size` keys and as many slots: it accepts that many more keys and is then full.
+/// Opens a sequential set with `size` keys and the same number of slots. It must accept that many more keys and then be
+/// full.
 fn has_oracle<R: Abort>(rt: &R, alloc: Global, size: u32) -> Result<(), Fail> {
     let mut oracle = Oracle::opened(alloc, 1, size, &increasing_keys(alloc, size)?)?;
     for key in size..2 * size {
@@ -117,7 +118,7 @@ fn has_oracle<R: Abort>(rt: &R, alloc: Global, size: u32) -> Result<(), Fail> {
     Ok(())
 }
 
-/// Returns a history in which threads in turn add `size` keys.
+/// Returns a history in which threads take turns to add `size` keys.
 fn adds(alloc: Global, size: u32) -> Result<History, Fail> {
     let mut calls = Vec::new(alloc);
     for key in 0..size {
@@ -127,7 +128,7 @@ fn adds(alloc: Global, size: u32) -> Result<History, Fail> {
     Ok(in_turn(history, &calls)?)
 }
 
-/// Judges a history of `size` adds: it has a linearization that leaves their keys, and none that leaves no key.
+/// Judges a history of `size` adds. It must be linearizable with these final keys, but not with an empty final set.
 fn is_judged<R: Abort>(rt: &R, alloc: Global, size: u32) -> Result<(), Fail> {
     let history = adds(alloc, size)?;
     let judged = judge(alloc, &history, &increasing_keys(alloc, size)?)?;
@@ -139,7 +140,7 @@ fn is_judged<R: Abort>(rt: &R, alloc: Global, size: u32) -> Result<(), Fail> {
     Ok(())
 }
 
-/// Judges a history in which each thread has a pending add. All of them took effect.
+/// Judges a history in which each thread has a pending add that took effect.
 fn is_judged_pending<R: Abort>(rt: &R, alloc: Global, threads: u32) -> Result<(), Fail> {
     let mut history = History::new(alloc, threads, 1);
     for thread in 0..threads {
@@ -163,7 +164,7 @@ fn sequential_sets_and_judged_histories_are_right_at_each_size(
     Ok(())
 }
 
-/// Returns a judge with `size` calls that find a key each, and `size` pending adds.
+/// Returns a judge that has received `size` calls that each find a key, and `size` pending adds.
 fn judge_of(alloc: Global, size: u32) -> Result<Judge, Fail> {
     let mut judge = Judge::new(alloc, &increasing_keys(alloc, size)?)?;
     for number in 0..2 * size {
@@ -184,7 +185,7 @@ fn judge_of(alloc: Global, size: u32) -> Result<Judge, Fail> {
     Ok(judge)
 }
 
-/// Returns a recording with `size` opening keys. Each key is looked for and remains.
+/// Returns a recording with `size` opening keys. Each key is looked up and stays in the set.
 fn recording_of(alloc: Global, size: u32) -> Result<String, Fail> {
     let mut text = String::from_str(alloc, "listset-calls 1\n")?;
     for key in 0..size {

@@ -1,4 +1,4 @@
-//! The imports of most tests, and their requirements on the runtime.
+//! The imports of most tests, and what they require of the runtime.
 pub use lset_coarse::CoarseList;
 pub use lset_fine::FineList;
 pub use lset_history::{Changes, History, HistoryFault, Oracle, OrderFault, Placed, check_order};
@@ -23,7 +23,7 @@ pub use std::test::Fail;
 use std::thread::Threads;
 use std::time::Clock;
 
-/// A runtime for the program `listset` that can also fail a test.
+/// A runtime that can run the program `listset` and fail a test.
 pub trait Host: Abort
     + Clock
     + Files

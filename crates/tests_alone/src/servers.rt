@@ -1,5 +1,4 @@
-//! A server whose output fails. Its port differs between runs, so the first line is compared without the digits of the
-//! port.
+//! Servers whose output fails. The port differs between runs, so its digits in the first line are ignored.
 use crate::failing_devices::{CANNOT_WRITE, Failure, Plan, Way, Writer, planned};
 use crate::prelude::*;
 use lset_dispatch::run_words;
@@ -8,20 +7,20 @@ use std::net::Shutdown;
 
 const LISTENING: &str = "listening 127.0.0.1:";
 
-/// The text after the first line if the client was served.
+/// The text after the first line if a client was served.
 const ONE_SESSION: &str = "sessions 1\ncalls 1\nkey 7\n";
 
-/// An upper bound for the calls that a run makes on its output.
+/// The maximum number of calls that a run makes on its output.
 const MOST_CALLS: usize = 100;
 
-/// The failures to try, and the number of bytes that one call moves.
+/// The failures to try, each with the number of bytes that a call transfers.
 const WAYS: [Way; 3] = [
     (Failure::Interrupted, 1),
     (Failure::BrokenPipe, 3),
     (Failure::Nothing, 7),
 ];
 
-/// Connects a client, which sends a call and `QUIT` before the server accepts it, and so needs no thread.
+/// Connects a client and sends a call and `QUIT`. It needs no thread, since it sends both before the server accepts it.
 fn client<R: Host>(rt: &R, port: u16) -> io::Result<TcpStream> {
     let mut stream = TcpStream::connect(rt, ("127.0.0.1", port))?;
     stream.write_all(b"ADD 7\nQUIT\n")?;
@@ -29,7 +28,7 @@ fn client<R: Host>(rt: &R, port: u16) -> io::Result<TcpStream> {
     Ok(stream)
 }
 
-/// Returns the port that a complete first line names.
+/// Returns the port in the first line, if that line is complete.
 fn port_in(text: &[u8]) -> Option<u16> {
     let text = std::str::from_utf8(text).ok()?;
     text.strip_prefix(LISTENING)?
@@ -38,7 +37,7 @@ fn port_in(text: &[u8]) -> Option<u16> {
         .ok()
 }
 
-/// The output of a server. A flush connects a client if the first line is complete.
+/// The output of a server. Once the first line is complete, a flush connects a client.
 #[derive(Drop)]
 struct Door<'r, R> {
     rt: &'r R,
@@ -63,7 +62,7 @@ impl<R: Host> Write for Door<'_, R> {
     }
 }
 
-/// Decides whether the client received its answers, and then the end.
+/// Returns `true` if the client received its answers and then the end of the connection.
 fn is_answered(client: Option<TcpStream>) -> bool {
     let Some(mut stream) = client else {
         return false;
@@ -74,7 +73,7 @@ fn is_answered(client: Option<TcpStream>) -> bool {
         && matches!(stream.read(&mut [0u8; 1]), Ok(0))
 }
 
-/// Decides whether the client, if there was one, received no byte.
+/// Returns `true` if no client connected, or if it received no byte.
 fn is_turned_away(client: Option<TcpStream>) -> bool {
     let Some(mut stream) = client else {
         return true;
@@ -82,13 +81,13 @@ fn is_turned_away(client: Option<TcpStream>) -> bool {
     matches!(stream.read(&mut [0u8; 9]), Ok(0) | Err(_))
 }
 
-/// Skips the digits at the start of a text; returns the rest and the number of digits.
+/// Skips the digits at the start of a text. Returns the rest and the number of digits.
 fn after_digits(text: &str) -> (&str, usize) {
     let rest = text.trim_start_matches(|letter: char| letter.is_ascii_digit());
     (rest, text.len().saturating_sub(rest.len()))
 }
 
-/// Decides whether the bytes are a prefix of the first line and the text after it.
+/// Returns `true` if the bytes are a prefix of the first line followed by `after`.
 fn is_front(bytes: &[u8], after: &str) -> Option<bool> {
     let text = std::str::from_utf8(bytes).ok()?;
     let Some(named) = text.strip_prefix(LISTENING) else {
@@ -101,13 +100,13 @@ fn is_front(bytes: &[u8], after: &str) -> Option<bool> {
     }
 }
 
-/// Decides whether the bytes are the first line and the text after it.
+/// Returns `true` if the bytes are exactly the first line followed by `after`.
 fn is_whole(bytes: &[u8], after: &str) -> Option<bool> {
     let ends = bytes.ends_with(after.as_bytes());
     Some(ends && is_front(bytes, after)?)
 }
 
-/// Runs a server of one session whose output has this plan. Returns whether a call on the output failed.
+/// Runs a server with one session, whose output has this plan. Returns `true` if a call on the output failed.
 fn output_fails<R: Host>(rt: &R, alloc: Global, plan: Plan) -> Result<bool, Fail> {
     let words = ["serve", "lazy", "1", "4", "0", "1"];
     let mut door = Door {
@@ -148,8 +147,8 @@ fn output_fails<R: Host>(rt: &R, alloc: Global, plan: Plan) -> Result<bool, Fail
     Ok(true)
 }
 
-/// Runs a server with a failure at each call on its output in turn, until a run ends without a failure. Returns the
-/// number of runs that failed.
+/// Runs a server repeatedly, each time with a failure at the next call on its output, until a run ends without a
+/// failure. Returns the number of runs that failed.
 fn each_call_fails<R: Host>(rt: &R, alloc: Global, way: Way) -> Result<usize, Fail> {
     for fails_at in 0..MOST_CALLS {
         if !output_fails(rt, alloc, planned(way, fails_at))? {
@@ -159,7 +158,7 @@ fn each_call_fails<R: Host>(rt: &R, alloc: Global, way: Way) -> Result<usize, Fa
     Err(Fail::new("no run ends without a failure"))
 }
 
-/// If the first line is not completely written and flushed, the server accepts no client.
+/// If the first line cannot be written and flushed completely, the server accepts no client.
 #[test]
 fn a_server_accepts_no_client_before_its_first_line_is_written(
     rt: HostRuntime,

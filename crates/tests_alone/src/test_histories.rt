@@ -1,4 +1,4 @@
-//! Keys and histories for several tests.
+//! Keys and histories that several tests use.
 
 use crate::prelude::*;
 
@@ -13,7 +13,7 @@ pub fn increasing_keys(alloc: Global, count: u32) -> Result<Vec<u32>, AllocError
     Ok(keys)
 }
 
-/// Appends calls to an empty history, one after another, at the moments from 1 on.
+/// Appends calls that do not overlap to an empty history, starting at moment 1.
 pub fn in_turn(
     mut history: History,
     calls: &[(u32, Call, Reply)],

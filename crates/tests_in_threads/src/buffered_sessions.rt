@@ -1,19 +1,19 @@
-//! Sessions whose answers are buffered: all lines that were read are answered before the next read.
+//! Sessions with buffered answers: all lines that have been read are answered before the next read.
 use crate::prelude::*;
 use crate::session_lines::{end, held, held_buffered, one_seat, was_held};
 use std::cell::Cell;
 
-/// How many bytes of answers were written, and whether at each read all lines before it had been answered.
+/// The number of bytes of answers written so far, and whether all earlier lines had been answered at each read.
 #[derive(Drop)]
 struct Seen {
     written: Cell<u64>,
     in_time: Cell<bool>,
 }
 
-/// A text, and the length of the answers to the lines that end in it.
+/// A text, and the total length of the answers to the lines that it completes.
 type Turn<'a> = (&'a [u8], u64);
 
-/// A source that returns one text at each read. At each read it checks that all lines of earlier texts have been
+/// A source that returns one text per read, and checks each time that all lines of the earlier texts have been
 /// answered.
 #[derive(Drop)]
 struct Asking<'a> {
@@ -42,7 +42,7 @@ impl Source for Asking<'_> {
     }
 }
 
-/// A sink that counts the bytes.
+/// A sink that counts bytes.
 #[derive(Drop)]
 struct Counting<'a> {
     seen: &'a Seen,
@@ -60,8 +60,7 @@ impl Sink for Counting<'_> {
     }
 }
 
-/// Asserts that the lines of each text are answered before the session reads the next text, and that the session makes
-/// this number of calls.
+/// Asserts that a session answers all lines of a text before it reads the next text, and that it makes this many calls.
 fn are_answered_in_time<R: Host>(
     rt: &R,
     alloc: Global,
@@ -98,7 +97,7 @@ fn are_answered_in_both<R: Host>(rt: &R, alloc: Global, turns: &[Turn<'_>], call
     are_answered_in_time(rt, alloc, turns, calls, false);
 }
 
-/// A line, a read that fills the buffer, and a read that ends within a line.
+/// Reads one line, then a full buffer, then a part of a line.
 #[test]
 fn answers_are_written_before_each_read(rt: HostRuntime) {
     let texts: &[Turn<'_>] = &[(b"\n", 4), (&[b'\n'; 4096], 4 * 4096), (b"\nA", 4)];
@@ -107,7 +106,7 @@ fn answers_are_written_before_each_read(rt: HostRuntime) {
     }
 }
 
-/// Lines that lead to each kind of answer, on a set with a quota of 4, and the lengths of the answers.
+/// Lines with every kind of answer, on a set with a quota of 4, and the lengths of these answers.
 const OF_EACH_ANSWER: [Turn<'static>; 9] = [
     (b"CEILING 0\n", 5),
     (b"ADD 4294967295\n", 5),
@@ -120,20 +119,20 @@ const OF_EACH_ANSWER: [Turn<'static>; 9] = [
     (b"MOVE 7\n", 4),
 ];
 
-/// A client that waits for its answer receives it, for each kind of answer.
+/// A client that waits for each answer receives it, whatever kind the answer is.
 #[test]
 fn each_kind_of_answer_is_written_before_the_next_read(rt: HostRuntime) {
     are_answered_in_both(&rt, rt.alloc(), &OF_EACH_ANSWER, 10);
 }
 
-/// Asserts that a buffered session writes and returns what an unbuffered one does.
+/// Asserts that a buffered session writes and returns the same as an unbuffered one.
 fn is_answered_alike<R: Host>(rt: &R, alloc: Global, text: &[u8]) {
     let (plain, ended) = held(rt, alloc, &mut Device::new(text));
     let session = held_buffered(rt, alloc, Device::new(text));
     was_held(rt, &session, &plain, ended);
 }
 
-/// Returns a number of empty lines, followed by `last`.
+/// Returns `empty` empty lines, followed by `last`.
 fn lines_then<R: Abort>(rt: &R, alloc: Global, empty: usize, last: &[u8]) -> Vec<u8> {
     let mut text = vec![in alloc; b'\n'; empty].expect(rt, "room");
     text.extend_from_slice(last).expect(rt, "room");
@@ -150,7 +149,7 @@ fn answers_longer_than_the_buffer_are_written(rt: HostRuntime) {
     }
 }
 
-/// The longest answers, to the lines of one read. Some of them fit the buffer only in part.
+/// The longest possible answers to the lines of one read. Some of them fit in the buffer only partly.
 #[test]
 fn answers_that_fit_the_buffer_in_part_are_written_whole(rt: HostRuntime) {
     let mut text = Vec::from_slice(rt.alloc(), b"ADD 4294967295\n").expect(&rt, "room");

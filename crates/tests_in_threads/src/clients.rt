@@ -3,7 +3,7 @@
 use crate::meeting::reaches;
 use crate::prelude::*;
 
-/// Sends a text and decides whether the server replies with exactly these answers.
+/// Sends a text. Returns `true` if the server replies with exactly these answers.
 fn is_answered(stream: &mut TcpStream, text: &[u8], answers: &[u8]) -> bool {
     let mut got = [0u8; 64];
     if answers.len() > 64 || stream.write_all(text).is_err() {
@@ -12,7 +12,7 @@ fn is_answered(stream: &mut TcpStream, text: &[u8], answers: &[u8]) -> bool {
     stream.read_exact(&mut got[..answers.len()]).is_ok() && &got[..answers.len()] == answers
 }
 
-/// Connects and sends a text. Decides whether the server replies with these answers and then ends the connection.
+/// Connects and sends a text. Returns `true` if the server replies with these answers and then closes the connection.
 pub fn asks<R: Host + Net<Listener = TcpListener, Stream = TcpStream>>(
     rt: &R,
     port: u16,
@@ -25,8 +25,8 @@ pub fn asks<R: Host + Net<Listener = TcpListener, Stream = TcpStream>>(
     is_answered(&mut stream, text, answers) && matches!(stream.read(&mut [0u8; 1]), Ok(0))
 }
 
-/// Connects, sends a line, and waits until the other client has its answer too. Then sends `QUIT`. Returns whether all
-/// answers arrived.
+/// Connects, sends a line, and waits until the other client has its answer too. Then sends `QUIT`. Returns `true` if
+/// all answers arrived.
 pub fn meets<R: Host + Net<Listener = TcpListener, Stream = TcpStream>>(
     rt: &R,
     port: u16,
@@ -41,7 +41,8 @@ pub fn meets<R: Host + Net<Listener = TcpListener, Stream = TcpStream>>(
     has_asked && reaches(rt, met, 2) && is_answered(&mut stream, b"QUIT\n", b"BYE\n")
 }
 
-/// Connects a number of clients. None disconnects before all have their answers. Returns whether all answers arrived.
+/// Connects several clients, none of which disconnects before all have their answers. Returns `true` if all answers
+/// arrived.
 pub fn all_meet<R: Host + Net<Listener = TcpListener, Stream = TcpStream>>(
     rt: &R,
     alloc: Global,
@@ -66,7 +67,7 @@ pub fn all_meet<R: Host + Net<Listener = TcpListener, Stream = TcpStream>>(
     true
 }
 
-/// Connects, sends a text and disconnects. Returns whether the text was sent.
+/// Connects, sends a text and disconnects. Returns `true` if the text was sent.
 pub fn leaves<R: Host + Net<Listener = TcpListener, Stream = TcpStream>>(
     rt: &R,
     port: u16,

@@ -1,8 +1,8 @@
-//! The tests with threads or sessions: running sets, programs in threads, sessions over devices, servers on the
+//! The tests that use threads or sessions: running sets, programs in threads, sessions over devices, and servers on the
 //! loopback.
 #![tactic(auto)]
 
-/// Runs a check for each of the five lists.
+/// Runs a check on each of the five lists.
 macro_rules! at_each_list {
     ($check:ident, $rt:ident $(, $value:expr)*) => {
         $check::<lset_coarse::CoarseList, HostRuntime>(&$rt, $rt.alloc() $(, $value)*);

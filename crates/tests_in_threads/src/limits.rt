@@ -1,8 +1,8 @@
-//! The maximum number of lines of a session.
+//! The limit on the number of lines in a session.
 use crate::prelude::*;
 use crate::session_lines::{end, held, held_buffered, was_held};
 
-/// A source of empty lines, followed by the bytes `last`.
+/// A source that returns empty lines and then the bytes `last`.
 #[derive(Drop)]
 struct Lines {
     empty: u32,
@@ -37,8 +37,8 @@ impl Source for Lines {
     }
 }
 
-/// Asserts that a session answers each of `empty` empty lines with `BAD`, and the bytes `last` with `answers`. A
-/// buffered session does the same.
+/// Asserts that a session answers `empty` empty lines with `BAD` each, and the bytes `last` with `answers`. A buffered
+/// session must do the same.
 fn is_answered_after<R: Host>(
     rt: &R,
     alloc: Global,

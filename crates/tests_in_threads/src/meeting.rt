@@ -1,8 +1,8 @@
-//! Threads that wait for one another, never longer than a limit.
+//! Threads that wait for each other, up to a time limit.
 
 use crate::prelude::*;
 
-/// Waits until the flag is set, and returns whether it was. Polls every millisecond, at most 10,000 times.
+/// Waits until the flag is set. Polls every millisecond, at most 10,000 times. Returns `true` if the flag was set.
 pub fn comes<R: Clock>(rt: &R, flag: &AtomicBool) -> bool {
     for _ in 0..10_000 {
         if flag.load(Ordering::SeqCst) {
@@ -13,7 +13,8 @@ pub fn comes<R: Clock>(rt: &R, flag: &AtomicBool) -> bool {
     false
 }
 
-/// Waits until the count is `number`, and returns whether it was. Polls every millisecond, at most 10,000 times.
+/// Waits until the count is `number`. Polls every millisecond, at most 10,000 times. Returns `true` if the count was
+/// reached.
 pub fn reaches<R: Clock>(rt: &R, count: &AtomicU64, number: u64) -> bool {
     for _ in 0..10_000 {
         if count.load(Ordering::SeqCst) == number {
@@ -39,8 +40,8 @@ pub fn calls<M: Running, R: Clock + Wait, P: Pause>(
     reply
 }
 
-/// A meeting of up to 64 threads. Each thread waits for all others when it arrives for the first time. `took` is
-/// whether a thread took a lock after it had waited for the lock.
+/// A meeting of up to 64 threads. When a thread arrives for the first time, it waits for all others. `took` tells
+/// whether any thread took a lock for which it had to wait.
 #[derive(Drop)]
 pub struct Meeting<'a, R> {
     rt: &'a R,
@@ -52,7 +53,7 @@ pub struct Meeting<'a, R> {
 }
 
 impl<'a, R: Clock> Meeting<'a, R> {
-    /// Returns a meeting of `threads` threads. No thread has arrived.
+    /// Creates a meeting of `threads` threads, none of which has arrived.
     pub fn new(rt: &'a R, threads: u64) -> Meeting<'a, R> {
         Meeting {
             rt,
@@ -64,7 +65,7 @@ impl<'a, R: Clock> Meeting<'a, R> {
         }
     }
 
-    /// Arrives, and waits for all others. Returns whether they arrive, or true if this thread has arrived before.
+    /// Arrives and waits for all others. Returns `true` if they arrive, or if this thread has arrived before.
     pub fn come(&self, thread: u32) -> bool {
         if self.came[(thread % 64) as usize].swap(true, Ordering::SeqCst) {
             return true;
@@ -77,25 +78,25 @@ impl<'a, R: Clock> Meeting<'a, R> {
         has_met
     }
 
-    /// Decides whether all threads arrived and none gave up waiting.
+    /// Returns `true` if all threads arrived and none gave up waiting.
     pub fn was_held(&self) -> bool {
         self.count.load(Ordering::SeqCst) == self.threads && !self.missed.load(Ordering::SeqCst)
     }
 
-    /// Decides whether a thread took a lock that it had waited for.
+    /// Returns `true` if a thread took a lock for which it had to wait.
     pub fn has_waited(&self) -> bool {
         self.took.load(Ordering::SeqCst)
     }
 }
 
-/// Holds each seat before its second call, until all have arrived.
+/// Makes each seat wait before its second call until all have arrived.
 impl<'a, R: Clock> Gate for Meeting<'a, R> {
     fn pass(&self, seat: u32, call: u32) -> bool {
         call != 1 || self.come(seat)
     }
 }
 
-/// Holds each thread after its first step, until all have made one.
+/// Makes each thread wait after its first step until all have made one.
 impl<'a, R: Clock> Pause for Meeting<'a, R> {
     fn moved(&self, thread: u32) {
         let _has_met = self.come(thread);

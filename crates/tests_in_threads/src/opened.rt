@@ -1,4 +1,4 @@
-//! Operations on a running set, for the tests. Each fails the test if the set does anything else than expected.
+//! Operations on a running set for the tests. Each of them fails the test if the set does not behave as expected.
 
 use crate::prelude::*;
 
@@ -10,7 +10,7 @@ pub fn last_of<M: Machine, R: Abort>(
     seats.pop().expect(rt, "no seat is left")
 }
 
-/// Opens a set with these keys and two seats with a quota of 4. Returns the set, seat 0 and seat 1.
+/// Opens a set with these keys and two seats, each with a quota of 4. Returns the set, seat 0 and seat 1.
 pub fn two_seats_on<M: Machine, R: Abort>(
     rt: &R,
     alloc: Global,
@@ -22,12 +22,12 @@ pub fn two_seats_on<M: Machine, R: Abort>(
     (set, zero, one)
 }
 
-/// Opens an empty set with two seats with a quota of 4. Returns the set, seat 0 and seat 1.
+/// Opens an empty set with two seats, each with a quota of 4. Returns the set, seat 0 and seat 1.
 pub fn two_seats<M: Machine, R: Abort>(rt: &R, alloc: Global) -> (LiveSet<M>, Seat<M>, Seat<M>) {
     two_seats_on::<M, R>(rt, alloc, &[])
 }
 
-/// Makes a call through the method of its name.
+/// Makes a call by calling the method of the same name.
 fn reply<M: Running, R: Wait>(rt: &R, set: &LiveSet<M>, seat: &mut Seat<M>, call: Call) -> Reply {
     match call {
         Call::Add(key) => set.add(rt, seat, key),
@@ -37,7 +37,7 @@ fn reply<M: Running, R: Wait>(rt: &R, set: &LiveSet<M>, seat: &mut Seat<M>, call
     }
 }
 
-/// Makes calls in turn and asserts their replies.
+/// Makes calls one after another and asserts their replies.
 pub fn make_calls<M: Running, R: Host>(
     rt: &R,
     set: &LiveSet<M>,
@@ -49,7 +49,7 @@ pub fn make_calls<M: Running, R: Host>(
     }
 }
 
-/// Gathers all seats into one; `None` if there is none.
+/// Gathers all seats into one; returns `None` if there are none.
 pub fn gathered<M: Machine>(set: &LiveSet<M>, mut seats: Vec<Seat<M>>) -> Option<Seat<M>> {
     let mut all = None;
     while let Some(seat) = seats.pop() {
@@ -71,7 +71,7 @@ pub fn close_with<M: Machine, R: Abort>(rt: &R, set: LiveSet<M>, seat: Seat<M>, 
     assert_eq!(rt; keys_left(rt, set, seat).as_slice(), keys);
 }
 
-/// Returns the first `count` multiples of `step`, from 0 on.
+/// Returns the first `count` multiples of `step`, starting at 0.
 pub fn increasing_keys<R: Abort>(rt: &R, alloc: Global, count: u32, step: u32) -> Vec<u32> {
     let mut keys = Vec::new(alloc);
     for number in 0..count {

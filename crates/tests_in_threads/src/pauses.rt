@@ -1,10 +1,10 @@
-//! The number of steps of a call. A call reports each of its steps to its `Pause`, except the step that has the reply.
+//! How many steps each call makes. A call reports every step to its `Pause`, except the step that yields the reply.
 
 use crate::opened::two_seats;
 use crate::prelude::*;
 use std::cell::Cell;
 
-/// A pause that counts the reported steps. A step is wrong if it is of another thread, failed, or ended a wait.
+/// Counts reported steps, and those that are wrong: made by another thread, failed, or ended a wait.
 #[derive(Drop)]
 pub struct Count {
     thread: u32,
@@ -13,7 +13,7 @@ pub struct Count {
 }
 
 impl Count {
-    /// Returns a pause for a thread whose exchanges should all succeed and that should wait for no lock.
+    /// Creates a pause for a thread that should not fail an exchange or wait for a lock.
     pub fn new(thread: u32) -> Count {
         Count {
             thread,
@@ -29,7 +29,7 @@ impl Count {
         }
     }
 
-    /// Returns how many steps were reported, and how many of them were wrong.
+    /// Returns the number of steps reported so far, and how many of these were wrong.
     pub fn so_far(&self) -> (u64, u64) {
         (self.steps.get(), self.wrong.get())
     }
@@ -49,7 +49,7 @@ impl Pause for Count {
     }
 }
 
-/// Makes calls in turn from seat 1 of an empty set, and asserts the reply and the number of steps of each.
+/// Makes calls one after another from seat 1 of an empty set, and asserts each call's reply and number of steps.
 fn makes_steps<M: Running, R: Host>(rt: &R, alloc: Global, rows: &[(Call, Reply)], steps: &[u64]) {
     let (set, _zero, mut one) = two_seats::<M, R>(rt, alloc);
     assert!(rt; rows.len() == steps.len());
@@ -63,7 +63,7 @@ fn makes_steps<M: Running, R: Host>(rt: &R, alloc: Global, rows: &[(Call, Reply)
     }
 }
 
-/// Asserts replies and steps with the loops of the list, and with the interpreter of its table.
+/// Asserts replies and steps both for the list's loops and for the interpreter of its step table.
 fn both_make_steps<M: Running, R: Host>(
     rt: &R,
     alloc: Global,

@@ -1,4 +1,4 @@
-//! The imports of most tests, and their requirements on the runtime.
+//! The imports of most tests, and what they require of the runtime.
 pub use crate::stepped::Stepped;
 pub use lset_coarse::CoarseList;
 pub use lset_fine::FineList;

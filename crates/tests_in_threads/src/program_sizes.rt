@@ -1,14 +1,14 @@
-//! Programs in threads, of log-uniform sizes up to each limit, compared with a model.
+//! Programs in threads, compared with a model. Their sizes are log-uniform up to each limit.
 //!
-//! Thread `t` of `n` has the keys with the remainder `t` modulo `n`, and a sequential set of these keys. Therefore its
-//! replies do not depend on other threads.
+//! Thread `t` of `n` uses only keys that are `t` modulo `n`, and has a sequential set for these keys. Therefore its
+//! replies do not depend on the other threads.
 
 use crate::opened::{increasing_keys, keys_left, last_of, make_calls};
 use crate::prelude::*;
 use crate::programs::worked;
 use std::collections::BTreeSet;
 
-/// The sizes of a set and of its programs. `last` is the largest key, `calls` the number of calls of all threads
+/// The sizes of a set and of its programs. `last` is the largest key, and `calls` is the number of calls of all threads
 /// together.
 #[derive(Clone, Copy, Debug)]
 pub struct Sizes {
@@ -19,7 +19,7 @@ pub struct Sizes {
     last: u32,
 }
 
-/// A generator of random numbers (Knuth's linear congruence).
+/// A random number generator (Knuth's linear congruential generator).
 #[derive(Drop)]
 pub struct Draws {
     number: u64,
@@ -39,7 +39,7 @@ impl Draws {
         u32::try_from(drawn).unwrap_or(most)
     }
 
-    /// Returns a number up to `most`. Small and large numbers are equally likely, and one number in eight is `most`
+    /// Returns a number up to `most`. Each order of magnitude is equally likely, and one number in eight is `most`
     /// itself.
     fn log_uniform(&mut self, most: u32) -> u32 {
         if self.up_to(7) == 0 {
@@ -70,7 +70,7 @@ impl Draws {
     }
 }
 
-/// A rough upper bound for the nodes that all walks of a run pass. It keeps a run short.
+/// A rough limit on the number of nodes that all traversals of a run visit. It keeps runs short.
 const MOST_PASSED: u64 = 5_000_000;
 
 impl Sizes {
@@ -84,7 +84,7 @@ impl Sizes {
         }
     }
 
-    /// Returns the number of calls of a thread. It is below its share if each call can walk far.
+    /// Returns the number of calls of a thread. This is less than its share if calls can have to traverse many nodes.
     fn calls_of(&self, thread: u32) -> u32 {
         let slots = u64::from(self.threads) * u64::from(self.quota);
         let added = slots.min(u64::from(self.last)).min(u64::from(self.calls));
@@ -94,7 +94,7 @@ impl Sizes {
         (calls / threads).saturating_add(u32::from(thread < calls % threads))
     }
 
-    /// Returns the key of this thread that is next to a random key.
+    /// Returns the thread's own key that is nearest to a random key.
     fn own_key(&self, drawn: u32, thread: u32) -> Key {
         let others = drawn.checked_rem(self.threads).unwrap_or(0);
         let first = drawn.wrapping_sub(others);
@@ -107,9 +107,9 @@ impl Sizes {
 
     /// Returns the programs of the threads.
     ///
-    /// With several threads on a LockFreeList the programs have no `ceiling`. A `remove` can leave a marked node in the
-    /// chain, and a `ceiling` starts again at this node until an `add` or a `remove` walks there. If all remaining
-    /// threads were at such ceilings, none would end.
+    /// With several threads on a LockFreeList, the programs do not call `ceiling`. A `remove` can leave a marked node
+    /// in the chain, and a `ceiling` restarts at this node until an `add` or `remove` traverses it. If only such
+    /// ceilings were left, none of them would end.
     fn programs<M: Machine, R: Abort>(
         &self,
         rt: &R,
@@ -137,7 +137,7 @@ fn truth(is_true: bool) -> Reply {
     if is_true { Reply::True } else { Reply::False }
 }
 
-/// The keys of one thread, and its free slots.
+/// The keys of one thread, and how many slots it has left.
 #[derive(Drop)]
 struct Model {
     sizes: Sizes,
@@ -162,7 +162,7 @@ impl Model {
         }
     }
 
-    /// Makes the call on the model, and decides whether the reply is right.
+    /// Makes the call on the model. Returns `true` if the reply is right.
     fn makes<R: Abort>(&mut self, rt: &R, call: Call, reply: Reply) -> bool {
         match call {
             Call::Add(key) => reply == self.add(rt, key.0),
@@ -184,7 +184,8 @@ impl Model {
         Reply::True
     }
 
-    /// Decides whether a `ceiling` can return `reply`: possibly a key of another thread, if no own key is before it.
+    /// Returns `true` if a `ceiling` can return `reply`, which can be another thread's key if no own key comes before
+    /// it.
     fn may_find(&self, key: u32, reply: Reply) -> bool {
         let own = self.keys.range(key..).next();
         match (reply, own) {
@@ -197,8 +198,8 @@ impl Model {
         }
     }
 
-    /// Decides whether all replies of a program are right, and whether the model's keys are exactly the thread's keys
-    /// in `left`.
+    /// Returns `true` if all replies to a program are right, and the thread's keys in `left` are exactly the model's
+    /// keys.
     fn is_as_wanted<R: Abort>(
         &mut self,
         rt: &R,
@@ -221,8 +222,8 @@ impl Model {
     }
 }
 
-/// Runs programs in threads on a set that opens with these keys, and asserts that the replies and the final keys are
-/// those of the models. Returns the final keys.
+/// Runs programs in threads on a set that opens with these keys, and asserts that the replies and the final keys agree
+/// with the models. Returns the final keys.
 pub fn runs_beside_models<M: Running + Send + Sync, R: Host>(
     rt: &R,
     alloc: Global,
@@ -266,7 +267,7 @@ fn runs<M: Running + Send + Sync, R: Host>(rt: &R, alloc: Global, sizes: Sizes, 
     let _left = runs_beside_models::<M, R>(rt, alloc, sizes, &opening, draws);
 }
 
-/// The number of runs of random sizes for each list.
+/// The number of runs with random sizes for each list.
 const RUNS: u32 = 8;
 
 fn calls_succeed<M: Running + Send + Sync, R: Host>(rt: &R, alloc: Global, seed: u64) {
@@ -305,15 +306,16 @@ fn lock_free_calls_succeed_at_all_sizes(rt: HostRuntime) {
     calls_succeed::<LockFreeList, HostRuntime>(&rt, rt.alloc(), 5);
 }
 
-/// Adds one key for each slot of the seat, from `first` up, in decreasing order. Each new node comes directly after the
-/// head.
+/// Adds a key for each of the seat's slots, from `first` up, in decreasing order. Each new node comes directly after
+/// the head.
 fn fill<M: Running, R: Wait>(rt: &R, set: &LiveSet<M>, seat: &mut Seat<M>, first: u32, count: u32) {
     for number in (0..count).rev() {
         let _reply = set.add(rt, seat, Key(first.saturating_add(number)));
     }
 }
 
-/// Opens a set of the largest size and adds a key for each slot of each seat. These keys are below the opening keys.
+/// Opens a set of the maximum size and adds a key for every slot of every seat. These keys are smaller than the opening
+/// keys.
 fn filled<M: Running, R: Host>(rt: &R, alloc: Global, opening: &[u32]) -> (LiveSet<M>, Seat<M>) {
     let opened = open_with::<M>(alloc, MOST_THREADS, MOST_QUOTA, opening);
     let (set, mut seats) = opened.expect(rt, "not opened");
@@ -344,7 +346,7 @@ const PAST_ALL: [(Call, Reply); 5] = [
     (Call::Ceiling(LAST), Reply::Nothing),
 ];
 
-/// Asserts that calls walk past all nodes of the largest set, in which every node has a key.
+/// Asserts that calls traverse the whole set of maximum size, in which every node has a key.
 fn is_filled<M: Running, R: Host>(rt: &R, alloc: Global) {
     let mut opening = Vec::new(alloc);
     for number in 0..MOST_OPENING {

@@ -1,17 +1,17 @@
-//! Sets that open with the final keys of a closed set, with other seats and slots, and as another list.
+//! Sets that open with the final keys of a closed set, with different seats and slots, and as a different list.
 
 use crate::opened::{close_with, gathered, increasing_keys, keys_left, last_of, make_calls};
 use crate::prelude::*;
 use crate::program_sizes::{Draws, Sizes, runs_beside_models};
 
-/// Calls on a set with the opening key 9 and without a slot.
+/// Calls on a set that opens with the key 9 and has no slots.
 const CALLS_ON_A_KEY: [(Call, Reply); 3] = [
     (Call::Contains(Key(9)), Reply::True),
     (Call::Add(Key(4)), Reply::Full),
     (Call::Remove(Key(9)), Reply::True),
 ];
 
-/// Opens a set with three seats, no slot and the key 9. The key uses no slot, and is removed like any other key.
+/// Opens a set with three seats, no slots and the key 9. The key uses no slot, and is removed like any other key.
 fn opens_with_a_key<M: Running, R: Host>(rt: &R, alloc: Global) {
     let (set, mut seats) = open_with::<M>(alloc, 3, 0, &[9]).expect(rt, "not opened");
     let mut last = last_of(rt, &set, &mut seats);
@@ -26,7 +26,7 @@ fn a_set_opens_with_a_key_and_no_slot(rt: HostRuntime) {
     at_each_list!(opens_with_a_key, rt);
 }
 
-/// Calls on a set with two slots and the opening keys 0, 7 and the largest key.
+/// Calls on a set that has two slots and opens with the keys 0, 7 and the largest key.
 const CALLS_ON_KEYS: [(Call, Reply); 7] = [
     (Call::Add(Key(7)), Reply::False),
     (Call::Remove(Key(0)), Reply::True),
@@ -84,7 +84,7 @@ fn life<R: Host>(
     }
 }
 
-/// The lists, each with another number of seats and another quota.
+/// Each list with a different number of seats and a different quota.
 const LIVES: [(Kind, u32, u32); 5] = [
     (Kind::Coarse, 6, 40),
     (Kind::Fine, 4, 30),
@@ -110,7 +110,7 @@ fn each_list_opens_with_the_final_keys_of_each_list(rt: HostRuntime) {
     assert!(rt; left > 0);
 }
 
-/// Calls on a set with one slot and the largest number of opening keys, which are even.
+/// Calls on a set with one slot and the maximum number of opening keys, all of which are even.
 const CALLS_ON_A_MILLION: [(Call, Reply); 3] = [
     (Call::Contains(Key(2_097_150)), Reply::True),
     (Call::Add(Key(1)), Reply::True),

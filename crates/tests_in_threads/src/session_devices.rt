@@ -1,19 +1,20 @@
-//! Readers and writers of the standard library: some fail at one call, some move as many bytes as they can.
+//! Readers and writers of the standard library. Some fail at one call, others transfer as many bytes as they can.
 
 use crate::prelude::*;
 use std::io::ErrorKind;
 
-/// A reader that returns one byte at a time. Read number `fails_at`, from 1, fails, and all reads after it succeed.
+/// A reader that returns one byte at a time. Read number `fails_at`, counted from 1, fails, and all later reads
+/// succeed.
 #[derive(Drop)]
 pub struct FailingReader<'a> {
     text: &'a [u8],
-    /// The number of reads, including the one that failed.
+    /// The number of reads, including the failed one.
     pub reads: u64,
     fails_at: u64,
 }
 
 impl<'a> FailingReader<'a> {
-    /// Returns a reader at the beginning of the text. If `fails_at` is 0, no read fails.
+    /// Creates a reader at the start of the text. If `fails_at` is 0, no read fails.
     pub fn new(text: &'a [u8], fails_at: u64) -> FailingReader<'a> {
         FailingReader {
             text,
@@ -38,18 +39,19 @@ impl Read for FailingReader<'_> {
     }
 }
 
-/// A writer that accepts one byte at a time. Write number `fails_at`, from 1, fails, and all writes after it succeed.
+/// A writer that accepts one byte at a time. Write number `fails_at`, counted from 1, fails, and all later writes
+/// succeed.
 #[derive(Drop)]
 pub struct FailingWriter {
-    /// The bytes that were written.
+    /// The bytes written so far.
     pub text: Vec<u8>,
-    /// The number of writes, including the one that failed.
+    /// The number of writes, including the failed one.
     pub writes: u64,
     fails_at: u64,
 }
 
 impl FailingWriter {
-    /// Returns a writer that has accepted no bytes. If `fails_at` is 0, a write fails only if an allocation fails.
+    /// Creates a writer that has accepted no bytes yet. If `fails_at` is 0, a write fails only if an allocation fails.
     pub fn new(alloc: Global, fails_at: u64) -> FailingWriter {
         FailingWriter {
             text: Vec::new(alloc),
@@ -58,7 +60,7 @@ impl FailingWriter {
         }
     }
 
-    /// Asserts that the failing write was the last one, and that all bytes of the answers before it were written.
+    /// Asserts that no write followed the failing one, and that all bytes of the answers before it were written.
     pub fn has_stopped<R: Abort>(&self, rt: &R, answers: &[u8]) {
         let at = self.fails_at;
         assert_eq!(rt; self.text.len() as u64 + 1, at);
@@ -85,7 +87,7 @@ impl Write for FailingWriter {
     }
 }
 
-/// A reader that fills the buffer if it can, and counts the reads.
+/// A reader that fills the buffer if it can, and counts reads.
 #[derive(Drop)]
 pub struct GenerousReader<'a> {
     pub text: &'a [u8],

@@ -1,4 +1,4 @@
-//! Sessions in which one read or one write fails, each in turn.
+//! Sessions in which one read or write fails, each in turn.
 use crate::prelude::*;
 use crate::session_devices::{FailingReader, FailingWriter};
 use crate::session_lines::{
@@ -15,8 +15,8 @@ fn write_fails<R: Host>(rt: &R, alloc: Global, lines: &[u8], answers: &[u8], at:
     writer.has_stopped(rt, answers);
 }
 
-/// Asserts that a session ends at each write in turn. A row has the first and the last of some writes, and the number
-/// of calls before each of them.
+/// Asserts that a session ends when any of its writes fails. A row has the first and the last number of some writes,
+/// and the number of calls made before each of them.
 fn writes_fail<R: Host>(
     rt: &R,
     alloc: Global,
@@ -41,8 +41,8 @@ fn a_failed_write_ends_the_session(rt: HostRuntime) {
     writes_fail(&rt, rt.alloc(), lines, answers, &rows);
 }
 
-/// Asserts that a session ends at read number `at`, and that all earlier lines have been answered, even if answers are
-/// buffered.
+/// Asserts that a session ends when read number `at` fails, and that all earlier lines have been answered, even with
+/// buffered answers.
 fn read_fails<R: Host>(rt: &R, alloc: Global, lines: &[u8], at: u64, answers: &[u8], calls: u64) {
     let ended = end(EndReason::ReadFault, calls);
     let mut reader = FailingReader::new(lines, at);
@@ -55,8 +55,8 @@ fn read_fails<R: Host>(rt: &R, alloc: Global, lines: &[u8], at: u64, answers: &[
     assert!(rt; reader.reads == at, "{at}, answers wait");
 }
 
-/// Asserts that a session ends at each read in turn. A row has the first and the last of some reads, the answers before
-/// each of them, and the number of calls.
+/// Asserts that a session ends when any of its reads fails. A row has the first and the last number of some reads, the
+/// answers written before each of them, and the number of calls.
 fn reads_fail<R: Host>(rt: &R, alloc: Global, lines: &[u8], rows: &[(u64, u64, &[u8], u64)]) {
     for &(from, to, answers, calls) in rows {
         for at in from..=to {
@@ -85,18 +85,18 @@ fn a_failed_read_ends_the_session(rt: HostRuntime) {
     reads_fail(&rt, rt.alloc(), CEILINGS, &rows);
 }
 
-/// Lines, their answers, and how many calls they make.
+/// Lines, the answers to them, and the number of calls.
 type Lines = (&'static [u8], &'static [u8], u64);
 
-/// Lines that end in each way: calls and `QUIT`; a line that is too long; lines without a call.
+/// Lines for each way in which a session ends: calls and `QUIT`; a line that is too long; lines without a call.
 const OF_EACH_END: [Lines; 3] = [
     (LINES, ANSWERS, 4),
     (&[b'A'; 65], b"LONG\n", 0),
     (b"\nQUIT\n", b"BAD\nBYE\n", 0),
 ];
 
-/// Asserts that a session makes all calls if its lines come in one read, and write number `at` of the buffered answers
-/// fails.
+/// Asserts that a session makes all calls if all lines come in one read and the buffered answers fail at write number
+/// `at`.
 fn waiting_write_fails<R: Host>(rt: &R, alloc: Global, lines: Lines, at: u64) {
     let (text, answers, calls) = lines;
     let (set, mut seat) = one_seat(rt, alloc);
@@ -116,7 +116,7 @@ fn a_failed_write_of_buffered_answers_ends_the_session(rt: HostRuntime) {
     }
 }
 
-/// All lines come in one read, and their answers fit the buffer only in part. After the first write fails, the session
+/// All lines come in one read, and their answers fit in the buffer only partly. Once the first write fails, the session
 /// makes no further call.
 #[test]
 fn no_call_is_made_after_a_failed_write(rt: HostRuntime) {

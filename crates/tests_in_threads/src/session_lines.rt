@@ -1,27 +1,27 @@
-//! Sessions on sets of their own: lines and their answers.
+//! Sessions on new sets: lines and the answers to them.
 
 use crate::opened::{last_of, two_seats};
 use crate::prelude::*;
 use crate::session_devices::{FailingReader, GenerousReader, GreedyWriter};
 
-/// The six lines of a first session, and their answers.
+/// The six lines of a first session, and the answers to them.
 pub const LINES: &[u8] = b"ADD 7\nADD 7\nCONTAINS 7\nMOVE 7\nREMOVE 7\nQUIT\n";
 
 pub const ANSWERS: &[u8] = b"TRUE\nFALSE\nTRUE\nBAD\nTRUE\nBYE\n";
 
-/// Lines that ask for the smallest key at or above 7, before and after a key is added, and their answers.
+/// Lines that ask for the smallest key at or above 7, before and after a key is added, and the answers to them.
 pub const CEILINGS: &[u8] = b"CEILING 7\nADD 9\nCEILING 7\nQUIT\n";
 
 pub const FOUND: &[u8] = b"NONE\nTRUE\nAT 9\nBYE\n";
 
-/// Opens an empty set with one seat and a quota of 4.
+/// Opens an empty set with one seat, which has a quota of 4.
 pub fn one_seat<R: Abort>(rt: &R, alloc: Global) -> (LiveSet<LazyList>, Seat<LazyList>) {
     let (set, mut seats) = open::<LazyList>(alloc, 1, 4).expect(rt, "not opened");
     let seat = last_of(rt, &set, &mut seats);
     (set, seat)
 }
 
-/// Holds a session on a new set. Returns the written answers and the end of the session.
+/// Runs a session on a new set. Returns the written answers and the end of the session.
 pub fn held<R: Host, I: Source>(rt: &R, alloc: Global, reader: &mut I) -> (Vec<u8>, Ended) {
     let (set, mut seat) = one_seat(rt, alloc);
     let mut written = Vec::new(alloc);
@@ -29,7 +29,7 @@ pub fn held<R: Host, I: Source>(rt: &R, alloc: Global, reader: &mut I) -> (Vec<u
     (written, ended)
 }
 
-/// Holds a session with buffered answers on a new set. Returns the written answers and the end of the session.
+/// Runs a session with buffered answers on a new set. Returns the written answers and the end of the session.
 pub fn held_buffered<R: Host, I: Source + Drop>(
     rt: &R,
     alloc: Global,
@@ -41,22 +41,22 @@ pub fn held_buffered<R: Host, I: Source + Drop>(
     (written, ended)
 }
 
-/// Returns the end of a session with this reason and number of calls.
+/// Returns the end of a session for this reason and with this number of calls.
 pub fn end(why: EndReason, calls: u64) -> Ended {
     Ended { why, calls }
 }
 
-/// Asserts the answers of a session and its end.
+/// Asserts a session's answers and its end.
 pub fn was_held<R: Abort>(rt: &R, session: &(Vec<u8>, Ended), answers: &[u8], ended: Ended) {
     assert!(rt; session.0.as_slice() == answers);
     assert_eq!(rt; session.1, ended);
 }
 
-/// A text, its answers, the reason of the end and the number of calls.
+/// A text, the answers to it, the reason for the end, and the number of calls.
 type Row = (&'static [u8], &'static [u8], EndReason, u64);
 
-/// Asserts the answers to each text, each on a set of its own. The answers are the same for a buffered session, and if the
-/// text arrives in pieces of any size.
+/// Asserts the answers to each text, each time on a new set. The answers must be the same for a buffered session, and
+/// if the text arrives in pieces of any size.
 fn are_answered<R: Host>(rt: &R, alloc: Global, rows: &[Row]) {
     for &(text, answers, why, calls) in rows {
         let ended = end(why, calls);
@@ -77,7 +77,7 @@ fn are_answered<R: Host>(rt: &R, alloc: Global, rows: &[Row]) {
     }
 }
 
-/// A line of 65 letters.
+/// A line with 65 letters.
 const LONG: &[u8; 66] = b"AAAAAAAAAAAAAAAAAAAAAAAAAAAAAAAAAAAAAAAAAAAAAAAAAAAAAAAAAAAAAAAAA\n";
 
 #[test]
@@ -189,10 +189,10 @@ fn a_session_calls_from_a_gathered_seat(rt: HostRuntime) {
     );
 }
 
-/// The number of lines. Each is `CONTAINS 7`, with the answer `FALSE`.
+/// The number of lines `CONTAINS 7`, each of which is answered with `FALSE`.
 const MANY: u64 = 6_000;
 
-/// Asserts that a session makes at most one write for each answer, and that a buffered session makes few.
+/// Asserts that a session makes at most one write for each answer, and that a buffered session makes only a few.
 fn makes_few<R: Host>(rt: &R, alloc: Global, text: &[u8], waits: bool) {
     let (set, mut seat) = one_seat(rt, alloc);
     let mut reader = GenerousReader { text, reads: 0 };
@@ -223,7 +223,7 @@ fn a_session_makes_few_reads_and_writes(rt: HostRuntime) {
     makes_few(&rt, rt.alloc(), &text, true);
 }
 
-/// A write of an empty text succeeds. The next write still reaches the writer.
+/// Writing an empty text succeeds, and the next write still reaches the writer.
 #[test]
 fn a_write_of_nothing_succeeds(rt: HostRuntime) {
     let mut device = Device::new(GreedyWriter {

@@ -3,8 +3,8 @@ use lset_steps::{Action, Fed, Local, Machine, OpenReads};
 use lset_words::{Call, Key, Kind};
 use std::marker::PhantomData;
 
-/// The list `M`, run by the interpreter of its table. `Bounded` and `Running` have their default bodies here. Tests and
-/// `bench/run` compare it with the loops of the list.
+/// The list `M` run by the interpreter of its step table: `Bounded` and `Running` keep their default bodies. Tests and
+/// `bench/run` compare it with the list's loops.
 pub struct Stepped<M: Machine> {
     list: PhantomData<M>,
 }

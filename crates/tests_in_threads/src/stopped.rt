@@ -1,5 +1,5 @@
-//! Two calls on a running set. One call stops between two of its steps until the other call has ended or waits. Each case
-//! runs with the loops of the list and with the interpreter of its table.
+//! Two calls on a running set. One stops between two of its steps until the other has ended or waits. Each case runs
+//! both with the list's loops and with the interpreter of its step table.
 
 use crate::meeting::{calls, comes};
 use crate::opened::two_seats_on;
@@ -8,8 +8,8 @@ use crate::prelude::*;
 /// A step number that is never reached.
 const NEVER: u64 = u64::MAX;
 
-/// A thread of a test: after which step it stops (from 0), the calls that its `Pause` has received, and the progress of
-/// its call.
+/// A test thread: the step (from 0) after which it stops, the calls that its `Pause` has received, and how far its call
+/// has come.
 #[derive(Drop)]
 struct Told {
     stops_at: u64,
@@ -30,7 +30,7 @@ impl Told {
         }
     }
 
-    /// Counts a step, and returns whether the thread stops after it.
+    /// Counts a step. Returns `true` if the thread stops after it.
     fn stops(&self, failed: bool) -> bool {
         if failed {
             self.failed.fetch_add(1, Ordering::SeqCst);
@@ -46,7 +46,8 @@ impl Told {
         self.failed.load(Ordering::SeqCst) >= 3
     }
 
-    /// Returns how many steps were reported, and how many of them failed. The step with the reply is not reported.
+    /// Returns how many steps were reported, and how many of these failed. The step that yields the reply is not
+    /// reported.
     fn counts(&self) -> (u64, u64) {
         let steps = self.steps.load(Ordering::SeqCst);
         (steps, self.failed.load(Ordering::SeqCst))
@@ -98,7 +99,7 @@ impl<'a, R: Clock> Stopping<'a, R> {
         }
     }
 
-    /// Decides whether each thread stopped that had to, and none gave up waiting.
+    /// Returns `true` if each thread stopped as required and none gave up waiting.
     fn was_held(&self) -> bool {
         let zero = self.zero.stops_at == NEVER || self.zero.has_stopped.load(Ordering::SeqCst);
         zero && self.one.has_stopped.load(Ordering::SeqCst) && !self.missed.load(Ordering::SeqCst)
@@ -115,7 +116,7 @@ impl<'a, R: Clock> Pause for Stopping<'a, R> {
     }
 }
 
-/// Makes a call from each of two seats, in two threads. The thread that stops first begins, the other begins when the
+/// Makes a call from each of two seats, in two threads. The thread that stops first begins; the other begins once the
 /// first has stopped.
 fn both_call<M: Running + Send + Sync, R: Host>(
     rt: &R,
@@ -140,7 +141,7 @@ fn both_call<M: Running + Send + Sync, R: Host>(
     )
 }
 
-/// A seat's call, the step after which it stops, its reply, how many of its steps have no reply, and how many of these
+/// A seat's call, the step after which it stops, its reply, the number of steps before the reply, and how many of these
 /// fail.
 type Part = (Call, u64, Reply, u64, u64);
 
@@ -160,7 +161,7 @@ fn is_as_told<M: Running + Send + Sync, R: Host>(
     assert_eq!(rt; stopping.one.counts(), (one.3, one.4), "seat 1");
 }
 
-/// Asserts a case with the loops of the list, and with the interpreter of its table.
+/// Asserts a case both with the list's loops and with the interpreter of its step table.
 fn both_are<M: Running + Send + Sync, R: Host>(
     rt: &R,
     alloc: Global,
@@ -276,7 +277,7 @@ fn a_call_waits_for_a_lock_that_another_seat_holds(rt: HostRuntime) {
 }
 
 /// Waits until the other seat has stopped. Then looks for 10 with both `contains` functions and for the first key above
-/// 10, and returns the replies.
+/// 10. Returns the replies.
 fn reads<M: RunningReads, R: Clock + Wait>(
     rt: &R,
     set: &LiveSet<M>,
@@ -291,8 +292,7 @@ fn reads<M: RunningReads, R: Clock + Wait>(
     (looked, asked, sought)
 }
 
-/// Removes 10 from seat 1, which stops after step `stops_at` until seat 0 has looked for 10. The set also has the key
-/// 20.
+/// Removes 10 from seat 1, which stops after step `stops_at` until seat 0 has looked for 10. The set also contains 20.
 fn reads_beside<M: RunningReads + Send + Sync, R: Host>(
     rt: &R,
     alloc: Global,
@@ -312,8 +312,8 @@ fn reads_beside<M: RunningReads + Send + Sync, R: Host>(
     found
 }
 
-/// Asserts that seat 0 finds 10 if seat 1 stopped before it marked the node, and does not find 10 if seat 1 stopped
-/// after it.
+/// Asserts that seat 0 finds 10 if seat 1 stopped before marking the node, and does not find it if seat 1 stopped
+/// afterwards.
 fn answers_beside<M: RunningReads + Send + Sync, R: Host>(
     rt: &R,
     alloc: Global,
@@ -326,8 +326,8 @@ fn answers_beside<M: RunningReads + Send + Sync, R: Host>(
     assert_eq!(rt; reads_beside::<M, R>(rt, alloc, behind), gone);
 }
 
-/// A `remove` of a LazyList holds both its locks after its fourth step, and has marked after its seventh. A `remove` of
-/// a LockFreeList has marked after its fifth.
+/// A `remove` on a LazyList holds both its locks after its fourth step, and has marked the node after its seventh. A
+/// `remove` on a LockFreeList has marked the node after its fifth.
 #[test]
 fn contains_now_returns_while_another_thread_holds_locks(rt: HostRuntime) {
     answers_beside::<LazyList, HostRuntime>(&rt, rt.alloc(), 3, 6);

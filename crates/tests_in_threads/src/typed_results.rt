@@ -1,4 +1,4 @@
-//! Typed calls: each value that a typed call returns, for each list.
+//! Typed calls: every value that a typed call can return, for each list.
 
 use crate::opened::{close_with, two_seats};
 use crate::prelude::*;
@@ -23,8 +23,8 @@ fn makes<M: Running, R: Host>(rt: &R, set: &LiveSet<M>, seat: &mut Seat<M>, made
     }
 }
 
-/// Asserts that with a quota of 4 the fifth new key of a seat is refused as full, a present key is not, and the other
-/// seat still has its own slots.
+/// Asserts that with a quota of 4 a seat's fifth new key is refused as full, that a present key is not, and that the
+/// other seat still has its own slots.
 fn tells_full_from_already<M: Running, R: Host>(rt: &R, alloc: Global) {
     let (set, mut zero, mut one) = two_seats::<M, R>(rt, alloc);
     makes(rt, &set, &mut zero, Adds(7, Added::New));
@@ -90,7 +90,7 @@ fn claim<M: Running, R: Wait>(rt: &R, set: &LiveSet<M>, mut seat: Seat<M>) -> (S
     (seat, added)
 }
 
-/// Adds 9 from two seats at once, each in a thread of its own.
+/// Adds 9 from two seats at the same time, each in its own thread.
 fn claim_at_once<M: Running + Send + Sync, R: Threads + Wait + Sync>(
     rt: &R,
     set: &LiveSet<M>,

@@ -1,4 +1,4 @@
--- The arguments of `gen`.
+-- How the arguments of `gen` are read.
 use Rattle.std.specs.Prelude.{ℕ, ◌-◌, ◌^◌, List, Option, option_and_then, slice_get, Result, Ok}
 use Rattle.lset_words.specs.declared.Kind.{Kind}
 use Rattle.lset_words.specs.declared.TheConstants.{MOST_THREADS, MOST_QUOTA}
@@ -10,15 +10,15 @@ use Rattle.tool_base.specs.declared.trouble.ValueName.TheVariants as name
 use Rattle.tool_base.specs.declared.arguments.RandomRequest.{RandomRequest}
 use Rattle.tool_base.specs.declared.arguments.TheConstants.{MOST_CALLS_ASKED}
 
--- the kind of list that the argument with this index, from 0, names
+-- The kind of list that argument `index` (from 0) names.
 abbrev pub kind_at : List (List ℕ) → ℕ → Option Kind
 kind_at values index = option_and_then kind_of (slice_get values index)
 
--- the number from the smallest to the largest that the argument with this index spells
+-- The number that argument `index` spells, if it is within the range.
 abbrev pub number_at : List (List ℕ) → ℕ → ℕ → ℕ → Option ℕ
 number_at values index low high = option_and_then (number_in low high) (slice_get values index)
 
--- The request of the arguments, or the first argument that is missing or wrong.
+-- The request that the arguments make, or the first argument that is missing or wrong.
 unfoldable pub random_request_of : List (List ℕ) → Result RandomRequest ValueName
 random_request_of values = do
   kind ← or_fail name.Kind (kind_at values 0)

@@ -8,12 +8,12 @@ use Rattle.tool_base.specs.declared.trouble.Trouble.TheVariants.{CannotRead, Too
 use Rattle.tool_base.specs.Trouble.{trouble_text}
 use Rattle.tool_base.specs.Trouble as trouble
 
--- an answer as a value: the bytes of its text, and the exit status
+-- The value of an answer: its text as bytes, and its exit status.
 pub record AnswerValue : Type 0 where
   pub text : List ℕ
   pub status : ℕ
 
--- the result of a tool: an answer, or an error
+-- What a tool returns: an answer, or an error.
 abbrev pub Made : Type 0
 Made = Result AnswerValue Trouble
 
@@ -21,18 +21,18 @@ abbrev pub view : Result Answer Trouble → Made
 view (Ok answer) = Ok (record { text = answer.text.items; status = answer.status })
 view (Err t) = Err t
 
--- The outcome of writing the result: the exit status of an answer that was written, or the error for stderr.
+-- What comes of writing the result: an answer's exit status if the answer was written, otherwise the error for stderr.
 abbrev pub Outcome : Type 0
 Outcome = Result ℕ Trouble
 
--- How a result reaches an output:
+-- How a result is written to an output:
 abbrev pub Delivers : Made → Option (List ℕ) → Option (List ℕ) → Outcome → Type 0
--- the text of an answer is written whole,
+-- the complete text of an answer is written,
 Delivers (Ok answer) old new (Ok status) = (status ≡ answer.status) × Appends old new answer.text
--- or a prefix of the text, if a write failed;
+-- or a prefix of it if a write failed;
 Delivers (Ok answer) old new (Err t) =
     (t ≡ CannotWrite) × (front : List ℕ) × (rest : List ℕ) × (answer.text ≡ front ++ rest) × Appends old new front
--- an error writes nothing to the output.
+-- Nothing is written for an error.
 Delivers (Err made) old new (Ok status) = ⊥
 Delivers (Err made) old new (Err t) = (t ≡ made) × Keeps old new
 
@@ -40,7 +40,7 @@ abbrev pub status_of : Outcome → ℕ
 status_of (Ok status) = status
 status_of (Err t) = trouble.status_of t
 
--- the line on stderr; if a write fails, only a prefix is written
+-- The line that goes to stderr; only a prefix of it is written if a write fails.
 abbrev pub line_of : Outcome → List ℕ
 line_of (Ok status) = []
 line_of (Err t) = trouble_text t
@@ -48,33 +48,34 @@ line_of (Err t) = trouble_text t
 abbrev pub AppendsFront : Option (List ℕ) → Option (List ℕ) → List ℕ → Type 0
 AppendsFront old new text = (front : List ℕ) × (rest : List ℕ) × (text ≡ front ++ rest) × Appends old new front
 
--- A result is delivered: the answer reaches the output, or the line of the error reaches stderr; the exit status is that of the outcome.
+-- The result is delivered: an answer is written to the output, or an error's line to stderr, and the exit status
+-- matches the outcome.
 abbrev pub IsDelivered : Made → Option (List ℕ) → Option (List ℕ) → Option (List ℕ) → Option (List ℕ) → ℕ → Type 0
 IsDelivered made output_old output_new faults_old faults_new status =
     (outcome : Outcome) × Delivers made output_old output_new outcome
     × AppendsFront faults_old faults_new (line_of outcome) × (status ≡ status_of outcome)
 
--- A tool ends: its result is delivered.
+-- A tool ends by delivering its result.
 abbrev pub Ends : (Made → Type 0) → Option (List ℕ) → Option (List ℕ) → Option (List ℕ) → Option (List ℕ) → ℕ → Type 0
 Ends IsMade output_old output_new faults_old faults_new status =
     (made : Made) × IsMade made × IsDelivered made output_old output_new faults_old faults_new status
 
--- an input that is not too long
+-- The input is not too long.
 abbrev pub IsTaken : List ℕ → Type 0
 IsTaken bytes = length bytes ≤ LONGEST
 
--- the error for an input that is too long
+-- The error of an input that is too long.
 abbrev pub IsTooLong : List ℕ → Trouble → Type 0
 IsTooLong bytes t = (t ≡ TooLong) × (LONGEST < length bytes)
 
--- the result on a text: the error `TooLong`, or the result on the bytes of a text that is not too long
+-- What a tool returns for a text: `TooLong`, or its result for the bytes if the text is not too long.
 abbrev pub OnText : (List ℕ → Made → Type 0) → List ℕ → Made → Type 0
 OnText Makes bytes made = ((t : Trouble) × (made ≡ Err t) × IsTooLong bytes t) ⊎ (IsTaken bytes × Makes bytes made)
 
--- the result on an input: a read failed, or an allocation failed, or the result on its bytes
+-- What a tool returns for an input: an error if a read or an allocation failed, otherwise the result for the bytes.
 abbrev pub OnInput : (List ℕ → Made → Type 0) → List ℕ → Made → Type 0
 OnInput Makes bytes made = (made ≡ Err CannotRead) ⊎ ((made ≡ Err Memory) ⊎ OnText Makes bytes made)
 
--- the bytes that were read of an input: all of them, or more than `LONGEST`
+-- The bytes read from an input: all of them, or more than `LONGEST`.
 abbrev pub IsReadOf : List ℕ → List ℕ → Type 0
 IsReadOf read all = (read ≡ all) ⊎ ((LONGEST < length read) × (LONGEST < length all))

@@ -1,4 +1,4 @@
--- The errors that end the program: the line on stderr, and the exit status.
+-- The errors that end the program, with their lines on stderr and their exit statuses.
 use Rattle.std.specs.Prelude.{ℕ, List, ◌++◌, codes}
 use Rattle.std.specs.Fmt.{decimal}
 use Rattle.lset_text.specs.declared.causes.Cause.{Cause}
@@ -15,7 +15,7 @@ use Rattle.tool_base.specs.declared.trouble.Trouble.{Trouble}
 use Rattle.tool_base.specs.declared.trouble.Trouble.TheVariants.{CannotRead, TooLong, CannotWrite, Memory, Line, Bad}
 use Rattle.tool_base.specs.declared.trouble.Trouble.TheVariants.{CannotListen, Work, Serve}
 
--- the error for a line that is wrong
+-- The error of a wrong line.
 abbrev pub of_line : ℕ → Cause → Trouble
 of_line number cause.Memory = Memory
 of_line number c = Line number c
@@ -23,7 +23,7 @@ of_line number c = Line number c
 abbrev pub of_line_fault : LineFault → Trouble
 of_line_fault fault = of_line fault.line fault.cause
 
--- the error for a schedule that cannot be generated
+-- The error if no schedule can be generated.
 abbrev pub of_generator : GenFault → Trouble
 of_generator generator.Threads = Bad value.Threads
 of_generator generator.Quota = Bad value.Quota

@@ -9,10 +9,10 @@ use arrayvec::ArrayString;
 use itoa::Buffer;
 use std::io::Write;
 
-/// The most bytes of a line about an error.
+/// The maximum length of an error line, in bytes.
 pub(crate) const LONGEST_LINE: usize = 64;
 
-/// The result of a tool: the text for its output, and the exit status if the text is written.
+/// What a tool returns: the text for its output, and the exit status if that text can be written.
 #[derive(Drop)]
 pub struct Answer {
     pub text: Vec<u8>,
@@ -32,7 +32,7 @@ impl Answer {
     }
 }
 
-/// Returns the line of four parts, with a newline.
+/// Joins four parts into a line and adds a newline.
 fn line_with(front: &str, number: &str, sign: &str, name: &str) -> ArrayString<LONGEST_LINE>
     requires { length front.now + length number.now + length sign.now + length name.now < LONGEST_LINE }
     ensures { result.bytes ≡ front.now ++ number.now ++ sign.now ++ name.now ++ codes "\n" }
@@ -46,7 +46,7 @@ fn line_with(front: &str, number: &str, sign: &str, name: &str) -> ArrayString<L
     line
 }
 
-/// Returns the line about an error that the program writes to stderr, `listset: ..` with a newline.
+/// Returns the line that an error prints on stderr: `listset: ..` and a newline.
 pub fn line_of(trouble: Trouble) -> ArrayString<LONGEST_LINE>
     ensures { result.bytes ≡ trouble_text trouble }
 {
@@ -66,11 +66,11 @@ pub fn line_of(trouble: Trouble) -> ArrayString<LONGEST_LINE>
     }
 }
 
-/// Ends a tool, and returns the exit status. Writes the text of an answer to `output`, or the one line about an error to
-/// `stderr`.
+/// Finishes a tool: writes the answer's text to `output`, or one line about the error to `stderr`, and returns the exit
+/// status.
 ///
-/// A write that fails, or writes no byte, is not repeated. On `output` the error is then `CannotWrite`. On `stderr` the exit
-/// status stays that of the error.
+/// A write that fails, or writes no byte, is not retried. If that happens on `output`, the error becomes `CannotWrite`.
+/// If it happens on `stderr`, the exit status does not change.
 pub fn deliver<W: Write, E: Write>(
     made: Result<Answer, Trouble>,
     output: &mut W,

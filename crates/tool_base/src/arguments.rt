@@ -6,69 +6,70 @@ use crate::trouble::ValueName;
 use lset_text::{long_number, number, read_kind};
 use lset_words::{Kind, MOST_QUOTA, MOST_THREADS};
 
-/// The maximum of the argument CALLS.
+/// The maximum value of the argument CALLS.
 pub const MOST_CALLS_ASKED: u32 = 10_000;
 
-/// The maximum number of rounds of `run`.
+/// The maximum number of rounds in `run`.
 pub const MOST_LIVES: u32 = 100;
 
-/// The maximum of the argument SESSIONS.
+/// The maximum value of the argument SESSIONS.
 pub const MOST_SESSIONS_ASKED: u32 = 10_000;
 
-/// The largest port.
+/// The largest port number.
 pub const MOST_PORT: u32 = 65_535;
 
-/// The arguments of `gen`, and the first six of `run`: a list, the sizes of a run, the number of its calls, and the seed of
-/// the random draws.
+/// The arguments of `gen`, which are also the first six of `run`: a list, the sizes of a run, the number of calls, and
+/// a random seed.
 #[derive(Clone, Copy)]
 pub struct RandomRequest {
-    /// The list.
+    /// The kind of list.
     pub kind: Kind,
-    /// 1 to `MOST_THREADS`.
+    /// The number of threads, 1 to `MOST_THREADS`.
     pub threads: u32,
     /// The quota of each thread, 0 to `MOST_QUOTA`.
     pub quota: u32,
     /// The number of calls, 0 to `MOST_CALLS_ASKED`.
     pub calls: u32,
-    /// The number of keys, counted from 0, at least 1.
+    /// The number of keys to draw from, at least 1. Keys start at 0.
     pub keys: u32,
-    /// The seed: any number.
+    /// The random seed; any number is allowed.
     pub seed: u64,
 }
 
-/// The arguments of `run`: the first round, and the number of rounds.
+/// The arguments of `run`: those of `gen` for the first round, and the number of rounds.
 #[derive(Clone, Copy)]
 pub struct LivesRequest {
     /// The first round.
     pub run: RandomRequest,
-    /// 1 to `MOST_LIVES`.
+    /// The number of rounds, 1 to `MOST_LIVES`.
     pub lives: u32,
 }
 
-/// The arguments of `serve`: a list, the size of its set, the port, and the number of sessions.
+/// The arguments of `serve`: a list, the size of its set, a port, and the number of sessions.
 #[derive(Clone, Copy)]
 pub struct ServeRequest {
-    /// The list.
+    /// The kind of list.
     pub kind: Kind,
-    /// 1 to `MOST_THREADS`.
+    /// The number of seats, 1 to `MOST_THREADS`.
     pub seats: u32,
     /// The quota of each seat, 0 to `MOST_QUOTA`.
     pub quota: u32,
-    /// 0 to `MOST_PORT`; 0 lets the system choose.
+    /// The port, 0 to `MOST_PORT`. If it is 0, the system chooses one.
     pub port: u16,
-    /// The number of connections, 0 to `MOST_SESSIONS_ASKED`.
+    /// The number of connections to accept, 0 to `MOST_SESSIONS_ASKED`.
     pub sessions: u32,
 }
 
-/// Returns the kind of list that argument `index` (from 0) names. `None` if the argument is missing or is no list name.
+/// Returns the kind of list that argument `index` (from 0) names. Returns `None` if the argument is missing or is not a
+/// list name.
 fn kind_at(values: &[String], index: usize) -> Option<Kind>
     ensures { result ≡ kind_at (map string_bytes values.now) index }
 {
     read_kind(values.get(index)?.as_bytes())
 }
 
-/// Returns the number from `low` to `high` that argument `index` (from 0) spells, as a decimal without leading zeros. `None`
-/// if the argument is missing or spells no such number.
+/// Returns the number from `low` to `high` that argument `index` (from 0) spells as a decimal without leading zeros.
+/// Returns `None` if the argument is missing or is not such a number.
 fn number_at(values: &[String], index: usize, low: u32, high: u32) -> Option<u32>
     ensures value { result ≡ number_at (map string_bytes values.now) index low high }
     ensures range { IfSome result (λ n. (low ≤ n) × (n ≤ high)) }
@@ -82,12 +83,12 @@ fn seed_at(values: &[String], index: usize) -> Option<u64>
     long_number(values.get(index)?.as_bytes(), 0, u64::MAX)
 }
 
-/// Reads the arguments KIND, THREADS, QUOTA, CALLS, KEYS and SEED, in this order, with the ranges of `RandomRequest`.
-/// Numbers are decimals without leading zeros. Further arguments are ignored.
+/// Reads the arguments KIND, THREADS, QUOTA, CALLS, KEYS and SEED, in this order. `RandomRequest` documents their
+/// ranges. Numbers are decimals without leading zeros. Further arguments are ignored.
 ///
 /// # Errors
 ///
-/// The first argument that is missing or wrong.
+/// Returns the first argument that is missing or wrong.
 #[tactic(auto, unfolding(crate::specs::Arguments::random_request_of))]
 pub fn read_random_request(values: &[String]) -> Result<RandomRequest, ValueName>
     ensures value { result ≡ random_request_of (map string_bytes values.now) }
@@ -109,8 +110,8 @@ pub fn read_random_request(values: &[String]) -> Result<RandomRequest, ValueName
     })
 }
 
-/// Returns the number of rounds: argument 6 (from 0), 1 to `MOST_LIVES`, or 1 if the argument is missing. `None` if it is
-/// wrong.
+/// Returns the number of rounds from argument 6 (from 0): 1 to `MOST_LIVES`, or 1 if the argument is missing. Returns
+/// `None` if it is wrong.
 fn lives_in(values: &[String]) -> Option<u32> {
     match values.get(6) {
         Some(_) => number_at(values, 6, 1, MOST_LIVES),
@@ -118,24 +119,24 @@ fn lives_in(values: &[String]) -> Option<u32> {
     }
 }
 
-/// Reads the arguments of `run`: those of `read_random_request`, then LIVES, a decimal without leading zeros from 1 to
-/// `MOST_LIVES`. LIVES is 1 if it is missing. Further arguments are ignored.
+/// Reads the arguments of `run`: those of `read_random_request`, then LIVES, a decimal from 1 to `MOST_LIVES` without
+/// leading zeros. LIVES defaults to 1. Further arguments are ignored.
 ///
 /// # Errors
 ///
-/// The first argument that is wrong, or missing and not LIVES.
+/// Returns the first argument that is wrong, or missing if it is not LIVES.
 pub fn read_lives_request(values: &[String]) -> Result<LivesRequest, ValueName> {
     let run = read_random_request(values)?;
     let lives = lives_in(values).ok_or(ValueName::Lives)?;
     Ok(LivesRequest { run, lives })
 }
 
-/// Reads the arguments KIND, SEATS, QUOTA, PORT and SESSIONS, in this order, with the ranges of `ServeRequest`. Numbers are
-/// decimals without leading zeros. Further arguments are ignored.
+/// Reads the arguments KIND, SEATS, QUOTA, PORT and SESSIONS, in this order. `ServeRequest` documents their ranges.
+/// Numbers are decimals without leading zeros. Further arguments are ignored.
 ///
 /// # Errors
 ///
-/// The first argument that is missing or wrong.
+/// Returns the first argument that is missing or wrong.
 pub fn read_serve_request(values: &[String]) -> Result<ServeRequest, ValueName> {
     let kind = kind_at(values, 0).ok_or(ValueName::Kind)?;
     let seats = number_at(values, 1, 1, MOST_THREADS).ok_or(ValueName::Seats)?;

@@ -3,7 +3,7 @@ use crate::trouble::{Trouble, ValueName};
 use lset_text::cut;
 use std::alloc::{AllocError, Global};
 
-/// The text of the command `faults`: each error message of the program, with each cause in a sentence.
+/// The output of the command `faults`: every error message of the program, and a sentence about each cause.
 pub const FAULTS: &str = "\
 Error messages of listset. 'listset faults Idle' explains the cause Idle alone. 'listset explain FILE' explains the first error of a
 file. docs/TEXTS.md has examples.
@@ -19,14 +19,14 @@ listset: line L: CAUSE, in a schedule; exit status 1
   Opening   Opening keys must increase; this one is not above the one before.
   NotEnded  The line does not end with a newline.
   NoThread  There is no such thread. Threads are numbered from 0 to the number of threads less 1.
-  Busy      The thread begins a call while it has one pending.
-  Idle      The thread makes a step while it has no call pending.
+  Busy      The thread already has a pending call.
+  Idle      The thread has no pending call.
   Lost      The broken list's step would access a word outside its table.
 
 listset: line L: CAUSE, in a draft; exit status 1
   Header    Line 1 must be 'listset-draft 2'.
-  Waits     The thread does not get there within 10000 steps or the events left. It may be waiting for a lock.
-  (others)  As in a schedule, but for Lost.
+  Waits     The thread does not reach its row, or the end of its call, within 10000 steps or 1000000 events in all. It may be waiting for a lock.
+  (others)  As in a schedule, except for Lost.
 
 listset: line L: CAUSE, in a report; exit status 1
   Header    Line 1 must be 'listset-report 1' or 'listset-report 2'. To make a report of a schedule, use the command replay.
@@ -45,8 +45,8 @@ listset: line L: CAUSE, in recorded calls; exit status 1
   Header    Line 1 must be 'listset-calls 1'. Only the command judge reads recorded calls.
   Line      Expected 'opening K', 'call T CALL K BEGIN END REPLY' and 'key K', in this order, then 'end'; or 'cut' for 'key' lines and 'end'.
             For example 'call 1 add 5 3 9 true', or while the call is pending 'call 1 add 5 3 - -'. CALL is add, remove or contains, a
-            reply is true or false, and a line has at most 128 bytes. A ceiling, and an add that answered full, are not judged: take
-            their lines out, and the others are:
+            reply is true or false, and a line has at most 128 bytes. A ceiling, and an add that returned full, are not judged. To
+            judge the other calls, remove these lines:
               grep -v -e ceiling -e full FILE | listset judge -
   Number    Moments are numbers from 1 to 9223372036854775807; all else as in a schedule.
   Opening   Opening keys must increase, and so must keys; this one is not above the one before.
@@ -79,18 +79,18 @@ not linearizable, from judge; exit status 1
   no order explains the calls of key K and leaves it as it was left
             Every order leaves the key in the set and there is no line 'key K', or the reverse.
   contradiction: A, leaves key K absent, B, needs key K present, and no add K that returned true or is pending overlaps I to J
-            After A the key is absent, B needs key K present, and no call in between can make it so. (Or present and absent exchanged.)
+            After A the key is absent, B needs key K present, and no call in between can add it. (Or with present and absent exchanged.)
   contradiction: key K is absent at first, .. or .. key K is present at the end, ..
-            The opening state stands for A, or the final state for B.
+            The opening state takes the place of A, or the final state that of B.
   contradiction in both orders: A, needs .. and leaves .., B, needs .. and leaves .., and no add K ..
             A and B overlap. They contradict each other whichever comes first.
   contradiction: A, B, .. need key K to become absent N times between I and J, and only M remove K .. overlap I to J
-            The calls need key K to become absent N times, and fewer calls can make it so. (Or present and absent exchanged.)
+            The calls need key K to become absent N times, but fewer calls can remove it. (Or with present and absent exchanged.)
 
 refused FAULT ID, of the order in a report, from check; exit status 1
   Unknown     No call has this number.
   Twice       The call is in the order twice.
-  Missing     The call is completed, and is not in the order.
+  Missing     The call is completed but is not in the order.
   WrongReply  The history has another reply, or a sequential set gives another reply at this place.
   TooEarly    The call comes before one that had ended when it began.
   WrongSet    The keys are not those that the order leaves, in increasing order.
@@ -119,31 +119,31 @@ Other messages
   listset: out of memory  An allocation failed; exit status 3.
 ";
 
-/// Returns the answer of the command `faults`: the text `FAULTS`. Allocates; the error is `Trouble::Memory`.
+/// Returns all of `FAULTS`, as the answer of the command `faults`. Returns `Trouble::Memory` if an allocation fails.
 pub fn list_faults(alloc: Global) -> Result<Answer, Trouble> {
     let text = Vec::from_slice(alloc, FAULTS.as_bytes())?;
     Ok(Answer { text, status: 0 })
 }
 
-/// The name of a cause, a message or a part of `FAULTS`.
+/// A name to look up in `FAULTS`: of a cause, of a message, or of a section.
 #[derive(Clone, Copy)]
 pub struct FaultName {
     name: &'static [u8],
 }
 
-/// The kinds of lines of `FAULTS` below its heading.
+/// The kinds of lines in `FAULTS` after its heading.
 #[derive(Clone, Copy, PartialEq, Eq)]
 enum FaultLine {
-    /// The title of a part, or the empty line before it.
+    /// The title of a section, or the empty line before it.
     Title,
-    /// The first line about a cause or a message. The line begins with the name.
+    /// The first line about a cause or a message. It begins with the name.
     Entry,
-    /// A further line about the cause or message above.
+    /// A continuation line of the entry above.
     More,
 }
 
 impl FaultLine {
-    /// Returns the kind of a line.
+    /// Classifies a line.
     fn of(line: &[u8]) -> FaultLine {
         match line {
             [b' ', b' ', b' ', ..] => FaultLine::More,
@@ -153,7 +153,7 @@ impl FaultLine {
     }
 }
 
-/// Returns the rest of a line of `FAULTS` from its name on.
+/// Returns the part of a `FAULTS` line that starts at its name.
 fn from_name(line: &[u8]) -> &[u8] {
     let line = line.strip_prefix(b"  ").unwrap_or(line);
     let line = line.strip_prefix(b"listset: ").unwrap_or(line);
@@ -161,7 +161,7 @@ fn from_name(line: &[u8]) -> &[u8] {
     line.strip_prefix(b"line 1: ").unwrap_or(line)
 }
 
-/// Returns the name at the front of a line of `FAULTS` if the name is `name`, in upper or lower case. Else `None`.
+/// Returns the name with which a `FAULTS` line starts if it equals `name`, ignoring case. Otherwise returns `None`.
 fn name_of_line<'a>(line: &'a [u8], name: &[u8]) -> Option<&'a [u8]> {
     let line = from_name(line);
     let (first, rest) = (line.get(..name.len())?, line.get(name.len()..)?);
@@ -173,7 +173,7 @@ fn name_of_line<'a>(line: &'a [u8], name: &[u8]) -> Option<&'a [u8]> {
     }
 }
 
-/// Returns the name in an argument of `faults`: a cause, a message, or a whole error line.
+/// Returns the name that an argument of `faults` contains: the argument is a cause, a message, or a whole error line.
 fn name_in(word: &[u8]) -> &[u8] {
     let word = word.strip_prefix(b"listset: ").unwrap_or(word);
     if word.starts_with(b"bad ") {
@@ -191,7 +191,7 @@ fn name_in(word: &[u8]) -> &[u8] {
     }
 }
 
-/// Returns `FAULTS` without its heading: the titles and their entries.
+/// Returns `FAULTS` without its heading: the sections with their titles and entries.
 fn parts() -> &'static [u8] {
     let mut rest = FAULTS.as_bytes();
     for _ in 0..FAULTS.len() {
@@ -204,8 +204,8 @@ fn parts() -> &'static [u8] {
     rest
 }
 
-/// Reads the argument of `faults`: the name of a cause, a message or a part, in upper or lower case, or a whole error line.
-/// The error is `ValueName::Cause` if no title and no entry of `FAULTS` begins with the name.
+/// Reads the argument of `faults`: the name of a cause, of a message or of a section in upper or lower case, or a whole
+/// error line. Returns `ValueName::Cause` if no title and no entry in `FAULTS` starts with that name.
 pub fn read_fault_name(word: &[u8]) -> Result<FaultName, ValueName> {
     let word = name_in(word);
     let mut rest = parts();
@@ -222,7 +222,7 @@ pub fn read_fault_name(word: &[u8]) -> Result<FaultName, ValueName> {
     Err(ValueName::Cause)
 }
 
-/// Appends a line, below the title of its part. `title` is empty if the text has this title already.
+/// Appends a line after the title of its section. `title` is empty if the title has already been appended.
 fn put_line(out: &mut Vec<u8>, title: &[u8], line: &[u8]) -> Result<(), AllocError> {
     if !title.is_empty() {
         if !out.is_empty() {
@@ -236,8 +236,8 @@ fn put_line(out: &mut Vec<u8>, title: &[u8], line: &[u8]) -> Result<(), AllocErr
     Ok(())
 }
 
-/// Appends the lines of `FAULTS` about a name: all of a part whose title has the name; of each other part the title and the
-/// entries with the name.
+/// Appends the lines of `FAULTS` about a name: an entire section if the name is its title; from every other section,
+/// its title and the entries with this name.
 fn put_named(out: &mut Vec<u8>, name: &[u8]) -> Result<(), AllocError> {
     let (mut title, mut is_whole, mut is_told) = (b"".as_slice(), false, false);
     let mut rest = parts();
@@ -264,8 +264,8 @@ fn put_named(out: &mut Vec<u8>, name: &[u8]) -> Result<(), AllocError> {
     Ok(())
 }
 
-/// Returns the answer of the command `faults` on a name: the lines of `FAULTS` about it. Allocates; the error is
-/// `Trouble::Memory`.
+/// Looks up a name in `FAULTS`, as the answer of the command `faults NAME`. Returns `Trouble::Memory` if an allocation
+/// fails.
 pub fn explain_fault(alloc: Global, fault: FaultName) -> Result<Answer, Trouble> {
     let mut text = Vec::new(alloc);
     put_named(&mut text, fault.name)?;

@@ -8,13 +8,13 @@ use crate::trouble::Trouble;
 use std::alloc::Global;
 use std::io::{Read, Write};
 
-/// The maximum number of bytes of an input.
+/// The maximum size of an input, in bytes.
 pub const LONGEST: usize = 67_108_864;
 
-/// The maximum number of bytes of one read.
+/// The maximum size of one read, in bytes.
 pub const READ_SIZE: usize = 4096;
 
-/// The bytes of an input that is not too long.
+/// The bytes of an input, at most `LONGEST` of them.
 #[derive(Clone, Copy)]
 pub struct Input<'a> {
     bytes: &'a [u8],
@@ -22,7 +22,7 @@ pub struct Input<'a> {
 }
 
 impl<'a> Input<'a> {
-    /// Wraps at most `LONGEST` bytes. The error for more is `TooLong`.
+    /// Wraps at most `LONGEST` bytes. Returns the error `TooLong` if there are more.
     pub fn new(bytes: &'a [u8]) -> Result<Input<'a>, Trouble>
         ensures { MatchResult result (λ input. input.bytes.now ≡ bytes.entry.now) (IsTooLong bytes.entry.now) }
     {
@@ -41,12 +41,12 @@ impl<'a> Input<'a> {
     }
 }
 
-/// Reads all bytes of an input, until a read returns none. Of an input that is too long it returns some more than `LONGEST`
-/// bytes. Allocates; blocks as the input does.
+/// Reads an input until a read returns no bytes. Stops soon after `LONGEST` bytes if the input is longer. Allocates.
+/// Blocks while reading.
 ///
 /// # Errors
 ///
-/// `CannotRead` if a read fails; the read is not repeated. `Memory` if an allocation fails.
+/// Returns `CannotRead` if a read fails; the read is not retried. Returns `Memory` if an allocation fails.
 pub fn read_all<R: Read>(alloc: Global, input: &mut R) -> Result<Vec<u8>, Trouble>
     ensures read { IfOk result (λ v. IfSome (R.remaining input.old) (IsReadOf v.items)) }
     ensures trouble { IfErr result (λ t. (t ≡ CannotRead) ⊎ (t ≡ Memory)) }
@@ -66,8 +66,8 @@ pub fn read_all<R: Read>(alloc: Global, input: &mut R) -> Result<Vec<u8>, Troubl
     Ok(bytes)
 }
 
-/// Writes a text, and returns whether all of it was written. A write that fails, or writes no byte, is not repeated: then
-/// only a prefix of the text was written.
+/// Writes a text. Returns `true` if all of it was written. A write that fails, or writes no byte, is not retried; a
+/// prefix of the text may then have been written.
 pub fn put<W: Write>(output: &mut W, text: &[u8]) -> bool
     ensures front { (done rest : List ℕ) × (text.now ≡ done ++ rest)
         × Appends (W.contents output.old) (W.contents output.new) done }

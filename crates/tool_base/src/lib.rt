@@ -1,5 +1,6 @@
-//! The frame of the program's commands, over any reader and writers. A command computes an answer from its input or its
-//! arguments. The frame writes the answer to an output, or one line about an error to stderr, and returns the exit status.
+//! The frame around the program's commands, over any reader and writers. A command computes an answer from its input or
+//! its arguments. The frame writes the answer to an output, or one line about an error to stderr, and returns the exit
+//! status.
 #![tactic(auto)]
 
 mod answer;

@@ -7,17 +7,17 @@ use crate::trouble::Trouble;
 use std::alloc::Global;
 use std::io::{Read, Write};
 
-/// A command that answers on all bytes of its input.
+/// A command that computes its answer from all bytes of its input.
 pub trait Tool {
-    /// The answers that are allowed on the bytes. By default every answer is.
+    /// The answers that are allowed for the bytes. By default, all are allowed.
     ghost answers: { Self → List ℕ → Made → Type 0 } = { λ tool bytes made. Unit {0} };
 
-    /// Returns the answer on the input. Allocates.
+    /// Computes the answer for the input. Allocates.
     fn answer(&self, alloc: Global, input: Input<'_>) -> Result<Answer, Trouble>
         ensures { answers self.now input.entry.bytes.now (view result) };
 }
 
-/// Returns a tool's answer on a text, or the error `TooLong`. Allocates.
+/// Returns a tool's answer for a text, or `TooLong`. Allocates.
 pub fn answer_text<T: Tool>(alloc: Global, tool: &T, text: &[u8]) -> Result<Answer, Trouble>
     ensures { OnText (T.answers tool.now) text.now (view result) }
 {
@@ -25,7 +25,7 @@ pub fn answer_text<T: Tool>(alloc: Global, tool: &T, text: &[u8]) -> Result<Answ
     tool.answer(alloc, input)
 }
 
-/// Returns a tool's answer on all bytes of an input.
+/// Reads all bytes of an input and returns a tool's answer for them.
 fn answer_input<T: Tool, R: Read>(alloc: Global, tool: &T, input: &mut R) -> Result<Answer, Trouble>
     ensures { IfSome (R.remaining input.old) (λ bytes. OnInput (T.answers tool.now) bytes (view result)) }
 {
@@ -33,9 +33,11 @@ fn answer_input<T: Tool, R: Read>(alloc: Global, tool: &T, input: &mut R) -> Res
     answer_text(alloc, tool, &bytes)
 }
 
-/// Runs a command: reads all of `input`, and writes the answer to `output`, or one line about an error to `stderr` and
-/// nothing to `output`. Returns the exit status: that of the answer, 2 if an option is wrong, 3 if an allocation failed,
-/// else 1. A failed write to `stderr` does not change the exit status. Allocates; blocks as its input and output do.
+/// Runs a command: reads all of `input`, and writes either the answer to `output`, or one line about an error to
+/// `stderr` and nothing to `output`.
+///
+/// Returns the exit status: that of the answer, 2 if an option is wrong, 3 if an allocation failed, 1 for any other
+/// error. A failed write to `stderr` does not change it. Allocates. Blocks while reading and writing.
 pub fn run_tool<T: Tool, R: Read, W: Write, E: Write>(
     alloc: Global,
     tool: &T,

@@ -6,7 +6,7 @@ use lset_schedule::GenFault;
 use lset_text::{Cause, LineFault};
 use std::alloc::{AllocError, AllocFailed};
 
-/// An argument or an option of a command.
+/// An argument or option of a command.
 #[derive(Clone, Copy)]
 pub enum ValueName {
     Kind,
@@ -20,7 +20,7 @@ pub enum ValueName {
     Port,
     Sessions,
     Name,
-    /// The name of an example that has no broken report.
+    /// The name of an example without a broken report.
     Unbroken,
     Lacks,
     From,
@@ -30,52 +30,52 @@ pub enum ValueName {
     Cause,
 }
 
-/// The cause for which programs or sessions were not run to their ends. A failed allocation is `Trouble::Memory` instead.
+/// Why programs or sessions did not run to completion. A failed allocation is `Trouble::Memory` instead.
 #[derive(Clone, Copy)]
 pub enum SystemCause {
-    /// There is not one program for each seat, or the seats do not hold all seats of the set.
+    /// The number of programs differs from the number of seats, or some seats of the set are missing.
     Programs,
-    /// A gate did not let a call pass.
+    /// A gate did not admit a call.
     Gate,
-    /// There are more final keys than a set may open with.
+    /// There are more final keys than a set can open with.
     Opening,
-    /// The seats do not hold all seats of the set.
+    /// Some seats of the set are missing.
     Seats,
-    /// The system did not accept a connection.
+    /// The system could not accept a connection.
     Accept,
-    /// The system did not start a thread.
+    /// The system could not start a thread.
     Spawn,
-    /// The channel of the workers refused a connection.
+    /// The channel to the workers refused a connection.
     Send,
-    /// The workers received fewer connections than were accepted.
+    /// The workers received fewer connections than the server accepted.
     Left,
 }
 
-/// An error that ends a run of the program with a line on stderr.
+/// An error that ends the program and prints a line on stderr.
 #[derive(Clone, Copy)]
 pub enum Trouble {
     /// A file could not be opened, or a read failed.
     CannotRead,
-    /// The input has more bytes than an input may have.
+    /// The input is longer than the maximum.
     TooLong,
     /// A write failed, or wrote no byte.
     CannotWrite,
     /// An allocation failed.
     Memory,
-    /// A line of the input is wrong: its number, from 1, and the cause.
+    /// A line of the input is wrong. Contains its number, counted from 1, and the cause.
     Line(u64, Cause),
     /// An argument or an option of the command line is missing or wrong.
     Bad(ValueName),
     /// The system refused a listening socket.
     CannotListen,
-    /// Programs were not run to their ends, for this cause.
+    /// Programs did not run to completion.
     Work(SystemCause),
-    /// Sessions were not served to their ends, for this cause.
+    /// Sessions were not served to completion.
     Serve(SystemCause),
 }
 
 impl Trouble {
-    /// Returns the exit status of the program for this error: 1, 2 or 3.
+    /// Returns the program's exit status for this error: 1, 2 or 3.
     pub fn status(self) -> u8
         ensures { result ≡ status_of self }
     {
@@ -142,7 +142,7 @@ impl<T: Drop> From<AllocFailed<T>> for Trouble {
 }
 
 impl ValueName {
-    /// Returns the name of the argument or option in the line on stderr.
+    /// Returns the name by which the error line on stderr calls the argument or option.
     pub fn word(self) -> &'static str
         ensures word { result.now ≡ value_word self }
         ensures short { length result.now ≤ 45 }
@@ -171,7 +171,7 @@ impl ValueName {
 }
 
 impl SystemCause {
-    /// Returns the name of the cause in the lines `listset: work: CAUSE` and `listset: serve: CAUSE`.
+    /// Returns the name of the cause, as printed in `listset: work: CAUSE` and `listset: serve: CAUSE`.
     pub fn name(self) -> &'static str
         ensures name { result.now ≡ system_name self }
         ensures short { length result.now ≤ 8 }

@@ -1,4 +1,4 @@
-//! The next steps of a thread: drafts and traces of the lines before an error.
+//! Computes the next steps of a thread by running drafts and traces of the lines before an error.
 
 use crate::event_errors::thread_text;
 use crate::kinds::Place;
@@ -7,7 +7,8 @@ use std::alloc::{AllocError, Global};
 use tool_base::{Tool, answer_text};
 use tool_replay::{Expand, Trace};
 
-/// Returns a text with a title, the lines from 2 to before the place, and a line `go` of the place's thread if `last` has one.
+/// Builds a text from a title, the lines from line 2 up to the error and, if `last` is not empty, a line `go` with
+/// `last` for the error's thread.
 fn text_up_to(
     alloc: Global,
     title: &[u8],
@@ -28,7 +29,7 @@ fn text_up_to(
     Ok(text)
 }
 
-/// Returns a tool's answer on a text. `None` if the answer is an error.
+/// Runs a tool on a text and returns its answer. Returns `None` if the tool fails.
 fn answer_on<T: Tool>(alloc: Global, tool: &T, text: &[u8]) -> Option<Vec<u8>> {
     match answer_text(alloc, tool, text) {
         Ok(answer) => Some(answer.text),
@@ -36,8 +37,8 @@ fn answer_on<T: Tool>(alloc: Global, tool: &T, text: &[u8]) -> Option<Vec<u8>> {
     }
 }
 
-/// Returns the number of steps after which the pending call of the place's thread ends. `None` if the thread has no pending
-/// call, or does not end it alone.
+/// Returns the number of steps after which the thread's pending call ends. Returns `None` if the thread has no pending
+/// call, or if the call does not end while no other thread makes a step.
 pub(crate) fn steps_out(
     alloc: Global,
     lines: &Lines<'_>,
@@ -51,7 +52,7 @@ pub(crate) fn steps_out(
     Ok(number_at(made.line(made.count()), 2))
 }
 
-/// Explains a line of a draft whose thread does not reach its row: the thread waits for a lock, or its call ends before.
+/// Explains a draft line whose thread does not reach the row: the thread waits for a lock, or its call ends earlier.
 pub(crate) fn put_lock(
     alloc: Global,
     out: &mut String,

@@ -1,4 +1,4 @@
-//! Errors in the events of a schedule or of a draft.
+//! Explains errors in the events of a schedule or draft.
 
 use crate::drafts::{put_lock, steps_out};
 use crate::kinds::{Place, TextKind};
@@ -9,7 +9,7 @@ use std::alloc::{AllocError, Global};
 
 const CALLS: &str = "add, remove, contains and, in version 2, ceiling";
 
-/// Explains a line of an event that is wrong.
+/// Explains an event line with an error.
 pub(crate) fn put_event(
     alloc: Global,
     out: &mut String,
@@ -30,7 +30,7 @@ pub(crate) fn put_event(
     }
 }
 
-/// Explains a line that does not have the form of an event.
+/// Explains a line that is not in the form of an event.
 fn put_form(out: &mut String, lines: &Lines<'_>, place: Place<'_>) -> Result<(), AllocError> {
     let line = place.line;
     let is_first = lines.line(1) == b"listset-schedule 1".as_slice();
@@ -63,7 +63,7 @@ fn put_form(out: &mut String, lines: &Lines<'_>, place: Place<'_>) -> Result<(),
     }
 }
 
-/// Explains an event with a number that is wrong, or a line of a draft in a schedule.
+/// Explains an event with a wrong number, or a draft's line in a schedule.
 fn put_event_number(out: &mut String, place: Place<'_>) -> Result<(), AllocError> {
     let (line, file) = (place.line, place.file);
     let is_stop = matches!(field_or_empty(line, 2), b"out" | b"to");
@@ -76,7 +76,7 @@ fn put_event_number(out: &mut String, place: Place<'_>) -> Result<(), AllocError
     }
 }
 
-/// Explains an event of a thread that does not exist.
+/// Explains an event whose thread does not exist.
 fn put_no_thread(out: &mut String, lines: &Lines<'_>, place: Place<'_>) -> Result<(), AllocError> {
     let count = number_at(lines.line(3), 1).unwrap_or(1);
     let last = count.saturating_sub(1);
@@ -88,7 +88,7 @@ fn put_no_thread(out: &mut String, lines: &Lines<'_>, place: Place<'_>) -> Resul
     )
 }
 
-/// Returns the number of the last line before a place that begins a call of the place's thread.
+/// Returns the number of the last line before the error that begins a call of the same thread.
 fn begun_before(lines: &Lines<'_>, place: Place<'_>) -> Option<usize> {
     let thread = number_at(place.line, 1)?;
     lines.last_before(place.number, |line| {
@@ -96,7 +96,7 @@ fn begun_before(lines: &Lines<'_>, place: Place<'_>) -> Option<usize> {
     })
 }
 
-/// Returns the thread of an event, as the line spells it.
+/// Returns an event's thread as it is spelled in the line.
 pub(crate) fn thread_text(line: &[u8]) -> &str {
     match str::from_utf8(field_or_empty(line, 1)) {
         Ok(text) => text,
@@ -104,7 +104,7 @@ pub(crate) fn thread_text(line: &[u8]) -> &str {
     }
 }
 
-/// Explains a begin of a thread that has a pending call.
+/// Explains why a thread cannot begin a call: the thread already has a pending call.
 fn put_busy(out: &mut String, lines: &Lines<'_>, place: Place<'_>) -> Result<(), AllocError> {
     let thread = thread_text(place.line);
     match begun_before(lines, place) {
@@ -116,7 +116,7 @@ fn put_busy(out: &mut String, lines: &Lines<'_>, place: Place<'_>) -> Result<(),
     }
 }
 
-/// Explains a step of a thread that has no pending call.
+/// Explains why a thread cannot make a step: the thread has no pending call.
 fn put_idle(
     alloc: Global,
     out: &mut String,

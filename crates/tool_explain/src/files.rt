@@ -3,7 +3,8 @@ use std::alloc::Global;
 use std::io::{ErrorKind, Read};
 use tool_base::{Answer, LONGEST, READ_SIZE, Trouble};
 
-/// Explains why a file was not opened, or not read. `file` is the file's name. Allocates; the error is `Trouble::Memory`.
+/// Explains why a file could not be opened or read. `file` is the file's name. Returns `Trouble::Memory` if an
+/// allocation fails.
 pub fn explain_unopened(alloc: Global, file: &str, kind: ErrorKind) -> Result<Answer, Trouble> {
     let why = match kind {
         ErrorKind::NotFound =>
@@ -21,8 +22,8 @@ pub fn explain_unopened(alloc: Global, file: &str, kind: ErrorKind) -> Result<An
     })
 }
 
-/// Explains the text of an input, as `explain_text` does, or why the input cannot be read. Reads at most some more than
-/// `LONGEST` bytes. Allocates; blocks as the input does. The error is `Trouble::Memory`.
+/// Explains the text of an input like `explain_text`, or explains why the input cannot be read. Stops reading soon
+/// after `LONGEST` bytes. Allocates. Blocks while reading. The error is `Trouble::Memory`.
 pub fn explain_input<R: Read>(alloc: Global, file: &str, input: &mut R) -> Result<Answer, Trouble> {
     let mut text = Vec::new(alloc);
     let mut buffer = [0u8; READ_SIZE];

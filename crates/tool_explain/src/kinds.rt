@@ -1,6 +1,6 @@
 use crate::lined::field_or_empty;
 
-/// The kind of a text, by its first line.
+/// The kind of a text, which its first line determines.
 #[derive(Clone, Copy, PartialEq, Eq)]
 pub(crate) enum TextKind {
     Schedule,
@@ -9,9 +9,9 @@ pub(crate) enum TextKind {
     Recording,
     Trace,
     Course,
-    /// Keys with which `serve` opens.
+    /// The opening keys for `serve`.
     Keys,
-    /// The first line is no title of a text of listset.
+    /// The first line is not the title of any listset format.
     Unknown,
 }
 
@@ -32,7 +32,7 @@ impl TextKind {
         }
     }
 
-    /// Returns what a file with a text of this kind is or has, as the predicate of a sentence.
+    /// Returns a predicate that says what a file of this kind is or contains.
     pub(crate) fn predicate(self) -> &'static str {
         match self {
             TextKind::Schedule => "is a schedule",
@@ -47,13 +47,13 @@ impl TextKind {
     }
 }
 
-/// The first error of a text: its line, and the kind of the text.
+/// Where the first error of a text is: its line, and the kind of the text.
 #[derive(Clone, Copy)]
 pub(crate) struct Place<'a> {
-    /// The file's name in commands about the file.
+    /// The file's name as used in commands.
     pub(crate) file: &'a str,
     pub(crate) kind: TextKind,
-    /// The number of the line, counted from 1.
+    /// The line number, counted from 1.
     pub(crate) number: usize,
     /// The line without its newline.
     pub(crate) line: &'a [u8],

@@ -1,4 +1,5 @@
-//! The command `explain`: prints the kind of a text, its first line with an error, what is wrong there, and what to do.
+//! The command `explain`, which prints the kind of a text, its first line with an error, what is wrong there, and how
+//! to correct it.
 #![tactic(auto)]
 
 mod drafts;

@@ -1,4 +1,4 @@
-//! Errors in recorded calls.
+//! Explains errors in recordings.
 
 use crate::kinds::Place;
 use crate::lined::{Lines, count_fields, field, field_or_empty, put_quoted};
@@ -13,7 +13,7 @@ const OF_RECORDING: CallFields = CallFields {
     end: 5,
 };
 
-/// Explains a line of a recording below the title.
+/// Explains a wrong line of a recording after the title.
 pub(crate) fn put_recording_line(
     out: &mut String,
     lines: &Lines<'_>,
@@ -27,7 +27,7 @@ pub(crate) fn put_recording_line(
     }
 }
 
-/// Explains a line of a recording that has not the form of a line there.
+/// Explains a line that does not have a form allowed at this point of a recording.
 fn put_recording_form(
     out: &mut String,
     lines: &Lines<'_>,
@@ -54,7 +54,7 @@ fn put_recording_form(
     }
 }
 
-/// Explains a line of a call with seven fields that is no call of a recording.
+/// Explains a line that has the seven fields of a call but is not a call of a recording.
 fn put_call_words(out: &mut String, place: Place<'_>) -> Result<(), AllocError> {
     let (line, file) = (place.line, place.file);
     let reply = field_or_empty(line, 6);

@@ -1,4 +1,4 @@
-//! Errors in reports, and conflicts of calls in reports and in recordings.
+//! Explains errors in reports, and conflicts between calls in reports and recordings.
 
 use crate::kinds::{Place, TextKind};
 use crate::lined::{Lines, field, moment_at, number_at};
@@ -6,7 +6,7 @@ use crate::written::put_number;
 use lset_text::Cause;
 use std::alloc::AllocError;
 
-/// The fields of a line of a call that have its thread and its moments.
+/// Where a call's line has the call's thread and its moments: the indices of these fields.
 #[derive(Clone, Copy)]
 pub(crate) struct CallFields {
     pub(crate) thread: usize,
@@ -20,7 +20,7 @@ const OF_REPORT: CallFields = CallFields {
     end: 6,
 };
 
-/// Explains a line of a report below the header.
+/// Explains a wrong line of a report after the header.
 pub(crate) fn put_report_line(
     out: &mut String,
     lines: &Lines<'_>,
@@ -39,7 +39,7 @@ pub(crate) fn put_report_line(
     }
 }
 
-/// Explains a call of a report that conflicts with the header, or with the calls above.
+/// Explains a report's call that conflicts with the header or with an earlier call.
 fn put_report_history(
     out: &mut String,
     lines: &Lines<'_>,
@@ -68,12 +68,12 @@ fn put_report_history(
     put_moments(out, lines, place, OF_REPORT)
 }
 
-/// Returns whether a line is of a call.
+/// Returns `true` if a line is a call's.
 pub(crate) fn is_call(line: &[u8]) -> bool {
     field(line, 0) == Some(b"call".as_slice())
 }
 
-/// Explains why the moments of a call conflict with each other, or with a call above.
+/// Explains why a call's moments conflict with each other, or with those of an earlier call.
 pub(crate) fn put_moments(
     out: &mut String,
     lines: &Lines<'_>,
@@ -112,7 +112,8 @@ pub(crate) fn put_moments(
     put_order(out, lines, place, fields, begin)
 }
 
-/// Explains why a call conflicts with the calls above: calls are in the order of their begins, and a thread has one at a time.
+/// Explains why a call conflicts with earlier calls: calls are listed in the order in which they began, and a thread
+/// has only one call at a time.
 fn put_order(
     out: &mut String,
     lines: &Lines<'_>,
@@ -145,13 +146,13 @@ fn put_order(
     }
 }
 
-/// Appends the command that sorts the calls of a recording, to the line before.
+/// Adds the command that sorts a recording's calls to the line before.
 fn put_sorting(out: &mut String, place: Place<'_>) -> Result<(), AllocError> {
     if place.kind != TextKind::Recording {
         return Ok(());
     }
     let file = place.file;
-    // (the line before ends with a newline; the command goes into the same line)
+    // (the line before ends with a newline, which is removed so that the command is on the same line)
     let _newline = out.pop();
     writeln!(
         out,

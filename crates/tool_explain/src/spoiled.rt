@@ -1,10 +1,11 @@
-//! Errors of every kind of text: the encoding of a file, line ends, spaces, comments, a missing title.
+//! Explains errors that occur in every kind of text: encoding, line ends, spaces, comments, a missing title.
 
 use crate::kinds::{Place, TextKind};
 use crate::lined::{Lines, count_fields, field_or_empty};
 use std::alloc::AllocError;
 
-/// Explains a text without bytes, in UTF-16, or with a byte order mark. Returns false, and writes nothing, of any other text.
+/// Explains a text that is empty, in UTF-16, or has a byte order mark. For any other text, writes nothing and returns
+/// `false`.
 pub(crate) fn put_encoding(out: &mut String, file: &str, text: &[u8]) -> Result<bool, AllocError> {
     match text {
         [] => writeln!(
@@ -32,7 +33,7 @@ fn put_cr(out: &mut String, file: &str) -> Result<(), AllocError> {
     )
 }
 
-/// Returns a line without the spaces and tabs before its first word.
+/// Returns a line without its leading spaces and tabs.
 fn without_indent(line: &[u8]) -> &[u8] {
     for (at, byte) in line.iter().enumerate() {
         if !matches!(*byte, b' ' | b'\t') {
@@ -42,13 +43,13 @@ fn without_indent(line: &[u8]) -> &[u8] {
     b""
 }
 
-/// Returns whether the text has a title of listset in line 2, or in line 1 behind spaces and tabs.
+/// Returns `true` if a title of listset is in line 2, or in line 1 after spaces or tabs.
 fn has_spoiled_title(lines: &Lines<'_>) -> bool {
     let (first, second) = (without_indent(lines.line(1)), lines.line(2));
     first.starts_with(b"listset-") || second.starts_with(b"listset-")
 }
 
-/// Explains a first line that is no title. Advises an edit only if the text is one of listset but for its first line.
+/// Explains a first line that is not a title. Suggests an edit only if the rest of the text is in a listset format.
 pub(crate) fn put_no_title(
     out: &mut String,
     lines: &Lines<'_>,
@@ -83,7 +84,7 @@ pub(crate) fn put_no_title(
     }
 }
 
-/// Explains a line that is wrong in every kind of text. Returns false, and writes nothing, of any other line.
+/// Explains a line that is wrong in every kind of text. For any other line, writes nothing and returns `false`.
 pub(crate) fn put_spoiled(out: &mut String, place: Place<'_>) -> Result<bool, AllocError> {
     let (file, number) = (place.file, place.number);
     match place.line {
@@ -117,7 +118,7 @@ pub(crate) fn put_spoiled(out: &mut String, place: Place<'_>) -> Result<bool, Al
     Ok(true)
 }
 
-/// Returns whether a line has two spaces in a row.
+/// Returns `true` if a line contains two consecutive spaces.
 fn has_two_spaces(line: &[u8]) -> bool {
     let mut before = b'.';
     for byte in line {
@@ -129,7 +130,7 @@ fn has_two_spaces(line: &[u8]) -> bool {
     false
 }
 
-/// Explains a last line without a newline (`is_line`), or a last line that is missing.
+/// Explains a last line that has no newline (`is_line`) or is missing.
 pub(crate) fn put_not_ended(
     out: &mut String,
     place: Place<'_>,

@@ -12,9 +12,9 @@ use tool_base::{Answer, LONGEST, Trouble, answer_text};
 use tool_judge::judge_bytes;
 use tool_replay::{Check, Expand, Replay};
 
-/// Explains a text: its kind, the first line with an error, and in the last line what is wrong and what to do. Of a text
-/// without an error the last line names the commands that read it. `file` is the file's name; a shell reads the printed
-/// name as this one. The exit status is 0. Allocates; the error is `Trouble::Memory`.
+/// Explains a text. Prints its kind and the first line with an error; the last line says what is wrong and how to
+/// correct it. If the text has no error, the last line names the commands that read it. `file` is the file's name as a
+/// shell should read it. The exit status is 0. Returns `Trouble::Memory` if an allocation fails.
 pub fn explain_text(alloc: Global, file: &str, text: &[u8]) -> Result<Answer, Trouble> {
     let mut out = String::new(alloc);
     let name = quoted_name(alloc, file)?;
@@ -28,7 +28,7 @@ pub fn explain_text(alloc: Global, file: &str, text: &[u8]) -> Result<Answer, Tr
     Ok(Answer { text, status: 0 })
 }
 
-/// Explains a text that is too long for every command but `judge`.
+/// Explains a text that is too long for every command except `judge`.
 fn put_too_long(out: &mut String, file: &str, text: &[u8]) -> Result<(), AllocError> {
     let first = match cut(text, b'\n') {
         Some((first, _)) => first,
@@ -46,7 +46,7 @@ fn put_too_long(out: &mut String, file: &str, text: &[u8]) -> Result<(), AllocEr
     )
 }
 
-/// Explains a text that is not too long.
+/// Explains a text that is within the size limit.
 fn put_text(alloc: Global, out: &mut String, file: &str, text: &[u8]) -> Result<(), Trouble> {
     let lines = Lines::of(alloc, text)?;
     let kind = TextKind::of(lines.line(1));
@@ -77,13 +77,13 @@ fn put_text(alloc: Global, out: &mut String, file: &str, text: &[u8]) -> Result<
     Ok(())
 }
 
-/// Returns an answer without a text.
+/// Returns an empty answer.
 fn no_answer(alloc: Global) -> Result<Answer, Trouble> {
     let text = Vec::new(alloc);
     Ok(Answer { text, status: 0 })
 }
 
-/// Returns an answer without a text, or the first error of the keys for `serve`.
+/// Returns an empty answer, or the first error in the opening keys for `serve`.
 fn said_of_keys(alloc: Global, lines: &Lines<'_>) -> Result<Answer, Trouble> {
     match wrong_key(lines) {
         Some((number, cause)) => Err(Trouble::Line(number as u64, cause)),
@@ -91,7 +91,7 @@ fn said_of_keys(alloc: Global, lines: &Lines<'_>) -> Result<Answer, Trouble> {
     }
 }
 
-/// Explains a text without an error.
+/// Explains a text without errors.
 fn put_right(
     out: &mut String,
     file: &str,
@@ -111,7 +111,8 @@ fn put_right(
     put_use(out, file, kind, answer.status != 0)
 }
 
-/// Prints the commands that read a text without an error. `is_refused` is whether its order, or every order of it, is refused.
+/// Prints the commands that read a text without errors. `is_refused` says whether its order, or every order, is
+/// refused.
 fn put_use(
     out: &mut String,
     file: &str,
@@ -153,7 +154,7 @@ fn put_use(
     }
 }
 
-/// Prints the number, the cause and the text of the first line with an error.
+/// Prints the first line with an error: its number, the cause and the text.
 fn put_place(out: &mut String, place: Place<'_>, cause: Cause) -> Result<(), AllocError> {
     let Place {
         file,
@@ -171,7 +172,7 @@ fn put_place(out: &mut String, place: Place<'_>, cause: Cause) -> Result<(), All
     out.push_str("\n")
 }
 
-/// Prints what is wrong with the line, and what to do, in one line.
+/// Prints one line that says what is wrong and how to correct it.
 fn put_sentence(
     alloc: Global,
     out: &mut String,

@@ -1,23 +1,23 @@
-//! Lines and fields that are spelled wrong: the header, words and numbers.
+//! Explains misspelled lines and fields: the header, words and numbers.
 
 use crate::kinds::{Place, TextKind};
 use crate::lined::{field, field_or_empty, put_quoted};
 use lset_text::long_number;
 use std::alloc::AllocError;
 
-/// The largest moment of a recording.
+/// The largest moment in a recording.
 const MOST_MOMENT: u64 = 9_223_372_036_854_775_807;
 
-/// The largest moment of a report.
+/// The largest moment in a report.
 const MOST_MOMENT_OF_REPORT: u64 = 4_294_967_295;
 
-/// The maximum number of steps of one line.
+/// The maximum number of steps in one line.
 const MOST_STEPS: u64 = 10_000;
 
-/// The largest row of a list.
+/// The largest row of any list.
 const MOST_ROW: u64 = 255;
 
-/// A field that must be a number: its name in messages, its index in the line, from 0, and its range.
+/// A field that must be a number: its name in messages, its index in the line (from 0), and its range.
 #[derive(Clone, Copy)]
 struct NumberField {
     name: &'static str,
@@ -26,12 +26,12 @@ struct NumberField {
     high: u64,
 }
 
-/// Returns the field of a thread, a key or a call.
+/// Creates the description of a thread, key or call field.
 fn plain(name: &'static str, index: usize) -> NumberField {
     in_range(name, index, 0, 4_294_967_295)
 }
 
-/// Returns the field of a number in a range.
+/// Creates the description of a number field with this range.
 fn in_range(name: &'static str, index: usize, low: u64, high: u64) -> NumberField {
     NumberField {
         name,
@@ -41,7 +41,7 @@ fn in_range(name: &'static str, index: usize, low: u64, high: u64) -> NumberFiel
     }
 }
 
-/// Explains a line with a number that is wrong, by the numbers that a line of its kind has.
+/// Explains a line with a wrong number: checks the number fields that a line of this kind has.
 pub(crate) fn put_number(out: &mut String, place: Place<'_>) -> Result<(), AllocError> {
     let is_stop = matches!(field_or_empty(place.line, 2), b"out" | b"to");
     let thread = plain("THREAD", 1);
@@ -67,7 +67,7 @@ pub(crate) fn put_number(out: &mut String, place: Place<'_>) -> Result<(), Alloc
     }
 }
 
-/// Explains the first of these fields that is no number in its range. Skips a field that is `-` or `open`.
+/// Explains the first of these fields that is not a number in its range. Skips fields that are `-` or `open`.
 fn put_first_wrong(
     out: &mut String,
     place: Place<'_>,
@@ -102,7 +102,7 @@ fn put_first_wrong(
     out.push_str("A number of the line is out of its range, or has a sign or a leading zero.\n")
 }
 
-/// Returns how a recorder gets the numbers of a field, as a sentence after a space.
+/// Returns a sentence, after a space, that says where a recorder gets the numbers of this field.
 fn advice_on(name: &str) -> &'static str {
     match name {
         "BEGIN" | "END" => " Take all moments from one counter that starts at 1.",
@@ -111,7 +111,7 @@ fn advice_on(name: &str) -> &'static str {
     }
 }
 
-/// Explains a word that is no call, in field `index` of a line. Returns false, and writes nothing, if the word is a call.
+/// Explains field `index` of a line if it is not an operation. If it is one, writes nothing and returns `false`.
 pub(crate) fn put_no_call(
     out: &mut String,
     place: Place<'_>,
@@ -127,7 +127,7 @@ pub(crate) fn put_no_call(
     Ok(true)
 }
 
-/// Explains a header line that is wrong.
+/// Explains a wrong header line.
 pub(crate) fn put_header(out: &mut String, number: usize) -> Result<(), AllocError> {
     let text = match number {
         1 => {
@@ -142,7 +142,7 @@ pub(crate) fn put_header(out: &mut String, number: usize) -> Result<(), AllocErr
     out.push_str(text)
 }
 
-/// Explains a key that is not above the key before.
+/// Explains a key that is not greater than the previous key.
 pub(crate) fn put_opening(
     out: &mut String,
     place: Place<'_>,

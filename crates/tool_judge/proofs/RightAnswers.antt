@@ -1,4 +1,4 @@
--- The answer says exactly whether some order explains a recording.
+-- The answer states exactly whether some order explains a recording.
 use Rattle.std.proofs.Common.{ℕ, inl, inr, Bool, true, false, Option, List, ◌++◌, length, codes, Result, Ok, Err, ◌∙◌}
 use Rattle.std.proofs.Common.{append_assoc}
 use Rattle.std.specs.Fmt.{decimal}
@@ -18,7 +18,7 @@ use Rattle.tool_judge.proofs.OneReading.{one_reading}
 only : (bytes : List ℕ) (read : Result Recording LineFault) → Says bytes read → SaysOnly bytes read
 only bytes read says = (says, λ other also. one_reading first_line nothing_told (cut_at 10 bytes) other read also says)
 
--- the order that would explain it
+-- If the calls were refused, no order explains them.
 none_has : (b : Bool) (c : Recording) (refusal : Refusal) (clash : _) → IsVerdictIf b c (NotLinearizable refusal clash) → HasOrderIf b c → ⊥
 none_has true c refusal clash is has = (is.0 has.0).0 (length c.calls) has.1.0 has.1.1
 none_has false c refusal clash is has = is.0.0 (length c.calls) has.0 has.1

@@ -1,4 +1,4 @@
--- The answers of `judge` on the bytes of an input.
+-- The answers of `judge` for the bytes of an input.
 use Rattle.std.specs.Prelude.{◌≡◌, ℕ, ◌⊎◌, List, [], ◌++◌, codes, length, Option, Some, None, Ok, Err}
 use Rattle.std.specs.Fmt.{decimal}
 use Rattle.lset_judge.specs.declared.stream.Refusal.{Refusal}
@@ -32,28 +32,28 @@ abbrev pub clash_text : ℕ → Option Clash → List ℕ
 clash_text key None = []
 clash_text key (Some c) = clash_lines key c
 
--- the two lines of a refusal, and the three lines of the clash
+-- The two lines of a refusal, and the three lines of a contradiction if one was found.
 abbrev pub refused_text : Refusal → Option Clash → List ℕ
 refused_text r clash = refused_lines r ++ clash_text r.key.0 clash
 
--- a text begins with `head`
+-- The text begins with `head`.
 abbrev pub Begins : List ℕ → List ℕ → Type 0
 Begins head text = (more : List ℕ) × (text ≡ head ++ more)
 
--- THE ANSWER WITH A VERDICT on so many calls
+-- THE ANSWER FOR A VERDICT on this number of calls
 abbrev pub IsAnswerTo : Verdict → ℕ → AnswerValue → Type 0
 IsAnswerTo Linearizable calls answer = Begins (ok_line calls) answer.text × (answer.status ≡ 0)
 IsAnswerTo (NotLinearizable refusal clash) calls answer = Begins (refused_text refusal clash) answer.text × (answer.status ≡ 1)
 
--- THE ANSWER ON A RECORDING
+-- THE ANSWER FOR A RECORDING
 pub record IsAnswerOn (c : Recording) (answer : AnswerValue) : Type 0 where
   pub recording : IsRecording c
   pub verdict : Verdict
   pub verdict_is : IsVerdictOnRecording c verdict
   pub answer_is : IsAnswerTo verdict (length c.calls) answer
 
--- THE RESULT ON THE BYTES OF AN INPUT: the answer on the recording whose text they are, or the first wrong line with its cause; or a read
--- failed, or an allocation failed
+-- THE RESULT FOR THE BYTES OF AN INPUT: the answer for the recording that they spell, the first wrong line with its
+-- cause, or a failed read or allocation
 abbrev pub Judges : List ℕ → Made → Type 0
 Judges bytes (Ok answer) = (c : Recording) × Says bytes (Ok c) × (bytes ≡ recording_text c) × IsAnswerOn c answer
 Judges bytes (Err t) = (t ≡ CannotRead) ⊎ ((t ≡ Memory) ⊎ ((fault : LineFault) × Says bytes (Err fault) × (t ≡ of_line_fault fault)))

@@ -1,4 +1,4 @@
-//! The lines about two calls that clash.
+//! Writes the lines about two calls that contradict each other.
 
 ghost use Rattle.std.specs.Prelude.{◌≡◌, IfOk};
 ghost use Rattle.tool_judge.specs.Clashes as lines;
@@ -8,7 +8,7 @@ use lset_text::{call_word, reply_word};
 use lset_words::{Call, Presence, Reply};
 use std::alloc::{AllocError, Global};
 
-/// Writes a call as a line of a recording. Allocates.
+/// Writes a call in the format of a recording's line. Allocates.
 pub fn put_call(out: &mut String, made: StreamCall) -> Result<(), AllocError> {
     let StreamCall {
         thread,
@@ -37,7 +37,7 @@ fn other(there: Presence) -> Presence
     }
 }
 
-/// Returns whether a completed call changed its key.
+/// Returns `true` if a completed call changed its key.
 fn is_change(made: StreamCall) -> bool
     ensures { result ≡ lines.is_change made.call made.ended }
 {
@@ -47,14 +47,15 @@ fn is_change(made: StreamCall) -> bool
     )
 }
 
-/// Returns the state that a call needs, from the state that it leaves: the other state if the call changes its key, else the same.
+/// Returns the state in which a call needs the key, given the state in which the call leaves it: the other state if the
+/// call changes the key, otherwise the same.
 fn need_of(changes: bool, leaves: Presence) -> Presence
     ensures { result ≡ lines.need_of changes leaves }
 {
     if changes { other(leaves) } else { leaves }
 }
 
-/// Returns the end of a call, or its begin if it is pending.
+/// Returns the moment at which a call ended, or began if it is pending.
 fn end_of(made: StreamCall) -> u64
     ensures { result ≡ lines.end_of made.begun made.ended }
 {
@@ -64,7 +65,7 @@ fn end_of(made: StreamCall) -> u64
     }
 }
 
-/// Returns whether the second call begins before the first has ended.
+/// Returns `true` if the second call begins before the first has ended.
 fn overlap(first: StreamCall, second: StreamCall) -> bool
     ensures { result ≡ lines.overlap first.ended second.begun }
 {
@@ -103,7 +104,7 @@ fn between(alloc: Global, from: u64, to: u64) -> Result<Vec<u8>, AllocError>
     Ok(text.into_bytes())
 }
 
-/// Returns the reply and the moments of a call.
+/// Returns a call's reply and moments as text.
 fn end_text(alloc: Global, begun: u64, ended: Option<(u64, Reply)>) -> Result<Vec<u8>, AllocError>
     ensures { IfOk result (λ text. text.items ≡ lines.end_text begun ended) }
 {
@@ -123,7 +124,7 @@ fn end_text(alloc: Global, begun: u64, ended: Option<(u64, Reply)>) -> Result<Ve
     }
 }
 
-/// Returns the thread, the name, the key, the reply and the moments of a call.
+/// Returns a call as text: its thread, operation, key, reply and moments.
 #[tactic(auto, unfolding(crate::specs::Clashes::made_text))]
 fn call_text(alloc: Global, made: StreamCall) -> Result<Vec<u8>, AllocError>
     ensures { IfOk result (λ text. text.items ≡ lines.made_text made) }
@@ -135,7 +136,7 @@ fn call_text(alloc: Global, made: StreamCall) -> Result<Vec<u8>, AllocError>
     Ok(text)
 }
 
-/// Returns the words that the first call leaves the key in a state.
+/// Returns the words for the state in which the first call leaves the key.
 fn leaves_text(alloc: Global, key: u32, was: Presence) -> Result<Vec<u8>, AllocError>
     ensures { IfOk result (λ text. text.items ≡ lines.leaves_text key was) }
 {
@@ -151,7 +152,7 @@ fn leaves_text(alloc: Global, key: u32, was: Presence) -> Result<Vec<u8>, AllocE
     }
 }
 
-/// Returns the words that the second call needs the key in a state.
+/// Returns the words for the state in which the second call needs the key.
 fn needs_text(alloc: Global, key: u32, need: Presence) -> Result<Vec<u8>, AllocError>
     ensures { IfOk result (λ text. text.items ≡ lines.needs_text key need) }
 {
@@ -167,7 +168,7 @@ fn needs_text(alloc: Global, key: u32, need: Presence) -> Result<Vec<u8>, AllocE
     }
 }
 
-/// Returns the line about the opening state of a key.
+/// Returns the line that states a key's opening state.
 fn opening_text(alloc: Global, key: u32, was: Presence) -> Result<Vec<u8>, AllocError>
     ensures { IfOk result (λ text. text.items ≡ lines.opening_text key was) }
 {
@@ -183,7 +184,7 @@ fn opening_text(alloc: Global, key: u32, was: Presence) -> Result<Vec<u8>, Alloc
     }
 }
 
-/// Returns the line about the final state of a key.
+/// Returns the line that states a key's final state.
 fn final_text(alloc: Global, key: u32, need: Presence) -> Result<Vec<u8>, AllocError>
     ensures { IfOk result (λ text. text.items ≡ lines.final_text key need) }
 {
@@ -199,7 +200,7 @@ fn final_text(alloc: Global, key: u32, need: Presence) -> Result<Vec<u8>, AllocE
     }
 }
 
-/// Returns the first line of a clash in one order.
+/// Returns the first line of a contradiction in one order.
 fn first_line(
     alloc: Global,
     key: u32,
@@ -219,7 +220,7 @@ fn first_line(
     }
 }
 
-/// Returns the second line of a clash in one order.
+/// Returns the second line of a contradiction in one order.
 fn second_line(
     alloc: Global,
     key: u32,
@@ -239,7 +240,7 @@ fn second_line(
     }
 }
 
-/// Returns the words that no call changes the key to a state.
+/// Returns the words that say that no call brings the key into a state.
 fn no_change(alloc: Global, key: u32, need: Presence) -> Result<Vec<u8>, AllocError>
     ensures { IfOk result (λ text. text.items ≡ lines.no_change key need) }
 {
@@ -278,7 +279,7 @@ fn ends_text(alloc: Global, from: u64) -> Result<Vec<u8>, AllocError>
     Ok(text.into_bytes())
 }
 
-/// Returns the words about the time in which no call changes the key.
+/// Returns the words for the time within which no call changes the key.
 fn time_text(
     alloc: Global,
     first: Option<StreamCall>,
@@ -294,7 +295,7 @@ fn time_text(
     }
 }
 
-/// Returns the third line of a clash in one order.
+/// Returns the third line of a contradiction in one order.
 fn third_line(
     alloc: Global,
     key: u32,
@@ -309,7 +310,8 @@ fn third_line(
     Ok(text)
 }
 
-/// Returns the lines of a clash in one order: of two calls, or of a call and the opening or final state.
+/// Returns the lines of a contradiction in one order: between two calls, or between a call and the opening or final
+/// state.
 fn lines_in_order(
     alloc: Global,
     key: u32,
@@ -342,7 +344,7 @@ fn needs_key(alloc: Global, key: u32) -> Result<Vec<u8>, AllocError>
     Ok(text.into_bytes())
 }
 
-/// Returns the words about the states that a call needs and leaves.
+/// Returns the words for the states in which a call needs and leaves the key.
 #[tactic(auto, unfolding(crate::specs::Clashes::needs_and_leaves))]
 fn needs_and_leaves(
     alloc: Global,
@@ -360,7 +362,7 @@ fn needs_and_leaves(
     Ok(text)
 }
 
-/// Returns the words that no call changes the key in the other order either.
+/// Returns the words that say that no call changes the key in the other order either.
 fn nor_text(alloc: Global, need: Presence) -> Result<Vec<u8>, AllocError>
     ensures { IfOk result (λ text. text.items ≡ lines.nor_text need) }
 {
@@ -370,7 +372,7 @@ fn nor_text(alloc: Global, need: Presence) -> Result<Vec<u8>, AllocError>
     }
 }
 
-/// Returns the words that no call changes the key to a state within a time.
+/// Returns the words that say that no call brings the key into a state within a period.
 #[tactic(auto, unfolding(crate::specs::Clashes::turned_there))]
 fn turned_there(
     alloc: Global,
@@ -387,7 +389,7 @@ fn turned_there(
     Ok(text)
 }
 
-/// Returns the words that no call changes the key within the time of the other order.
+/// Returns the words that say that no call changes the key within the period of the other order.
 #[tactic(auto, unfolding(crate::specs::Clashes::turned_back))]
 fn turned_back(alloc: Global, back: Presence, from: u64, to: u64) -> Result<Vec<u8>, AllocError>
     ensures { IfOk result (λ text. text.items ≡ lines.turned_back back from to) }
@@ -430,7 +432,7 @@ fn turned_second(
     Ok(text)
 }
 
-/// Returns the lines of two calls that overlap and clash in both orders.
+/// Returns the lines of two overlapping calls that contradict each other in both orders.
 fn lines_turned(
     alloc: Global,
     key: u32,
@@ -451,7 +453,7 @@ fn lines_turned(
     Ok(text)
 }
 
-/// Returns the three lines of a clash of calls of a key.
+/// Returns the three lines of a contradiction between calls of one key.
 pub(crate) fn clash_lines(alloc: Global, key: u32, clash: Clash) -> Result<Vec<u8>, AllocError>
     ensures { IfOk result (λ text. text.items ≡ lines.clash_lines key clash) }
 {

@@ -3,13 +3,13 @@ use lset_text::{call_word, reply_word};
 use lset_words::{Call, Presence};
 use std::alloc::{AllocError, Global};
 
-/// The maximum number of calls that are all named.
+/// The maximum number of calls that are all printed.
 const NAMED: usize = 4;
 
-/// How many calls are named at each end of a longer list.
+/// How many calls are printed at each end of a longer list.
 const NAMED_OF_MANY: usize = 2;
 
-/// Writes the thread and the moments of a call.
+/// Writes a call's thread and moments.
 fn put_when(out: &mut String, made: StreamCall) -> Result<(), AllocError> {
     let (thread, begun) = (made.thread, made.begun);
     match made.ended {
@@ -19,7 +19,7 @@ fn put_when(out: &mut String, made: StreamCall) -> Result<(), AllocError> {
     Ok(())
 }
 
-/// Writes a call with its reply, its thread and its moments.
+/// Writes a call with its reply, thread and moments.
 fn put_made(out: &mut String, made: StreamCall) -> Result<(), AllocError> {
     let (word, key) = (call_word(made.call), made.call.key().0);
     write!(out, "{word} {key}")?;
@@ -33,7 +33,7 @@ fn put_made(out: &mut String, made: StreamCall) -> Result<(), AllocError> {
     Ok(())
 }
 
-/// Writes a comma, unless what follows is the first of a list.
+/// Writes a comma, except before the first item of a list.
 fn put_comma(out: &mut String, is_first: bool) -> Result<(), AllocError> {
     if !is_first {
         write!(out, ", ")?;
@@ -55,7 +55,7 @@ fn state_word(state: Presence) -> &'static str {
     }
 }
 
-/// Returns the call that changes the key to a state.
+/// Returns the call that brings the key into a state.
 fn maker(count: &Count, state: Presence) -> Call {
     match state {
         Presence::Present => Call::Add(count.key),
@@ -63,7 +63,8 @@ fn maker(count: &Count, state: Presence) -> Call {
     }
 }
 
-/// Writes the calls of a count. Of a long list it names those at both ends, and writes the number of those between.
+/// Writes the calls of a count. If there are many, only those at both ends are written, and the number of those in
+/// between.
 fn put_calls(out: &mut String, count: &Count) -> Result<(), AllocError> {
     let (key, all) = (count.key.0, count.calls.len());
     let mut is_first = true;
@@ -116,7 +117,7 @@ fn put_need(out: &mut String, count: &Count) -> Result<(), AllocError> {
     Ok(())
 }
 
-/// Writes the time that the changes back overlap.
+/// Writes the period in which the calls that change the key back must overlap.
 fn put_stretch(out: &mut String, count: &Count, is_one: bool) -> Result<(), AllocError> {
     let s = if is_one { "s" } else { "" };
     match (count.since, count.until) {
@@ -128,7 +129,7 @@ fn put_stretch(out: &mut String, count: &Count, is_one: bool) -> Result<(), Allo
     Ok(())
 }
 
-/// Writes the calls that can have changed the key back.
+/// Writes the calls that may have changed the key back.
 fn put_backs(out: &mut String, count: &Count) -> Result<(), AllocError> {
     let (word, key) = (call_word(maker(count, other(count.was))), count.key.0);
     let all = count.backs.len();
@@ -158,8 +159,8 @@ fn put_backs(out: &mut String, count: &Count) -> Result<(), AllocError> {
     Ok(())
 }
 
-/// Writes the three lines of a count: its calls, how often the key must change back between them, and the calls that can have changed it back.
-/// Of many calls some are named. Allocates.
+/// Writes the three lines of a count: its calls, how often the key must change back between them, and the calls that
+/// may have changed it back. Long lists of calls are abbreviated. Allocates.
 pub fn put_count(out: &mut String, count: &Count) -> Result<(), AllocError> {
     write!(out, "contradiction: ")?;
     put_calls(out, count)?;
@@ -168,7 +169,7 @@ pub fn put_count(out: &mut String, count: &Count) -> Result<(), AllocError> {
     put_backs(out, count)
 }
 
-/// Returns the lines of a count, if there is one, and a text below them. Allocates.
+/// Returns the lines of a count (if there is one) followed by `text`. Allocates.
 pub fn with_count(alloc: Global, count: &Option<Count>, text: &str) -> Result<String, AllocError> {
     let mut out = String::new(alloc);
     if let Some(count) = count {

@@ -14,16 +14,16 @@ use std::alloc::{AllocError, Global};
 use std::io::Read;
 use tool_base::{Answer, READ_SIZE, Trouble};
 
-/// How much an answer has besides the verdict.
+/// How much an answer contains besides the verdict.
 #[derive(Clone, Copy, PartialEq, Eq)]
 pub(crate) enum Detail {
-    /// The clash of a refusal, and the advice on a recording with few calls that overlap.
+    /// The contradiction behind a refusal, and advice if few calls overlap.
     Whole,
-    /// The verdict alone.
+    /// Nothing but the verdict.
     Brief,
 }
 
-/// Returns a verdict without its clash.
+/// Removes the contradiction from a verdict.
 fn without_clash(verdict: Verdict) -> Verdict
     ensures { (c : Recording) → IsVerdictOnRecording c verdict → IsVerdictOnRecording c result }
 {
@@ -33,7 +33,7 @@ fn without_clash(verdict: Verdict) -> Verdict
     }
 }
 
-/// Returns what was said of a recording, with so much detail.
+/// Reduces an answer to this level of detail.
 fn in_detail(said: RecordingAnswer, detail: Detail) -> RecordingAnswer
     ensures { (c : Recording) → IsAnswered c said → IsAnswered c result }
 {
@@ -46,7 +46,7 @@ fn in_detail(said: RecordingAnswer, detail: Detail) -> RecordingAnswer
     }
 }
 
-/// Returns the answer with a verdict.
+/// Returns the text and the exit status of a verdict.
 fn answer_to(alloc: Global, said: RecordingAnswer, detail: Detail) -> Result<Answer, AllocError>
     ensures { IfOk result (λ a. IsAnswerTo said.verdict said.calls (record { text = a.text.items; status = a.status })) }
 {
@@ -68,7 +68,7 @@ fn answer_to(alloc: Global, said: RecordingAnswer, detail: Detail) -> Result<Ans
     }
 }
 
-/// Returns the answer on a recording whose bytes were read.
+/// Returns the answer for a recording that was read to its end.
 fn answer_of(alloc: Global, reader: RecordingReader, detail: Detail) -> Result<Answer, Trouble>
     ensures judges { (bytes : List ℕ) → IsRead bytes reader → Judges bytes (tools.view result) }
     ensures read { IfErr result (λ t. t ≢ CannotRead) }
@@ -79,18 +79,20 @@ fn answer_of(alloc: Global, reader: RecordingReader, detail: Detail) -> Result<A
     Ok(answer)
 }
 
-/// Judges the text of a recording. The answer is `ok N calls` with status 0 if some order of the calls explains all replies and leaves the
-/// final keys, and `not linearizable` with status 1 if none does. The final keys of a recording that was cut off are not known: it is `ok` if
-/// an order explains the replies, whatever keys it leaves. Allocates; does not block.
+/// Judges the text of a recording. The answer is `ok N calls` with status 0 if some order of the calls explains all
+/// replies and leaves the final keys, and `not linearizable` with status 1 if none does. If the recording was cut off,
+/// its final keys are not known; the answer is then `ok` if some order explains the replies, whatever keys it leaves.
+/// Allocates. Does not block.
 ///
-/// The lines below `ok N calls` have the number of calls that overlap a change of their key, advice if fewer than 5 of 100 do, and whether the
-/// recording was cut off. The lines below `not linearizable` have the key whose calls have no order, and the moment by which they have none.
-/// If a clash was found, they also have two calls that contradict each other: the first leaves the key in a state that the second does not
-/// need, and no call can have changed it.
+/// After `ok N calls`, the answer states how many calls overlap a change of their key, adds advice if these are fewer
+/// than 5 of 100, and says if the recording was cut off. After `not linearizable`, it names the key whose calls have no
+/// order, and the moment up to which they have none. If a contradiction was found, the answer also shows the two calls:
+/// the first leaves the key in one state, the second needs the other, and no call can have changed it in between.
 ///
 /// # Errors
 ///
-/// `Line` with the first wrong line and its cause if the bytes are no recording; `Memory` if an allocation fails.
+/// Returns `Line` with the first wrong line and its cause if the bytes are not a recording, and `Memory` if an
+/// allocation fails.
 pub fn judge_bytes(alloc: Global, bytes: &[u8]) -> Result<Answer, Trouble>
     ensures judges { Judges bytes.now (tools.view result) }
     ensures read { IfErr result (λ t. t ≢ CannotRead) }
@@ -100,7 +102,7 @@ pub fn judge_bytes(alloc: Global, bytes: &[u8]) -> Result<Answer, Trouble>
     answer_of(alloc, reader, Detail::Whole)
 }
 
-/// Judges the recording on an input, which is read to its end or to the first error, with so much detail.
+/// Judges the recording on an input, at this level of detail. Reads the input to its end or to the first error.
 fn judge_in<R: Read>(alloc: Global, input: &mut R, detail: Detail) -> Result<Answer, Trouble>
     ensures { IfSome (R.remaining input.old) (λ bytes. Judges bytes (tools.view result)) }
 {
@@ -119,33 +121,36 @@ fn judge_in<R: Read>(alloc: Global, input: &mut R, detail: Detail) -> Result<Ans
     Err(Trouble::CannotRead)
 }
 
-/// Judges the recording on an input, which is read in pieces of `READ_SIZE` bytes to its end or to the first error, as `judge_bytes` judges a
-/// text. Allocates; blocks as the input does.
+/// Judges the recording on an input like `judge_bytes`. Reads the input in pieces of `READ_SIZE` bytes, to its end or
+/// to the first error. Allocates. Blocks while reading.
 ///
 /// # Errors
 ///
-/// Those of `judge_bytes`; `CannotRead` if a read fails, which is not repeated.
+/// Returns the errors of `judge_bytes`, and `CannotRead` if a read fails; the read is not retried.
 pub fn judge_input<R: Read>(alloc: Global, input: &mut R) -> Result<Answer, Trouble>
     ensures { IfSome (R.remaining input.old) (λ bytes. Judges bytes (tools.view result)) }
 {
     judge_in(alloc, input, Detail::Whole)
 }
 
-/// Judges the recording on an input, as `judge_input` does, without advice and without a clash. Allocates; blocks as the input does.
+/// Judges the recording on an input like `judge_input`, but without advice and without a contradiction. Allocates.
+/// Blocks while reading.
 ///
 /// # Errors
 ///
-/// Those of `judge_input`.
+/// Returns the errors of `judge_input`.
 pub fn judge_briefly<R: Read>(alloc: Global, input: &mut R) -> Result<Answer, Trouble>
     ensures { IfSome (R.remaining input.old) (λ bytes. Judges bytes (tools.view result)) }
 {
     judge_in(alloc, input, Detail::Brief)
 }
 
-/// The answers of `judge_bytes`, `judge_input` and `judge_briefly` are right. Unless an allocation or a read failed, the answer is `ok` with
-/// status 0 exactly if the bytes are a recording and some order explains its calls and leaves its final keys, or any keys if it was cut off;
-/// `not linearizable` with status 1 exactly if the bytes are a recording and no order does; and an error with a line and a cause exactly if
-/// this is the first wrong line and its cause.
+/// Lemma: the answers of `judge_bytes`, `judge_input` and `judge_briefly` are right. Unless an allocation or a read
+/// fails, there are three cases:
+/// - the answer is `ok` with status 0 exactly if the bytes are a recording and some order explains its calls and leaves its
+///   final keys (any keys, if the recording was cut off);
+/// - the answer is `not linearizable` with status 1 exactly if the bytes are a recording and no order does;
+/// - the result is an error with a line and a cause exactly if this is the first wrong line and its cause.
 pub fn answers_are_right()
     ensures { AnswersAreRight }
 {}

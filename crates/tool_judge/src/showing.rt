@@ -15,22 +15,23 @@ const UNKNOWN: &[u8] = b"it is not known whether another order explains this rep
 const NOT_INCREASING: &[u8] =
     b"not linearizable\nno order leaves these keys, which do not increase\n";
 
-/// The claim about all orders of the calls of a report.
+/// What can be said about all orders of a report's calls.
 #[derive(Drop)]
 pub enum Claim {
-    /// No order leaves the keys of the report, since the keys do not increase.
+    /// No order leaves the report's final keys, since they are not in increasing order.
     NotIncreasing,
-    /// No order explains the call with this number: no set returns the reply to the call.
+    /// No order explains the call with this number, since no set can return this reply.
     NoSuchReply(u32, Call, Reply),
-    /// No order explains the calls and leaves the keys. Has the reason, and two calls that clash if they were found.
+    /// No order explains the calls and leaves the final keys. Contains the reason, and two contradicting calls if they
+    /// were found.
     NotLinearizable(Refusal, Option<Clash>),
-    /// Some order explains the calls and leaves the keys.
+    /// Some order explains the calls and leaves the final keys.
     Explained,
-    /// Not known: the judge does not decide calls of `ceiling`, and knows no quota.
+    /// Unknown, since the judge does not decide calls of `ceiling` and knows no quota.
     Unknown,
 }
 
-/// Returns whether some set returns a reply to a call.
+/// Returns `true` if some set can return this reply to this call.
 fn is_reply_to(call: Call, reply: Reply) -> bool {
     match call {
         Call::Add(_) => matches!(reply, Reply::True | Reply::False | Reply::Full),
@@ -43,7 +44,7 @@ fn is_reply_to(call: Call, reply: Reply) -> bool {
     }
 }
 
-/// Returns the claim about the first completed call whose reply no set returns.
+/// Finds the first completed call whose reply no set can return.
 fn no_such_reply(calls: &[CallRecord]) -> Option<Claim> {
     for (number, made) in calls.iter().enumerate() {
         if let Some((_, reply)) = made.ended
@@ -56,8 +57,8 @@ fn no_such_reply(calls: &[CallRecord]) -> Option<Claim> {
     None
 }
 
-/// Returns the call of a history that the judge read as `read`. (The judge reads a `ceiling`, and an `add` that returned full, as a
-/// `contains`.)
+/// Returns the history's call for the call `read` that the judge saw. (The judge reads a `ceiling`, or an `add` that
+/// returned full, as a `contains`.)
 fn recorded_call(history: &History, read: StreamCall) -> StreamCall {
     let calls = history.calls();
     let place = calls.partition_point(|made| u64::from(made.begun) < read.begun);
@@ -72,7 +73,7 @@ fn recorded_call(history: &History, read: StreamCall) -> StreamCall {
     }
 }
 
-/// Returns a clash with the calls of the history.
+/// Replaces the calls of a contradiction by the calls of the history.
 fn as_made(history: &History, clash: Clash) -> Clash {
     Clash {
         was: clash.was,
@@ -81,7 +82,7 @@ fn as_made(history: &History, clash: Clash) -> Clash {
     }
 }
 
-/// Returns the claim about all orders of the calls of a picture that leave its keys. Allocates.
+/// Decides what can be said about all orders of a picture's calls that leave its final keys. Allocates.
 pub fn claim_on(alloc: Global, picture: &Picture) -> Result<Claim, AllocError> {
     if !increases(&picture.keys) {
         return Ok(Claim::NotIncreasing);
@@ -100,7 +101,7 @@ pub fn claim_on(alloc: Global, picture: &Picture) -> Result<Claim, AllocError> {
     }
 }
 
-/// Returns the lines about a call whose reply no set returns.
+/// Returns the lines about a call with a reply that no set can return.
 fn no_such_reply_text(
     alloc: Global,
     number: u32,
@@ -114,7 +115,7 @@ fn no_such_reply_text(
     Ok(text.into_bytes())
 }
 
-/// Returns the lines of the claim about a picture.
+/// Returns the lines that state the claim about a picture.
 fn claim_text(alloc: Global, picture: &Picture) -> Result<Vec<u8>, AllocError> {
     match claim_on(alloc, picture)? {
         Claim::NotIncreasing => Vec::from_slice(alloc, NOT_INCREASING),
@@ -127,13 +128,16 @@ fn claim_text(alloc: Global, picture: &Picture) -> Result<Vec<u8>, AllocError> {
     }
 }
 
-/// The command `show`. The answer on a schedule or a report is its picture, limited to the moments of the window. The status is 1 if the order
-/// of the report is refused or an event of the schedule is not enabled, else 0. A schedule with such an event is drawn up to it.
+/// The command `show`. Answers with the picture of a schedule or a report, limited to the moments in the window. The
+/// status is 1 if the report's order is refused or an event of the schedule is not enabled, otherwise 0. A schedule is
+/// drawn up to the first event that is not enabled.
 ///
-/// Below the picture of a refused order, after an empty line, the answer has whether any other order explains the report and leaves its keys.
-/// If no order does, it has the lines of `judge`. For a report with `ceiling` or `full` this can be unknown.
+/// If the order is refused, an empty line follows the picture, and then a statement whether any other order explains
+/// the report and leaves its final keys. If none does, the lines of `judge` follow. For a report with `ceiling` or
+/// `full`, the statement can be that this is unknown.
 ///
-/// The errors are those of `Show::picture`, `Bad(From)` if everything in the picture is before the window, and `Memory`.
+/// The errors are those of `Show::picture`, `Bad(From)` if the window begins after everything in the picture, and
+/// `Memory`.
 #[derive(Clone, Copy)]
 pub struct ShowJudged {
     pub show: Show,

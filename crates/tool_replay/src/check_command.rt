@@ -12,8 +12,8 @@ use std::io::{Read, Write};
 use tool_base::{Answer, Input, Tool, Trouble, run_tool};
 
 /// Returns the line that `check` prints for an order with this fault: `refused`, the name of the fault and, except for
-/// `WrongSet`, the number of the call. The error is `Memory` if the fault is `Memory`, which is no fault of an order,
-/// or if an allocation failed.
+/// `WrongSet`, the call's number. Returns `Memory` if the fault is `Memory`, which is no fault of an order, or if an
+/// allocation fails.
 fn refusal_text(alloc: Global, fault: OrderFault) -> Result<Vec<u8>, Trouble>
     ensures of_the_order { OnOk result (fault ≢ order.Memory) }
     ensures line { IfOk result (λ text. text.items ≡ refusal_text fault) }
@@ -48,9 +48,9 @@ fn answer_on(alloc: Global, report: &Report) -> Result<Answer, Trouble>
     }
 }
 
-/// The command `check`. The answer for a report is `ok` with status 0. For a refused order it is `refused`, the name of
-/// the first fault and, except for `WrongSet`, the number of the call, with status 1. The error is `Line` with the
-/// first error of a text that is not a report, or `Memory`.
+/// The command `check`. Answers `ok` with status 0 if the report's order is right. Otherwise answers with status 1 and
+/// `refused`, the name of the order's first fault and, except for `WrongSet`, the call's number. If the text is not a
+/// report, the error is `Line` with the text's first error; if an allocation fails, it is `Memory`.
 #[derive(Clone, Copy)]
 pub struct Check {}
 
@@ -63,11 +63,11 @@ impl Tool for Check {
     }
 }
 
-/// Implements the command `check`: reads a report from `input`, decides whether its order linearizes its calls (Herlihy
-/// and Wing) and leaves exactly its keys, and writes the answer to `output`.
+/// Implements the command `check`: reads a report from `input`, checks that its order is a linearization of its calls
+/// (Herlihy and Wing) and leaves exactly its final keys, and writes the answer to `output`.
 ///
-/// On an error it writes one line to `faults` and nothing to `output`. Returns the exit status: 0 if `ok` was written,
-/// 3 if an allocation failed, otherwise 1. Allocates; blocks as its input and output do.
+/// On an error, writes one line to `faults` and nothing to `output`. Returns the exit status: 0 if `ok` was written, 3
+/// if an allocation failed, otherwise 1. Allocates. Blocks while reading and writing.
 pub fn tool_check<R: Read, W: Write, F: Write>(
     alloc: Global,
     input: &mut R,

@@ -8,9 +8,9 @@ use lset_words::Kind;
 /// The largest row that a line of a draft can name.
 pub const MOST_ROW: u32 = 255;
 
-/// A line of a draft. `Plain` is a line of a schedule. `Out(thread)` steps the thread until its call has ended.
-/// `To(thread, row)` steps the thread until it is at row `row` of its list's table, 1 to 255. Both make at least one
-/// step.
+/// A line of a draft. `Plain` is a line of a schedule. `Out(thread)` steps a thread until its call has ended.
+/// `To(thread, row)` steps a thread until it is at this row of its list's step table, 1 to 255. `Out` and `To` make at
+/// least one step.
 #[derive(Clone, Copy)]
 pub enum DraftLine {
     Plain(Line),
@@ -19,7 +19,7 @@ pub enum DraftLine {
 }
 
 impl DraftLine {
-    /// Returns the smallest number of events that the line can expand to.
+    /// Returns the minimum number of events to which the line can expand.
     pub(crate) fn smallest_count(self) -> u32 {
         match self {
             DraftLine::Plain(line) => line.event_count(),
@@ -28,9 +28,9 @@ impl DraftLine {
     }
 }
 
-/// A draft of a schedule: the list, the number of threads (1 to 64), the quota of each thread (0 to 16,384), at most
-/// 1,048,576 opening keys in strictly increasing order, and the lines. The lines have at most 1,000,000 events if each
-/// line without a count counts as one.
+/// A draft of a schedule: the kind of list, the number of threads (1 to 64), the quota of each thread (0 to 16,384),
+/// the opening keys (at most 1,048,576, in strictly increasing order), and the lines. If each line without a count is
+/// counted as one event, there are at most 1,000,000 events.
 #[derive(Drop)]
 pub struct Draft {
     pub kind: Kind,
@@ -43,8 +43,8 @@ pub struct Draft {
 }
 
 impl Draft {
-    /// Returns the line number of the first event, counted from 1. It is the same in the text of the draft and in the
-    /// text of its schedule.
+    /// Returns the line number of the first event, counted from 1. The draft and its schedule have the same line
+    /// numbers.
     pub fn first_event_line(&self) -> u64 {
         FIRST_LINE + self.opening.len() as u64
     }

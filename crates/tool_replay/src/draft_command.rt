@@ -4,8 +4,8 @@ use lset_schedule::write_schedule;
 use std::alloc::Global;
 use tool_base::{Answer, Input, Tool, Trouble};
 
-/// The command `draft`: the answer for a draft is the text of its schedule, with status 0. The error is `Line` with the
-/// first error of the text, or with the first line that cannot be expanded, or `Memory`.
+/// The command `draft`. Answers with the schedule into which the draft expands, with status 0. The error is `Line`,
+/// with the first wrong line of the text or with the first line that cannot be expanded, or `Memory`.
 #[derive(Clone, Copy)]
 pub struct Expand {}
 

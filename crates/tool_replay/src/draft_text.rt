@@ -11,7 +11,7 @@ use std::alloc::Global;
 /// The first line of a draft.
 const TITLE: &str = "listset-draft 2";
 
-/// Reads a line `go T out` or `go T to ROW`; `None` for any other line.
+/// Reads a line `go T out` or `go T to ROW`. Returns `None` for any other line.
 fn stop(line: &[u8]) -> Option<Result<DraftLine, Cause>> {
     let (b"go", rest) = cut(line, b' ')? else {
         return None;
@@ -44,7 +44,7 @@ fn event(line: &[u8]) -> Result<DraftLine, Cause> {
     }
 }
 
-/// Returns the key field of a line `opening K`; `None` for any other line.
+/// Returns the key field of a line `opening K`. Returns `None` for any other line.
 fn opening_piece(line: &[u8]) -> Option<&[u8]> {
     match cut(line, b' ')? {
         (b"opening", key) if !key.contains(&b' ') => Some(key),
@@ -52,8 +52,8 @@ fn opening_piece(line: &[u8]) -> Option<&[u8]> {
     }
 }
 
-/// Appends an opening key. `TooMany` if `MOST_OPENING` keys come before it, `Opening` if it is not above the previous
-/// key.
+/// Appends an opening key. Returns `TooMany` after `MOST_OPENING` keys, and `Opening` if the key is not greater than
+/// the previous one.
 #[tactic(auto, using(lset_text::proofs::OpeningLaws::increases_more))]
 fn add_opening(opening: &mut Vec<u32>, key: u32) -> Result<(), Cause>
     requires increasing { IsStrictlyIncreasing opening.old.items }
@@ -72,8 +72,8 @@ fn add_opening(opening: &mut Vec<u32>, key: u32) -> Result<(), Cause>
 }
 
 impl Draft {
-    /// Adds a line to the draft. `left` is how many more events the draft can have; returns how many remain after the
-    /// line.
+    /// Adds a line to the draft. `left` is the number of events that are still allowed. Returns how many are allowed
+    /// after this line.
     fn add_line(&mut self, line: &[u8], left: u32) -> Result<u32, Cause> {
         if self.lines.is_empty()
             && let Some(key) = opening_piece(line)
@@ -95,9 +95,9 @@ impl Draft {
 ///
 /// # Errors
 ///
-/// The first wrong line, with the first check that it fails. The checks are those of `read_schedule` for version 2, in
-/// the same order. A thread that is not a number, or a row that is not a number from 1 to 255, is `Number`. A line
-/// without a count counts as one event.
+/// Returns the first wrong line with the first check that it fails. The checks are those of `read_schedule` for version
+/// 2, in the same order. A thread that is not a number, or a row that is not a number from 1 to 255, is `Number`. A
+/// line without a count is counted as one event.
 pub fn read_draft(alloc: Global, bytes: &[u8]) -> Result<Draft, LineFault> {
     let (header, text) = read_header(TITLE.as_bytes(), bytes)?;
     let mut draft = Draft {

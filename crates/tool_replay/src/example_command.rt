@@ -3,7 +3,7 @@ use lset_text::kind_word;
 use std::alloc::{AllocError, Global};
 use tool_base::{Answer, Trouble, ValueName};
 
-/// A request to `example`: what it prints.
+/// What `example` should print.
 #[derive(Clone, Copy)]
 pub enum ExampleRequest {
     /// The names of all examples.
@@ -12,9 +12,9 @@ pub enum ExampleRequest {
     Text(&'static str),
 }
 
-/// Reads the arguments of `example`. Without a name the request is for the names, with one for the schedule of that
-/// example, and with `broken` for its broken report. The error is `Name` if no example has this name, `Unbroken` if the
-/// example has no broken report.
+/// Reads the arguments of `example`. Without a name, it prints the names; with a name, that example's schedule; with a
+/// name and `broken`, the broken report. Returns `Name` if there is no such example, and `Unbroken` if the example has
+/// no broken report.
 pub fn read_example_request(
     name: Option<&[u8]>,
     broken: bool,
@@ -30,7 +30,7 @@ pub fn read_example_request(
     Ok(ExampleRequest::Text(report))
 }
 
-/// Returns a line for each example: its name, its list and what happens in it.
+/// Returns one line for each example: its name, its list, and what happens in it.
 fn write_names(alloc: Global) -> Result<Vec<u8>, AllocError> {
     let mut out = String::new(alloc);
     for example in &ALL {
@@ -42,7 +42,7 @@ fn write_names(alloc: Global) -> Result<Vec<u8>, AllocError> {
     Ok(out.into_bytes())
 }
 
-/// Returns the text that `example` prints, with status 0. Allocates; `Memory` if that fails.
+/// Returns the text that `example` prints, with status 0. Returns `Memory` if an allocation fails.
 pub fn print_example(alloc: Global, request: ExampleRequest) -> Result<Answer, Trouble> {
     let text = match request {
         ExampleRequest::Names => write_names(alloc)?,

@@ -1,24 +1,24 @@
 use crate::example_texts as texts;
 use lset_words::Kind;
 
-/// A classic interleaving on one of the five lists. It shows why the list needs the step or check that it is known for.
-/// Most are from Herlihy and Shavit's chapter on linked lists, with the steps of the tables here.
+/// A classic interleaving on one of the five lists. It shows why the list needs the step or the check for which it is
+/// known. Most examples are from Herlihy and Shavit's chapter on linked lists, adapted to the step tables here.
 #[derive(Clone, Copy)]
 pub(crate) struct Example {
-    /// The name of the example, as `example NAME` reads it.
+    /// The example's name, as used in `example NAME`.
     pub name: &'static str,
-    /// The list of the schedule.
+    /// The kind of list in the schedule.
     pub kind: Kind,
-    /// What happens, in a few words.
+    /// A summary in a few words.
     pub about: &'static str,
-    /// The text of the schedule.
+    /// The schedule's text.
     pub schedule: &'static str,
-    /// The text of a report that the list would make without the check in question. Only six examples have one. No
-    /// order explains the calls and the final keys of this report, and `check` refuses the order in it.
+    /// A report that the list would produce without the check in question. Only six examples have one. No order
+    /// explains its calls and final keys, and `check` refuses it.
     pub broken_report: Option<&'static str>,
 }
 
-/// All examples, sorted by their lists.
+/// All examples, grouped by list.
 pub(crate) const ALL: [Example; 18] = [
     Example {
         name: "failed-tries",
@@ -148,7 +148,7 @@ pub(crate) const ALL: [Example; 18] = [
     },
 ];
 
-/// Returns the example with this name; `None` if no example has it.
+/// Returns the example with this name; `None` if there is none.
 pub fn named(name: &[u8]) -> Option<Example> {
     for example in &ALL {
         if example.name.as_bytes() == name {

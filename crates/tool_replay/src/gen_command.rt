@@ -13,7 +13,7 @@ use std::alloc::Global;
 use std::io::Write;
 use tool_base::{Answer, RandomRequest, Trouble, deliver, read_random_request};
 
-/// The task of generating a schedule, on any list.
+/// A task that generates a schedule; it can run on any kind of list.
 #[derive(Clone, Copy)]
 struct Generating {
     alloc: Global,
@@ -49,8 +49,7 @@ fn schedule_for(alloc: Global, request: RandomRequest) -> Result<Schedule, GenFa
     on_list(request.kind, Generating { alloc, request })
 }
 
-/// Returns the text of the schedule that `gen` prints for this request, with status 0. Allocates; `Memory` if that
-/// fails.
+/// Returns the schedule that `gen` prints for this request, with status 0. Returns `Memory` if an allocation fails.
 pub fn generate_text(alloc: Global, request: RandomRequest) -> Result<Answer, Trouble>
     requires { IsAccepted request.threads request.quota request.keys }
     ensures { Answers (Ok request) (tools.view result) }
@@ -60,8 +59,8 @@ pub fn generate_text(alloc: Global, request: RandomRequest) -> Result<Answer, Tr
     Ok(Answer { text, status: 0 })
 }
 
-/// Reads the arguments of `gen` and returns the text of the schedule that it prints, with status 0. Allocates. The
-/// error is `Bad` with the first missing or wrong argument, or `Memory`.
+/// Reads the arguments of `gen` and returns the schedule that it prints, with status 0. Allocates. Returns `Bad` with
+/// the first argument that is missing or wrong, or `Memory`.
 pub fn generate_for(alloc: Global, values: &[String]) -> Result<Answer, Trouble>
     ensures { Generates (map string_bytes values.now) (tools.view result) }
 {
@@ -69,12 +68,12 @@ pub fn generate_for(alloc: Global, values: &[String]) -> Result<Answer, Trouble>
     generate_text(alloc, request)
 }
 
-/// Implements the command `gen`: writes a random schedule, of version 1, to `output`, and returns the exit status.
+/// Implements the command `gen`: writes a random schedule in version 1 to `output`, and returns the exit status.
 ///
-/// `values` are the arguments, as `read_random_request` reads them. The schedule ends at 10,000 events, so it can begin
-/// fewer calls than requested. The status is 0 if the schedule was written. Otherwise one line on `faults` names the
-/// error, if that line can be written, and the status is 2 for the first missing or wrong argument, 3 if an allocation
-/// failed, and 1 for any other error. Allocates.
+/// `values` are the arguments, in the format of `read_random_request`. The schedule ends after 10,000 events, so it can
+/// contain fewer calls than requested. The status is 0 if the schedule was written. Otherwise one line on `faults`
+/// names the error (if that line can be written), and the status is 2 for an argument that is missing or wrong, 3 if an
+/// allocation failed, and 1 for any other error. Allocates.
 pub fn tool_gen<W: Write, F: Write>(
     alloc: Global,
     values: &[String],

@@ -11,7 +11,7 @@ use std::alloc::Global;
 use std::io::{Read, Write};
 use tool_base::{Answer, Input, Tool, Trouble, run_tool};
 
-/// Maps the error of `replay`.
+/// Maps the error of `replay` to the program's error.
 fn replay_trouble(fault: ReplayFault) -> Trouble
     ensures { result ≡ of_replay fault }
 {
@@ -23,8 +23,8 @@ fn replay_trouble(fault: ReplayFault) -> Trouble
     }
 }
 
-/// The command `replay`: the answer for a schedule is the text of its report, with status 0. The error is `Line` with
-/// the first error of the text, or with the first event that is not enabled, or `Memory`.
+/// The command `replay`. Answers with the text of the schedule's report, with status 0. The error is `Line`, with the
+/// text's first error or with the first event that is not enabled, or `Memory`.
 #[derive(Clone, Copy)]
 pub struct Replay {}
 
@@ -43,8 +43,8 @@ impl Tool for Replay {
     }
 }
 
-/// The command `replay --lacks NAME`: the answer for a schedule is the report of its run on the broken list, of version
-/// 2, with status 0. The error is `Line` with an error of `report_broken`, or `Memory`.
+/// The command `replay --lacks NAME`. Answers with the report, in version 2, of the schedule's run on the broken list,
+/// with status 0. The error is `Line`, with an error of `report_broken`, or `Memory`.
 #[derive(Clone, Copy)]
 pub struct ReplayBroken {
     pub broken: BrokenList,
@@ -60,8 +60,8 @@ impl Tool for ReplayBroken {
 
 /// Implements the command `replay`: reads a schedule from `input`, replays it, and writes its report to `output`.
 ///
-/// On an error it writes one line to `faults` and nothing to `output`. Returns the exit status: 0 if the report was
-/// written, 3 if an allocation failed, otherwise 1. Allocates; blocks as its input and output do.
+/// On an error, writes one line to `faults` and nothing to `output`. Returns the exit status: 0 if the report was
+/// written, 3 if an allocation failed, otherwise 1. Allocates. Blocks while reading and writing.
 pub fn tool_replay<R: Read, W: Write, F: Write>(
     alloc: Global,
     input: &mut R,

@@ -1,9 +1,9 @@
-//! Steps a thread: a number of times, or until it is at a row.
+//! Steps a thread a number of times, or until it is at a given row.
 
 use lset_steps::{Event, Machine, StepFault, World};
 use lset_text::Cause;
 
-/// Makes an event. The error is the cause that a refused line names.
+/// Makes an event. The error is the cause to print for the line.
 pub(crate) fn make_event<M: Machine>(world: &mut World<M>, event: Event) -> Result<(), Cause> {
     match world.step(event) {
         Ok(_) => Ok(()),
@@ -14,7 +14,7 @@ pub(crate) fn make_event<M: Machine>(world: &mut World<M>, event: Event) -> Resu
 }
 
 /// Steps a thread until it is at row `row`, at least once and at most `most` times, and returns the number of steps.
-/// Row 0 means that the call has ended. `Waits` if the thread is not there after `most` steps.
+/// Row 0 means that the call has ended. Returns `Waits` if the thread is elsewhere after `most` steps.
 pub(crate) fn steps_to<M: Machine>(
     world: &mut World<M>,
     thread: u32,

@@ -1,4 +1,4 @@
-//! Writes a trace: a line for each event of a schedule, with what the event did.
+//! Writes a trace, which has a line for each event of a schedule that says what the event did.
 
 mod chunks;
 mod event_line;
@@ -13,15 +13,15 @@ use tool_base::{Answer, Input, Tool, Trouble, read_all};
 use trace_lines::Output;
 use traced_run::trace_into;
 
-/// The command `trace`: the answer for a schedule has a line for each event. The status is 0 if the run makes every
-/// event, and 1 if an event cannot be made, which ends the trace. The error is `Line` with the first error of a text
-/// that is not a schedule (for a broken list, of `read_broken_schedule`), or `Memory`.
+/// The command `trace`. The answer has a line for each event of a schedule. The status is 0 if all events were made,
+/// and 1 if an event is refused, which ends the trace. The error is `Line` with the first error of a text that is not a
+/// schedule (on a broken list, with the error of `read_broken_schedule`), or `Memory`.
 #[derive(Clone, Copy)]
 pub struct Trace {
-    /// Whether the chain is written after each event that changed it.
+    /// Whether to write the chain after each event that changed it.
     pub chains: bool,
-    /// The broken list to run, which a line `lacks NAME` in the header names; `None` for the list that the schedule
-    /// names.
+    /// The broken list to run, which is named by a line `lacks NAME` in the header; `None` to run the list that the
+    /// schedule names.
     pub lacks: Option<BrokenList>,
 }
 
@@ -33,9 +33,9 @@ impl Tool for Trace {
     }
 }
 
-/// Traces the schedule in `input` to `output`. Each event is written when it is made, so the text is never in memory as
-/// a whole. The answer has the status of `Trace` and no text. If an allocation or a write fails, a part of the trace
-/// can have been written. Allocates.
+/// Traces the schedule in `input` to `output`. Each event is written as soon as it is made, so the whole text is never
+/// in memory. The answer has the status of `Trace` and no text. If an allocation or a write fails, part of the trace
+/// may have been written. Allocates.
 pub fn trace_events<R: Read, W: Write>(
     alloc: Global,
     trace: Trace,

@@ -3,20 +3,20 @@ use lset_picture::Window;
 use lset_text::number;
 use tool_base::ValueName;
 
-/// The width of a text picture, in characters, if `--width` is absent.
+/// The width of a text picture, in characters, without `--width`.
 const DEFAULT_WIDTH: u32 = 100;
 
 /// The format of a picture.
 #[derive(Clone, Copy)]
 pub enum Form {
-    /// Text: as many columns as fit if no row has more than this many characters.
+    /// Text with rows of at most this many characters.
     Text(u32),
     /// SVG.
     Svg,
 }
 
-/// Reads a number from `smallest` to 4,294,967,295; returns `absent` if there is no text, and `None` if the text is not
-/// such a number.
+/// Parses a number from `smallest` to 4,294,967,295. Returns `absent` if there is no text, and `None` if the text is
+/// not such a number.
 fn number_or(text: Option<&str>, smallest: u32, absent: u32) -> Option<u32> {
     match text {
         Some(text) => number(text.as_bytes(), smallest, u32::MAX),
@@ -24,12 +24,12 @@ fn number_or(text: Option<&str>, smallest: u32, absent: u32) -> Option<u32> {
     }
 }
 
-/// Reads the options of `show`: whether `--svg` is on, and the values of `--from`, `--to` and `--width`. A value is a
-/// decimal without leading zeros.
+/// Reads the options of `show`: whether `--svg` is on, and the values of `--from`, `--to` and `--width`, which are
+/// decimals without leading zeros.
 ///
-/// `from` is at least 1, and 1 if it is absent. `to` is at least `from`, and the last moment if it is absent. `width`
-/// is at least 1, and 100 if it is absent. An SVG has no width, but `width` is checked with `--svg` too. The error
-/// names the first wrong option.
+/// `from` is at least 1 and defaults to 1. `to` is at least `from` and defaults to the last moment. `width` is at least
+/// 1 and defaults to 100. An SVG has no width, but `width` is checked even with `--svg`. The error names the first
+/// wrong option.
 pub fn read_show(
     svg: bool,
     from: Option<&str>,

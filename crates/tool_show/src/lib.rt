@@ -1,4 +1,4 @@
-//! The command `show`: pictures of schedules and of reports.
+//! The command `show`, which draws schedules and reports.
 #![tactic(auto)]
 
 mod asking;

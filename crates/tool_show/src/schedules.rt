@@ -6,7 +6,7 @@ use lset_replay::{RunCalls, calls_of, run_of};
 use lset_schedule::Schedule;
 use std::alloc::{AllocError, Global};
 
-/// The task of running a schedule, on any list.
+/// A task that runs a schedule; it can run on any kind of list.
 #[derive(Clone, Copy)]
 struct Running<'a> {
     alloc: Global,
@@ -26,12 +26,12 @@ impl Task for Running<'_> {
     }
 }
 
-/// Runs a schedule and returns its picture: the calls, the order that explains them, the linearization points of the
-/// run, and the final keys.
+/// Runs a schedule and returns its picture: the calls, an order that explains them, the linearization points, and the
+/// final keys.
 ///
 /// `schedule` must be within the limits, as every schedule from `read_schedule` is. If an event is not enabled, the
-/// picture ends before it and names the number of its line and the cause (`NoThread`, `Busy` or `Idle`). Allocates;
-/// `AllocError` if that fails. (The pictures are those of Herlihy and Wing's histories.)
+/// picture ends before it and names its line number and the cause (`NoThread`, `Busy` or `Idle`). Returns `AllocError`
+/// if an allocation fails. (Such pictures of histories are due to Herlihy and Wing.)
 pub(crate) fn picture_of_replay(alloc: Global, schedule: &Schedule) -> Result<Picture, AllocError>
     requires { IsSchedule (view schedule.now) }
 {

@@ -1,10 +1,10 @@
-//! Reads and writes the keys of a set as lines `key K`.
+//! Reads and writes a set's keys as lines `key K`.
 
 use lset_text::{Cause, LineFault, cut, is_above, number};
 use lset_words::MOST_OPENING;
 use std::alloc::{AllocError, Global};
 
-/// Appends a line `key K` for each key. `AllocError` if an allocation fails.
+/// Appends a line `key K` for each key. Returns `AllocError` if an allocation fails.
 pub(crate) fn put_keys(out: &mut String, keys: &[u32]) -> Result<(), AllocError> {
     for key in keys {
         writeln!(out, "key {key}")?;
@@ -12,14 +12,14 @@ pub(crate) fn put_keys(out: &mut String, keys: &[u32]) -> Result<(), AllocError>
     Ok(())
 }
 
-/// The remaining lines of an input, and the number of the first of them.
+/// The remaining lines of an input, and the line number of the first.
 #[derive(Clone, Copy)]
 struct Remaining<'a> {
     line: u64,
     text: &'a [u8],
 }
 
-/// Returns the second field of a line if the line has exactly two fields and the first is `word`.
+/// Returns the second field of a line that has exactly two fields, if the first is `word`.
 fn piece_after<'a>(line: &'a [u8], word: &[u8]) -> Option<&'a [u8]> {
     let (first, piece) = cut(line, b' ')?;
     if first != word {
@@ -32,7 +32,7 @@ fn piece_after<'a>(line: &'a [u8], word: &[u8]) -> Option<&'a [u8]> {
 }
 
 impl<'a> Remaining<'a> {
-    /// Drops the first line if it is `word` and one more field.
+    /// Drops the first line if it is `word` followed by one field.
     fn without(self, word: &[u8]) -> Remaining<'a> {
         match cut(self.text, b'\n') {
             Some((first, rest)) if piece_after(first, word).is_some() => Remaining {
@@ -44,7 +44,7 @@ impl<'a> Remaining<'a> {
     }
 }
 
-/// Skips the lines that a server prints before its keys. Each of them is optional.
+/// Skips the lines that a server prints before its keys, each of which is optional.
 fn after_head(text: &[u8]) -> Remaining<'_> {
     let whole = Remaining { line: 1, text };
     whole
@@ -72,7 +72,7 @@ fn add_key(keys: &mut Vec<u32>, line: &[u8]) -> Result<(), Cause> {
     Ok(())
 }
 
-/// Reads the remaining lines, each of which must be `key K`.
+/// Reads the remaining lines, all of which must be `key K`.
 fn keys_of_lines(alloc: Global, left: Remaining<'_>) -> Result<Vec<u32>, LineFault> {
     let mut keys = Vec::new(alloc);
     let mut line = left.line;
@@ -88,19 +88,19 @@ fn keys_of_lines(alloc: Global, left: Remaining<'_>) -> Result<Vec<u32>, LineFau
     Ok(keys)
 }
 
-/// Reads the opening keys of a set: lines `key K`, in strictly increasing order. Allocates.
+/// Reads the opening keys of a set from lines `key K`, in strictly increasing order. Allocates.
 ///
 /// The lines that a server prints before its keys are skipped: `listening A`, `sessions N` and `calls N`, in this
-/// order, each optional, with any A and N. Therefore the output of one server is an input for the next.
+/// order, each optional, with any A and N. Therefore one server's output can be the next server's input.
 ///
 /// # Errors
 ///
-/// The first refused line, with the first check that it fails:
+/// Returns the first wrong line with the first check that it fails:
 /// - it has bytes and no newline;
 /// - `Line`: it is not `key` and one more field;
 /// - `Number`: the key is not a decimal from 0 to 4,294,967,295 without leading zeros;
-/// - `TooMany`: `MOST_OPENING` keys come before it;
-/// - `Opening`: the key is not above the previous key;
+/// - `TooMany`: it comes after `MOST_OPENING` keys;
+/// - `Opening`: the key is not greater than the previous one;
 /// - `Memory`: an allocation failed.
 pub fn read_keys(alloc: Global, text: &[u8]) -> Result<Vec<u32>, LineFault> {
     keys_of_lines(alloc, after_head(text))

@@ -1,4 +1,4 @@
-//! The commands `run` and `serve`: random programs in threads on one set, and a set server on the loopback.
+//! The commands `run`, which runs random programs in threads on one set, and `serve`, a set server on the loopback.
 #![tactic(auto)]
 
 mod key_lines;

@@ -15,7 +15,7 @@ use std::sync::Wait;
 use std::thread::Threads;
 use tool_base::{Answer, LivesRequest, RandomRequest, Trouble, deliver, read_lives_request};
 
-/// The number of calls, and how many of them returned true, false and full.
+/// Counts calls, and how many of them returned true, false and full.
 #[derive(Clone, Copy)]
 struct Counts {
     calls: u64,
@@ -38,7 +38,7 @@ impl Counts {
 }
 
 /// Runs the programs of one round in threads, on a set of the list `M` that opens with the keys `opening`. `M` must be
-/// the list that the request names. `SystemCause::Opening` if there are more than 1,048,576 keys.
+/// the list that the request names. Returns `SystemCause::Opening` if there are more than 1,048,576 keys.
 fn run_round<M: Running + Send + Sync, R: Threads + Wait + Sync>(
     rt: &R,
     alloc: Global,
@@ -62,7 +62,7 @@ fn run_round<M: Running + Send + Sync, R: Threads + Wait + Sync>(
     }
 }
 
-/// Returns the lines of the counts, the number of keys, and a line for each key.
+/// Returns the text of an answer: the counts, the number of keys, and a line for each key.
 fn summary_text(alloc: Global, counts: Counts, keys: &[u32]) -> Result<Vec<u8>, AllocError> {
     let mut out = String::new(alloc);
     writeln!(
@@ -75,7 +75,7 @@ fn summary_text(alloc: Global, counts: Counts, keys: &[u32]) -> Result<Vec<u8>, 
     Ok(out.into_bytes())
 }
 
-/// Runs all rounds, on sets of the list `M`, which must be the list that the request names. The first set opens empty.
+/// Runs all rounds on sets of the list `M`, which must be the list that the request names. The first set opens empty.
 fn run_rounds<M: Running + Send + Sync, R: Threads + Wait + Sync>(
     rt: &R,
     alloc: Global,
@@ -105,12 +105,12 @@ fn run_rounds<M: Running + Send + Sync, R: Threads + Wait + Sync>(
     Ok(summary_text(alloc, counts, &keys)?)
 }
 
-/// Runs random programs in threads, in rounds, each on a set of its own. The answer has status 0.
+/// Runs random programs in threads, in rounds, with a new set for each round. The answer has status 0.
 ///
-/// Round `i`, from 0, runs its programs at the same time on one set. The programs are drawn with the seed plus `64 *
-/// i`, with wrapping. The first set opens empty, every other one with the final keys of the previous round. The text
-/// has the lines `calls N`, `true N`, `false N`, `full N`, `keys N` and, in increasing order, `key k` for each final
-/// key of the last round. Allocates, and blocks until its threads have ended.
+/// Round `i`, counted from 0, runs all of its programs at the same time on one set. The programs are drawn with the
+/// seed plus `64 * i` (wrapping). The first set opens empty, and every later one with the final keys of the previous
+/// round. The text has the lines `calls N`, `true N`, `false N`, `full N` and `keys N`, followed by `key k` for each
+/// final key of the last round, in increasing order. Allocates. Blocks until all threads have ended.
 pub fn run_lives<R: Threads + Wait + Sync>(
     rt: &R,
     alloc: Global,
@@ -130,11 +130,11 @@ pub fn run_lives<R: Threads + Wait + Sync>(
 }
 
 /// Implements the command `run`: writes the answer of `run_lives` to `output` and returns the exit status. `values` are
-/// the arguments, as `read_lives_request` reads them.
+/// the arguments, in the format of `read_lives_request`.
 ///
-/// The status is 0 if the answer was written. Otherwise one line on `faults` names the error, if that line can be
-/// written, and the status is 2 for the first missing or wrong argument, 3 if an allocation failed, and 1 for any other
-/// error, such as a round that would open with more than 1,048,576 keys. Allocates, and blocks until its threads have
+/// The status is 0 if the answer was written. Otherwise one line on `faults` names the error (if that line can be
+/// written), and the status is 2 for an argument that is missing or wrong, 3 if an allocation failed, and 1 for any
+/// other error, such as a round that would open with more than 1,048,576 keys. Allocates. Blocks until all threads have
 /// ended.
 pub fn tool_run<R: Threads + Wait + Sync, W: Write, F: Write>(
     rt: &R,

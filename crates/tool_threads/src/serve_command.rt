@@ -16,7 +16,8 @@ use std::thread::Threads;
 use std::time::Clock;
 use tool_base::{Answer, Input, ServeRequest, Trouble, put, read_all};
 
-/// Returns the lines that a server prints at its end: the number of sessions, the number of calls, and each final key.
+/// Returns the lines that a server prints when it ends: the number of sessions, the number of calls, and each final
+/// key.
 fn served_text(alloc: Global, served: &Served) -> Result<Vec<u8>, AllocError> {
     let mut out = String::new(alloc);
     let (sessions, calls) = (served.sessions, served.calls);
@@ -35,7 +36,7 @@ fn announce<W: Write>(alloc: Global, output: &mut W, port: u16) -> Result<(), Tr
     }
 }
 
-/// Listens on a port of the loopback, and announces the port on `output`.
+/// Listens on a loopback port and announces it on `output`.
 fn listen<R: Net<Listener = TcpListener, Stream = TcpStream>, W: Write>(
     rt: &R,
     alloc: Global,
@@ -79,14 +80,14 @@ fn serve_list<
     }
 }
 
-/// Serves a set on the loopback. The set opens with the keys `keys`. The answer has status 0 and the lines `sessions
-/// N`, `calls N` and, in increasing order, `key k` for each final key.
+/// Serves a set on the loopback. The set opens with the keys `keys`. The answer has status 0 and the lines `sessions N`
+/// and `calls N`, followed by `key k` for each final key in increasing order.
 ///
 /// The server opens the set, listens, writes `listening 127.0.0.1:P` to `output` and flushes it. Only then does it
-/// start its threads and accept connections, so the line is written even if a thread cannot be started. Allocates, and
-/// blocks until its connections have ended.
+/// start its threads and accept connections, so the line is written even if a thread cannot be started. Allocates.
+/// Blocks until all connections have ended.
 ///
-/// The list is chosen by a `match` here, since the tasks of `lset_lists::on_list` are for machines and not for running
+/// The list is selected with a `match`, because the tasks of `lset_lists::on_list` are for machines, not for running
 /// sets.
 pub fn serve_set<
     R: Net<Listener = TcpListener, Stream = TcpStream> + Threads + Wait + Clock + Sync,
@@ -107,8 +108,8 @@ pub fn serve_set<
     }
 }
 
-/// Serves a set that opens with the keys in `input`, which is read to its end first. The keys have the format of
-/// `read_keys`, so the output of one server opens the next. The server stores nothing.
+/// Serves a set that opens with the keys in `input`. Reads `input` to its end first. The format is that of `read_keys`,
+/// so the next server can open with this server's output. The server does not store the set itself.
 pub fn serve_set_of<
     R: Net<Listener = TcpListener, Stream = TcpStream> + Threads + Wait + Clock + Sync,
     I: Read,

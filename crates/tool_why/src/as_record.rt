@@ -1,4 +1,4 @@
-//! A diagnosis as a record: each line is a word and its values.
+//! Writes a diagnosis as a record, whose lines have a name and its values.
 
 use crate::diagnosis::{Diagnosis, Mark};
 use crate::likely::state_word;
@@ -6,7 +6,7 @@ use crate::made_calls::{Made, NEVER};
 use crate::sentences::{cause_text, put_because, put_headline, put_known};
 use std::alloc::{AllocError, Global};
 
-/// Writes the thread, operation, key, begin, end and reply of a call, with `-` for an end and a reply that are not known.
+/// Writes a call's thread, operation, key, begin, end and reply, with `-` for an unknown end or reply.
 pub(crate) fn put_call(out: &mut String, call: Made) -> Result<(), AllocError> {
     let (thread, word, key, begun) = (call.thread, call.operation.word(), call.key, call.begun);
     write!(out, "{thread} {word} {key} {begun} ")?;
@@ -39,10 +39,10 @@ fn put_lines(out: &mut String, word: &str, text: &str) -> Result<(), AllocError>
     Ok(())
 }
 
-/// Returns the record of a diagnosis. It has, in this order: `headline TEXT`; `call THREAD OPERATION KEY BEGIN END REPLY MARK` for each call
-/// of the key that is shown (MARK is `-`, `expected BOOL`, `leaves STATE` or `either`); `also THREAD OPERATION KEY BEGIN END REPLY` for each
-/// change of another key at the same time; `fact TEXT` for each fact; and, if there is a likely cause, `likely TEXT` and `because TEXT`.
-/// Allocates.
+/// Returns the record of a diagnosis. Its lines are, in this order: `headline TEXT`; `call THREAD OPERATION KEY BEGIN
+/// END REPLY MARK` for each call shown (MARK is `-`, `expected BOOL`, `leaves STATE` or `either`); `also THREAD
+/// OPERATION KEY BEGIN END REPLY` for each change of another key at the same time; `fact TEXT` for each fact; and, if
+/// there is a likely cause, `likely TEXT` and `because TEXT`. Allocates.
 pub fn diagnosis_record(alloc: Global, diagnosis: &Diagnosis) -> Result<String, AllocError> {
     let mut out = String::from_str(alloc, "headline ")?;
     put_headline(&mut out, diagnosis)?;

@@ -1,17 +1,17 @@
-//! The picture of a diagnosis: calls as bars. Bars of calls that overlap in time overlap in columns.
+//! Draws a diagnosis, with calls as bars. Bars overlap in columns if their calls overlap in time.
 
 use crate::diagnosis::{Diagnosis, Mark};
 use crate::likely::state_word;
 use crate::made_calls::{Made, NEVER};
 use std::alloc::{AllocError, Global};
 
-/// The maximum number of columns of the bars.
+/// The maximum width of the bars, in columns.
 const WIDTH: usize = 66;
 
-/// A longer time in which no drawn call runs is left out.
+/// A gap without drawn calls is left out if it is longer than this.
 const LONG: u64 = 100;
 
-/// A call as a bar: the texts and columns of both ends, and the note beside it.
+/// A call drawn as a bar: the texts and columns of its two ends, and the note beside it.
 #[derive(Drop)]
 struct Bar {
     call: Made,
@@ -53,7 +53,7 @@ impl Bar {
         })
     }
 
-    /// Returns the first column at which the bar can end.
+    /// Returns the smallest column in which the bar can end.
     fn least_end(&self) -> usize {
         let width = self.head.len().saturating_add(self.tail.len());
         self.from.saturating_add(width)
@@ -77,7 +77,8 @@ impl Bar {
     }
 }
 
-/// Places the ends at a moment at column `first`, or further right if a bar that ends there is wider. Returns the next column.
+/// Places all ends at a moment in column `first`, or further to the right if a bar that ends there needs more space.
+/// Returns the next free column.
 fn place_moment(bars: &mut [Bar], moment: u64, first: usize) -> usize {
     let mut column = first;
     for bar in &*bars {
@@ -96,7 +97,7 @@ fn place_moment(bars: &mut [Bar], moment: u64, first: usize) -> usize {
     column.saturating_add(1)
 }
 
-/// Places all bars in columns.
+/// Assigns columns to all bars.
 fn place_all(alloc: Global, bars: &mut [Bar]) -> Result<(), AllocError> {
     let mut moments = Vec::new(alloc);
     for bar in &*bars {
@@ -112,7 +113,7 @@ fn place_all(alloc: Global, bars: &mut [Bar]) -> Result<(), AllocError> {
     Ok(())
 }
 
-/// Returns the number of columns of all bars.
+/// Returns the number of columns that all bars need.
 fn width_of(bars: &[Bar]) -> usize {
     let mut width = 0;
     for bar in bars {
@@ -122,7 +123,7 @@ fn width_of(bars: &[Bar]) -> usize {
     width
 }
 
-/// Returns whether a long time before a call is left out: every earlier bar had ended long before the call began.
+/// Returns `true` if there is a gap to leave out before a call: every earlier bar had ended long before the call began.
 fn is_after_gap(bars: &[Bar], call: Made) -> bool {
     let mut last = 0;
     for bar in bars {

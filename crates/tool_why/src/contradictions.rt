@@ -1,6 +1,7 @@
-//! Clashes: two calls of a key that no order explains together. A call needs its key in one state, and leaves it in one. If the first call
-//! leaves a state that the second does not need, and no call that could change this overlaps the time from the begin of the first to the end
-//! of the second, no order explains the two, whatever all other calls did.
+//! Finds contradictions: two calls of a key that cannot both be explained. A call needs its key in one state and leaves
+//! it in one. Suppose that the first call leaves a state that the second does not need. If no call that can change the
+//! state overlaps the time from the first call's begin to the second call's end, then no order explains the two,
+//! whatever other calls did.
 
 use crate::key_calls::KeyCalls;
 use crate::made_calls::{Made, NEVER, other};
@@ -8,14 +9,14 @@ use crate::stretches::{Stretch, stretch_before};
 use lset_words::Presence;
 use std::alloc::{AllocError, Global};
 
-/// A clash of a key.
+/// A contradiction between calls of one key.
 #[derive(Clone, Copy)]
 pub(crate) struct Clash {
-    /// The call that leaves the key in the state `was`. `None` if `stretch` leaves it so, or if `was` is the opening state.
+    /// The call that leaves the key in the state `was`. `None` if `stretch` does, or if `was` is the opening state.
     pub(crate) first: Option<Made>,
-    /// The call that needs the other state. `None` if the other state is the final state.
+    /// The call that needs the other state. `None` if that is the final state.
     pub(crate) second: Option<Made>,
-    /// Changes that overlap one another, and leave the key in the state `was` by their number.
+    /// Overlapping changes that leave the key in the state `was`, which follows from their number.
     pub(crate) stretch: Option<Stretch>,
     pub(crate) was: Presence,
     pub(crate) since: u64,
@@ -23,7 +24,7 @@ pub(crate) struct Clash {
 }
 
 impl Clash {
-    /// Returns whether the two calls overlap.
+    /// Returns `true` if the two calls overlap.
     pub(crate) fn overlaps(&self) -> bool {
         match (self.first, self.second) {
             (Some(first), Some(second)) => second.begun < first.ended,
@@ -31,7 +32,7 @@ impl Clash {
         }
     }
 
-    /// Returns the begin of the first call of the clash.
+    /// Returns the moment at which the first call of the contradiction began.
     pub(crate) fn begun(&self) -> u64 {
         match (self.stretch, self.first, self.second) {
             (Some(stretch), _, _) => stretch.read.map_or(stretch.begun, |read| read.begun),
@@ -42,7 +43,7 @@ impl Clash {
     }
 }
 
-/// The state that a call needs, or the final state, with its begin and end.
+/// The state in which a call needs the key, or the final state, with its begin and end.
 #[derive(Clone, Copy)]
 struct Need {
     second: Option<Made>,
@@ -51,7 +52,7 @@ struct Need {
     ended: u64,
 }
 
-/// Returns the clash of a needed state with calls that had ended before.
+/// Finds earlier calls that had ended and contradict a needed state.
 fn clash_before(key: &KeyCalls, stretches: &[Stretch], need: Need) -> Option<Clash> {
     let was = other(need.state);
     let first = key.proof_before(was, need.begun);
@@ -82,7 +83,7 @@ fn clash_before(key: &KeyCalls, stretches: &[Stretch], need: Need) -> Option<Cla
     None
 }
 
-/// Returns the clash of a call with calls that had ended before it began.
+/// Finds earlier calls that had ended before `call` began and contradict it.
 pub(crate) fn clash_of(key: &KeyCalls, stretches: &[Stretch], call: Made) -> Option<Clash> {
     let need = Need {
         second: Some(call),
@@ -93,7 +94,7 @@ pub(crate) fn clash_of(key: &KeyCalls, stretches: &[Stretch], call: Made) -> Opt
     clash_before(key, stretches, need)
 }
 
-/// Returns the clash of the final state with calls.
+/// Finds calls that contradict the final state.
 fn clash_at_end(key: &KeyCalls, stretches: &[Stretch]) -> Option<Clash> {
     let need = Need {
         second: None,
@@ -104,7 +105,8 @@ fn clash_at_end(key: &KeyCalls, stretches: &[Stretch]) -> Option<Clash> {
     clash_before(key, stretches, need)
 }
 
-/// Returns whether call `one` leaves the state that call `two` does not need, and no call can have changed it from `since` to `until`.
+/// Returns `true` if `one` leaves a state that `two` does not need, and no call can have changed it between `since` and
+/// `until`.
 fn excludes(key: &KeyCalls, one: Made, two: Made, until: u64, since: u64) -> bool {
     match two.needs() {
         Some(needs) => one.leaves() == Some(other(needs)) && !key.may_become(needs, since, until),
@@ -112,7 +114,8 @@ fn excludes(key: &KeyCalls, one: Made, two: Made, until: u64, since: u64) -> boo
     }
 }
 
-/// Returns the clash of two calls that overlap, if they clash in both orders. `first` began first.
+/// Returns the contradiction of two overlapping calls if they contradict each other in both orders. `first` began
+/// first.
 fn clash_at_once(key: &KeyCalls, first: Made, second: Made) -> Option<Clash> {
     let (since, until) = (first.begun, first.ended.max(second.ended));
     let was = first.leaves()?;
@@ -129,17 +132,18 @@ fn clash_at_once(key: &KeyCalls, first: Made, second: Made) -> Option<Clash> {
     None
 }
 
-/// The maximum number of clashes of a key that are kept.
+/// The maximum number of contradictions kept for a key.
 const MOST_PLACES: usize = 20_000;
 
-/// Clashes that do not overlap one another in time.
+/// Contradictions that do not overlap each other in time.
 #[derive(Drop)]
 struct Apart {
     found: Vec<Clash>,
 }
 
 impl Apart {
-    /// Keeps a clash that does not overlap the kept clashes in time. Replaces the last kept clash by one that ends earlier.
+    /// Keeps a contradiction that does not overlap those kept earlier. If it overlaps only the last one and ends before
+    /// that, replaces the last one.
     fn keep(&mut self, clash: Clash) -> Result<(), AllocError> {
         let Some(last) = self.found.last().copied() else {
             self.found.push(clash)?;
@@ -161,7 +165,7 @@ impl Apart {
     }
 }
 
-/// Returns clashes of a key that do not overlap one another in time, in the order of time. Allocates.
+/// Returns the contradictions of a key, without those that overlap others, ordered by time. Allocates.
 pub(crate) fn clashes_of(
     alloc: Global,
     key: &KeyCalls,

@@ -1,4 +1,5 @@
-//! Counts: calls of a key that need it to change more often than it can. They show a refusal if no two calls clash.
+//! Finds counts: calls of a key that together need more changes than the key can have had. A count shows why a key is
+//! refused if no two calls contradict each other.
 
 use crate::diagnosis::Diagnosis;
 use crate::key_calls::KeyCalls;
@@ -9,19 +10,19 @@ use lset_judge::{Count, StreamCall, find_count};
 use lset_words::{Key, Presence};
 use std::alloc::{AllocError, Global};
 
-/// The maximum number of calls in which a count is searched. The time of the search grows with the square of their number.
+/// The maximum number of calls in which a count is searched. The search takes quadratic time.
 const MOST_COUNTED: usize = 4_000;
 
-/// Calls of a key in which a count is searched, and the state of the key before them.
+/// The calls of a key in which a count is searched, and the key's state before them.
 #[derive(Drop)]
 struct Counted {
     calls: Vec<StreamCall>,
     before: Presence,
-    /// Whether these are all calls from the opening on.
+    /// Whether these are all calls of the key since the opening.
     is_from_opening: bool,
 }
 
-/// Returns the calls of a key that began by a moment, as they were at that moment.
+/// Returns the calls of a key that had begun by a moment, as they were at that moment.
 fn calls_by(
     alloc: Global,
     recorded: &Recorded,
@@ -40,8 +41,8 @@ fn calls_by(
     Ok(calls)
 }
 
-/// Returns all calls of a key or, of more than `MOST_COUNTED`, those from a later moment on at which its state is known. `None` if the
-/// state of the key is not known at such a moment.
+/// Returns all calls of a key. If there are more than `MOST_COUNTED`, returns those after a later moment at which the
+/// key's state is known, or `None` if there is no such moment.
 fn calls_to_count(alloc: Global, key: &KeyCalls) -> Result<Option<Counted>, AllocError> {
     let skipped = key.calls.len().saturating_sub(MOST_COUNTED);
     let (from, before) = match key.calls.get(skipped) {
@@ -71,7 +72,8 @@ fn calls_to_count(alloc: Global, key: &KeyCalls) -> Result<Option<Counted>, Allo
     }))
 }
 
-/// Returns the changes of a count as the recording has them: a call that ended after `moment` with the reply false is no change.
+/// Returns the changes of a count as they are in the recording. A call that returned false after `moment` is not a
+/// change.
 fn backs_in(
     alloc: Global,
     recorded: &Recorded,
@@ -91,8 +93,9 @@ fn backs_in(
     Ok(found)
 }
 
-/// Returns a count of the calls of the key that a diagnosis names first, by the first moment at which they have no order. `None` if none
-/// is found. Searches at most about `MOST_COUNTED` calls, the last ones. Allocates.
+/// Returns a count for the key that a diagnosis names first, up to the first moment at which the key's calls are not
+/// linearizable. Returns `None` if none is found. Searches at most about `MOST_COUNTED` calls, the last ones.
+/// Allocates.
 pub(crate) fn count_in(
     alloc: Global,
     recorded: &Recorded,

@@ -1,15 +1,16 @@
 use crate::made_calls::Made;
 use std::alloc::{AllocError, Global};
 
-/// The begins of calls at which another call was running.
+/// How many calls began while another call was running.
 #[derive(Drop)]
 pub(crate) struct Crossings {
-    /// For each call, in the order of their begins: how many of the calls up to it began while another call was running.
+    /// For each call, in the order in which calls began: how many calls, up to and including it, began while another
+    /// call was running.
     counts: Vec<u32>,
 }
 
 impl Crossings {
-    /// Returns the crossings of calls, given in the order of their begins. Allocates.
+    /// Computes the crossings of calls, which must be in the order in which they began. Allocates.
     pub(crate) fn of(alloc: Global, calls: &[Made]) -> Result<Crossings, AllocError> {
         let mut counts = Vec::new(alloc);
         let (mut count, mut latest) = (0u32, 0u64);
@@ -23,12 +24,12 @@ impl Crossings {
         Ok(Crossings { counts })
     }
 
-    /// Returns the number of crossings among the first `count` calls.
+    /// Returns how many of the first `count` calls began while another call was running.
     fn up_to(&self, count: usize) -> u32 {
         self.counts.get(count.wrapping_sub(1)).copied().unwrap_or(0)
     }
 
-    /// Returns whether no two of the calls overlapped from `since` to `until`.
+    /// Returns `true` if no two of the calls overlapped between `since` and `until`.
     pub(crate) fn has_none(&self, calls: &[Made], since: u64, until: u64) -> bool {
         let first = calls.partition_point(|call| call.begun < since);
         let end = calls.partition_point(|call| call.begun <= until);

@@ -16,19 +16,20 @@ use crate::tally::Tally;
 use lset_words::Presence;
 use std::alloc::{AllocError, Global};
 
-/// The note beside a call in the picture.
+/// The note beside a call in a picture.
 #[derive(Clone, Copy)]
 pub enum Mark {
     Nothing,
-    /// This reply was expected. With it the calls of the key that had begun by the end of the call have an order; as recorded, they have none.
+    /// This reply was expected. With it, the key's calls up to the end of this call are linearizable; as recorded, they
+    /// are not.
     Expected(bool),
-    /// After the call the key is in this state, in every order, until the call that contradicts it.
+    /// In every order, the key is in this state from the end of this call until the contradicting call.
     Leaves(Presence),
     /// One of the two calls with this mark must return false.
     Either,
 }
 
-/// A call of the picture, with the note beside it.
+/// A call in the picture, with the note beside it.
 #[derive(Clone, Copy)]
 pub struct Shown {
     pub call: Made,
@@ -40,29 +41,30 @@ pub struct Shown {
 pub struct Diagnosis {
     pub symptom: Symptom,
     pub key: u32,
-    /// The state of the key before the contradiction.
+    /// The key's state before the contradiction.
     pub was: Presence,
     /// The call that contradicts `was`. `None` if the final state does.
     pub second: Option<Made>,
-    /// The call whose other reply was expected.
+    /// The call for which the other reply was expected.
     pub wrong: Option<Made>,
-    /// The calls of the key in the picture, in the order of their begins.
+    /// The key's calls in the picture, in the order in which they began.
     pub shown: Vec<Shown>,
-    /// Changes of other keys at the same time, in the order of their begins.
+    /// Changes of other keys at the same time, in the order in which they began.
     pub beside: Vec<Made>,
-    /// A later call that agrees with the contradicting call or, if one reply alone is wrong, with the other calls.
+    /// A later call that agrees with the contradicting call. If only one reply is wrong, it agrees with the other calls
+    /// instead.
     pub later: Option<Made>,
     pub evidence: Evidence,
     pub cause: Option<Cause>,
-    /// The key whose calls are the first to have no order, and the first moment by which they have none. The moment is `NEVER` if no order
-    /// leaves the final state.
+    /// The key whose calls are the first not to be linearizable, and the first moment up to which they are not. The
+    /// moment is `NEVER` if only the final state is wrong.
     pub first_key: u32,
     pub first_moment: u64,
-    /// The end of the contradiction in the picture. `NEVER` if it is one of the final state.
+    /// The end of the contradiction in the picture; `NEVER` if the final state contradicts.
     pub until: u64,
 }
 
-/// The odd operation, its wrong answers, and whether the final keys are ignored.
+/// The operation whose answers are wrong, these answers, and whether the final keys must be ignored.
 #[derive(Drop)]
 struct OddFound {
     operation: Operation,
@@ -70,10 +72,12 @@ struct OddFound {
     answers: WrongAnswers,
 }
 
-/// The maximum number of calls that the judge judges again. For more calls the rule of each key alone decides, with the same result.
+/// The maximum number of calls that are judged again by the judge. For more calls, only the rule for single keys is
+/// used, with the same result.
 const MOST_JUDGED: usize = 500_000;
 
-/// Returns whether the calls of all refused keys have an order without the answers of an operation, with any final keys if `aside`.
+/// Returns `true` if the calls of all refused keys are linearizable without the answers of an operation (with any final
+/// keys, if `aside`).
 fn is_odd(
     alloc: Global,
     runs: &Runs<'_>,
@@ -95,7 +99,7 @@ fn is_odd(
     is_judged_without(alloc, runs.recorded, operation, is_cut)
 }
 
-/// Returns the wrong answers of the odd operation.
+/// Returns the wrong answers of the faulty operation.
 fn wrong_answers(
     alloc: Global,
     runs: &Runs<'_>,
@@ -116,7 +120,7 @@ fn wrong_answers(
     })
 }
 
-/// Returns the odd operation. `None` if no operation alone is wrong.
+/// Returns the faulty operation; `None` if there is no operation whose answers alone are wrong.
 fn find_odd(
     alloc: Global,
     runs: &Runs<'_>,
@@ -139,7 +143,7 @@ fn find_odd(
     Ok(None)
 }
 
-/// Returns the calls of a key without the answers of the odd operation, indexed for searches.
+/// Returns a key's calls without the faulty operation's answers, indexed for searches.
 fn sound_calls(
     alloc: Global,
     runs: &Runs<'_>,
@@ -152,7 +156,7 @@ fn sound_calls(
     KeyCalls::new(alloc, key, others, opening, left)
 }
 
-/// Returns the place of a wrong answer among the right calls.
+/// Returns the contradiction between a wrong answer and the other calls.
 fn place_of_answer(sound: &KeyCalls, call: Made, clash: Clash) -> Place {
     Place {
         key: sound.key,
@@ -165,7 +169,7 @@ fn place_of_answer(sound: &KeyCalls, call: Made, clash: Clash) -> Place {
     }
 }
 
-/// Returns the odd operation with the number of its wrong answers, and no other counts yet.
+/// Creates the faulty operation with the number of its wrong answers; all other counts are 0.
 fn odd_of(found: &OddFound, usual: u64) -> Odd {
     Odd {
         operation: found.operation,
@@ -190,7 +194,7 @@ fn odd_of(found: &OddFound, usual: u64) -> Odd {
     }
 }
 
-/// Adds the places of the wrong answers, and returns the facts about the odd operation.
+/// Adds the contradictions of all wrong answers, and returns the facts about the faulty operation.
 fn places_of_odd(
     alloc: Global,
     runs: &Runs<'_>,
@@ -227,10 +231,11 @@ fn places_of_odd(
     Ok(odd)
 }
 
-/// The maximum number of calls of a key that are searched for the last call of a thread.
+/// The maximum number of a key's calls that are searched for a thread's last call.
 const MOST_OWN: usize = 2_000;
 
-/// Returns whether the last call of a key by the thread of an answer left the key as answered.
+/// Returns `true` if the previous call of this key by the answer's thread left the key in the state that the answer
+/// states.
 fn was_left_so(calls: &[Made], answer: Made) -> bool {
     let end = calls.partition_point(|call| call.begun < answer.begun);
     let earlier = calls.get(..end).unwrap_or(&[]).iter().rev();
@@ -242,10 +247,10 @@ fn was_left_so(calls: &[Made], answer: Made) -> bool {
     false
 }
 
-/// The maximum number of wrong answers that are compared with the other keys.
+/// The maximum number of wrong answers that are compared with other keys.
 const MOST_COMPARED: usize = 200;
 
-/// Returns whether the last of some calls that ended before a moment left the key present.
+/// Returns `true` if the last of these calls to end before a moment left the key present.
 fn is_left_present(calls: &[Made], opening: Presence, moment: u64) -> bool {
     let (mut left, mut latest) = (Some(opening), 0);
     for call in calls {
@@ -260,7 +265,7 @@ fn is_left_present(calls: &[Made], opening: Presence, moment: u64) -> bool {
     left == Some(Presence::Present)
 }
 
-/// Counts the wrong answers at which no other key was shown present.
+/// Counts the wrong answers at which no other key was known to be present.
 fn count_lonely(
     alloc: Global,
     runs: &Runs<'_>,
@@ -281,10 +286,10 @@ fn count_lonely(
     Ok(())
 }
 
-/// The number of answers that are sampled.
+/// The maximum size of a sample of answers.
 const SAMPLED: usize = 500;
 
-/// Returns during how many of 100 calls of an operation a change of another key ran, in a sample.
+/// Returns the percentage of an operation's calls, in a sample, during which a change of another key ran.
 fn usual_share(calls: &[Made], operation: Operation, neighbours: &Neighbours) -> u64 {
     let (mut beside, mut tried) = (0u64, 0u64);
     let step = calls.len().checked_div(SAMPLED).unwrap_or(0);
@@ -301,12 +306,12 @@ fn usual_share(calls: &[Made], operation: Operation, neighbours: &Neighbours) ->
     beside.saturating_mul(100).checked_div(tried).unwrap_or(0)
 }
 
-/// Returns whether a call of an operation found its key present.
+/// Returns `true` if a call of this operation found its key present.
 fn has_found(call: Made, operation: Operation) -> bool {
     call.operation == operation && call.needs() == Some(Presence::Present)
 }
 
-/// Counts a wrong answer.
+/// Adds a wrong answer to the counts.
 fn count_answer(sound: &KeyCalls, call: Made, odd: &mut Odd, neighbours: &Neighbours) {
     let Some(needs) = call.needs() else {
         return;
@@ -333,7 +338,7 @@ fn count_answer(sound: &KeyCalls, call: Made, odd: &mut Odd, neighbours: &Neighb
     }
 }
 
-/// Adds the place of a wrong answer that clashes with another call.
+/// Adds the contradiction between a wrong answer and another call.
 fn add_place(
     alloc: Global,
     sound: &KeyCalls,
@@ -354,13 +359,13 @@ fn add_place(
     Ok(())
 }
 
-/// The maximum number of wrong answers that are compared for the clearest one.
+/// The maximum number of wrong answers among which the clearest one is chosen.
 const MOST_SHOWABLE: usize = 60;
 
-/// The number of calls of a key from which on no stretches are searched for its wrong answers.
+/// If a key has at least this many calls, its stretches are not computed for wrong answers.
 const MOST_STRETCHED: usize = 50_000;
 
-/// Returns the number of answers of an operation, and whether any of its calls found its key.
+/// Returns how many answers an operation gave, and whether any of its calls found its key.
 fn count_answers(calls: &[Made], operation: Operation) -> (u64, bool) {
     let (mut count, mut finds) = (0u64, false);
     for call in calls {
@@ -372,10 +377,11 @@ fn count_answers(calls: &[Made], operation: Operation) -> (u64, bool) {
     (count, finds)
 }
 
-/// The maximum number of places of all keys.
+/// The maximum number of contradictions for all keys together.
 const MOST_PLACES: usize = 20_000;
 
-/// The places of a recording, the odd operation or the tally of the places, and the longest split.
+/// What was found in a recording: the contradictions, the faulty operation or else a tally of the contradictions, and
+/// the longest split.
 #[derive(Drop)]
 struct Found {
     places: Vec<Place>,
@@ -386,13 +392,14 @@ struct Found {
     split: Option<Split>,
 }
 
-/// The maximum number of moments of a loss that is compared with removes of other keys. In a longer time any remove can run by chance.
+/// The longest loss, in moments, that is compared with removes of other keys. If it takes longer, some remove is likely
+/// to run by chance.
 const MOST_MOMENTS: u64 = 200;
 
-/// The minimum number of losses that are compared with the number of keys.
+/// The minimum number of losses for a comparison with the number of keys.
 const LEAST_LOST: u64 = 10;
 
-/// Returns the places in which a call shows within `MOST_MOMENTS` that a key was lost, in the order of time.
+/// Returns the contradictions in which a call shows within `MOST_MOMENTS` that a key was lost, ordered by time.
 fn losses_of(alloc: Global, places: &[Place]) -> Result<Vec<Place>, AllocError> {
     let mut losses = Vec::new(alloc);
     for place in places {
@@ -405,7 +412,7 @@ fn losses_of(alloc: Global, places: &[Place]) -> Result<Vec<Place>, AllocError> 
     Ok(losses)
 }
 
-/// Returns the places of all refused keys, with their tally.
+/// Returns the contradictions of all refused keys, and a tally of them.
 fn places_of_all(
     alloc: Global,
     runs: &Runs<'_>,
@@ -446,7 +453,7 @@ fn places_of_all(
     Ok(found)
 }
 
-/// Returns the split with more answers.
+/// Returns the split with more answers. (In a split, calls disagree about a key although no change runs.)
 fn larger_split(one: Option<Split>, two: Option<Split>) -> Option<Split> {
     let (Some(first), Some(second)) = (one, two) else {
         return one.or(two);
@@ -457,7 +464,7 @@ fn larger_split(one: Option<Split>, two: Option<Split>) -> Option<Split> {
     if is_larger { one } else { two }
 }
 
-/// Returns the places of the odd operation or, if there is none, of all refused keys.
+/// Returns the contradictions of the faulty operation or, if there is none, of all refused keys.
 fn find_all(
     alloc: Global,
     runs: &Runs<'_>,
@@ -479,7 +486,7 @@ fn find_all(
     })
 }
 
-/// Returns the most frequent symptom. `None` if there is no lost key, no key that came back, and no pair of changes.
+/// Returns the most frequent symptom; `None` if there is no lost key, no key that came back, and no pair of changes.
 fn main_symptom(tally: &Tally) -> Option<Symptom> {
     let counts = [
         (tally.lost, Symptom::Lost),
@@ -498,7 +505,8 @@ fn main_symptom(tally: &Tally) -> Option<Symptom> {
     best
 }
 
-/// Returns the place that is shown: the first place in a long split, or the clearest place of the most frequent symptom.
+/// Returns the contradiction to show: the first one in a long split, or the clearest one with the most frequent
+/// symptom.
 fn place_shown(found: &Found) -> Option<Place> {
     if found.odd.is_some() {
         return clearest(&found.places);
@@ -517,7 +525,7 @@ fn place_shown(found: &Found) -> Option<Place> {
     clearest(&found.places)
 }
 
-/// Returns the shortest place.
+/// Returns the shortest contradiction.
 fn clearest(places: &[Place]) -> Option<Place> {
     let mut best: Option<Place> = None;
     for place in places {
@@ -528,7 +536,7 @@ fn clearest(places: &[Place]) -> Option<Place> {
     best
 }
 
-/// Returns a diagnosis without a picture.
+/// Creates a diagnosis without a picture.
 fn begin(alloc: Global, first: Refused, was: Presence, evidence: Evidence) -> Diagnosis {
     Diagnosis {
         symptom: Symptom::Unclear,
@@ -547,7 +555,7 @@ fn begin(alloc: Global, first: Refused, was: Presence, evidence: Evidence) -> Di
     }
 }
 
-/// Returns the diagnosis of a recording. `None` if some order explains the recording. Allocates.
+/// Diagnoses a recording. Returns `None` if some order explains the recording. Allocates.
 pub fn diagnose(alloc: Global, recorded: &Recorded) -> Result<Option<Diagnosis>, AllocError> {
     let runs = Runs::of(alloc, recorded)?;
     let keys = runs.keys()?;
@@ -586,7 +594,7 @@ pub fn diagnose(alloc: Global, recorded: &Recorded) -> Result<Option<Diagnosis>,
     Ok(Some(diagnosis))
 }
 
-/// Returns the difference of the largest and the smallest of some increasing keys.
+/// Returns the difference between the largest and the smallest of increasing keys.
 fn span_of(keys: &[u32]) -> u32 {
     match (keys.first(), keys.last()) {
         (Some(first), Some(last)) => last.saturating_sub(*first),
@@ -594,7 +602,8 @@ fn span_of(keys: &[u32]) -> u32 {
     }
 }
 
-/// Returns whether the calls of the smallest key have an order and those of at least two others have none, and it has as many calls as others.
+/// Returns `true` if the smallest key's calls are linearizable, those of at least two other keys are not, and the
+/// smallest key has at least half as many calls as the first of these.
 fn is_first_spared(runs: &Runs<'_>, keys: &[u32], refused: &[Refused]) -> bool {
     let (Some(first), Some(hit)) = (keys.first(), refused.first()) else {
         return false;
@@ -603,7 +612,7 @@ fn is_first_spared(runs: &Runs<'_>, keys: &[u32], refused: &[Refused]) -> bool {
     refused.len() >= 2 && hit.key != *first && calls >= runs.made_of(hit.key).len()
 }
 
-/// Returns the calls of a key without the answers of the odd operation but one.
+/// Returns a key's calls with only one of the faulty operation's answers.
 fn with_one_answer(
     alloc: Global,
     key: KeyCalls,
@@ -620,7 +629,7 @@ fn with_one_answer(
     KeyCalls::new(alloc, key.key, calls, key.opening, left)
 }
 
-/// Adds a call to the picture if it is not in it.
+/// Adds a call to the picture unless it is already there.
 fn add(shown: &mut Vec<Shown>, call: Made) -> Result<(), AllocError> {
     if shown.iter().all(|one| one.call != call) {
         shown.push(Shown {
@@ -631,7 +640,7 @@ fn add(shown: &mut Vec<Shown>, call: Made) -> Result<(), AllocError> {
     Ok(())
 }
 
-/// Returns the call of a recording that began when `call` did.
+/// Returns the recorded call that began at the same moment as `call`.
 fn recorded_call(calls: &[Made], call: Made) -> Made {
     let at = calls.partition_point(|one| one.begun < call.begun);
     match calls.get(at) {
@@ -641,7 +650,7 @@ fn recorded_call(calls: &[Made], call: Made) -> Made {
 }
 
 impl Diagnosis {
-    /// Replaces the calls of the picture by those of a recording, in which pending calls have ended.
+    /// Replaces the calls in the picture by those of a recording, in which pending calls have ended.
     pub(crate) fn complete(&mut self, calls: &[Made]) {
         for one in &mut self.shown {
             one.call = recorded_call(calls, one.call);
@@ -651,7 +660,7 @@ impl Diagnosis {
         }
     }
 
-    /// Adds a call, if there is one, to the picture.
+    /// Adds a call, if given, to the picture.
     fn add_if(&mut self, call: Option<Made>) -> Result<(), AllocError> {
         match call {
             Some(call) => add(&mut self.shown, call),
@@ -659,7 +668,7 @@ impl Diagnosis {
         }
     }
 
-    /// Sets the mark of a call of the picture.
+    /// Sets the mark of a call in the picture.
     fn mark(&mut self, call: Made, mark: Mark) {
         for one in &mut self.shown {
             if one.call == call {
@@ -668,7 +677,8 @@ impl Diagnosis {
         }
     }
 
-    /// Fills the picture with a place.
+    /// Fills the picture with the calls of a contradiction, their marks, and what happened at the same time and
+    /// afterwards.
     fn show(
         &mut self,
         alloc: Global,
@@ -697,7 +707,8 @@ impl Diagnosis {
         Ok(())
     }
 
-    /// Adds the calls of a place: the clash, the changes of its stretch, and calls that returned false and can have changed the key.
+    /// Adds the calls of a contradiction: the contradicting calls, the changes of its stretch, and calls that returned
+    /// false but can have changed the key.
     fn show_calls(
         &mut self,
         alloc: Global,
@@ -738,7 +749,7 @@ impl Diagnosis {
         Ok(())
     }
 
-    /// Marks the calls of a place.
+    /// Marks the calls of a contradiction.
     fn show_marks(
         &mut self,
         alloc: Global,
@@ -772,8 +783,9 @@ impl Diagnosis {
         Ok(())
     }
 
-    /// Returns the first call after a place that finds the key in the state that the place leaves. If one reply alone is wrong, that is the
-    /// state of the other calls. `None` if a change of the key can have begun before.
+    /// Returns the first later call that finds the key in the state that the contradiction leaves. If only one reply is
+    /// wrong, that is the state according to the other calls. Returns `None` if a change of the key can have begun
+    /// earlier.
     fn call_after(&self, key: &KeyCalls, place: &Place) -> Option<Made> {
         let (state, since) = match place.symptom {
             Symptom::Missed(_) | Symptom::Found(_) => {

@@ -3,7 +3,7 @@ use crate::runs::Runs;
 use lset_words::Presence;
 use std::alloc::{AllocError, Global};
 
-/// How many keys are shown present at each moment: the last call of the key that has ended left it present.
+/// How many keys are known to be present at each moment, namely those that their last completed call left present.
 #[derive(Drop)]
 pub(crate) struct Fullness {
     /// The moments at which the number changes, in increasing order.
@@ -25,7 +25,7 @@ fn by_ends(alloc: Global, calls: &[Made]) -> Result<Vec<Made>, AllocError> {
 }
 
 impl Fullness {
-    /// Returns the numbers of a recording. Allocates.
+    /// Computes the numbers for a recording. Allocates.
     pub(crate) fn of(alloc: Global, runs: &Runs<'_>) -> Result<Fullness, AllocError> {
         let opening = &runs.recorded.opening;
         let mut present = Vec::from_elem(alloc, false, runs.places())?;
@@ -58,7 +58,7 @@ impl Fullness {
         Ok(full)
     }
 
-    /// Returns the number of keys that are shown present just before a moment.
+    /// Returns the number of keys that are known to be present just before a moment.
     pub(crate) fn before(&self, moment: u64) -> u64 {
         let at = self.ends.partition_point(|end| *end < moment);
         self.counts
@@ -67,7 +67,8 @@ impl Fullness {
             .unwrap_or(self.first)
     }
 
-    /// Returns at how many of 100 begins of calls, in a sample, between `least` and `most` keys are shown present.
+    /// Returns the percentage of calls, in a sample, at whose begin between `least` and `most` keys are known to be
+    /// present.
     pub(crate) fn share_between(&self, calls: &[Made], least: u64, most: u64) -> u64 {
         let step = calls.len().checked_div(SAMPLED).unwrap_or(0);
         let (mut count, mut tried, mut next) = (0u64, 0u64, 0usize);
@@ -86,5 +87,5 @@ impl Fullness {
     }
 }
 
-/// The number of calls that are sampled.
+/// The maximum size of a sample of calls.
 const SAMPLED: usize = 500;

@@ -2,7 +2,8 @@ use crate::made_calls::{Made, NEVER, Operation};
 use lset_words::Presence;
 use std::alloc::{AllocError, Global};
 
-/// The changes of a key to one state in the order of their begins, each with the latest end of the changes up to it.
+/// The changes of a key to one state, in the order in which they began. Each has the latest end of all changes up to
+/// it.
 #[derive(Drop)]
 struct Makers {
     begins: Vec<u64>,
@@ -33,7 +34,8 @@ impl Makers {
     }
 }
 
-/// The completed calls that left a key in one state, in the order of their ends: the ends, and which of the calls up to each began last.
+/// The completed calls that left a key in one state: their ends in increasing order and, for each, which call up to it
+/// began last.
 #[derive(Drop)]
 struct Proofs {
     ends: Vec<u64>,
@@ -70,7 +72,7 @@ impl Proofs {
     }
 }
 
-/// The calls of a key, with its opening state, and its final state if that is known.
+/// The calls of a key, with its opening state and, if known, its final state.
 #[derive(Drop)]
 pub(crate) struct KeyCalls {
     pub(crate) key: u32,
@@ -84,7 +86,7 @@ pub(crate) struct KeyCalls {
 }
 
 impl KeyCalls {
-    /// Returns the calls of a key, given in the order of their begins, indexed for searches. Allocates.
+    /// Indexes the calls of a key for searches. The calls must be in the order in which they began. Allocates.
     pub(crate) fn new(
         alloc: Global,
         key: u32,
@@ -108,7 +110,8 @@ impl KeyCalls {
         })
     }
 
-    /// Returns whether a call that changed the key to a state, or can have done so, overlaps the time from `since` to `until`.
+    /// Returns `true` if a call that changed the key to this state, or can have done so, overlaps the time from `since`
+    /// to `until`.
     pub(crate) fn may_become(&self, state: Presence, since: u64, until: u64) -> bool {
         match state {
             Presence::Present => self.puts.overlap(since, until),
@@ -116,7 +119,7 @@ impl KeyCalls {
         }
     }
 
-    /// Returns the call that began last among those that had ended before a moment and left the key in a state.
+    /// Returns the last call to begin among those that had ended before a moment and left the key in this state.
     pub(crate) fn proof_before(&self, state: Presence, moment: u64) -> Option<Made> {
         match state {
             Presence::Present => self.present.before(moment),
@@ -124,7 +127,7 @@ impl KeyCalls {
         }
     }
 
-    /// Returns the number of calls that began by a moment.
+    /// Returns how many calls had begun by a moment.
     pub(crate) fn begun_by(&self, moment: u64) -> usize {
         self.calls.partition_point(|call| call.begun <= moment)
     }
@@ -134,8 +137,8 @@ impl KeyCalls {
         self.calls.get(self.begun_by(moment)..).unwrap_or(&[])
     }
 
-    /// Returns the calls of an operation that returned false and overlap the time from `since` to `until`. Looks at the `MOST_OLDER` calls
-    /// that began last before `since`.
+    /// Returns the calls of an operation that returned false and overlap the time from `since` to `until`. Of the calls
+    /// that began before `since`, considers only the last `MOST_OLDER`.
     pub(crate) fn refusals(
         &self,
         alloc: Global,
@@ -155,7 +158,7 @@ impl KeyCalls {
         Ok(found)
     }
 
-    /// Returns the completed change of the key to a state that began last by a moment.
+    /// Returns the last completed change of the key to this state that had begun by a moment.
     pub(crate) fn change_before(&self, state: Presence, moment: u64) -> Option<Made> {
         let end = self.begun_by(moment);
         let earlier = self.calls.get(..end).unwrap_or(&[]);
@@ -163,12 +166,12 @@ impl KeyCalls {
         earlier.iter().rev().find(changed).copied()
     }
 
-    /// Returns the begin of the first change after a moment. `NEVER` if there is none.
+    /// Returns the moment at which the next change begins; `NEVER` if there is none.
     pub(crate) fn next_change(&self, moment: u64) -> u64 {
         let change = self.after(moment).iter().find(|call| call.changes());
         change.map_or(NEVER, |call| call.begun)
     }
 }
 
-/// The maximum number of calls before a time that are looked at for those that overlap it.
+/// The maximum number of earlier calls that are checked for an overlap.
 const MOST_OLDER: usize = 400;

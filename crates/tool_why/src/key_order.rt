@@ -1,5 +1,5 @@
-//! The judge's rule for the calls of one key: a pending change takes effect only if a call that ends needs it. Of several pending changes the
-//! one with the nearest end takes effect.
+//! The judge's rule for the calls of one key: a pending change takes effect only if a call that ends needs it. If
+//! several are pending, the one with the nearest end takes effect.
 
 use crate::made_calls::{Made, NEVER, other};
 use lset_words::Presence;
@@ -26,7 +26,7 @@ impl Pending {
         })
     }
 
-    /// Adds a call if it is completed later.
+    /// Adds a call if it has an end.
     pub(crate) fn push(&mut self, call: Made) -> Result<(), AllocError> {
         if call.reply.is_some() {
             self.calls.push(call)?;
@@ -38,7 +38,7 @@ impl Pending {
         self.calls.len()
     }
 
-    /// Removes and returns the call that ends first, if it ends before a moment.
+    /// Removes and returns the call with the earliest end, if that is before a moment.
     pub(crate) fn next_before(&mut self, at: u64) -> Option<Made> {
         let mut least: Option<usize> = None;
         let mut end = at;
@@ -57,7 +57,8 @@ impl Pending {
     }
 }
 
-/// The state of a key by the rule, the moment of its last change, and the ends of the pending changes that have not taken effect.
+/// What the rule knows of a key: its state, the moment of its last change, and the ends of the pending changes that
+/// have not taken effect.
 #[derive(Drop)]
 pub(crate) struct KeyState {
     state: Presence,
@@ -66,7 +67,7 @@ pub(crate) struct KeyState {
     removes: Vec<u64>,
 }
 
-/// Removes the smallest end. Returns whether there was one.
+/// Removes the smallest end. Returns `true` if there was one.
 fn take_least(ends: &mut Vec<u64>) -> bool {
     let mut least: Option<(usize, u64)> = None;
     for (i, end) in ends.iter().enumerate() {
@@ -83,13 +84,13 @@ fn take_least(ends: &mut Vec<u64>) -> bool {
     }
 }
 
-/// Returns whether two lists without duplicates have the same numbers.
+/// Returns `true` if two lists without duplicates have the same numbers.
 fn are_alike(some: &[u64], others: &[u64]) -> bool {
     some.len() == others.len() && some.iter().all(|end| others.contains(end))
 }
 
 impl KeyState {
-    /// Returns the state of a key with no pending changes.
+    /// Creates the state of a key with no pending changes.
     pub(crate) fn new(alloc: Global, state: Presence) -> KeyState {
         KeyState {
             state,
@@ -109,7 +110,7 @@ impl KeyState {
         })
     }
 
-    /// Returns whether every continuation that is accepted from state `than` is accepted from this state.
+    /// Returns `true` if every continuation that is accepted after the state `than` is also accepted after this one.
     pub(crate) fn is_like(&self, than: &KeyState) -> bool {
         self.state == than.state
             && self.turned >= than.turned
@@ -117,7 +118,7 @@ impl KeyState {
             && are_alike(&self.removes, &than.removes)
     }
 
-    /// Removes the nearest end of the pending changes that can change the state. Returns whether there was one.
+    /// Removes the nearest end of the pending changes that can change the state. Returns `true` if there was one.
     fn take_next(&mut self) -> bool {
         match self.state {
             Presence::Present => take_least(&mut self.removes),
@@ -125,7 +126,7 @@ impl KeyState {
         }
     }
 
-    /// Applies the pending change with the nearest end that can change the state. Returns whether there was one.
+    /// Applies the pending change with the nearest end that can change the state. Returns `true` if there was one.
     pub(crate) fn flip(&mut self, at: u64) -> bool {
         if !self.take_next() {
             return false;
@@ -135,7 +136,7 @@ impl KeyState {
         true
     }
 
-    /// Returns whether the call that ends has its reply explained.
+    /// Returns `true` if the reply of the ending call agrees with the state.
     pub(crate) fn satisfies(&self, call: Made) -> bool {
         match call.makes() {
             Some(Presence::Present) => !self.adds.contains(&call.ended),
@@ -147,7 +148,8 @@ impl KeyState {
         }
     }
 
-    /// Applies pending changes until the call that ends has its reply explained. Returns whether that is possible.
+    /// Applies pending changes until the reply of the ending call agrees with the state. Returns `true` if that is
+    /// possible.
     pub(crate) fn settle(&mut self, call: Made) -> bool {
         let most = self.adds.len().saturating_add(self.removes.len());
         for _ in 0..most {
@@ -171,7 +173,7 @@ impl KeyState {
         Ok(())
     }
 
-    /// Processes the ends before a moment. Returns the first end by which no order explains the calls.
+    /// Processes all ends before a moment. Returns the first end up to which the calls are not linearizable.
     pub(crate) fn end_before(&mut self, pending: &mut Pending, at: u64) -> Option<u64> {
         for _ in 0..pending.len() {
             let call = pending.next_before(at)?;
@@ -182,7 +184,7 @@ impl KeyState {
         None
     }
 
-    /// Returns whether `left` can be the final state of the key.
+    /// Returns `true` if `left` is a possible final state of the key.
     pub(crate) fn may_be_left(&self, left: Option<Presence>) -> bool {
         let turns = match self.state {
             Presence::Present => !self.removes.is_empty(),
@@ -192,8 +194,9 @@ impl KeyState {
     }
 }
 
-/// Returns the first moment by which no order explains the calls of a key, given in the order of their begins, from an opening state. `NEVER`
-/// if orders explain the calls, and none leaves the final state. `None` if an order explains the calls and leaves it. Allocates.
+/// Returns the first moment up to which a key's calls, in the order in which they began, are not linearizable. Returns
+/// `NEVER` if the calls are linearizable but no order leaves the final state, and `None` if nothing is wrong.
+/// Allocates.
 pub(crate) fn failing_moment(
     alloc: Global,
     calls: &[Made],
@@ -219,7 +222,8 @@ pub(crate) fn failing_moment(
     })
 }
 
-/// Returns whether some order explains the calls of a key from an opening state, and leaves the final state if one is given. Allocates.
+/// Returns `true` if some order explains a key's calls from an opening state and leaves the final state, if one is
+/// given. Allocates.
 pub(crate) fn has_order(
     alloc: Global,
     calls: &[Made],

@@ -1,4 +1,4 @@
-//! A recording of one key: all its calls or, if no order explains them, the few that show it.
+//! Writes a recording of one key: all of its calls or, if they are not linearizable, a few that show it.
 
 use crate::as_record::put_call;
 use crate::key_order::{failing_moment, has_order};
@@ -7,13 +7,13 @@ use crate::run_reader::Recorded;
 use lset_words::Presence;
 use std::alloc::{AllocError, Global};
 
-/// The maximum number of calls of a part, if a part of this size is enough.
+/// A part with at most this many calls is small enough.
 const ENOUGH: usize = 16;
 
-/// The maximum number of calls that are tried as the first of a part: so many of the last calls, and so many earlier ones.
+/// How many calls are tried as the first of a part: this many of the last calls, and this many earlier ones.
 const MOST_TRIED: usize = 64;
 
-/// Calls of a key in a row, the state of the key before them, and its final state if that is known.
+/// Consecutive calls of a key, with its state before them and, if known, its final state.
 #[derive(Clone, Copy)]
 struct Part<'a> {
     calls: &'a [Made],
@@ -21,7 +21,7 @@ struct Part<'a> {
     left: Option<Presence>,
 }
 
-/// Returns the indices of the calls that begin while no call of the key is pending.
+/// Returns the indices of calls that begin while no other call of the key is pending.
 fn quiet_starts(alloc: Global, calls: &[Made]) -> Result<Vec<usize>, AllocError> {
     let mut starts = Vec::new(alloc);
     let mut latest = 0;
@@ -34,7 +34,8 @@ fn quiet_starts(alloc: Global, calls: &[Made]) -> Result<Vec<usize>, AllocError>
     Ok(starts)
 }
 
-/// Returns the state in which every order of some calls leaves the key. `None` if both states are possible, or neither.
+/// Returns the state in which all orders of some calls leave the key. Returns `None` if both states are possible, or
+/// neither.
 fn only_state(
     alloc: Global,
     calls: &[Made],
@@ -49,7 +50,7 @@ fn only_state(
     })
 }
 
-/// Returns the part of some calls from index `first` on, if the state of the key before it is known.
+/// Returns the part that starts at index `first`, if the key's state before that call is known.
 fn part_from<'a>(
     alloc: Global,
     whole: Part<'a>,
@@ -68,7 +69,8 @@ fn part_from<'a>(
     }))
 }
 
-/// Returns a part of calls without an order that has none either: from one of the last calls on, or else from an earlier call on.
+/// Returns a smaller part that is not linearizable either, or the whole if none is found. Tries the last calls as its
+/// first call, then earlier ones.
 fn small_part<'a>(alloc: Global, whole: Part<'a>) -> Result<Part<'a>, AllocError> {
     let starts = quiet_starts(alloc, whole.calls)?;
     let few = whole.calls.len().saturating_sub(ENOUGH);
@@ -92,7 +94,7 @@ fn small_part<'a>(alloc: Global, whole: Part<'a>) -> Result<Part<'a>, AllocError
     Ok(whole)
 }
 
-/// Returns the recording of a part of the calls of a key.
+/// Returns a part of a key's calls as a recording.
 fn text_of(alloc: Global, key: u32, part: Part<'_>) -> Result<String, AllocError> {
     let mut out = String::from_str(alloc, "listset-calls 1\n")?;
     if part.opening == Presence::Present {
@@ -114,8 +116,8 @@ fn text_of(alloc: Global, key: u32, part: Part<'_>) -> Result<String, AllocError
     Ok(out)
 }
 
-/// Returns the recording of the calls of a key. If no order explains them, it has only a part of them that no order explains either. `None`
-/// if the recording has no call of the key. Allocates.
+/// Returns the recording of a key's calls. If they are not linearizable, returns only a part of them that is not
+/// linearizable either. Returns `None` if the key has no calls. Allocates.
 pub fn recording_of_key(
     alloc: Global,
     recorded: &Recorded,

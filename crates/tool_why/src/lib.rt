@@ -1,5 +1,6 @@
-//! Diagnosis of a recording that no order explains: calls that contradict each other, the operation that is wrong and how often, and a likely
-//! cause. The diagnosis does not decide the verdict. Its facts follow from the calls of the recording; the cause, after `likely:`, is a guess.
+//! Diagnoses a recording that no order explains: finds calls that contradict each other, the operation that is wrong
+//! and how often, and a likely cause. The diagnosis does not affect the verdict. Its facts follow from the recorded
+//! calls; the cause, after `likely:`, is a guess.
 #![tactic(auto)]
 
 mod as_record;

@@ -1,155 +1,155 @@
-//! The likely cause: a guess from the facts of the message. There is no guess if nothing fits.
+//! Guesses the likely cause from the facts in the message. Makes no guess if nothing fits.
 
 use crate::made_calls::Operation;
 use crate::splits::Split;
 use crate::tally::Tally;
 use lset_words::Presence;
 
-/// The odd operation: all calls without its answers have an order.
+/// The operation that alone is faulty: without its answers, all calls are linearizable.
 #[derive(Clone, Copy)]
 pub struct Odd {
     pub operation: Operation,
-    /// The number of its wrong answers: with each of them alone the other calls have no order.
+    /// The number of wrong answers: adding any one of them to the other calls makes them not linearizable.
     pub wrong: u64,
-    /// Whether `wrong` counts all wrong answers. Otherwise there can be more.
+    /// Whether `wrong` counts all wrong answers. If not, there can be more.
     pub is_exact: bool,
-    /// The number of its answers.
+    /// The number of all answers of the operation.
     pub of: u64,
-    /// The number of wrong answers that missed a present key.
+    /// How many wrong answers missed a present key.
     pub missed: u64,
-    /// The number of wrong answers that found an absent key.
+    /// How many wrong answers found an absent key.
     pub found: u64,
-    /// The number of wrong answers during which the change that they did not see was still running.
+    /// How many wrong answers overlapped the change that they did not see.
     pub running: u64,
-    /// The number of wrong answers during which a change that agrees with them was still running.
+    /// How many wrong answers overlapped a change that agrees with them.
     pub starting: u64,
-    /// The number of wrong answers during which a change of another key ran.
+    /// How many wrong answers overlapped a change of another key.
     pub beside: u64,
-    /// The number of wrong answers during which a remove of another key that returned true ran.
+    /// How many wrong answers overlapped a remove of another key that returned true.
     pub removing: u64,
-    /// The number of wrong answers during which an add of another key that returned true ran.
+    /// How many wrong answers overlapped an add of another key that returned true.
     pub adding: u64,
-    /// During how many of 100 of its calls a change of another key ran.
+    /// The percentage of the operation's calls that overlapped a change of another key.
     pub usual: u64,
-    /// Whether the final keys are ignored too.
+    /// Whether the final keys must be ignored as well.
     pub puts_left_aside: bool,
-    /// The number of keys with wrong answers.
+    /// The number of keys with a wrong answer.
     pub keys: u64,
-    /// Whether the operation never found any of these keys, and found others.
+    /// Whether the operation never found any of these keys, but found other keys.
     pub never_finds: bool,
-    /// The number of wrong answers before which the last call of the key by the same thread left it as answered.
+    /// How many wrong answers agree with the last call of the same key by the same thread.
     pub own: u64,
-    /// The number of wrong answers that were compared with the other keys.
+    /// How many wrong answers were compared with the other keys.
     pub compared: u64,
-    /// Of `compared`: the last call of each other key that had ended left that key absent.
+    /// How many of the compared answers began while no other key was known to be present.
     pub lonely: u64,
-    /// At how many of 100 of its calls at most one key was shown present.
+    /// The percentage of all calls that began while at most one key was known to be present.
     pub usually_lonely: u64,
 }
 
-/// The facts for the guess.
+/// The facts from which the cause is guessed.
 #[derive(Clone, Copy)]
 pub struct Evidence {
-    /// Two keys whose calls have an order as calls of one key.
+    /// Two keys whose calls are linearizable if they are taken as calls of one key.
     pub merged: Option<(u32, u32)>,
     pub odd: Option<Odd>,
     pub tally: Tally,
     pub split: Option<Split>,
-    /// The number of keys of the recording.
+    /// The number of keys in the recording.
     pub keys: u64,
-    /// The number of calls of the recording.
+    /// The number of calls in the recording.
     pub calls: u64,
     /// Whether these are only the first calls of a longer recording.
     pub is_part: bool,
-    /// Whether the calls of the smallest key have an order, and those of two others have none.
+    /// Whether the calls of the smallest key are linearizable, but those of two other keys are not.
     pub is_first_spared: bool,
-    /// The difference of the largest and the smallest key.
+    /// The difference between the largest and the smallest key.
     pub span: u32,
 }
 
 /// A likely cause.
 #[derive(Clone, Copy)]
 pub enum Cause {
-    /// Two keys are taken for one.
+    /// Two keys are treated as one.
     TwoKeys,
-    /// `contains` does not see what `add` changes first.
+    /// `contains` does not check what `add` changes first.
     NotSeenYet,
-    /// `contains` walks over keys that changes of other keys move.
+    /// `contains` traverses while changes of other keys move its key.
     MovedKeys,
     /// A key is in the set twice.
     KeptTwice,
-    /// An add of another key removes a key.
+    /// An add of another key displaces a key.
     Displaced,
     /// A remove of another key carries out earlier removes.
     Batch,
-    /// A remove removes another key than its own.
+    /// A remove removes a key other than its own.
     OtherKey,
-    /// The set goes wrong without a race.
+    /// The set fails even without a race.
     OneThread,
-    /// `contains` does not look at what remove changes first.
+    /// `contains` does not check what `remove` changes first.
     MarkNotRead,
     /// `contains` reads a copy from which removed keys disappear later.
     TakenLater,
-    /// `contains` has a shortcut that returns false too early.
+    /// `contains` takes a shortcut that returns false too early.
     Shortcut,
-    /// `contains` looks at a size first.
+    /// `contains` checks a size first.
     SizeFirst,
-    /// `contains` reads a cache of its thread.
+    /// `contains` reads a cache of its own thread.
     ThreadCache,
-    /// `contains` reads a copy that is updated late.
+    /// `contains` reads a copy that is updated too late.
     LateCopy,
-    /// One key is treated unlike others.
+    /// One key is treated differently from the others.
     OneKey,
     /// `add` takes a removed node for a present one.
     AddSeesRemoved,
-    /// `remove` has a shortcut that returns false too early.
+    /// `remove` takes a shortcut that returns false too early.
     RemoveShortcut,
-    /// `remove` gives up on a present key.
+    /// `remove` gives up although the key is present.
     RemoveGivesUp,
-    /// Operations look into two places for a key.
+    /// Operations look for a key in two different places.
     TwoPlaces,
-    /// The first call creates something that is created twice.
+    /// The first call creates something, and it is created twice.
     FirstUse,
-    /// A remove continues to write after its effect.
+    /// A remove keeps writing after it has taken effect.
     GoesOn,
-    /// The reply does not come from the change itself.
+    /// The reply is not determined by the change itself.
     EarlierLook,
-    /// A call is repeated after it took effect.
+    /// A call is retried after it already took effect.
     MadeAgain,
-    /// A check and a later write are not one step.
+    /// A check and the later write are not atomic.
     CheckThenAct,
-    /// A lock does not exclude calls of one key.
+    /// A lock does not exclude other calls of the same key.
     NoLock,
-    /// A whole copy is written over newer changes.
+    /// A whole copy overwrites newer changes.
     OldCopy,
-    /// A link is written without a check that it is current.
+    /// A link is written without checking that it is current.
     OldLink,
     /// A node is linked to a node that is being removed.
     Unlinked,
-    /// Keys are dropped when many are present.
+    /// Keys are dropped if many are present.
     Evicted,
     /// A comparison of keys overflows.
     Overflow,
-    /// An older state is written back beside changes of other keys.
+    /// A change of another key writes back an older state.
     WrittenBack,
     /// A table is replaced while calls still change the old one.
     Replaced,
 }
 
-/// The minimum number of contradictions that show a rule of the set.
+/// The minimum number of contradictions that indicate a rule.
 const ENOUGH: u64 = 5;
 
-/// Returns whether `some` are at least `percent` of 100 of `all`.
+/// Returns `true` if `some` is at least `percent` percent of `all`.
 fn is_least(some: u64, all: u64, percent: u64) -> bool {
     some.saturating_mul(100) >= all.saturating_mul(percent)
 }
 
-/// Returns whether `some` are at least `percent` of 100 of `all`, and `all` are enough.
+/// Returns `true` if `some` is at least `percent` percent of `all`, and `all` is large enough.
 fn is_share(some: u64, all: u64, percent: u64) -> bool {
     all >= ENOUGH && is_least(some, all, percent)
 }
 
-/// Returns in how many of a million cases something that happens `percent` of 100 times happens `times` times in a row.
+/// Returns in how many of a million cases an event with a chance of `percent` percent happens `times` times in a row.
 fn share_of_all(percent: u64, times: u64) -> u64 {
     let mut share = 1_000_000u64;
     for _ in 0..times.min(40) {
@@ -158,17 +158,18 @@ fn share_of_all(percent: u64, times: u64) -> u64 {
     share
 }
 
-/// Returns whether by chance, in fewer than one of four cases, a change of another key would run during all wrong answers.
+/// Returns `true` if it is unlikely (a chance of less than one in four) that all wrong answers overlapped changes of
+/// other keys by accident.
 fn is_no_chance(odd: Odd) -> bool {
     share_of_all(odd.usual, odd.missed) < 250_000
 }
 
-/// Returns whether at least three quarters of the wrong answers are some of them.
+/// Returns `true` if `some` are at least three quarters of the wrong answers.
 fn are_most(some: u64, odd: Odd) -> bool {
     some.saturating_mul(4) >= odd.missed.saturating_mul(3)
 }
 
-/// Returns the likely cause if contains alone is wrong, and only misses keys.
+/// Returns the likely cause if only `contains` is wrong and it only misses keys.
 fn cause_of_misses(odd: Odd) -> Option<Cause> {
     let only_adds = odd.beside.saturating_sub(odd.removing);
     let is_moved = is_no_chance(odd) && (odd.missed > 1 || odd.adding == 0);
@@ -187,7 +188,7 @@ fn cause_of_misses(odd: Odd) -> Option<Cause> {
     }
 }
 
-/// Returns whether contains mostly misses a key if no other key is present, and not by chance.
+/// Returns `true` if `contains` mostly misses a key when no other key is present, more often than by chance.
 fn is_size(odd: Odd) -> bool {
     let more_often = odd.usually_lonely.saturating_add(35);
     odd.compared >= 3
@@ -195,12 +196,12 @@ fn is_size(odd: Odd) -> bool {
         && share_of_all(odd.usually_lonely, odd.lonely) < 50_000
 }
 
-/// Returns whether each thread answers what it saw last itself.
+/// Returns `true` if each thread answers what it saw last itself.
 fn is_own(odd: Odd) -> bool {
     odd.wrong >= 8 && odd.own == odd.wrong
 }
 
-/// Returns the likely cause if contains alone is wrong.
+/// Returns the likely cause if only `contains` is wrong.
 fn cause_of_contains(odd: Odd) -> Option<Cause> {
     if is_own(odd) && odd.found > 0 && odd.running.saturating_mul(2) < odd.wrong {
         Some(Cause::ThreadCache)
@@ -217,7 +218,7 @@ fn cause_of_contains(odd: Odd) -> Option<Cause> {
     }
 }
 
-/// Returns the likely cause if remove alone is wrong.
+/// Returns the likely cause if only `remove` is wrong.
 fn cause_of_remove(odd: Odd) -> Cause {
     let is_beside = odd.beside == odd.missed && are_most(odd.adding, odd);
     if odd.missed >= 3 && is_beside && is_no_chance(odd) {
@@ -227,7 +228,7 @@ fn cause_of_remove(odd: Odd) -> Cause {
     }
 }
 
-/// Returns the likely cause if one operation alone is wrong.
+/// Returns the likely cause if only one operation is wrong.
 fn cause_of_odd(odd: Odd) -> Option<Cause> {
     let is_often = odd.wrong >= odd.keys.saturating_mul(2);
     match odd.operation {
@@ -238,7 +239,7 @@ fn cause_of_odd(odd: Odd) -> Option<Cause> {
     }
 }
 
-/// Returns whether all contradictions are at the first use of their keys.
+/// Returns `true` if all contradictions occur when their keys are first used.
 fn is_first_use(evidence: &Evidence) -> bool {
     let tally = evidence.tally;
     let calls = evidence.calls.checked_div(evidence.keys).unwrap_or(0);
@@ -246,7 +247,7 @@ fn is_first_use(evidence: &Evidence) -> bool {
     is_repeated && calls > tally.begun.saturating_mul(50)
 }
 
-/// Returns whether changes of other keys ran at the time of losses and returns no more often than at other times.
+/// Returns `true` if changes of other keys overlapped the losses and returns no more often than other periods.
 fn is_beside_by_chance(tally: &Tally) -> bool {
     let share = tally.beside.saturating_mul(100).checked_div(tally.timed());
     share.unwrap_or(0) <= tally.usual.saturating_add(15)
@@ -281,7 +282,7 @@ fn cause_of_gone(evidence: &Evidence) -> Option<Cause> {
     }
 }
 
-/// Returns whether keys are lost and come back mostly while a smaller key is removed, and the smallest key never is.
+/// Returns `true` if keys are lost and come back mostly while a smaller key is removed, but the smallest key never is.
 fn is_unlinked(evidence: &Evidence) -> bool {
     let (tally, timed) = (&evidence.tally, evidence.tally.timed());
     let is_both_ways = tally.lost > 0 && tally.came_back > 0;
@@ -291,20 +292,20 @@ fn is_unlinked(evidence: &Evidence) -> bool {
         && is_share(tally.below, timed, 75)
 }
 
-/// Returns whether calls that returned false can have made nearly all contradicting changes.
+/// Returns `true` if calls that returned false can account for nearly all contradicting changes.
 fn is_made_again(tally: &Tally) -> bool {
     let gone = tally.gone();
     gone >= 2 * ENOUGH && tally.both() == 0 && is_share(tally.silent, gone, 80)
 }
 
-/// Returns whether replies do not come from the changes themselves.
+/// Returns `true` if replies are not determined by the changes themselves.
 fn is_earlier_look(tally: &Tally) -> bool {
     let (both, gone) = (tally.both(), tally.gone());
     let is_enough = gone >= 2 * ENOUGH && both >= 3 && is_share(both, tally.places, 5);
     is_enough && is_share(tally.turned, gone, 90)
 }
 
-/// Returns whether contradictions need no calls that overlap.
+/// Returns `true` if the contradictions occur even without overlapping calls.
 fn needs_no_race(tally: &Tally) -> bool {
     tally.gone() >= 2 * ENOUGH && tally.apart >= ENOUGH && is_share(tally.apart, tally.places, 10)
 }
@@ -326,15 +327,15 @@ fn cause_of_losses(tally: &Tally) -> Option<Cause> {
     }
 }
 
-/// Returns whether keys are lost only while many keys are present, and not by chance.
+/// Returns `true` if keys are lost only while many keys are present, more often than by chance.
 fn is_only_full(tally: &Tally) -> bool {
     tally.least_full >= LEAST_FULL && share_of_all(tally.usually_full, tally.short) < 10_000
 }
 
-/// The minimum number of keys that are many.
+/// At least this many keys count as many.
 const LEAST_FULL: u64 = 4;
 
-/// Returns the likely cause if the set goes wrong without a race.
+/// Returns the likely cause if the set fails without a race.
 fn cause_in_one_thread(evidence: &Evidence) -> Option<Cause> {
     let tally = &evidence.tally;
     let (lost, back) = (tally.lost, tally.came_back);
@@ -356,10 +357,10 @@ fn cause_in_one_thread(evidence: &Evidence) -> Option<Cause> {
     }
 }
 
-/// The difference of keys from which on a signed number of 32 bits overflows.
+/// If two keys differ by at least this much, their difference overflows a signed 32-bit number.
 const WIDE: u32 = 0x8000_0000;
 
-/// Returns the likely cause if changes that overlap go wrong.
+/// Returns the likely cause if overlapping changes go wrong.
 fn cause_of_races(evidence: &Evidence) -> Option<Cause> {
     let tally = &evidence.tally;
     if is_first_use(evidence) {
@@ -385,19 +386,19 @@ fn cause_of_races(evidence: &Evidence) -> Option<Cause> {
     cause_of_gone(evidence)
 }
 
-/// The minimum number of calls of a recording for a guess.
+/// A guess needs a recording with at least this many calls.
 const LEAST_CALLS: u64 = 50;
 
-/// The minimum number of answers of the odd operation for a guess.
+/// A guess about an operation needs at least this many of its answers.
 const LEAST_ANSWERS: u64 = 10;
 
-/// Returns whether the recording has so many calls that a guess can be made.
+/// Returns `true` if the recording has enough calls for a guess.
 fn is_enough(evidence: &Evidence) -> bool {
     let answers = evidence.odd.map_or(LEAST_ANSWERS, |odd| odd.of);
     evidence.calls >= LEAST_CALLS && answers >= LEAST_ANSWERS
 }
 
-/// Returns the likely cause. `None` if nothing fits, or if the recording is too small.
+/// Returns the likely cause. Returns `None` if nothing fits, or if the recording is too small.
 pub(crate) fn likely(evidence: &Evidence) -> Option<Cause> {
     if !is_enough(evidence) {
         return None;
@@ -424,7 +425,7 @@ pub(crate) fn likely(evidence: &Evidence) -> Option<Cause> {
     }
 }
 
-/// Returns the word of a state in messages.
+/// Returns the word for a state in messages.
 pub(crate) fn state_word(state: Presence) -> &'static str {
     match state {
         Presence::Present => "present",

@@ -2,7 +2,7 @@ use lset_judge::StreamCall;
 use lset_text::call_word;
 use lset_words::{Call, Key, Presence, Reply};
 
-/// The end of a pending call, or of a call whose reply is not known.
+/// The end of a pending call, or of a call whose reply is unknown.
 pub const NEVER: u64 = u64::MAX;
 
 /// An operation of a set.
@@ -14,7 +14,7 @@ pub enum Operation {
 }
 
 impl Operation {
-    /// Returns the name of the operation in a recording.
+    /// Returns the operation's name in a recording.
     pub fn word(self) -> &'static str {
         match self {
             Operation::Add => "add",
@@ -23,7 +23,7 @@ impl Operation {
         }
     }
 
-    /// Returns the operation that changes a key to a state.
+    /// Returns the operation that brings a key into this state.
     pub(crate) fn that_makes(state: Presence) -> Operation {
         match state {
             Presence::Present => Operation::Add,
@@ -32,7 +32,7 @@ impl Operation {
     }
 }
 
-/// Returns the other state of a key.
+/// Returns the opposite state.
 pub(crate) fn other(state: Presence) -> Presence {
     match state {
         Presence::Present => Presence::Absent,
@@ -40,21 +40,21 @@ pub(crate) fn other(state: Presence) -> Presence {
     }
 }
 
-/// A call of a recording: its thread, operation and key, the moments of its begin and its end, and its reply.
+/// A call in a recording: its thread, operation and key, when it began and ended, and its reply.
 #[derive(Clone, Copy, PartialEq, Eq)]
 pub struct Made {
     pub begun: u64,
-    /// `NEVER` if the call is pending or its reply is not known.
+    /// `NEVER` if the call is pending or its reply is unknown.
     pub ended: u64,
     pub thread: u32,
     pub key: u32,
     pub operation: Operation,
-    /// Whether the call returned true; `None` if that is not known.
+    /// Whether the call returned true; `None` if that is unknown.
     pub reply: Option<bool>,
 }
 
 impl Made {
-    /// Returns a call of the judge's stream as a `Made`.
+    /// Converts a call from the judge's stream.
     pub(crate) fn of(call: StreamCall) -> Made {
         let operation = match call.call {
             Call::Add(_) => Operation::Add,
@@ -75,7 +75,7 @@ impl Made {
         }
     }
 
-    /// Returns the call for the judge's stream.
+    /// Converts the call for the judge's stream.
     pub(crate) fn to_stream(self) -> StreamCall {
         let key = Key(self.key);
         let call = match self.operation {
@@ -96,7 +96,7 @@ impl Made {
         }
     }
 
-    /// Returns the state that the key needs to have just before the call takes effect. `None` if the reply is not known.
+    /// Returns the state that the key must have just before the call takes effect; `None` if the reply is unknown.
     pub(crate) fn needs(self) -> Option<Presence> {
         let yes = self.reply?;
         let is_present = match self.operation {
@@ -110,12 +110,12 @@ impl Made {
         })
     }
 
-    /// Returns whether the call changed its key, or can have changed it.
+    /// Returns `true` if the call changed its key, or may have done so.
     pub(crate) fn changes(self) -> bool {
         self.operation != Operation::Contains && self.reply != Some(false)
     }
 
-    /// Returns the state to which the call changed its key, or can have changed it.
+    /// Returns the state into which the call brought its key, or may have brought it.
     pub(crate) fn makes(self) -> Option<Presence> {
         if !self.changes() {
             return None;
@@ -127,18 +127,18 @@ impl Made {
         }
     }
 
-    /// Returns the state in which a completed call leaves its key. `None` if the reply is not known.
+    /// Returns the state in which a completed call leaves its key; `None` if the reply is unknown.
     pub(crate) fn leaves(self) -> Option<Presence> {
         let needs = self.needs()?;
         Some(self.makes().unwrap_or(needs))
     }
 
-    /// Returns whether the call ended without a change of its key.
+    /// Returns `true` if the call ended without changing its key.
     pub(crate) fn reads(self) -> bool {
         self.reply.is_some() && !self.changes()
     }
 
-    /// Returns the call with the other reply.
+    /// Returns the call with the opposite reply.
     pub(crate) fn turned(self) -> Made {
         Made {
             reply: self.reply.map(|yes| !yes),
@@ -158,7 +158,7 @@ impl Made {
         }
     }
 
-    /// Returns whether the call overlaps the time from `since` to `until`.
+    /// Returns `true` if the call overlaps the time from `since` to `until`.
     pub(crate) fn overlaps(self, since: u64, until: u64) -> bool {
         self.begun <= until && self.ended >= since
     }

@@ -1,23 +1,24 @@
-//! Two keys that are taken for one: each has calls without an order, and as calls of one key their calls have one.
+//! Finds two keys that are treated as one: the calls of each are not linearizable, but taken as calls of one key they
+//! are.
 
 use crate::key_order::has_order;
 use crate::made_calls::Made;
 use crate::runs::{Refused, Runs, first_of};
 use std::alloc::{AllocError, Global};
 
-/// The number of refused keys up to which all pairs are tried.
+/// If there are at most this many refused keys, all pairs are tried.
 const MOST_PAIRED: usize = 8;
 
-/// The maximum number of keys that are tried with the first refused key.
+/// The maximum number of keys that are tried together with the first refused key.
 const MOST_TRIED: usize = 64;
 
 /// The maximum number of calls of a pair that is tried.
 const MOST_CALLS: usize = 1_000_000;
 
-/// The minimum number of completed changes of each key of a pair.
+/// Each key of a pair must have at least this many completed changes.
 const LEAST_CHANGES: usize = 4;
 
-/// Returns the number of completed changes among calls.
+/// Returns how many of the calls are completed changes.
 fn count_changes(calls: &[Made]) -> usize {
     calls
         .iter()
@@ -25,7 +26,7 @@ fn count_changes(calls: &[Made]) -> usize {
         .count()
 }
 
-/// Returns whether the calls of two keys have an order as calls of one key.
+/// Returns `true` if the calls of two keys are linearizable as calls of one key.
 fn are_one(alloc: Global, runs: &Runs<'_>, one: u32, two: u32) -> Result<bool, AllocError> {
     let opening = runs.recorded.opens(one);
     if opening != runs.recorded.opens(two) {
@@ -42,7 +43,7 @@ fn are_one(alloc: Global, runs: &Runs<'_>, one: u32, two: u32) -> Result<bool, A
     has_order(alloc, &calls, opening, None)
 }
 
-/// Returns the first of some keys whose calls have an order together with those of key `one`.
+/// Returns the first of these keys whose calls are linearizable together with those of the key `one`.
 fn partner_of(
     alloc: Global,
     runs: &Runs<'_>,
@@ -57,8 +58,8 @@ fn partner_of(
     Ok(None)
 }
 
-/// Returns two refused keys whose calls have an order as calls of one key. Of more than `MOST_PAIRED` refused keys, only pairs with the
-/// first one are tried. Allocates.
+/// Returns two refused keys whose calls are linearizable as calls of one key. If there are more than `MOST_PAIRED`
+/// refused keys, tries only pairs with the first one. Allocates.
 pub(crate) fn merged_keys(
     alloc: Global,
     runs: &Runs<'_>,

@@ -1,10 +1,11 @@
 use crate::made_calls::{Made, Operation};
 use std::alloc::{AllocError, Global};
 
-/// The maximum number of earlier changes that are looked at.
+/// The maximum number of earlier changes that are checked.
 const MOST_BACK: usize = 100_000;
 
-/// The completed changes of all keys in the order of their begins, each with the latest end of the changes up to it.
+/// The completed changes of all keys, in the order in which they began. Each has the latest end of all changes up to
+/// it.
 #[derive(Drop)]
 pub(crate) struct Neighbours {
     changes: Vec<Made>,
@@ -12,7 +13,7 @@ pub(crate) struct Neighbours {
 }
 
 impl Neighbours {
-    /// Returns the completed changes among calls in the order of their begins. Allocates.
+    /// Indexes the completed changes among these calls. Allocates.
     pub(crate) fn of(alloc: Global, calls: &[Made]) -> Result<Neighbours, AllocError> {
         let mut changes = Vec::new(alloc);
         let mut latest = Vec::new(alloc);
@@ -27,8 +28,8 @@ impl Neighbours {
         Ok(Neighbours { changes, latest })
     }
 
-    /// Returns at most `most` completed changes of other keys that overlap the time from `since` to `until`, the last to begin first.
-    /// Allocates.
+    /// Returns at most `most` completed changes of other keys that overlap the time from `since` to `until`, the latest
+    /// first. Allocates.
     pub(crate) fn around(
         &self,
         alloc: Global,
@@ -52,7 +53,8 @@ impl Neighbours {
         Ok(found)
     }
 
-    /// Returns whether a completed change of another key overlaps the time from `since` to `until`, by an operation if one is given.
+    /// Returns `true` if a completed change of another key overlaps the time from `since` to `until`. If an operation
+    /// is given, considers only its changes.
     pub(crate) fn overlap(
         &self,
         key: u32,
@@ -67,12 +69,12 @@ impl Neighbours {
         self.has(key, since, until, sought)
     }
 
-    /// Returns whether a completed remove of a smaller key overlaps the time from `since` to `until`.
+    /// Returns `true` if a completed remove of a smaller key overlaps the time from `since` to `until`.
     pub(crate) fn unlink_below(&self, key: u32, since: u64, until: u64) -> bool {
         self.has(key, since, until, Sought::RemoveOfSmallerKey)
     }
 
-    /// Returns whether a completed change that is sought overlaps the time from `since` to `until`.
+    /// Returns `true` if a completed change of the sought kind overlaps the time from `since` to `until`.
     fn has(&self, key: u32, since: u64, until: u64, sought: Sought) -> bool {
         let end = self.changes.partition_point(|call| call.begun <= until);
         let changes = self.changes.get(..end).unwrap_or(&[]);
@@ -89,7 +91,7 @@ impl Neighbours {
     }
 }
 
-/// The changes that a search looks for, beside a change of one key.
+/// Which changes a search looks for.
 #[derive(Clone, Copy)]
 enum Sought {
     OfOtherKey,
@@ -98,7 +100,7 @@ enum Sought {
 }
 
 impl Sought {
-    /// Returns whether a search beside a change of `key` looks for this call.
+    /// Returns `true` if a search beside a change of `key` looks for this call.
     fn includes(self, call: &Made, key: u32) -> bool {
         match self {
             Sought::OfOtherKey => call.key != key,

@@ -1,4 +1,5 @@
-//! The odd operation: all calls without its answers (its calls that change nothing) have an order.
+//! Finds the faulty operation: without its answers (those of its calls that change nothing), all calls are
+//! linearizable.
 
 use crate::key_order::{KeyState, Pending, has_order};
 use crate::made_calls::{Made, NEVER, Operation};
@@ -7,12 +8,12 @@ use lset_judge::{Judge, StreamFault, Verdict};
 use lset_words::{Presence, increases};
 use std::alloc::{AllocError, Global};
 
-/// Returns whether a call is an answer of an operation: it changes nothing.
+/// Returns `true` if a call is an answer of this operation, that is, changes nothing.
 pub(crate) fn is_answer(call: Made, operation: Operation) -> bool {
     call.operation == operation && call.reads()
 }
 
-/// Returns the calls of a key without the answers of an operation.
+/// Returns a key's calls without the answers of an operation.
 pub(crate) fn without(
     alloc: Global,
     calls: &[Made],
@@ -27,7 +28,7 @@ pub(crate) fn without(
     Ok(others)
 }
 
-/// Returns whether the calls of a key have an order without the answers of an operation. Allocates.
+/// Returns `true` if a key's calls are linearizable without the answers of an operation. Allocates.
 pub(crate) fn is_explained_without(
     alloc: Global,
     calls: &[Made],
@@ -39,7 +40,8 @@ pub(crate) fn is_explained_without(
     has_order(alloc, &others, opening, left)
 }
 
-/// Returns whether the judge accepts all calls without the answers of an operation, with any final keys if `is_cut`. Allocates.
+/// Returns `true` if the judge accepts all calls without the answers of an operation (with any final keys, if
+/// `is_cut`). Allocates.
 pub(crate) fn is_judged_without(
     alloc: Global,
     recorded: &Recorded,
@@ -68,19 +70,19 @@ pub(crate) fn is_judged_without(
     Ok(matches!(verdict, Verdict::Linearizable))
 }
 
-/// The maximum number of steps that decide which answers are wrong.
+/// The maximum number of steps spent on deciding which answers are wrong.
 const MOST_STEPS: u64 = 50_000_000;
 
-/// The wrong answers of an operation: with each of them alone the other calls have no order.
+/// The wrong answers of an operation: adding any one of them to the other calls makes them not linearizable.
 #[derive(Drop)]
 pub(crate) struct WrongAnswers {
     pub(crate) wrong: Vec<Made>,
     steps: u64,
-    /// Whether all answers were decided, and the calls without the wrong answers have an order.
+    /// Whether all answers were decided, and the calls without the wrong ones are linearizable.
     pub(crate) is_exact: bool,
 }
 
-/// A pass over the calls of a key.
+/// The state of a pass over a key's calls.
 #[derive(Drop)]
 struct Walk<'a> {
     alloc: Global,
@@ -92,7 +94,8 @@ struct Walk<'a> {
 }
 
 impl Walk<'_> {
-    /// Returns whether the other calls, without the other answers, have no order with an answer that ends now and is not satisfied.
+    /// Returns `true` if adding this answer alone, which ends now and does not agree with the state, makes the other
+    /// calls not linearizable.
     fn is_wrong(&self, call: Made, found: &mut WrongAnswers) -> Result<bool, AllocError> {
         let mut with = self.key.copied(self.alloc)?;
         if !with.flip(call.ended) {
@@ -121,7 +124,7 @@ impl Walk<'_> {
         Ok(self.both_end(&mut key, &mut with, &mut pending, NEVER) || !with.may_be_left(self.left))
     }
 
-    /// Processes the ends before a moment in both states. Returns whether the second state fails.
+    /// Processes all ends before a moment in both states. Returns `true` if the second state fails.
     fn both_end(
         &self,
         key: &mut KeyState,
@@ -144,7 +147,7 @@ impl Walk<'_> {
         false
     }
 
-    /// Processes the ends before a moment, and keeps the wrong answers.
+    /// Processes all ends before a moment, and collects the wrong answers.
     fn end_before(&mut self, at: u64, found: &mut WrongAnswers) -> Result<(), AllocError> {
         for _ in 0..self.pending.len() {
             let Some(call) = self.pending.next_before(at) else {
@@ -160,7 +163,7 @@ impl Walk<'_> {
     }
 }
 
-/// Returns whether the calls of a key without some wrong answers have an order.
+/// Returns `true` if a key's calls without the wrong answers are linearizable.
 fn is_rest_explained(
     alloc: Global,
     calls: &[Made],
@@ -183,7 +186,7 @@ fn is_rest_explained(
 }
 
 impl WrongAnswers {
-    /// Returns no wrong answers.
+    /// Creates an empty collection.
     pub(crate) fn new(alloc: Global) -> WrongAnswers {
         WrongAnswers {
             wrong: Vec::new(alloc),
@@ -192,7 +195,7 @@ impl WrongAnswers {
         }
     }
 
-    /// Adds the wrong answers of a key whose other calls have an order. Allocates.
+    /// Adds the wrong answers for a key whose other calls are linearizable. Allocates.
     pub(crate) fn add_of_key(
         &mut self,
         alloc: Global,

@@ -1,4 +1,5 @@
-//! Repairs of a clash: with one other reply, one missing call or one more change the calls around the clash have an order.
+//! Finds repairs of a contradiction: changing one reply, leaving out one call, or adding one change makes the
+//! surrounding calls linearizable.
 
 use crate::contradictions::Clash;
 use crate::key_calls::KeyCalls;
@@ -8,14 +9,14 @@ use crate::stretches::{Stretch, sure_before};
 use lset_words::Presence;
 use std::alloc::{AllocError, Global};
 
-/// How many calls of the key after the clash must have an order too: the largest number is tried first.
+/// How many later calls of the key must be linearizable too. The largest number is tried first.
 const AHEAD: [usize; 3] = [24, 8, 2];
 
-/// The maximum number of calls around a clash.
+/// The maximum number of calls around a contradiction.
 const MOST_AROUND: usize = 300;
 
-/// The calls of a key around a clash that begin after the moment `from` and before another one. A call that had not ended by that moment is
-/// pending. The key has the state `state` at `from`.
+/// A key's calls around a contradiction: those that are pending at the moment `from`, and those that begin after it and
+/// before a later moment. The key has the state `state` at `from`.
 #[derive(Drop)]
 struct Around {
     from: u64,
@@ -24,14 +25,15 @@ struct Around {
     left: Option<Presence>,
 }
 
-/// The repairs of a clash.
+/// The possible repairs of a contradiction.
 #[derive(Drop)]
 pub(crate) struct Repairs {
-    /// Calls. If any one of them had the other reply, the calls around the clash would have an order.
+    /// If any one of these calls had the opposite reply, the calls around the contradiction would be linearizable.
     pub(crate) turned: Vec<Made>,
-    /// Adds and removes that returned false. If any one of them were missing, the calls around the clash would have an order.
+    /// If any one of these adds and removes, which returned false, were missing, the calls around the contradiction
+    /// would be linearizable.
     pub(crate) dropped: Vec<Made>,
-    /// Whether the calls around the clash would have an order with one more change between its two calls.
+    /// Whether one more change between the two contradicting calls would make the calls around them linearizable.
     pub(crate) change: bool,
 }
 
@@ -41,7 +43,7 @@ impl Repairs {
     }
 }
 
-/// Returns the calls around a clash that begin before `until`. `None` if there are too many.
+/// Returns the calls around a contradiction that begin before `until`; `None` if there are too many.
 fn calls_around(
     alloc: Global,
     key: &KeyCalls,
@@ -72,7 +74,7 @@ fn calls_around(
     }))
 }
 
-/// Returns the moment before which `ahead` calls begin after a clash. `NEVER` if there are no more calls.
+/// Returns the moment before which `ahead` calls begin after a contradiction; `NEVER` if there are fewer calls.
 fn moment_ahead(key: &KeyCalls, clash: &Clash, ahead: usize) -> u64 {
     key.after(clash.until)
         .get(ahead)
@@ -84,7 +86,7 @@ impl Around {
         has_order(alloc, calls, self.state, self.left)
     }
 
-    /// Returns whether the calls have an order if one of them has the other reply, or is missing (`drops`).
+    /// Returns `true` if the calls are linearizable when one of them has the opposite reply or, if `drops`, is missing.
     fn is_repaired(&self, alloc: Global, call: Made, drops: bool) -> Result<bool, AllocError> {
         let mut calls = Vec::new(alloc);
         for one in &self.calls {
@@ -107,7 +109,7 @@ impl Around {
         self.is_explained(alloc, &calls)
     }
 
-    /// Returns whether the calls have an order with one more change between the two calls of a clash.
+    /// Returns `true` if the calls are linearizable with one more change between the two contradicting calls.
     fn is_repaired_by_change(&self, alloc: Global, clash: &Clash) -> Result<bool, AllocError> {
         let change = Made {
             begun: clash.begun(),
@@ -136,7 +138,7 @@ impl Around {
     }
 }
 
-/// Adds a call that is not in the list.
+/// Adds a call unless it is already in the list.
 fn add(calls: &mut Vec<Made>, call: Made) -> Result<(), AllocError> {
     if !calls.contains(&call) {
         calls.push(call)?;
@@ -144,7 +146,8 @@ fn add(calls: &mut Vec<Made>, call: Made) -> Result<(), AllocError> {
     Ok(())
 }
 
-/// Returns the calls for which the other reply is tried: the calls of the clash, and calls that returned false at the same time.
+/// Returns the calls for which the opposite reply is tried: the contradicting calls, and calls that returned false at
+/// the same time.
 fn candidates(alloc: Global, key: &KeyCalls, clash: &Clash) -> Result<Vec<Made>, AllocError> {
     let mut found = Vec::new(alloc);
     for call in [clash.first, clash.second].into_iter().flatten() {
@@ -163,7 +166,7 @@ fn candidates(alloc: Global, key: &KeyCalls, clash: &Clash) -> Result<Vec<Made>,
     Ok(found)
 }
 
-/// Returns the repairs of some calls around a clash.
+/// Returns the repairs for the calls around a contradiction that begin before a moment.
 fn repairs_until(
     alloc: Global,
     clash: &Clash,
@@ -187,7 +190,7 @@ fn repairs_until(
     Ok(repairs)
 }
 
-/// Returns the repairs of a clash that give an order to the calls around it and to some calls after it. Allocates.
+/// Returns the repairs that make the calls around a contradiction and some later calls linearizable. Allocates.
 pub(crate) fn repairs_of(
     alloc: Global,
     key: &KeyCalls,
@@ -212,8 +215,8 @@ pub(crate) fn repairs_of(
     })
 }
 
-/// Returns whether the other reply of a call was expected: the calls that had begun when the call ended have no order, and have one with the
-/// other reply. Allocates.
+/// Returns `true` if the opposite reply of a call was expected: the calls that had begun by the end of this call are
+/// not linearizable, but would be with that reply. Allocates.
 pub(crate) fn is_expected(
     alloc: Global,
     key: &KeyCalls,

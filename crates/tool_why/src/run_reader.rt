@@ -4,13 +4,13 @@ use lset_words::Presence;
 use std::alloc::{AllocError, Global};
 use std::io::Read;
 
-/// A recording: the opening keys, the calls in the order of their begins, and the final keys.
+/// A recording: the opening keys, the calls in the order in which they began, and the final keys.
 #[derive(Drop)]
 pub struct Recorded {
     pub(crate) opening: Vec<u32>,
     pub(crate) calls: Vec<Made>,
     pub(crate) left: Vec<u32>,
-    /// Whether the recording was cut off: then the final keys are not known.
+    /// Whether the recording was cut off, so that the final keys are unknown.
     pub(crate) is_cut: bool,
     /// Whether these are only the first calls of a longer recording.
     pub(crate) is_part: bool,
@@ -22,7 +22,7 @@ impl Recorded {
         presence_in(&self.opening, key)
     }
 
-    /// Returns the final state of a key. `None` if it is not known.
+    /// Returns a key's final state; `None` if it is unknown.
     pub(crate) fn leaves(&self, key: u32) -> Option<Presence> {
         if self.is_cut {
             None
@@ -32,7 +32,7 @@ impl Recorded {
     }
 }
 
-/// Returns `Present` if a key is in a list of increasing keys.
+/// Returns `Present` if the key is in a list of increasing keys, otherwise `Absent`.
 fn presence_in(keys: &[u32], key: u32) -> Presence {
     match keys.binary_search(&key) {
         Ok(_) => Presence::Present,
@@ -40,7 +40,7 @@ fn presence_in(keys: &[u32], key: u32) -> Presence {
     }
 }
 
-/// A reader of recordings that keeps every call.
+/// Reads a recording and keeps all of its calls.
 #[derive(Drop)]
 pub struct RunReader {
     recorded: Recorded,
@@ -51,7 +51,7 @@ pub struct RunReader {
 }
 
 impl RunReader {
-    /// Returns a reader that has read nothing. Does not allocate.
+    /// Creates a reader that has not read anything. Does not allocate.
     pub fn new(alloc: Global) -> RunReader {
         RunReader {
             recorded: Recorded {
@@ -99,7 +99,7 @@ impl RunReader {
         self.read_line(&whole)
     }
 
-    /// Reads the next bytes of the text. Allocates; does not block.
+    /// Reads the next piece of the text. Allocates. Does not block.
     pub fn feed(&mut self, piece: &[u8]) -> Result<(), AllocError> {
         let mut rest = piece;
         for _ in 0..piece.len() {
@@ -113,7 +113,7 @@ impl RunReader {
         Ok(())
     }
 
-    /// Returns the recording. `None` if the text is no recording. Does not allocate.
+    /// Returns the recording; `None` if the text is not a recording. Does not allocate.
     pub fn finish(self) -> Option<Recorded> {
         let is_done = matches!(self.section, Section::Done);
         if is_done && self.is_whole && self.line.is_empty() {
@@ -123,13 +123,13 @@ impl RunReader {
         }
     }
 
-    /// Returns all that was read until now.
+    /// Returns everything read so far.
     pub(crate) fn recorded(&self) -> &Recorded {
         &self.recorded
     }
 
-    /// Reads to the end of the input, or until more than `most` calls are kept. Returns whether the input has ended, and `None` if a read
-    /// fails. Allocates; blocks as the input does.
+    /// Reads to the end of the input, or until more than `most` calls are kept. Returns `true` if the input has ended,
+    /// and `None` if a read fails. Allocates. Blocks while reading.
     pub(crate) fn read_calls<R: Read>(
         &mut self,
         input: &mut R,
@@ -151,8 +151,8 @@ impl RunReader {
         Ok(None)
     }
 
-    /// Returns the first `count` calls as a recording that is cut off just before the next call begins. `None` if fewer calls were read, or
-    /// if a line is wrong. Allocates.
+    /// Returns the first `count` calls as a recording that was cut off just before the next call began. Returns `None`
+    /// if fewer calls were read or a line is wrong. Allocates.
     pub(crate) fn first_calls(&self, count: usize) -> Result<Option<Recorded>, AllocError> {
         let Some(next) = self.recorded.calls.get(count) else {
             return Ok(None);
@@ -175,5 +175,5 @@ impl RunReader {
     }
 }
 
-/// The maximum number of bytes of one read.
+/// The maximum size of one read, in bytes.
 const READ_SIZE: usize = 65_536;

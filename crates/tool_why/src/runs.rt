@@ -4,27 +4,28 @@ use crate::made_calls::Made;
 use crate::run_reader::Recorded;
 use std::alloc::{AllocError, Global};
 
-/// The calls of a recording by their keys.
+/// The calls of a recording, grouped by key.
 #[derive(Drop)]
 pub(crate) struct Runs<'a> {
     alloc: Global,
     pub(crate) recorded: &'a Recorded,
-    /// The keys of calls, in increasing order.
+    /// The keys that have calls, in increasing order.
     keys: Vec<u32>,
-    /// For each key of `keys`, the index behind its last call in `calls`.
+    /// For each key in `keys`, the index after its last call in `calls`.
     ends: Vec<usize>,
-    /// The calls, key by key, each key's in the order of their begins.
+    /// The calls, grouped by key; the calls of each key are in the order in which they began.
     calls: Vec<Made>,
 }
 
-/// A key whose calls have no order, and the first moment by which they have none; `NEVER` if no order leaves the final state.
+/// A key whose calls are not linearizable, and the first moment up to which they are not; `NEVER` if no order leaves
+/// the final state.
 #[derive(Clone, Copy)]
 pub(crate) struct Refused {
     pub(crate) key: u32,
     pub(crate) moment: u64,
 }
 
-/// The keys of calls in increasing order. If the keys are small numbers, a table has the index of each key in `keys`.
+/// The keys that have calls, in increasing order. If the keys are small numbers, a table maps each key to its index.
 #[derive(Drop)]
 struct KeyTable {
     keys: Vec<u32>,
@@ -37,7 +38,7 @@ fn place_of(keys: &[u32], key: u32) -> usize {
 }
 
 impl KeyTable {
-    /// Returns the table of calls whose largest key is not small.
+    /// Creates the table for calls whose largest key is not small.
     fn sorted(alloc: Global, calls: &[Made]) -> Result<KeyTable, AllocError> {
         let mut keys = Vec::new(alloc);
         for call in calls {
@@ -51,7 +52,7 @@ impl KeyTable {
         })
     }
 
-    /// Returns the table of calls.
+    /// Creates the table for these calls.
     fn of(alloc: Global, calls: &[Made]) -> Result<KeyTable, AllocError> {
         let mut most = 0;
         for call in calls {
@@ -85,7 +86,7 @@ impl KeyTable {
         Ok(table)
     }
 
-    /// Returns the index of a key of a call.
+    /// Returns the index of a key, which must have a call.
     fn rank(&self, key: u32) -> usize {
         let at = usize::try_from(key).unwrap_or(usize::MAX);
         match self.ranks.get(at) {
@@ -96,7 +97,7 @@ impl KeyTable {
 }
 
 impl<'a> Runs<'a> {
-    /// Groups the calls of a recording by their keys. Allocates.
+    /// Groups the calls of a recording by key. Allocates.
     pub(crate) fn of(alloc: Global, recorded: &'a Recorded) -> Result<Runs<'a>, AllocError> {
         let table = KeyTable::of(alloc, &recorded.calls)?;
         let mut counts = Vec::from_elem(alloc, 0usize, table.keys.len())?;
@@ -134,7 +135,7 @@ impl<'a> Runs<'a> {
         self.keys.len()
     }
 
-    /// Returns the index of a key among those that have calls. `usize::MAX` if the key has none.
+    /// Returns the index of a key among those that have calls; `usize::MAX` if the key has none.
     pub(crate) fn place(&self, key: u32) -> usize {
         let place = place_of(&self.keys, key);
         if self.keys.get(place) == Some(&key) {
@@ -144,7 +145,7 @@ impl<'a> Runs<'a> {
         }
     }
 
-    /// Returns the calls of a key, in the order of their begins.
+    /// Returns a key's calls in the order in which they began.
     pub(crate) fn made_of(&self, key: u32) -> &[Made] {
         let place = self.place(key);
         if place == usize::MAX {
@@ -155,14 +156,14 @@ impl<'a> Runs<'a> {
         self.calls.get(start..end).unwrap_or(&[])
     }
 
-    /// Returns the calls of a key, indexed for searches. Allocates.
+    /// Returns a key's calls, indexed for searches. Allocates.
     pub(crate) fn calls_of(&self, key: u32) -> Result<KeyCalls, AllocError> {
         let calls = Vec::from_slice(self.alloc, self.made_of(key))?;
         let (opening, left) = (self.recorded.opens(key), self.recorded.leaves(key));
         KeyCalls::new(self.alloc, key, calls, opening, left)
     }
 
-    /// Returns all keys of the recording in increasing order. Allocates.
+    /// Returns all keys in the recording in increasing order. Allocates.
     pub(crate) fn keys(&self) -> Result<Vec<u32>, AllocError> {
         let mut keys = Vec::from_slice(self.alloc, &self.keys)?;
         keys.extend_from_slice(&self.recorded.opening)?;
@@ -172,7 +173,7 @@ impl<'a> Runs<'a> {
         Ok(keys)
     }
 
-    /// Returns the keys whose calls have no order. Allocates.
+    /// Returns the keys whose calls are not linearizable. Allocates.
     pub(crate) fn refused(&self, keys: &[u32]) -> Result<Vec<Refused>, AllocError> {
         let mut refused = Vec::new(self.alloc);
         for key in keys {

@@ -1,4 +1,4 @@
-//! The message of a diagnosis: headline, picture, scope, duration, and a likely cause.
+//! Writes the message of a diagnosis: headline, picture, scope, duration, and a likely cause.
 
 use crate::bars::put_picture;
 use crate::counted::count_in;
@@ -14,7 +14,7 @@ use lset_words::Presence;
 use std::alloc::{AllocError, Global};
 use std::io::Read;
 
-/// The maximum number of lines that are not blank, with the verdict and without the line that a test adds.
+/// The maximum number of nonblank lines, including the verdict but not the line that a test adds.
 const MOST_LINES: usize = 15;
 
 /// Writes a line such as `contains(3) returned true, expected false`.
@@ -29,12 +29,12 @@ fn put_returned(out: &mut String, call: Made, expected: bool) -> Result<(), Allo
     out.push_str("\n")
 }
 
-/// Returns whether a call returned false and its operation makes the contradicting change.
+/// Returns `true` if a call returned false although its operation makes the contradicting change.
 fn is_silent(diagnosis: &Diagnosis, call: Made) -> bool {
     call.reply == Some(false) && call.operation == Operation::that_makes(other(diagnosis.was))
 }
 
-/// Writes the headline of a lost key, or of a key that came back.
+/// Writes the headline for a key that was lost or came back.
 fn put_gone(out: &mut String, diagnosis: &Diagnosis) -> Result<(), AllocError> {
     if let Some(call) = diagnosis.wrong {
         if is_silent(diagnosis, call) {
@@ -49,7 +49,7 @@ fn put_gone(out: &mut String, diagnosis: &Diagnosis) -> Result<(), AllocError> {
     put_contradiction(out, diagnosis)
 }
 
-/// Writes the call that contradicts the others, or the final state.
+/// Writes the call, or the final state, that contradicts the other calls.
 fn put_contradiction(out: &mut String, diagnosis: &Diagnosis) -> Result<(), AllocError> {
     match (diagnosis.wrong, diagnosis.second) {
         (Some(call), _) => put_returned(out, call, true),
@@ -65,7 +65,7 @@ fn put_contradiction(out: &mut String, diagnosis: &Diagnosis) -> Result<(), Allo
     }
 }
 
-/// Writes the headline of a split.
+/// Writes the headline for a split.
 fn put_disagreement(out: &mut String, split: &Split) -> Result<(), AllocError> {
     let (key, adds, removes) = (split.key, split.adds.present, split.removes.absent);
     let found = if split.contains.present > 0 {
@@ -107,7 +107,7 @@ fn put_count(out: &mut String, count: u64, one: &str, many: &str) -> Result<(), 
     write!(out, "{count} {noun}")
 }
 
-/// Returns the phrase for the answers of an operation.
+/// Returns the phrase for an operation's answers.
 fn answers_word(operation: Operation) -> &'static str {
     match operation {
         Operation::Add => "add that returned false",
@@ -116,7 +116,7 @@ fn answers_word(operation: Operation) -> &'static str {
     }
 }
 
-/// Writes what no answer of the odd operation did, if all wrong answers are known.
+/// Writes what no answer of the faulty operation did, if all wrong answers are known.
 fn put_never(out: &mut String, odd: &Odd, what: &str) -> Result<(), AllocError> {
     if odd.is_exact {
         write!(out, ", and never {what}")?;
@@ -141,7 +141,7 @@ fn put_ways(out: &mut String, odd: &Odd) -> Result<(), AllocError> {
     }
 }
 
-/// Writes the scope of the odd operation.
+/// Writes the scope for an faulty operation.
 fn put_odd(out: &mut String, odd: &Odd) -> Result<(), AllocError> {
     let word = answers_word(odd.operation);
     let (wrong, of) = (odd.wrong, odd.of);
@@ -161,7 +161,7 @@ fn put_odd(out: &mut String, odd: &Odd) -> Result<(), AllocError> {
     out.push_str("\n")
 }
 
-/// Writes a kind of contradictions with its count, unless the count is 0.
+/// Writes how many contradictions of a kind there are, unless there are none.
 fn put_kind(out: &mut String, kind: &str, count: u64) -> Result<(), AllocError> {
     if count > 0 {
         write!(out, "; {kind}: {count}")?;
@@ -169,7 +169,7 @@ fn put_kind(out: &mut String, kind: &str, count: u64) -> Result<(), AllocError> 
     Ok(())
 }
 
-/// Writes the kinds of contradictions with their counts.
+/// Writes how many contradictions of each kind there are.
 fn put_kinds(out: &mut String, tally: &Tally) -> Result<(), AllocError> {
     put_kind(out, "lost", tally.lost)?;
     put_kind(out, "came back", tally.came_back)?;
@@ -180,7 +180,7 @@ fn put_kinds(out: &mut String, tally: &Tally) -> Result<(), AllocError> {
     put_kind(out, "other", tally.others)
 }
 
-/// Writes the number of contradictions, of keys and of each kind.
+/// Writes the number of contradictions, of keys, and of each kind.
 fn put_tally(out: &mut String, diagnosis: &Diagnosis) -> Result<(), AllocError> {
     let tally = &diagnosis.evidence.tally;
     if tally.places == 0 {
@@ -197,7 +197,7 @@ fn put_tally(out: &mut String, diagnosis: &Diagnosis) -> Result<(), AllocError> 
     out.push_str("\n")
 }
 
-/// Writes how many calls of each operation found the key in which state.
+/// Writes how many calls of each operation found the key present and absent.
 fn put_split(out: &mut String, split: &Split) -> Result<(), AllocError> {
     let (key, since) = (split.key, split.since);
     let (adds, removes) = (split.adds.present, split.removes.absent);
@@ -213,8 +213,8 @@ fn put_split(out: &mut String, split: &Split) -> Result<(), AllocError> {
     writeln!(out, "{removes} remove absent, {votes} contains {state}")
 }
 
-/// Writes at how many contradictions no two calls overlapped, if they are at least 10 of 100. After an early error many later calls disagree:
-/// then nothing is written.
+/// Writes at how many contradictions no two calls overlapped, if that is at least 10 percent. After an early error many
+/// later calls disagree, so then nothing is written.
 fn put_apart(out: &mut String, tally: &Tally) -> Result<(), AllocError> {
     let (apart, places, others) = (tally.apart, tally.places, tally.others);
     let is_few = apart == 0 || apart.saturating_mul(10) < places;
@@ -227,7 +227,7 @@ fn put_apart(out: &mut String, tally: &Tally) -> Result<(), AllocError> {
     )
 }
 
-/// Writes how long the error lasts, and the first contradiction of the run.
+/// Writes how long the error lasts, and the first contradiction in the run.
 fn put_duration(out: &mut String, diagnosis: &Diagnosis) -> Result<(), AllocError> {
     if let Some(later) = diagnosis.later {
         let (word, begun, key) = (later.operation.word(), later.begun, later.key);
@@ -248,7 +248,7 @@ fn put_duration(out: &mut String, diagnosis: &Diagnosis) -> Result<(), AllocErro
     Ok(())
 }
 
-/// Returns the sentence of a likely cause of wrong answers.
+/// Returns the sentence for a likely cause of wrong answers.
 fn answers_cause_text(cause: Cause) -> &'static str {
     match cause {
         Cause::MarkNotRead =>
@@ -276,7 +276,7 @@ fn answers_cause_text(cause: Cause) -> &'static str {
     }
 }
 
-/// Returns the sentence of a likely cause.
+/// Returns the sentence for a likely cause.
 pub(crate) fn cause_text(cause: Cause) -> &'static str {
     match cause {
         Cause::TwoKeys => "two keys are taken for one (a hash, a key cut short, a comparison)",
@@ -320,7 +320,7 @@ pub(crate) fn cause_text(cause: Cause) -> &'static str {
     }
 }
 
-/// Writes the fact for a cause of contains that finds absent keys, or is wrong both ways.
+/// Writes the fact for a `contains` that finds absent keys, or is wrong both ways.
 fn put_because_of_found(out: &mut String, odd: &Odd, cause: Cause) -> Result<(), AllocError> {
     let (running, found, own, wrong) = (odd.running, odd.found, odd.own, odd.wrong);
     let only = if odd.is_exact { "only " } else { "" };
@@ -345,7 +345,7 @@ fn put_because_of_found(out: &mut String, odd: &Odd, cause: Cause) -> Result<(),
     }
 }
 
-/// Writes the fact for a cause of contains that misses present keys.
+/// Writes the fact for a `contains` that misses present keys.
 fn put_because_of_missed(out: &mut String, odd: &Odd, cause: Cause) -> Result<(), AllocError> {
     let (missed, removing) = (odd.missed, odd.removing);
     let (compared, lonely) = (odd.compared, odd.lonely);
@@ -371,7 +371,7 @@ fn put_because_of_missed(out: &mut String, odd: &Odd, cause: Cause) -> Result<()
     }
 }
 
-/// Writes the fact for a cause of the odd operation.
+/// Writes the fact for a cause in the faulty operation.
 fn put_because_of_odd(out: &mut String, odd: &Odd, cause: Cause) -> Result<(), AllocError> {
     let (missed, wrong, adding) = (odd.missed, odd.wrong, odd.adding);
     let keys = if odd.keys == 1 { "key" } else { "keys" };
@@ -395,7 +395,7 @@ fn put_because_of_odd(out: &mut String, odd: &Odd, cause: Cause) -> Result<(), A
     }
 }
 
-/// Writes the fact for a cause of wrong replies, or of changes at the same time.
+/// Writes the fact for a cause that concerns wrong replies or simultaneous changes.
 fn put_because_of_calls(out: &mut String, tally: &Tally, cause: Cause) -> Result<(), AllocError> {
     let (gone, both, places) = (tally.gone(), tally.both(), tally.places);
     let (silent, turned, begun) = (tally.silent, tally.turned, tally.begun);
@@ -422,7 +422,7 @@ fn put_because_of_calls(out: &mut String, tally: &Tally, cause: Cause) -> Result
     }
 }
 
-/// Writes the fact for a cause of keys that are only lost.
+/// Writes the fact for a cause by which keys are only lost.
 fn put_because_of_lost(out: &mut String, tally: &Tally, cause: Cause) -> Result<(), AllocError> {
     let (lost, sharp, short) = (tally.lost, tally.sharp, tally.short);
     let (added, removed, least) = (tally.displaced, tally.unlinked, tally.least_full);
@@ -466,7 +466,7 @@ fn put_because_of_one(
     }
 }
 
-/// Writes the fact for a cause of keys that are lost and come back.
+/// Writes the fact for a cause by which keys are lost and come back.
 fn put_because_of_gone(
     out: &mut String,
     evidence: &Evidence,
@@ -569,13 +569,13 @@ fn put_facts(out: &mut String, diagnosis: &Diagnosis) -> Result<(), AllocError> 
     Ok(())
 }
 
-/// Returns the number of lines that are not blank.
+/// Returns the number of nonblank lines.
 fn lines_of(text: &str) -> usize {
     text.lines().filter(|line| !line.is_empty()).count()
 }
 
-/// Returns the message of a diagnosis, without the verdict. The message and the `used` lines above it have at most 15 lines that are not
-/// blank. Allocates.
+/// Returns the message of a diagnosis, without the verdict. Together with the `used` lines above it, the message has at
+/// most 15 nonblank lines. Allocates.
 pub fn diagnosis_text(
     alloc: Global,
     diagnosis: &Diagnosis,
@@ -597,25 +597,26 @@ pub fn diagnosis_text(
     Ok(out)
 }
 
-/// The lines of a count in a message.
+/// The number of lines that a count has in a message.
 const COUNT_LINES: usize = 3;
 
-/// The number of lines of a verdict without a clash.
+/// The number of lines that a verdict without a contradiction has.
 const LEAST_USED: usize = 2;
 
 /// The explanation of a refused recording.
 #[derive(Drop)]
 pub struct Explained {
-    /// A count of the refused key, if the verdict has no clash and a count was found.
+    /// A count for the refused key, if the verdict has no contradiction and a count was found.
     pub count: Option<Count>,
-    /// The message of the diagnosis.
+    /// The diagnosis as text.
     pub text: String,
 }
 
-/// The number of calls from which on an explanation is of so many first calls alone, if these have no order.
+/// The number of calls after which reading stops if they are not linearizable. Only these first calls are then
+/// explained.
 const MOST_EXPLAINED: usize = 1_000_000;
 
-/// Describes a diagnosis in an explanation. `recorded` has the calls as they ended later.
+/// Describes a diagnosis in an explanation. `recorded` has the calls with their later ends.
 fn described(
     alloc: Global,
     recorded: &Recorded,
@@ -632,7 +633,7 @@ fn described(
     Ok(Explained { count, text })
 }
 
-/// Explains why no order explains the first calls of a recording that is longer. `None` if some order explains them.
+/// Explains why the first calls of a longer recording are not linearizable; `None` if they are.
 fn explain_first(
     alloc: Global,
     reader: &RunReader,
@@ -648,9 +649,10 @@ fn explain_first(
     Ok(Some(described(alloc, reader.recorded(), &diagnosis, used)?))
 }
 
-/// Reads a recording, and explains why no order explains it. The verdict above the explanation has `used` lines: two without a clash. If no
-/// order explains the first `MOST_EXPLAINED` calls, the explanation is of these, and the other lines are not read. Returns `None` if a read
-/// fails, if the text is no recording, or if some order explains it. Allocates; blocks as the input does.
+/// Reads a recording and explains why no order explains it. The verdict above the explanation has `used` lines: two if
+/// it has no contradiction. If the first `MOST_EXPLAINED` calls are not linearizable, explains only these and does not
+/// read the other lines. Returns `None` if a read fails, if the text is not a recording, or if some order explains it.
+/// Allocates. Blocks while reading.
 pub fn explain<R: Read>(
     alloc: Global,
     input: &mut R,

@@ -6,10 +6,10 @@ use std::alloc::{AllocError, Global};
 /// The minimum number of answers of each kind in a split.
 const LEAST: u64 = 3;
 
-/// The minimum number of answers of a long split.
+/// The minimum number of answers for a split to count as long.
 const LONG: u64 = 200;
 
-/// How many answers of an operation found a key present, and how many absent.
+/// How many answers of an operation found a key present, and how many found it absent.
 #[derive(Clone, Copy)]
 pub struct Votes {
     pub present: u64,
@@ -21,13 +21,13 @@ const NO_VOTES: Votes = Votes {
     absent: 0,
 };
 
-/// A time in which no change of a key ran, and calls found the key present and absent by turns.
+/// A split: a period in which no change of a key ran, but calls alternately found the key present and absent.
 #[derive(Clone, Copy)]
 pub struct Split {
     pub key: u32,
     /// The moment after which no change ran.
     pub since: u64,
-    /// The moment at which the next change begins; `NEVER` if none does.
+    /// The moment at which the next change begins; `NEVER` if there is none.
     pub until: u64,
     pub adds: Votes,
     pub removes: Votes,
@@ -37,7 +37,7 @@ pub struct Split {
 }
 
 impl Split {
-    /// Returns a split without answers.
+    /// Creates a split without answers.
     fn since(key: u32, since: u64) -> Split {
         Split {
             key,
@@ -51,7 +51,7 @@ impl Split {
         }
     }
 
-    /// Counts the answer of a call.
+    /// Counts a call's answer.
     fn count(&mut self, call: Made) {
         let Some(found) = call.needs() else {
             return;
@@ -71,12 +71,12 @@ impl Split {
         self.last = Some(found);
     }
 
-    /// Returns whether the split has so many answers that it is a rule of the set.
+    /// Returns `true` if the split has enough answers to indicate a rule.
     pub fn is_long(&self) -> bool {
         self.size() >= LONG
     }
 
-    /// Returns how many answers of all operations found the key present, and how many absent.
+    /// Returns how many answers of all operations found the key present, and how many found it absent.
     pub fn votes(&self) -> Votes {
         let (adds, removes, contains) = (self.adds, self.removes, self.contains);
         let present = adds.present.saturating_add(contains.present);
@@ -87,7 +87,7 @@ impl Split {
         }
     }
 
-    /// Returns whether `contains` always found the key in one state, and the answers changed at least three times.
+    /// Returns `true` if `contains` always found the key in one state, and the answers alternated at least three times.
     fn is_split(&self) -> bool {
         let votes = self.votes();
         let is_mixed = self.contains.present > 0 && self.contains.absent > 0;
@@ -101,7 +101,7 @@ impl Split {
     }
 }
 
-/// Returns the longest split of a key, by the number of its answers. Allocates.
+/// Returns the split of a key with the most answers. Allocates.
 pub(crate) fn longest_split(alloc: Global, key: &KeyCalls) -> Result<Option<Split>, AllocError> {
     let mut best: Option<Split> = None;
     let mut split = Split::since(key.key, 0);

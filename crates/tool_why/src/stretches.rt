@@ -1,22 +1,23 @@
-//! Stretches: changes of a key that overlap one another. The state that they leave together follows from their number.
+//! Finds stretches: changes of a key that overlap each other. The state that they leave together follows from their
+//! number.
 
 use crate::key_calls::KeyCalls;
 use crate::made_calls::{Made, NEVER};
 use lset_words::Presence;
 use std::alloc::{AllocError, Global};
 
-/// Changes of a key that overlap one another, from the first begin to the last end. No other change overlaps the stretch.
+/// Overlapping changes of a key, from the first begin to the last end. No other change overlaps the stretch.
 #[derive(Clone, Copy)]
 pub(crate) struct Stretch {
     pub(crate) begun: u64,
     pub(crate) ended: u64,
-    /// The state of the key after the changes in every order, if it follows from their number and from `read`.
+    /// The key's state after these changes in every order, if it follows from their number and from `read`.
     pub(crate) leaves: Option<Presence>,
-    /// A call before the changes that shows the state of the key, if it is needed.
+    /// An earlier call that shows the key's state, if that is needed.
     pub(crate) read: Option<Made>,
 }
 
-/// The changes of a stretch so far, by their number.
+/// How many changes of each kind a stretch has so far.
 #[derive(Clone, Copy)]
 struct Sum {
     begun: u64,
@@ -55,7 +56,8 @@ impl Sum {
         }
     }
 
-    /// Returns the stretch of the changes. `before` is the state before them, if it is known, and `read` the call that shows it.
+    /// Completes the stretch. `before` is the key's state before it, if known, and `read` is the call that shows that
+    /// state.
     fn stretch(self, before: Option<Presence>, read: Option<Made>) -> Stretch {
         let (leaves, read) = if self.adds == self.removes {
             (before, read)
@@ -75,7 +77,7 @@ impl Sum {
     }
 }
 
-/// Returns the last call between two moments that did not change the key, among the 32 calls that began last.
+/// Returns the last call between two moments that did not change the key, among the 32 that began last.
 fn read_between(key: &KeyCalls, since: u64, until: u64) -> Option<Made> {
     let end = key.begun_by(until);
     let earlier = key.calls.get(..end).unwrap_or(&[]);
@@ -90,7 +92,7 @@ fn read_between(key: &KeyCalls, since: u64, until: u64) -> Option<Made> {
     None
 }
 
-/// Returns the stretch of a sum, with the state before it if it is known.
+/// Completes a stretch from its counts, with the key's state before it if known.
 fn stretch_of(key: &KeyCalls, sum: Sum, last: Option<Stretch>) -> Stretch {
     let since = last.map_or(0, |last| last.ended);
     match read_between(key, since, sum.begun) {
@@ -103,7 +105,7 @@ fn stretch_of(key: &KeyCalls, sum: Sum, last: Option<Stretch>) -> Stretch {
     }
 }
 
-/// Returns the stretches of a key in the order of time, up to the first pending change. Allocates.
+/// Returns the stretches of a key ordered by time, up to the first pending change. Allocates.
 pub(crate) fn stretches_of(alloc: Global, key: &KeyCalls) -> Result<Vec<Stretch>, AllocError> {
     let mut found: Vec<Stretch> = Vec::new(alloc);
     let mut sum: Option<Sum> = None;

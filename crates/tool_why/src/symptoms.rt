@@ -1,4 +1,4 @@
-//! The places at which the calls of a key contradict each other, each with its symptom.
+//! Finds the contradictions between a key's calls, and the symptom of each.
 
 use crate::contradictions::{Clash, clashes_of};
 use crate::key_calls::KeyCalls;
@@ -8,42 +8,42 @@ use crate::stretches::{Stretch, stretches_of};
 use lset_words::Presence;
 use std::alloc::{AllocError, Global};
 
-/// The symptom of a place.
+/// What a contradiction looks like.
 #[derive(Clone, Copy, PartialEq, Eq)]
 pub enum Symptom {
-    /// The reply of one call that changes nothing is wrong: the operation missed a present key.
+    /// One reply of a call that changes nothing is wrong: the operation missed a present key.
     Missed(Operation),
-    /// The reply of one call that changes nothing is wrong: the operation found an absent key.
+    /// One reply of a call that changes nothing is wrong: the operation found an absent key.
     Found(Operation),
-    /// Two calls of the operation overlap, and both returned true.
+    /// Two overlapping calls of the operation both returned true.
     BothTrue(Operation),
-    /// A key was present, and later absent, without a remove that returned true.
+    /// A present key became absent without a remove that returned true.
     Lost,
-    /// A key was absent, and later present, without an add that returned true.
+    /// An absent key became present without an add that returned true.
     CameBack,
     /// More calls of the operation returned true than the other calls allow.
     TooMany(Operation),
-    /// No single repair gives an order.
+    /// No single repair makes the calls linearizable.
     Unclear,
 }
 
-/// A clash with its symptom.
+/// A contradiction with its symptom.
 #[derive(Clone, Copy)]
 pub(crate) struct Place {
     pub(crate) key: u32,
     pub(crate) clash: Clash,
     pub(crate) symptom: Symptom,
-    /// The call with the one wrong reply.
+    /// The call with the only wrong reply.
     pub(crate) wrong: Option<Made>,
-    /// An add or remove that returned false: with the other reply the calls around have an order.
+    /// An add or remove that returned false. If it had returned true, the surrounding calls would be linearizable.
     pub(crate) silent: Option<Made>,
-    /// Whether the calls around have an order with the other reply of one call.
+    /// Whether the surrounding calls are linearizable with the opposite reply of one call.
     pub(crate) is_turned: bool,
-    /// The number of calls of the key that begin by the end of the clash.
+    /// How many calls of the key had begun by the end of the contradiction.
     pub(crate) begun: usize,
 }
 
-/// Returns the only element. `None` if there are none or more.
+/// Returns the only element; `None` if there are none or several.
 fn only(calls: &[Made]) -> Option<Made> {
     match calls {
         [call] => Some(*call),
@@ -51,7 +51,8 @@ fn only(calls: &[Made]) -> Option<Made> {
     }
 }
 
-/// Returns the only call that changes nothing, is `contains` (or is not, by `contains`), and repairs the clash by its other reply.
+/// Returns the only call that changes nothing and whose opposite reply repairs the contradiction. Considers only calls
+/// of `contains` or, if `contains` is false, only other calls.
 fn only_turned(
     alloc: Global,
     repairs: &Repairs,
@@ -66,7 +67,7 @@ fn only_turned(
     Ok(only(&found))
 }
 
-/// Returns the symptom of a call with the one wrong reply.
+/// Returns the symptom of a call with the only wrong reply.
 pub(crate) fn symptom_of_reply(call: Made) -> Symptom {
     match call.needs() {
         Some(Presence::Present) => Symptom::Found(call.operation),
@@ -74,7 +75,7 @@ pub(crate) fn symptom_of_reply(call: Made) -> Symptom {
     }
 }
 
-/// Returns the symptom of a key that changed without a call that says so, from the state `was`.
+/// Returns the symptom of a key that left the state `was` although no call reported a change.
 fn gone(was: Presence) -> Symptom {
     match was {
         Presence::Present => Symptom::Lost,
@@ -82,7 +83,7 @@ fn gone(was: Presence) -> Symptom {
     }
 }
 
-/// Returns the operation of two changes that overlap. `None` if the clash is not of two such changes.
+/// Returns the operation of two overlapping changes; `None` if the contradiction is not between two such changes.
 fn both_true(clash: &Clash) -> Option<Operation> {
     let (first, second) = (clash.first?, clash.second?);
     if clash.overlaps() && first.changes() && second.changes() {
@@ -92,7 +93,7 @@ fn both_true(clash: &Clash) -> Option<Operation> {
     }
 }
 
-/// Returns the place of a clash, with its symptom. Allocates.
+/// Determines the symptom of a contradiction. Allocates.
 pub(crate) fn place_of(
     alloc: Global,
     key: &KeyCalls,
@@ -131,7 +132,8 @@ pub(crate) fn place_of(
     Ok(place)
 }
 
-/// Returns the places of a key that do not overlap one another in time, in the order of time. Allocates.
+/// Returns the contradictions of a key with their symptoms, without those that overlap others, ordered by time.
+/// Allocates.
 pub(crate) fn places_of(alloc: Global, key: &KeyCalls) -> Result<Vec<Place>, AllocError> {
     let stretches = stretches_of(alloc, key)?;
     let clashes = clashes_of(alloc, key, &stretches)?;
@@ -143,12 +145,12 @@ pub(crate) fn places_of(alloc: Global, key: &KeyCalls) -> Result<Vec<Place>, All
 }
 
 impl Place {
-    /// Returns whether the key was lost or came back.
+    /// Returns `true` if the key was lost or came back.
     pub(crate) fn is_gone(&self) -> bool {
         matches!(self.symptom, Symptom::Lost | Symptom::CameBack)
     }
 
-    /// Returns the length of the place in time. A place that is less clear counts as longer.
+    /// Returns the duration of the contradiction. A less clear one counts as longer.
     pub(crate) fn length(&self) -> u64 {
         let length = self.clash.until.saturating_sub(self.clash.begun());
         let is_long = self.clash.stretch.is_some() || self.clash.second.is_none();
@@ -156,7 +158,7 @@ impl Place {
     }
 }
 
-/// Returns the shortest place with a symptom.
+/// Returns the shortest contradiction with this symptom.
 pub(crate) fn shortest(places: &[Place], symptom: Symptom) -> Option<Place> {
     let mut best: Option<Place> = None;
     for place in places {

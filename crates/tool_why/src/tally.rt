@@ -6,7 +6,7 @@ use crate::symptoms::{Place, Symptom};
 use lset_words::Presence;
 use std::alloc::{AllocError, Global};
 
-/// The numbers of contradictions of each kind. The contradictions of a key do not overlap one another in time.
+/// How many contradictions of each kind there are. Contradictions of the same key do not overlap each other.
 #[derive(Clone, Copy, Default)]
 pub struct Tally {
     pub places: u64,
@@ -19,50 +19,50 @@ pub struct Tally {
     /// Wrong answers that found an absent key.
     pub found: u64,
     pub others: u64,
-    /// Of `lost` and `came_back`: with the other reply of an add or remove that returned false the calls around have an order.
+    /// Of `lost` and `came_back`, those that the opposite reply of an add or remove that returned false would repair.
     pub silent: u64,
-    /// Of `lost` and `came_back`: with one other reply the calls around have an order.
+    /// Of `lost` and `came_back`, those that one opposite reply would repair.
     pub turned: u64,
-    /// Of `lost` and `came_back` that a call shows: a change of another key ran at the same time.
+    /// Of `lost` and `came_back` as shown by a call, those at which a change of another key ran.
     pub beside: u64,
-    /// Of `lost` and `came_back` that a call shows: no change of another key ran at the same time.
+    /// Of `lost` and `came_back` as shown by a call, those at which no change of another key ran.
     pub alone: u64,
-    /// Of `lost`: a remove that returned true ran among the overlapping changes before.
+    /// Of `lost`, those where a remove that returned true ran among the overlapping changes before.
     pub crossed: u64,
-    /// Of `lost`: from one to `MOST_BESIDE` changes of other keys ran at the same time.
+    /// Of `lost`, those at which one to `MOST_BESIDE` changes of other keys ran.
     pub sharp: u64,
-    /// Of `sharp`: one of these changes is an add.
+    /// Of `sharp`, those where one of these changes is an add.
     pub displaced: u64,
-    /// Of `sharp`: one of these changes is a remove.
+    /// Of `sharp`, those where one of these changes is a remove.
     pub unlinked: u64,
-    /// Of `lost`: an add that returned true shows it.
+    /// Of `lost`, those shown by an add that returned true.
     pub readded: u64,
-    /// Of `came_back`: the first call of the contradiction is a remove that returned true.
+    /// Of `came_back`, those whose first call is a remove that returned true.
     pub undone: u64,
-    /// Of `undone`: another key was lost while the remove ran.
+    /// Of `undone`, those where another key was lost during the remove.
     pub swapped: u64,
-    /// Of `lost` and `came_back` that a call shows: a remove of a smaller key that returned true ran at the same time.
+    /// Of `lost` and `came_back` as shown by a call, those at which a remove of a smaller key that returned true ran.
     pub below: u64,
-    /// Of `lost`: a call shows it within a short time.
+    /// Of `lost`, those that a call shows within a short time.
     pub short: u64,
-    /// The least number of keys that were shown present at such a loss.
+    /// The smallest number of keys that were known to be present at one of these short losses.
     pub least_full: u64,
-    /// At how many of 100 moments at least `least_full` keys were shown present.
+    /// The percentage of moments at which at least `least_full` keys were known to be present.
     pub usually_full: u64,
-    /// At how many of 100 other times of the same length a change of another key ran.
+    /// The percentage of other periods of the same length in which a change of another key ran.
     pub usual: u64,
-    /// At how many of all contradictions no two calls of the run overlapped.
+    /// How many contradictions, of all kinds, have no two overlapping calls.
     pub apart: u64,
     /// The number of keys with contradictions.
     pub keys: u64,
-    /// The largest number of calls of a key that had begun by the end of a contradiction of the key.
+    /// The largest number of calls of one key that had begun by the end of a contradiction of that key.
     pub begun: u64,
 }
 
 /// The maximum number of earlier losses that are compared with a key that came back.
 const MOST_LOSSES: usize = 64;
 
-/// The maximum number of changes of other keys among which the cause of a loss is sought.
+/// The maximum number of changes of other keys among which the cause of a loss is searched.
 const MOST_BESIDE: usize = 6;
 
 /// Adds one to a count.
@@ -71,17 +71,17 @@ fn more(count: &mut u64) {
 }
 
 impl Tally {
-    /// Returns the number of contradictions in which a key was lost or came back.
+    /// Returns how many contradictions lost a key or brought one back.
     pub fn gone(&self) -> u64 {
         self.lost.saturating_add(self.came_back)
     }
 
-    /// Returns the number of contradictions in which a key was lost or came back, and a call shows it.
+    /// Returns how many contradictions lost a key or brought one back as shown by a call.
     pub fn timed(&self) -> u64 {
         self.beside.saturating_add(self.alone)
     }
 
-    /// Returns the number of contradictions of two calls that overlap and both returned true.
+    /// Returns how many contradictions are between two overlapping calls that both returned true.
     pub fn both(&self) -> u64 {
         self.both_adds.saturating_add(self.both_removes)
     }
@@ -121,7 +121,7 @@ impl Tally {
         }
     }
 
-    /// Counts a loss at whose time these changes of other keys ran.
+    /// Counts a loss during which these changes of other keys ran.
     fn add_beside(&mut self, changes: &[Made]) {
         if changes.is_empty() || changes.len() > MOST_BESIDE {
             return;
@@ -138,7 +138,7 @@ impl Tally {
         }
     }
 
-    /// Counts what ran at the time of a contradiction.
+    /// Counts what else ran during a contradiction.
     fn add_time(
         &mut self,
         alloc: Global,
@@ -176,7 +176,8 @@ impl Tally {
         Ok(())
     }
 
-    /// Counts the keys that came back after a remove during which another key was lost. `losses` are in the order of time.
+    /// Counts the keys that came back after a remove during which another key was lost. `losses` must be ordered by
+    /// time.
     fn add_swapped(&mut self, places: &[Place], losses: &[Place]) {
         for place in places {
             if let (Symptom::CameBack, Some(first)) = (place.symptom, place.clash.first) {
@@ -187,8 +188,8 @@ impl Tally {
         }
     }
 
-    /// Counts what ran at the times of contradictions. `calls` are all calls of the recording, and `losses` all
-    /// contradictions in which a key was lost, in the order of time.
+    /// Counts what else ran during each contradiction. `calls` are all calls of the recording. `losses` are all
+    /// contradictions in which a key was lost, ordered by time.
     pub(crate) fn add_times(
         &mut self,
         alloc: Global,
@@ -211,8 +212,8 @@ impl Tally {
 }
 
 impl Tally {
-    /// Compares the number of keys that are present at losses with the number at other moments. `calls` are all calls of the recording, and
-    /// `losses` contradictions in which a key was lost within a short time.
+    /// Compares the number of keys present at losses with the number at other moments. `calls` are all calls of the
+    /// recording. `losses` are the contradictions in which a key was lost within a short time.
     pub(crate) fn add_fullness(&mut self, calls: &[Made], losses: &[Place], full: &Fullness) {
         let mut least = u64::MAX;
         for loss in losses {
@@ -227,7 +228,7 @@ impl Tally {
     }
 }
 
-/// Returns whether another key was lost while a call ran. `losses` are in the order of time.
+/// Returns `true` if another key was lost during a call. `losses` must be ordered by time.
 fn has_loss_beside(call: Made, losses: &[Place]) -> bool {
     let (since, until) = (call.begun, call.ended);
     let end = losses.partition_point(|loss| loss.clash.begun() <= until);
@@ -240,13 +241,14 @@ fn has_loss_beside(call: Made, losses: &[Place]) -> bool {
     false
 }
 
-/// How much later the other times of the same length are.
+/// How much later the other periods of the same length begin, in moments.
 const LATER: [u64; 2] = [1_501, 3_001];
 
-/// The maximum number of contradictions whose times are compared with other times.
+/// The maximum number of contradictions that are compared with other periods.
 const MOST_COMPARED: usize = 400;
 
-/// Returns at how many of 100 other times of the same length as losses and returns a change of another key ran.
+/// Returns the percentage of other periods, of the same lengths as losses and returns, in which a change of another key
+/// ran.
 fn usual_share(places: &[Place], neighbours: &Neighbours) -> u64 {
     let (mut beside, mut tried) = (0u64, 0u64);
     for place in places.iter().take(MOST_COMPARED) {

@@ -1,4 +1,4 @@
-//! The judge's functions of C, as `listset.h` declares them, and calls of them that make a larger room if the text does not fit.
+//! Declares the judge's C functions as in `listset.h`, and calls them with a larger buffer if the text does not fit.
 
 use crate::Wrong;
 
@@ -43,7 +43,7 @@ extern "C" {
 }
 
 pub fn of_room(function: OfRoom) -> Result<String, Wrong> {
-    // SAFETY: `asked` passes pointers to a room of that size and to a status, and nobody else uses either.
+    // SAFETY: `asked` passes pointers to a buffer of that size and to a status, which nothing else uses.
     asked(|room, size, status| unsafe { function(room, size, status) })
 }
 

@@ -1,6 +1,6 @@
 //! Sorted-list sets that threads share ([`open`], [`Seat`], [`Shared`], [`RenewedSet`]), and the judge of their calls.
 //!
-//! Both call the functions of `liblistset.a`. A function of the judge reads a text and returns a text:
+//! Both are implemented by the functions in `liblistset.a`. A function of the judge reads a text and returns a text:
 //!
 //! ```
 //! let schedule = listset::generated("lazy", 2, 4, 10, 5, 1)?;
@@ -10,7 +10,8 @@
 //! # Ok::<(), listset::Wrong>(())
 //! ```
 //!
-//! Any number of threads may call the judge at once. The page FOREIGN.md says what is proved of the functions.
+//! Any number of threads may call the judge at the same time. The page FOREIGN.md says what is proved about these
+//! functions.
 
 use std::error::Error;
 use std::ffi::CStr;
@@ -30,7 +31,8 @@ use calls::{of_room, of_text, of_two_texts};
 /// The error of the program `listset`.
 #[derive(Clone, Debug, PartialEq, Eq)]
 pub struct Wrong {
-    /// What the program prints: the line with the error, the first error of an order, or the trace up to an event that is not enabled.
+    /// What the program would print: the line about the error, the first fault of an order, or the trace up to an event
+    /// that is not enabled.
     pub text: String,
     /// The exit status: 1 for a wrong text, 2 for a wrong argument, 3 if memory ran out.
     pub status: u8,
@@ -44,7 +46,7 @@ impl Display for Wrong {
 
 impl Error for Wrong {}
 
-/// The part of a run to draw. `None` stands for the run's own beginning, end or width.
+/// The part of a run to draw. `None` selects the beginning, the end, or the default width.
 #[derive(Clone, Copy, Debug, Default)]
 pub struct Window {
     /// The first moment.
@@ -55,26 +57,28 @@ pub struct Window {
     pub width: Option<u32>,
 }
 
-/// Returns four lines about the library: `listset` and the version; the kit and the logic; `commit` and the commit of the sources, or 40
-/// zeros; `proof checked` if the library is proved, else `proof missing`.
+/// Returns four lines about the library: `listset` and the version; the kit and the logic; `commit` and the commit of
+/// the sources (or 40 zeros); and `proof checked` if the library is proved, otherwise `proof missing`.
 pub fn version() -> &'static str {
     // SAFETY: the function returns a constant text that ends with a zero byte.
     let told = unsafe { CStr::from_ptr(calls::listset_version()) };
     told.to_str().expect("the version is of ASCII")
 }
 
-/// Runs a schedule. Returns its report.
+/// Runs a schedule and returns its report.
 pub fn replay(schedule: impl AsRef<[u8]>) -> Result<String, Wrong> {
     of_text(calls::listset_replay, schedule.as_ref())
 }
 
-/// Judges a recording. Returns `ok N calls` if some order explains its calls, otherwise an error with calls that show that none does.
+/// Judges a recording. Returns `ok N calls` if some order explains its calls, otherwise an error with calls that show
+/// that no order does.
 pub fn judge_text(recording: impl AsRef<[u8]>) -> Result<String, Wrong> {
     of_text(calls::listset_judge, recording.as_ref())
 }
 
-/// Returns a diagnosis of a recording that [`judge_text`] refuses: calls that show the error, which operation is wrong and how often, and a
-/// likely cause. Returns an empty text if some order explains the recording or the text is no recording.
+/// Returns a diagnosis of a recording that [`judge_text`] refuses: calls that show the error, which operation is wrong
+/// and how often, and a likely cause. Returns an empty text if some order explains the recording or the text is not a
+/// recording.
 pub fn why(recording: impl AsRef<[u8]>) -> Result<String, Wrong> {
     match of_text(calls::listset_why, recording.as_ref()) {
         Err(wrong) if wrong.status == 1 => Ok(wrong.text),
@@ -82,32 +86,32 @@ pub fn why(recording: impl AsRef<[u8]>) -> Result<String, Wrong> {
     }
 }
 
-/// Checks a report. Returns its first error if its order does not explain its calls.
+/// Checks a report. If its order does not explain its calls, returns the order's first fault.
 pub fn check(report: impl AsRef<[u8]>) -> Result<(), Wrong> {
     of_text(calls::listset_check, report.as_ref()).map(|_| ())
 }
 
-/// Returns the trace of a schedule: what each step did.
+/// Returns the trace of a schedule, which says what each step did.
 pub fn trace(schedule: impl AsRef<[u8]>) -> Result<String, Wrong> {
     of_text(calls::listset_trace, schedule.as_ref())
 }
 
-/// Returns the trace of a schedule, with the chain after each event that changed the chain.
+/// Returns the trace of a schedule, with the chain after each event that changed it.
 pub fn trace_with_chains(schedule: impl AsRef<[u8]>) -> Result<String, Wrong> {
     of_text(calls::listset_trace_with_chains, schedule.as_ref())
 }
 
-/// Returns the schedule of a draft.
+/// Expands a draft into a schedule.
 pub fn draft(draft: impl AsRef<[u8]>) -> Result<String, Wrong> {
     of_text(calls::listset_draft, draft.as_ref())
 }
 
-/// Returns the picture of a schedule or a report, as text.
+/// Draws a schedule or a report as text.
 pub fn show(text: impl AsRef<[u8]>, window: Window) -> Result<String, Wrong> {
     of_two_texts(calls::listset_show, text.as_ref(), options(window).as_bytes())
 }
 
-/// Returns the picture of a schedule or a report, as an SVG.
+/// Draws a schedule or a report as an SVG.
 pub fn show_svg(text: impl AsRef<[u8]>, window: Window) -> Result<String, Wrong> {
     of_two_texts(calls::listset_show_svg, text.as_ref(), options(window).as_bytes())
 }
@@ -122,7 +126,7 @@ pub fn generated(kind: &str, threads: u32, quota: u32, calls: u32, keys: u32, se
     of_text(calls::listset_gen, values.as_bytes())
 }
 
-/// Returns the names of the examples, each with its list and a line about it.
+/// Returns the names of all examples, each with its list and a description.
 pub fn examples() -> Result<String, Wrong> {
     of_room(calls::listset_examples)
 }
@@ -132,12 +136,13 @@ pub fn example(name: &str) -> Result<String, Wrong> {
     of_text(calls::listset_example, name.as_bytes())
 }
 
-/// Returns the report of the example with this name, of a list without the check that the example shows.
+/// Returns the broken report of the example with this name: it is from a list without the check that the example is
+/// about.
 pub fn broken_example(name: &str) -> Result<String, Wrong> {
     of_text(calls::listset_broken_example, name.as_bytes())
 }
 
-/// Returns a line about each error, and a sentence about each cause.
+/// Returns a line about each error message, and a sentence about each cause.
 pub fn faults() -> Result<String, Wrong> {
     of_room(calls::listset_faults)
 }

@@ -1,4 +1,4 @@
-//! A set that renews itself.
+//! Implements a set that renews itself.
 
 use std::sync::atomic::{AtomicBool, Ordering};
 use std::sync::{Mutex, MutexGuard, TryLockError};
@@ -12,12 +12,13 @@ const POLL: Duration = Duration::from_micros(50);
 const LONG: Duration = Duration::from_millis(5);
 const MOST_OPENING: u64 = 1 << 20;
 
-/// A set that renews itself: when a seat has used its quota, the set is closed, and another one opened with its keys.
+/// A set that renews itself: when a seat has used up its quota, the set is closed and another one is opened with its
+/// keys.
 ///
-/// A thread takes a seat of its own by [`RenewedSet::split`], and returns it by dropping it. During a renewal calls wait, and the renewal
-/// waits for pending calls, but for no thread that is between two calls. A call waits at most
-/// [`patience`](RenewedSet::with_patience) for another one. Then it returns [`Fault::TimedOut`], and was not made. The page FOREIGN.md says
-/// what is promised of the order of calls.
+/// A thread gets its own seat from [`RenewedSet::split`], and returns it by dropping it. Calls wait during a renewal.
+/// The renewal waits for pending calls, but not for threads that are between two calls. A call waits for another one
+/// for at most [`patience`](RenewedSet::with_patience), and then returns [`Fault::TimedOut`] without having been made.
+/// The page FOREIGN.md says what is promised about the order of calls.
 ///
 /// ```
 /// use listset::{List, RenewedSet};
@@ -38,8 +39,8 @@ pub struct RenewedSet {
     list: List,
     quota: u32,
     patience: Duration,
-    renewing: Mutex<()>,   // Is locked before all places are.
-    is_wanted: AtomicBool, // A thread has waited long for the places: the others' next calls wait for it.
+    renewing: Mutex<()>,   // Locked before all places are.
+    is_wanted: AtomicBool, // A thread has waited long for the places, so the next calls of the others wait for it.
     places: Vec<Place>,
 }
 
@@ -50,20 +51,20 @@ struct Place {
     part: Mutex<Part>,
 }
 
-/// A place's part of the set.
+/// What one place knows about the set.
 #[derive(Debug)]
 struct Part {
     seat: Seat,
     stage: Stage,
     /// How many keys the set had when it was last opened. Only the first place has this number.
     opened_with: u64,
-    /// How many keys this seat has added since.
+    /// How many keys this seat has added since then.
     adds: u64,
-    /// How many keys this seat has removed since.
+    /// How many keys this seat has removed since then.
     removes: u64,
 }
 
-/// The stage of the set. All places have the same one. It changes only while all places are locked.
+/// The stage of the set, which is the same in all places. It changes only while all places are locked.
 #[derive(Clone, Copy, Debug, PartialEq)]
 enum Stage {
     Open,
@@ -71,7 +72,7 @@ enum Stage {
     Closed,
 }
 
-/// All places, locked, and the index of the caller's. The fields are dropped in this order.
+/// All places, locked, and the index of the caller's place. The fields are dropped in this order.
 struct All<'a> {
     parts: Vec<MutexGuard<'a, Part>>,
     mine: usize,
@@ -116,7 +117,7 @@ impl All<'_> {
             - self.parts.iter().map(|it| it.removes).sum::<u64>()
     }
 
-    /// Makes a call of all seats. If it fails, the stage is `ToBeRenewed`.
+    /// Makes a call with all seats. If it fails, the stage becomes `ToBeRenewed`.
     fn by_all(&mut self, call: impl FnOnce(&mut [Seat]) -> Result<(), Fault>) -> Result<(), Fault> {
         self.set_stage(Stage::ToBeRenewed);
         let taken = |it: &mut MutexGuard<Part>| std::mem::replace(&mut it.seat, Seat { raw: NONE });
@@ -142,7 +143,8 @@ impl All<'_> {
 }
 
 impl RenewedSet {
-    /// Opens a set with 1 to 64 seats, each of which adds `quota` keys before it renews the set, and with keys in strictly increasing order.
+    /// Opens a set with 1 to 64 seats, each of which can add `quota` keys before the set is renewed, and with keys in
+    /// strictly increasing order.
     pub fn open(list: List, seats: u32, quota: u32, keys: &[u32]) -> Result<RenewedSet, Fault> {
         let mut all = vec![open(list, seats, quota, keys)?];
         while all.len() < seats as usize {
@@ -156,19 +158,20 @@ impl RenewedSet {
         Ok(RenewedSet { list, quota, patience: Duration::MAX, renewing, is_wanted, places })
     }
 
-    /// Sets how long a call waits for another one. Without this setting a call waits for ever.
+    /// Sets how long a call waits for another one. By default, a call waits forever.
     pub fn with_patience(self, patience: Duration) -> RenewedSet {
         RenewedSet { patience, ..self }
     }
 
-    /// Takes a seat, for a thread. Returns [`Fault::NoMore`] if all seats are taken.
+    /// Returns a seat for a thread, or [`Fault::NoMore`] if all seats are in use.
     pub fn split(&self) -> Result<OwnSeat<'_>, Fault> {
         let is_free = |it: &&Place| !it.is_taken.swap(true, Ordering::AcqRel);
         let found = self.places.iter().position(|it| is_free(&it));
         found.map(|place| OwnSeat { set: self, place }).ok_or(Fault::NoMore)
     }
 
-    /// Renews the set and returns its keys at that moment. Returns [`Fault::Keys`] if they are more than 1,048,576.
+    /// Renews the set and returns the keys that it has at that moment. Returns [`Fault::Keys`] if there are more than
+    /// 1,048,576.
     pub fn keys(&self) -> Result<Vec<u32>, Fault> {
         let mut all = self.all(0)?;
         if all.keys_now() > MOST_OPENING {
@@ -179,7 +182,8 @@ impl RenewedSet {
         Ok(keys)
     }
 
-    /// Closes the set and returns its final keys. Returns [`Fault::SeatsOut`] while a thread has a seat; the set is then unchanged.
+    /// Closes the set and returns its final keys. Returns [`Fault::SeatsOut`] while a thread has a seat; the set is
+    /// unchanged then.
     pub fn close(&self) -> Result<Vec<u32>, Fault> {
         let mut all = self.all(0)?;
         if self.places.iter().any(|it| it.is_taken.load(Ordering::Acquire)) {
@@ -191,10 +195,12 @@ impl RenewedSet {
         Ok(keys)
     }
 
-    /// Locks `lock`. The thread with the lock may be in a `ceiling` of a lock-free list, which can retry until another call unlinks a
-    /// marked node. An `add` from `helper` unlinks it, and changes no key if the seat of `helper` has used its quota.
+    /// Locks `lock`. The thread that holds it can be in a `ceiling` of a lock-free list, which may retry until another
+    /// call unlinks a marked node. An `add` from `helper` unlinks the node; it changes no key if the seat of `helper`
+    /// has used up its quota.
     ///
-    /// A thread with a helper locks all places. After 5 ms the others' next calls wait for it, unless a call could be needed as a helper.
+    /// A thread with a helper locks all places. After 5 ms, the next calls of the other threads wait for it, unless
+    /// such a call could be needed as a helper.
     fn taken<'a, T>(&self, lock: &'a Mutex<T>, mut helper: Option<&mut Part>) -> Result<MutexGuard<'a, T>, Fault> {
         let begun = Instant::now();
         loop {
@@ -233,7 +239,7 @@ impl RenewedSet {
         Ok(All { parts, mine, _wanted: wanted })
     }
 
-    /// Makes a call from a place. If an allocation of the last renewal failed, renews the set first.
+    /// Makes a call from a place. If an allocation failed during the last renewal, renews the set first.
     fn by<T>(&self, place: usize, call: impl FnOnce(&mut Part) -> T) -> Result<T, Fault> {
         loop {
             if self.is_wanted.load(Ordering::Acquire) {
@@ -251,11 +257,11 @@ impl RenewedSet {
         }
     }
 
-    /// Renews the set and adds a key from a place whose seat has used its quota.
+    /// Renews the set and adds a key from a place whose seat has used up its quota.
     fn add_renewed(&self, place: usize, key: u32) -> Result<Added, Fault> {
         let mut all = self.all(place)?;
         if all.stage() == Stage::Open {
-            let added = all.mine().add(key); // Another thread can have renewed the set in the meantime.
+            let added = all.mine().add(key); // Another thread may have renewed the set in the meantime.
             if added != Added::Full || all.keys_now() > MOST_OPENING || self.quota == 0 {
                 return Ok(added);
             }
@@ -265,7 +271,7 @@ impl RenewedSet {
     }
 }
 
-/// A thread's seat of a [`RenewedSet`].
+/// A thread's seat in a [`RenewedSet`].
 #[derive(Debug)]
 pub struct OwnSeat<'a> {
     set: &'a RenewedSet,
@@ -273,12 +279,12 @@ pub struct OwnSeat<'a> {
 }
 
 impl OwnSeat<'_> {
-    /// Adds a key, and renews the set if the seat has used its quota. Returns [`Added::Full`] only if the quota is 0, or if the set has
-    /// more than 1,048,576 keys, with which no set opens.
+    /// Adds a key, and renews the set if the seat has used up its quota. Returns [`Added::Full`] only if the quota is
+    /// 0, or if the set has more than 1,048,576 keys, with which no set can be opened.
     pub fn add(&mut self, key: u32) -> Result<Added, Fault> {
         let mut added = self.set.by(self.place, |it| it.add(key))?;
         if added == Added::Full {
-            drop(self.set.taken(&self.set.renewing, None)?); // Another thread can be renewing the set.
+            drop(self.set.taken(&self.set.renewing, None)?); // Another thread may be renewing the set.
             added = self.set.by(self.place, |it| it.add(key))?;
         }
         match added {
@@ -301,7 +307,7 @@ impl OwnSeat<'_> {
         self.set.by(self.place, |it| it.seat.contains(key))
     }
 
-    /// Returns the smallest key of the set that is at least `key`.
+    /// Returns the smallest key in the set that is at least `key`.
     pub fn ceiling(&mut self, key: u32) -> Result<Option<u32>, Fault> {
         self.set.by(self.place, |it| it.seat.ceiling(key))
     }
@@ -317,7 +323,8 @@ impl Drop for OwnSeat<'_> {
 mod tests {
     use super::*;
 
-    /// While a thread stays in a call, calls of the others time out and are not made. After that call, calls succeed again.
+    /// While a thread stays in a call, calls of the others time out without being made. After that call, calls succeed
+    /// again.
     #[test]
     fn a_call_that_does_not_return_makes_others_time_out() {
         let set = RenewedSet::open(List::Lazy, 2, 1, &[]).unwrap().with_patience(Duration::from_millis(20));

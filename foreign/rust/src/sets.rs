@@ -8,7 +8,7 @@ use std::os::raw::c_char;
 use std::ptr::null_mut;
 use std::sync::atomic::{AtomicU64, Ordering};
 
-/// A seat or a receipt of C, as `listset.h` declares them.
+/// A seat or a receipt in C, as `listset.h` declares them.
 #[derive(Debug)]
 #[repr(C)]
 pub(crate) struct Raw {
@@ -64,7 +64,7 @@ pub enum Added {
     True,
     /// The key was present.
     False,
-    /// The key is absent, and the seat has used its quota.
+    /// The key is absent, but the seat has used up its quota.
     Full,
 }
 
@@ -72,21 +72,21 @@ pub enum Added {
 #[derive(Clone, Copy, Debug, PartialEq, Eq)]
 #[repr(u8)]
 pub enum Fault {
-    /// The number of seats is not 1 to 64.
+    /// The number of seats is not between 1 and 64.
     Seats = 10,
-    /// The quota is above 16,384.
+    /// The quota is greater than 16,384.
     Quota,
-    /// The keys are not in strictly increasing order, or are more than 1,048,576.
+    /// The keys are not in strictly increasing order, or there are more than 1,048,576.
     Keys,
     /// An allocation failed.
     Memory,
-    /// Not all seats of the set are gathered.
+    /// Some seats of the set have not been gathered.
     SeatsOut = 16,
     /// No seat can be split off.
     NoMore,
-    /// The seats, or a seat and a receipt, are of two sets.
+    /// The seats, or the seat and the receipt, belong to different sets.
     OtherSet,
-    /// `contains_now` needs a lazy or a lock-free list.
+    /// `contains_now` requires a lazy or lock-free list.
     ReadsBlock,
     /// Another thread was in a call for too long.
     TimedOut,
@@ -103,12 +103,13 @@ impl Display for Fault {
 
 impl Error for Fault {}
 
-/// An error that returns the refused argument. `?` converts it to a boxed error, or to its [`Fault`], which drops the argument.
+/// An error that returns the refused argument. `?` converts it to a boxed error, or to its [`Fault`], which drops the
+/// argument.
 #[derive(Debug)]
 pub struct Refused<B> {
-    /// The argument.
+    /// The refused argument.
     pub back: B,
-    /// Why it was refused.
+    /// Why the argument was refused.
     pub fault: Fault,
 }
 
@@ -126,7 +127,7 @@ impl<B> From<Refused<B>> for Fault {
     }
 }
 
-/// Returns the fault with this number; `Ok` for 0.
+/// Converts a number to a fault; 0 becomes `Ok`.
 pub(crate) fn told(code: u8) -> Result<(), Fault> {
     use Fault::*;
     let all = [Seats, Quota, Keys, Memory, SeatsOut, NoMore, OtherSet, ReadsBlock, TimedOut, Closed];
@@ -137,7 +138,8 @@ pub(crate) fn told(code: u8) -> Result<(), Fault> {
     }
 }
 
-/// A thread's seat in a set. It cannot be copied. One thread at a time uses it, and it may go to another thread.
+/// A thread's seat in a set. It cannot be copied. Only one thread at a time uses it, but it can be passed to another
+/// thread.
 ///
 /// ```
 /// use listset::{open, Added, List};
@@ -158,13 +160,14 @@ pub struct Seat {
     pub(crate) raw: Raw,
 }
 
-// SAFETY: the crate ffi_sets proves that what a seat holds may go to another thread.
+// SAFETY: the crate ffi_sets proves that the contents of a seat can be passed to another thread.
 unsafe impl Send for Seat {}
 
-// SAFETY: no function takes `&Seat`. (`?` converts an error with a seat to `Box<dyn Error + Send + Sync>`, which needs `Sync`.)
+// SAFETY: no function takes `&Seat`. (`?` converts an error with a seat to `Box<dyn Error + Send + Sync>`, which
+// requires `Sync`.)
 unsafe impl Sync for Seat {}
 
-/// A receipt of all that a seat had seen when it gave the receipt. It may go to any thread.
+/// A receipt of everything that a seat had seen when it issued the receipt. It can be passed to any thread.
 #[derive(Debug)]
 pub struct Receipt {
     raw: Raw,
@@ -176,29 +179,29 @@ unsafe impl Send for Receipt {}
 // SAFETY: no function takes `&Receipt`.
 unsafe impl Sync for Receipt {}
 
-/// Returns the maximum number of steps of [`Seat::contains_now`] in the runs of a list that was opened with `seats` seats, this quota and
-/// `keys` keys; 0 if no set opens with these.
+/// Returns the maximum number of steps that a [`Seat::contains_now`] makes in any run of a list opened with `seats`
+/// seats, this quota and `keys` keys. Returns 0 if no set can be opened with these.
 pub fn most_reads(seats: u32, quota: u32, keys: u32) -> u64 {
     // SAFETY: the function takes only numbers.
     unsafe { listset_most_reads(seats, quota, keys) }
 }
 
-/// Returns a number that no other set of this program has.
+/// Returns a number that no other set in this program has.
 pub(crate) fn next_number() -> u64 {
     static SETS: AtomicU64 = AtomicU64::new(0);
     SETS.fetch_add(1, Ordering::Relaxed)
 }
 
-/// Opens a set with `seats` seats, each of which may add `quota` keys, and with keys in strictly increasing order. Returns a seat that
-/// contains all others.
+/// Opens a set with `seats` seats, each of which may add `quota` keys, and with keys in strictly increasing order.
+/// Returns a seat that contains all others.
 pub fn open(list: List, seats: u32, quota: u32, keys: &[u32]) -> Result<Seat, Fault> {
     let mut made = Seat { raw: NONE };
-    // SAFETY: the pointers are those of a slice and of an empty seat. No other set of this program has the number.
+    // SAFETY: the pointers are those of a slice and of an empty seat. No other set in this program has this number.
     told(unsafe { listset_open(list as u8, seats, quota, next_number(), keys.as_ptr(), keys.len(), &mut made.raw) })?;
     Ok(made)
 }
 
-/// What a refused renewal returns: the seats of the set, or the keys of the set if it is closed.
+/// What a failed renewal returns: the seats of the set or, if the set is closed, its keys.
 #[derive(Debug)]
 pub enum Left {
     /// All seats of the set, which is still open.
@@ -207,8 +210,8 @@ pub enum Left {
     Keys(Vec<u32>),
 }
 
-/// Closes the set whose seats are all in `seats`, and opens a set of the list `list` with its keys. Returns the `count` seats of that set,
-/// each with this quota.
+/// Closes the set whose seats are all in `seats`, and opens a set of the list `list` with its keys. Returns the `count`
+/// seats of the new set, each with this quota.
 ///
 /// ```
 /// use listset::{open, renew, Added, List};
@@ -242,19 +245,22 @@ pub fn renew(seats: Vec<Seat>, list: List, count: u32, quota: u32) -> Result<Vec
     }
 }
 
-/// Renews the set whose seats are all in these places, or the closed set in the first place. Places may be empty.
+/// Renews the set whose seats are all in these places, or the closed set in the first place. The other places may be
+/// empty.
 pub(crate) fn renew_in(places: &mut [Seat], list: List, count: u32, quota: u32) -> Result<(), Fault> {
-    // SAFETY: the pointers are those of an array of seats that only the caller has. No other set of this program has the number.
+    // SAFETY: the pointers are those of an array of seats that only the caller has. No other set in this program has
+    // this number.
     by_all(places, |raws, many| unsafe { listset_renew(raws, many, list as u8, count, quota, next_number()) })
 }
 
-/// Closes the set whose seats are all in these places. The first place then has the closed set. Places may be empty.
+/// Closes the set whose seats are all in these places. The first place then contains the closed set. Places may be
+/// empty.
 pub(crate) fn close_in(places: &mut [Seat]) -> Result<(), Fault> {
     // SAFETY: the pointer is that of an array of seats that only the caller has.
     by_all(places, |raws, many| unsafe { listset_close_all(raws, many) })
 }
 
-/// Makes a call of all seats in these places, in an array.
+/// Makes a call with an array of all seats in these places.
 fn by_all(places: &mut [Seat], call: impl FnOnce(*mut Raw, usize) -> u8) -> Result<(), Fault> {
     let mut raws: Vec<Raw> = places.iter_mut().map(|it| replace(&mut it.raw, NONE)).collect();
     let code = call(raws.as_mut_ptr(), raws.len());
@@ -264,27 +270,29 @@ fn by_all(places: &mut [Seat], call: impl FnOnce(*mut Raw, usize) -> u8) -> Resu
 
 /// Returns the keys of a closed set; `None` for any other seat.
 pub(crate) fn keys_of(closed: &mut Raw) -> Option<Vec<u32>> {
-    // SAFETY: only the caller has the seat, and the room has no places.
+    // SAFETY: only the caller has the seat, and the buffer has no places.
     let count = unsafe { listset_keys(closed, [].as_mut_ptr(), 0) };
     if count == usize::MAX {
         return None;
     }
     let mut keys = vec![0; count];
-    // SAFETY: only the caller has the seat, and the room has `count` places.
+    // SAFETY: only the caller has the seat, and the buffer has `count` places.
     unsafe { listset_keys(closed, keys.as_mut_ptr(), count) };
     Some(keys)
 }
 
-// SAFETY, of each call below: `&mut self` is a seat that only this thread uses.
+// SAFETY of each call below: `&mut self` is a seat that only this thread uses.
 impl Seat {
-    /// Splits a seat off this one. Returns [`Fault::NoMore`] if none can be split off, also after a [`gather`](Seat::gather).
+    /// Splits a seat off this one. Returns [`Fault::NoMore`] if none can be split off, as is the case after a
+    /// [`gather`](Seat::gather).
     pub fn split(&mut self) -> Result<Seat, Fault> {
         let mut made = Seat { raw: NONE };
         told(unsafe { listset_split(&mut self.raw, &mut made.raw) })?;
         Ok(made)
     }
 
-    /// Adds a key. Returns [`Added::Full`] if the key is absent and the seat has used its quota: [`renew`] gives seats a new one.
+    /// Adds a key. Returns [`Added::Full`] if the key is absent but the seat has used up its quota; [`renew`] returns
+    /// seats with a new one.
     pub fn add(&mut self, key: u32) -> Added {
         match replied(unsafe { listset_add(&mut self.raw, key) }) {
             TRUE => Added::True,
@@ -303,8 +311,9 @@ impl Seat {
         replied(unsafe { listset_contains(&mut self.raw, key) }) == TRUE
     }
 
-    /// Makes a `contains` of a lazy or a lock-free list. Such a call waits for no lock, and has at most [`most_reads`] steps in every run of
-    /// the list, whatever the other threads do. Returns [`Fault::ReadsBlock`] on the other lists.
+    /// Returns whether a key is in the set, without waiting for a lock. Works on lazy and lock-free lists, where the
+    /// call makes at most [`most_reads`] steps in every run, whatever other threads do. Returns [`Fault::ReadsBlock`]
+    /// on the other lists.
     pub fn contains_now(&mut self, key: u32) -> Result<bool, Fault> {
         match replied(unsafe { listset_contains_now(&mut self.raw, key) }) {
             MAY_BLOCK => Err(Fault::ReadsBlock),
@@ -312,32 +321,33 @@ impl Seat {
         }
     }
 
-    /// Returns a receipt of all that this seat has seen, for [`Seat::after`] in another thread.
+    /// Returns a receipt of everything that this seat has seen, to pass to [`Seat::after`] in another thread.
     pub fn receipt(&mut self) -> Result<Receipt, Fault> {
         let mut made = Receipt { raw: NONE };
         told(unsafe { listset_receipt_of(&mut self.raw, &mut made.raw) })?;
         Ok(made)
     }
 
-    /// Takes a receipt: the next calls of this seat come after all calls that the receipt stands for. Returns [`Fault::OtherSet`] if the
-    /// receipt is of another set.
+    /// Accepts a receipt: all later calls of this seat come after every call that the receipt stands for. Returns
+    /// [`Fault::OtherSet`] if the receipt is from another set.
     pub fn after(&mut self, mut given: Receipt) -> Result<(), Fault> {
         told(unsafe { listset_after(&mut self.raw, &mut given.raw) })
     }
 
-    /// Returns the smallest key of the set that is at least `key`.
+    /// Returns the smallest key in the set that is at least `key`.
     pub fn ceiling(&mut self, key: u32) -> Option<u32> {
         let mut at = 0;
         (replied(unsafe { listset_ceiling(&mut self.raw, key, &mut at) }) == AT).then_some(at)
     }
 
-    /// Merges another seat of the set into this one. A seat of another set comes back in the error.
+    /// Merges another seat of the set into this one. If the seat belongs to another set, the error returns it.
     pub fn gather(&mut self, mut from: Seat) -> Result<(), Refused<Seat>> {
         let code = unsafe { listset_gather(&mut self.raw, &mut from.raw) };
         told(code).map_err(|fault| Refused { back: from, fault })
     }
 
-    /// Closes the set, all of whose seats this one must contain, and returns its final keys. Otherwise the seat comes back in the error.
+    /// Closes the set and returns its final keys. If this seat does not contain all others, or if an allocation fails,
+    /// the error returns the seat.
     pub fn close(mut self) -> Result<Vec<u32>, Refused<Seat>> {
         match told(unsafe { listset_close(&mut self.raw) }) {
             Ok(()) => Ok(keys_of(&mut self.raw).expect("the set is closed")),
@@ -346,7 +356,7 @@ impl Seat {
     }
 }
 
-/// Returns the reply of a call. Each `Seat` is full, so a call is refused only if it gave up.
+/// Returns the reply of a call. Every `Seat` is full, so a call is refused only if it gave up.
 fn replied(reply: u8) -> u8 {
     assert_ne!(reply, NO_SEAT, "the call made 2^64 - 1 rounds");
     reply

@@ -1,14 +1,14 @@
-//! A set with a pool of seats.
+//! Implements a set with a pool of seats.
 
 use std::sync::atomic::{AtomicUsize, Ordering};
 use std::sync::{Mutex, MutexGuard, PoisonError};
 
 use crate::{open, Added, Fault, List, Refused, Seat};
 
-/// A set with a pool of seats, which any number of threads may call by `&self`: a call takes a seat that no other call uses, or waits for
-/// one.
+/// A set with a pool of seats, which any number of threads may call through `&self`. A call uses a seat that no other
+/// call is using, or waits for one.
 ///
-/// Two calls of one thread can use two seats, so not even a thread's own calls are promised to keep their order.
+/// Two calls of one thread can use different seats, so not even the order of a thread's own calls is guaranteed.
 ///
 /// ```
 /// use listset::{Added, List, Shared};
@@ -27,8 +27,8 @@ pub struct Shared {
 }
 
 impl Shared {
-    /// Opens a set with `seats` seats, each of which may add `quota` keys, and with keys in strictly increasing order. Up to `seats` calls
-    /// run at once.
+    /// Opens a set with `seats` seats, each of which may add `quota` keys, and with keys in strictly increasing order.
+    /// Up to `seats` calls can run at the same time.
     pub fn open(list: List, seats: u32, quota: u32, keys: &[u32]) -> Result<Shared, Fault> {
         let mut first = open(list, seats, quota, keys)?;
         let mut all: Vec<Seat> = (1..seats).map(|_| first.split()).collect::<Result<_, _>>()?;
@@ -36,7 +36,7 @@ impl Shared {
         Ok(Shared { seats: all.into_iter().map(Mutex::new).collect() })
     }
 
-    /// Adds a key. Returns [`Added::Full`] if the key is absent and each seat has used its quota.
+    /// Adds a key. Returns [`Added::Full`] if the key is absent but every seat has used up its quota.
     pub fn add(&self, key: u32) -> Added {
         match self.by(|seat| seat.add(key)) {
             Added::Full => self.seats.iter().map(|it| taken(it).add(key)).find(|it| *it != Added::Full).unwrap_or(Added::Full),
@@ -54,12 +54,12 @@ impl Shared {
         self.by(|seat| seat.contains(key))
     }
 
-    /// Returns the smallest key of the set that is at least `key`.
+    /// Returns the smallest key in the set that is at least `key`.
     pub fn ceiling(&self, key: u32) -> Option<u32> {
         self.by(|seat| seat.ceiling(key))
     }
 
-    /// Closes the set and returns its final keys. Otherwise the seat that contains all others comes back in the error.
+    /// Closes the set and returns its final keys. On failure, the error returns the seat that contains all others.
     pub fn close(self) -> Result<Vec<u32>, Refused<Seat>> {
         let mut seats = self.seats.into_iter().map(|it| it.into_inner().unwrap_or_else(PoisonError::into_inner));
         let mut all = seats.next().expect("a set has a seat");
@@ -69,7 +69,7 @@ impl Shared {
         all.close()
     }
 
-    /// Makes a call from a free seat. A thread looks for one from its own place on.
+    /// Makes a call from a free seat. Each thread starts its search at its own place.
     fn by<T>(&self, call: impl FnOnce(&mut Seat) -> T) -> T {
         static THREADS: AtomicUsize = AtomicUsize::new(0);
         thread_local!(static MINE: usize = THREADS.fetch_add(1, Ordering::Relaxed));
@@ -91,14 +91,15 @@ mod tests {
 
     use super::*;
 
-    /// Makes a call of each kind in a thread. Returns the replies; `None` if they do not come.
+    /// Makes one call of each operation in a thread. Returns the replies, or `None` if they do not arrive.
     fn calls_in_a_thread(set: &Arc<Shared>) -> Option<(Added, bool, Option<u32>, bool)> {
         let (set, (told, heard)) = (Arc::clone(set), mpsc::channel());
         std::thread::spawn(move || told.send((set.add(7), set.contains(7), set.ceiling(0), set.remove(7))));
         heard.recv_timeout(Duration::from_secs(20)).ok()
     }
 
-    /// All seats but one are in use. Of two threads, one after the other, at most one has the free seat as its own place.
+    /// All seats but one are in use. Of two threads that run one after the other, at most one has the free seat as its
+    /// own place.
     #[test]
     fn a_call_takes_a_seat_that_no_other_uses() {
         for (seats, free) in [2, 3, 8].into_iter().flat_map(|seats| (0..seats).map(move |free| (seats, free))) {

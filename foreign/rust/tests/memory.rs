@@ -1,4 +1,5 @@
-//! Expects that dropped sets, closed or not, are freed. (The file has only this test: others would allocate at the same time.)
+//! Checks that dropped sets are freed, whether or not they were closed. (This file has only this test, because others
+//! would allocate at the same time.)
 
 use std::fs::read_to_string;
 

@@ -1,5 +1,5 @@
-//! Expects that a set reports a failed allocation, leaks nothing and stays usable. (The file has only this test: its `malloc` is that of the
-//! whole program, except for Rust's own memory.)
+//! Checks that a set reports a failed allocation, does not leak, and stays usable. (This file has only this test: its
+//! `malloc` is that of the whole program, except for Rust's own memory.)
 
 use std::alloc::{GlobalAlloc, Layout};
 use std::cell::Cell;
@@ -17,10 +17,10 @@ extern "C" {
     fn __libc_free(block: *mut c_void);
 }
 
-/// Rust's allocator, which does not use `malloc`.
+/// An allocator for Rust that does not use `malloc`.
 struct Own;
 
-// SAFETY: the C library allocates blocks of this alignment, and frees them.
+// SAFETY: the C library allocates blocks with this alignment and frees them.
 unsafe impl GlobalAlloc for Own {
     unsafe fn alloc(&self, layout: Layout) -> *mut u8 {
         aligned_alloc(layout.align(), layout.size()).cast()
@@ -34,7 +34,8 @@ unsafe impl GlobalAlloc for Own {
 #[global_allocator]
 static OWN: Own = Own;
 
-// Of this thread: the number of its allocations, which of them fails (0: none), and the number of its blocks.
+// For this thread: the number of its allocations so far, which of them fails (0 for none), and the number of its
+// blocks.
 thread_local! {
     static ASKED: Cell<usize> = const { Cell::new(0) };
     static REFUSED: Cell<usize> = const { Cell::new(0) };
@@ -68,7 +69,7 @@ unsafe extern "C" fn free(block: *mut c_void) {
     __libc_free(block)
 }
 
-/// What failed in the life of a set.
+/// What failed while a set was used.
 #[derive(PartialEq)]
 enum Told {
     Open,
@@ -76,7 +77,7 @@ enum Told {
     Nothing,
 }
 
-/// Opens, uses and closes a set of three seats, with this allocation failing.
+/// Opens, uses and closes a set with three seats while this allocation fails.
 fn life(list: List, refused: usize) -> Told {
     ASKED.with(|it| it.set(0));
     BLOCKS.with(|it| it.set(0));

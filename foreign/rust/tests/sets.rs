@@ -1,4 +1,4 @@
-//! The lists in four threads, compared with sets of std; and the errors of refused calls.
+//! The lists in four threads, compared with sets of std, and the errors of refused calls.
 
 use std::collections::BTreeSet;
 use std::sync::Barrier;
@@ -11,7 +11,7 @@ const THREADS: u32 = 4;
 const CALLS: u32 = 5000;
 const OWN: u32 = 32;
 
-/// A `Seat` is not `Clone`: if it were, this call would be ambiguous.
+/// A `Seat` is not `Clone`. If it were, this call would be ambiguous.
 trait Once<T> {
     fn is_once() {}
 }
@@ -19,7 +19,8 @@ impl<S> Once<()> for S {}
 impl<S: Clone> Once<u8> for S {}
 const _: fn() = <Seat as Once<_>>::is_once;
 
-/// Makes calls of keys that no other thread uses. Returns the keys that remain. There are 4 kinds of calls, or 3 without ceilings.
+/// Makes calls with keys that no other thread uses. Returns the keys that remain. There are 4 operations, or 3 without
+/// ceilings.
 fn calls_of(seat: &mut Seat, thread: u32, kinds: u64) -> BTreeSet<u32> {
     let (mut left, mut drawn) = (BTreeSet::new(), u64::from(thread) + 88172645463325252);
     for _ in 0..CALLS {
@@ -48,7 +49,7 @@ fn each_list_keeps_what_its_threads_put_in() {
             let split = seats[0].split().unwrap();
             seats.push(split);
         }
-        // With this list, several threads inside `ceiling` calls can wait for a `remove` that no thread ever makes.
+        // On this list, several threads in `ceiling` calls can wait for a `remove` that no thread ever makes.
         let kinds = if list == List::LockFree { 3 } else { 4 };
         let left: BTreeSet<u32> = scope(|threads| {
             let run = |(thread, seat)| threads.spawn(move || calls_of(seat, thread, kinds));
@@ -91,7 +92,8 @@ fn a_shared_set_uses_the_quota_of_each_seat() {
     assert_eq!(Shared::open(List::Lazy, 0, 1, &[]).err(), Some(Fault::Seats));
 }
 
-/// Expects as many true adds as the seats have quota for, whichever threads make them, and exactly these keys at the end.
+/// Checks that as many adds return true as the seats have quota for, whichever threads make them, and that exactly
+/// these keys remain.
 #[test]
 fn threads_use_the_quota_of_each_seat() {
     for (seats, quota) in [(2, 50), (64, 1)] {
@@ -110,7 +112,8 @@ fn threads_use_the_quota_of_each_seat() {
     }
 }
 
-/// Threads add the same keys, as many as the seats have quota for. An add may be full only if no seat has quota left; its key is then present.
+/// Threads add the same keys, as many as the seats have quota for. An add may return full only if no seat has quota
+/// left; its key must then be present.
 #[test]
 fn no_add_is_full_while_a_seat_has_quota() {
     for _ in 0..20 {
@@ -124,7 +127,7 @@ fn no_add_is_full_while_a_seat_has_quota() {
     }
 }
 
-/// Expects two numbers of two sets that two threads open at once.
+/// Checks that two threads that open sets at the same time get different numbers.
 #[test]
 fn sets_that_are_opened_at_once_are_told_apart() {
     for _ in 0..1000 {
@@ -141,7 +144,7 @@ fn sets_that_are_opened_at_once_are_told_apart() {
     }
 }
 
-/// Expects that a seat gathers none of another set, among more sets than 16 bits can number.
+/// Checks that a seat never gathers a seat of another set, among more sets than 16 bits can number.
 #[test]
 fn sets_are_told_apart() {
     let mut mine = open(List::Lazy, 1, 0, &[]).unwrap();
@@ -198,7 +201,7 @@ fn what_is_refused_is_given_back() {
     assert_eq!(mine.close().unwrap(), [8]);
 }
 
-/// Expects that `?` converts a refusal to a boxed error, also one that is `Send`, and to a fault, which drops the seat.
+/// Checks that `?` converts a refusal to a boxed error (also one that is `Send`) and to a fault, which drops the seat.
 #[test]
 fn a_refusal_is_an_error() {
     fn closed() -> Result<Vec<u32>, Box<dyn std::error::Error + Send + Sync>> {
@@ -213,7 +216,7 @@ fn a_refusal_is_an_error() {
     assert_eq!(gathered(), Err(Fault::OtherSet));
 }
 
-/// Expects the replies of `contains_now`, and an error on lists whose `contains` can block.
+/// Checks the replies of `contains_now`, and the error on lists whose `contains` can block.
 #[test]
 fn reads_that_do_not_block() {
     for list in LISTS {
@@ -228,7 +231,7 @@ fn reads_that_do_not_block() {
     assert_eq!([most_reads(0, 1, 1), most_reads(65, 1, 1), most_reads(1, 16_385, 1), most_reads(1, 1, (1 << 20) + 1)], [0; 4]);
 }
 
-/// Sends a receipt to another thread. Expects that only a seat of its set takes it.
+/// Sends a receipt to another thread. Checks that only a seat of the same set accepts it.
 #[test]
 fn receipts() {
     for list in LISTS {
@@ -245,7 +248,8 @@ fn receipts() {
     }
 }
 
-/// Renews a set as one of another list, with other seats and a new quota. Expects the seats or the keys back from a refused renewal.
+/// Renews a set as a set of another list, with different seats and a new quota. Checks that a refused renewal returns
+/// the seats or the keys.
 #[test]
 fn a_set_is_renewed() {
     let mut seats = vec![open(List::Lazy, 3, 1, &[5]).unwrap()];
@@ -280,7 +284,7 @@ fn a_set_is_renewed() {
     assert_eq!(seats.remove(0).close().unwrap(), [5, 8, 9]);
 }
 
-/// Threads call a set that renews itself; its quota is small, so it is renewed hundreds of times.
+/// Threads call a set that renews itself. Its quota is small, so it is renewed hundreds of times.
 #[test]
 fn a_renewed_set_keeps_what_its_threads_put_in() {
     for (list, quota) in LISTS.into_iter().zip([50, 50, 50, 1, 7]) {
@@ -289,7 +293,8 @@ fn a_renewed_set_keeps_what_its_threads_put_in() {
             let mut seat = set.split().unwrap();
             for key in (thread * OWN..(thread + 1) * OWN).cycle().take(2000) {
                 assert_eq!((seat.add(key), seat.contains(key)), (Ok(Added::True), Ok(true)));
-                // A ceiling of the lock-free list can wait for an add of another thread, which may make none any more.
+                // On the lock-free list, a ceiling can wait for an add of another thread, which may not make any more
+                // adds.
                 assert!(list == List::LockFree || seat.ceiling(key) == Ok(Some(key)));
                 assert_eq!((seat.remove(key), seat.remove(key)), (Ok(true), Ok(false)));
             }
@@ -302,7 +307,8 @@ fn a_renewed_set_keeps_what_its_threads_put_in() {
     }
 }
 
-/// Expects as many seats as were asked for, a free seat after a drop, and that no thread waits for one between two calls.
+/// Checks that there are as many seats as requested, that a dropped seat is free again, and that no thread waits for
+/// one that is between two calls.
 #[test]
 fn the_seats_of_a_renewed_set() {
     let set = RenewedSet::open(List::LockFree, 2, 1, &[]).unwrap();

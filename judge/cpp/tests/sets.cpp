@@ -1,5 +1,5 @@
-// Judges the set that the variable SET names, with the options in HOW, such as "threads=4 runs=2", once or as often as
-// TESTS says. Prints the kind of the result, and the result.
+// Judges the set that the variable SET names, with the options in HOW, such as "threads=4 runs=2". Does so once, or as
+// often as TESTS says. Prints the result and its kind.
 #include "../listset_judge.hpp"
 #include <iostream>
 #include <mutex>
@@ -12,7 +12,7 @@ template <class K> struct Right {
     bool remove(const K &key) { std::lock_guard held(lock); return keys.erase(key) > 0; }
     bool contains(const K &key) { std::lock_guard held(lock); return keys.count(key) > 0; }
 };
-// A set with the names of the standard library, and without a removal.
+// A set with the names of the standard library, but without a removal.
 struct AddsOnly {
     std::set<unsigned> keys;
     std::mutex lock;
@@ -20,7 +20,7 @@ struct AddsOnly {
     size_t count(unsigned key) { std::lock_guard held(lock); return keys.count(key); }
 };
 
-// A right set, except for the error that the variable SET names.
+// A correct set, except for the error that the variable SET names.
 struct Set : Right<unsigned> {
     using right = Right<unsigned>;
     const std::string is = std::getenv("SET");
@@ -31,23 +31,23 @@ struct Set : Right<unsigned> {
         if (is == "opens") keys = {1, 3};
         if (is == "not made") throw std::runtime_error("no room");
     }
-    // Returns the whole set. With "first use" each key has a set of its own, which its first call creates; two calls
-    // can both create it.
+    // Returns the whole set. With "first use", each key has its own set, which its first call creates; two calls can
+    // both create it.
     right &part(unsigned key) {
         if (is != "first use") return *this;
         if (!parts[key]) parts[key] = new right;  // (never deleted)
         return *parts[key];
     }
-    // Returns the key. With "collides", keys with the same remainder are one key.
+    // Returns the key. With "collides", keys with the same remainder are treated as one key.
     unsigned place(unsigned key) const { return is == "collides" ? key % 64 : key; }
 
-    // Loses each fiftieth reply: the outcome is unknown, or the call is made again.
+    // Loses one reply in fifty: the outcome is then unknown, or the call is repeated.
     template <class Call> std::optional<bool> called(Call call) {
         const bool reply = call();
         if ((is != "not known" && is != "again") || ++calls % 50 > 0) return reply;
         return is == "again" ? std::optional(call()) : std::nullopt;
     }
-    // Never returns from a `remove`, and keeps the lock.
+    // Hangs in a `remove` while holding the lock.
     void stop() {
         std::lock_guard held(lock);
         if (++calls != (is == "crashes late" ? 10'000 : 30)) return;

@@ -8,12 +8,14 @@ import java.util.concurrent.atomic.AtomicInteger;
 import java.util.concurrent.locks.LockSupport;
 import java.util.function.BooleanSupplier;
 
-/** Judges the set that the variable SET names, with the options in HOW, such as "threads=4 runs=2", once or as often as
- * TESTS says. Prints the kind of the result, and the result. */
+/**
+ * Judges the set that the variable SET names, with the options in HOW, such as "threads=4 runs=2". Does so once, or as
+ * often as TESTS says. Prints the result and its kind.
+ */
 final class Sets {
     private Sets() { }
 
-    /** A right set, except for the error that the variable SET names. */
+    /** A correct set, except for the error that the variable SET names. */
     static final class Named extends ConcurrentSkipListSet<Integer> {
         private static final long serialVersionUID = 1;
         private final String is = System.getenv("SET");
@@ -25,17 +27,17 @@ final class Sets {
             if (is.equals("not made")) throw new IllegalStateException("no room");
         }
 
-        /** Returns the key. With "collides", keys with the same remainder are one key. */
+        /** Returns the key. With "collides", keys with the same remainder are treated as one key. */
         private Integer place(Object key) { return is.equals("collides") ? (Integer) key % 64 : (Integer) key; }
 
-        /** With "first use" each key has a set of its own, which its first call creates; two calls can both create it. */
+        /** With "first use", each key has its own set, which its first call creates; two calls can both create it. */
         private Set<Integer> part(Object key) {
             Set<Integer> found = parts.get(key);
             if (found == null) parts.put(key, found = new ConcurrentSkipListSet<>());
             return found;
         }
 
-        /** Loses each fiftieth reply: the outcome is unknown, or the call is made again. */
+        /** Loses one reply in fifty: the outcome is then unknown, or the call is repeated. */
         private boolean called(BooleanSupplier call) {
             boolean reply = call.getAsBoolean();
             if (!is.equals("not known") && !is.equals("again") || calls.incrementAndGet() % 50 > 0) return reply;
@@ -43,7 +45,7 @@ final class Sets {
             return call.getAsBoolean();
         }
 
-        /** Never returns from a remove. */
+        /** Hangs in a remove. */
         private synchronized void stop() {
             int due = is.equals("crashes late") ? 10_000 : 30;
             if (calls.incrementAndGet() != due) return;

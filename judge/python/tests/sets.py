@@ -1,5 +1,6 @@
-"""Judges the set that the variable SET names, with the options in HOW, such as "threads=4 runs=2", once or as
-often as TESTS says. Prints the kind of the result, and the result."""
+"""Judges the set that the variable SET names, with the options in HOW, such as "threads=4 runs=2". Does so once, or as
+often as TESTS says. Prints the result and its kind.
+"""
 
 import os
 import pathlib
@@ -29,7 +30,7 @@ class Right:
 
 
 class Named(Right):
-    """A right set, except for the error that its name says."""
+    """A correct set, except for the error that its name states."""
 
     def __init__(self, name):
         super().__init__()
@@ -40,8 +41,9 @@ class Named(Right):
             raise RuntimeError("no room")
 
     def part(self, key):
-        """Returns the whole set. With "first use" each key has a set of its own, which its first call
-        creates; two calls can both create it."""
+        """Returns the whole set. With "first use", each key has its own set, which its first call creates; two calls can
+        both create it.
+        """
         if self.name != "first use":
             return super()
         if key not in self.parts:
@@ -49,11 +51,11 @@ class Named(Right):
         return self.parts[key]
 
     def place(self, key):
-        """Returns the key. With "collides", keys with the same remainder are one key."""
+        """Returns the key. With "collides", keys with the same remainder are treated as one key."""
         return key % 64 if self.name == "collides" else key
 
     def called(self, call, key):
-        """Loses each fiftieth reply: the outcome is unknown, or the call is made again."""
+        """Loses one reply in fifty: the outcome is then unknown, or the call is repeated."""
         reply, is_lossy = call(self.place(key)), self.name in ("not known", "again")
         self.calls += is_lossy
         if not is_lossy or self.calls % 50:
@@ -61,7 +63,7 @@ class Named(Right):
         return call(key) if self.name == "again" else None
 
     def stop(self):
-        """Never returns from a `remove`, and keeps the lock."""
+        """Hangs in a `remove` while holding the lock."""
         self.calls += 1
         if self.calls >= (10_000 if self.name == "crashes late" else 30):  # (two threads can count at once)
             with self.lock:

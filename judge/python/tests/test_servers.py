@@ -1,5 +1,5 @@
-"""Tests of servers on the loopback: `listset serve` and, if it is installed, Redis, a client that checks and
-then acts, a replica that is read, and connections that pause or are lost.
+"""Tests servers on the loopback: `listset serve` and, if it is installed, Redis. Includes a client that checks and then
+acts, reads from a replica, and connections that pause or are lost.
 
 python3 -m unittest discover -s tests -t tests
 """
@@ -20,18 +20,18 @@ import listset_servers
 
 FEW = {"threads": 4, "calls": 250, "keys": 4, "runs": 4, "pauses": 0}
 SESSIONS = 3 * FEW["runs"] * (FEW["threads"] + 1)  # (a run whose calls did not overlap is made again, up to twice)
-SECONDS = 30  # to wait until a server listens, or ends
+SECONDS = 30  # the maximum wait until a server listens or ends
 
 
 class CheckThenAct(listset_servers.Redis):
-    """A client whose `add` consists of two requests. Another client's request can come between them."""
+    """A client whose `add` takes two requests. Another client's request can come between them."""
 
     def add(self, key):
         return not self.contains(key) and (super().add(key) or True)
 
 
 class Again(listset_servers.Redis):
-    """A client that repeats an `add` with an unknown outcome."""
+    """A client that repeats an `add` if its outcome is unknown."""
 
     def add(self, key):
         reply = super().add(key)

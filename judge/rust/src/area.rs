@@ -1,4 +1,4 @@
-//! Makes a run and records it, in memory that can be shared with a process of the set's own.
+//! Makes a run and records it in memory that can be shared with the set's own process.
 use std::any::Any;
 use std::fs::File;
 use std::io::{self, Seek, SeekFrom, Write};
@@ -13,7 +13,7 @@ use crate::stops::Stops;
 use crate::words::*;
 use crate::{no_verdict, Failure, Options, Replies, Shape, Source};
 
-const UNKNOWN: u32 = 2; // a reply: 0 for false, 1 for true, or this
+const UNKNOWN: u32 = 2; // a reply is 0 for false, 1 for true, or this
 
 const WRITABLE: &str = "the recording can be written";
 
@@ -23,7 +23,7 @@ const OVER: u32 = 2;
 const FAILED: u32 = 3;
 const UNMADE: u32 = 4;
 
-/// The positions of a run's numbers in memory, among them the counter of moments, the progress, and the length of the
+/// The positions of a run's numbers in memory, such as the counter of moments, the progress, and the length of the
 /// file.
 #[derive(Clone, Copy)]
 enum At {
@@ -47,13 +47,13 @@ enum At {
     Why,
 }
 
-const WHY: usize = At::Why as usize; // a text from here on, one byte in each number: why the run failed;
+const WHY: usize = At::Why as usize; // from here on a text, one byte per number: why the run failed;
 const FILE: usize = WHY + 240; // then the path of the file;
 const SLOTS: usize = FILE + 1024; // then the calls,
 const SLOT: usize = 6; // each with end, begin, thread, word, key and reply. Begin and end are 0 until they happen
 const SIZE: usize = SLOTS + PART as usize * SLOT;
 
-/// The memory of a run. It has the calls that are not yet in the file.
+/// The memory of a run. It contains the calls that have not been written to the file yet.
 pub struct Area {
     memory: Memory,
     pub options: Options,
@@ -63,7 +63,7 @@ pub struct Area {
 struct Row([u32; SLOT]);
 
 impl Row {
-    /// Returns the call as it was at a moment. `None` if the call had not begun then.
+    /// Returns the call as it was at a moment; `None` if the call had not begun then.
     fn as_of(mut self, now: u32) -> Option<Row> {
         if self.0[0] > now {
             self.0[0] = 0;
@@ -87,10 +87,10 @@ impl Row {
 }
 
 impl Area {
-    /// The number of `u32`s of an area.
+    /// The size of an area, as a number of `u32`s.
     pub const SIZE: usize = SIZE;
 
-    /// Wraps memory of `Area::SIZE` numbers.
+    /// Wraps memory for `Area::SIZE` numbers.
     pub fn new(memory: Memory, options: &Options) -> Area {
         Area { memory, options: options.clone() }
     }
@@ -128,7 +128,7 @@ impl Area {
 
     // ---- its file
 
-    /// Appends lines for the calls in memory to the file, and clears these calls.
+    /// Appends lines for the calls in memory to the file and clears these calls.
     pub fn write(&self, lines: &str) -> io::Result<()> {
         let written = u64::from(self.get(At::WrittenHigh)) << 32 | u64::from(self.get(At::Written));
         let mut file = File::options().write(true).open(self.text(FILE))?;
@@ -142,8 +142,9 @@ impl Area {
         Ok(())
     }
 
-    /// Returns the lines of the calls in memory, in the order of their begins, and the lines of the pending ones. Threads
-    /// can still make calls: a call that begins later than now is left out, and a call that ends later is pending.
+    /// Returns the lines of the calls in memory, in the order in which they began, and the lines of the pending ones.
+    /// Threads may still be making calls: a call that begins after this function was called is left out, and a call
+    /// that ends after it is pending.
     pub fn lines(&self) -> (String, String) {
         let now = self.get(At::Tickets);
         let slots = self.memory[SLOTS..].chunks(SLOT);
@@ -155,7 +156,7 @@ impl Area {
 
     // ---- for the process that watches a run
 
-    /// Prepares the memory for a run of this shape, and then starts the run.
+    /// Prepares the memory for a run of this shape and then starts the run.
     pub(crate) fn begin(&self, seed: u64, of: Shape, file: &Path) {
         let is_here = self.get(At::IsHere);
         self.memory.iter().for_each(|it| it.store(0, Relaxed));
@@ -228,7 +229,7 @@ impl Area {
         for one in 0..of.sets {
             match catch_unwind(AssertUnwindSafe(source.make)) {
                 Err(why) => self.fail(UNMADE, why),
-                // (`move`: dropping the set can panic too)
+                // (`move`, because dropping the set can panic too)
                 Ok(set) => {
                     let left = &mut left;
                     self.tried(move || *left += &Play { area: self, set: &set, reply: source.reply, of, one }.all());
@@ -258,7 +259,7 @@ impl Area {
         }
     }
 
-    /// Waits until `is_done`: polls `awake` times, then sleeps between polls. Returns false if the run was stopped.
+    /// Waits until `is_done`: polls `awake` times, then sleeps between polls. Returns `false` if the run was stopped.
     fn waits(&self, awake: u32, is_done: impl Fn() -> bool) -> bool {
         for looks in 0_u32.. {
             if is_done() || self.get(At::IsStopping) == 1 {
@@ -272,10 +273,10 @@ impl Area {
     }
 }
 
-/// How often `contains` of a key is called at the beginning and at the end, while its outcome is unknown.
+/// The maximum number of `contains` calls for a key, at the beginning or at the end, while the outcome is unknown.
 const MOST_ASKED: u32 = 100;
 
-/// The calls of one set.
+/// The calls on one set.
 struct Play<'a, S> {
     area: &'a Area,
     set: &'a S,
@@ -298,7 +299,7 @@ impl<S: Sync> Play<'_, S> {
         left
     }
 
-    /// Starts each part of the calls, waits for its end, and writes it.
+    /// Starts each part of the calls, waits until it has ended, and writes it to the file.
     fn lead(&self) -> String {
         let area = self.area;
         if area.options.opens_with_keys {
@@ -318,7 +319,7 @@ impl<S: Sync> Play<'_, S> {
         left
     }
 
-    /// Calls `contains` for each key, again while its outcome is unknown. Returns a line for each key found.
+    /// Calls `contains` for each key, and retries if the outcome is unknown. Returns a line for each key found.
     fn lines_of_keys(&self, word: &str) -> String {
         let is_there = |key: &u32| {
             self.area.next(At::Tickets);
@@ -351,8 +352,8 @@ impl<S: Sync> Play<'_, S> {
         }
     }
 
-    /// Waits until all threads are here, so that they continue at once. Polls without sleeping if each thread can have
-    /// a processor, unless such a wait took too long before.
+    /// Waits until all threads are here, so that they continue at the same time. Polls without sleeping if there is a
+    /// processor for each thread, unless an earlier wait of this kind took too long.
     fn meet(&self) -> bool {
         let processors = std::thread::available_parallelism().map_or(1, |it| it.get());
         let may_be_awake = self.of.threads as usize <= processors && self.area.get(At::IsBusy) == 0;
@@ -368,8 +369,8 @@ impl<S: Sync> Play<'_, S> {
         are_there
     }
 
-    /// Makes a random call, and records it at its begin and at its end. After an unknown outcome the thread continues
-    /// with a new thread number.
+    /// Makes a random call, and records it at its begin and at its end. After an unknown outcome, the thread continues
+    /// under a new thread number.
     fn call(&self, slot: &[AtomicU32], number: &mut u32, draws: &mut Draws) {
         let (area, keys) = (self.area, self.of.keys);
         let [adds, removes, finds] = area.options.shares;
@@ -393,7 +394,7 @@ impl<S: Sync> Play<'_, S> {
     }
 }
 
-/// Random numbers (SplitMix64).
+/// A random number generator (SplitMix64).
 struct Draws(u64);
 
 impl Draws {

@@ -1,5 +1,5 @@
-//! Makes runs: on Unix in a process of the set's own, which runs this test again up to this judge; elsewhere in this
-//! process.
+//! Makes runs. On Unix, makes them in a separate process, which runs this test again up to this judge; elsewhere, in
+//! this process.
 use std::cell::RefCell;
 use std::collections::HashMap;
 use std::fs::File;
@@ -27,15 +27,15 @@ impl Drop for Temporary {
     }
 }
 
-/// Makes runs, in a child process or in this one.
+/// Makes runs in a child process or in this one.
 pub struct Runner {
     pub area: Area,
     child: Option<RefCell<Child>>,
 }
 
 impl Runner {
-    /// Starts a child process, or prepares this one. In a child process: makes runs and never returns if it was started
-    /// for this judge, and returns `None` if for another judge.
+    /// Starts a child process, or prepares this one. If this is a child process that was started for this judge, makes
+    /// runs and never returns. If it was started for another judge, returns `None`.
     pub(crate) fn started<S: Sync>(source: &Source<S>, options: &Options) -> Result<Option<Runner>, Failure> {
         let name = name_of_judge();
         if let Ok(mine) = std::env::var(MINE) {
@@ -111,8 +111,8 @@ impl Drop for Runner {
     }
 }
 
-/// Returns the name of the test with the number of its judge. `None` if this thread has no name, so that the test
-/// cannot be run again.
+/// Returns the name of the test together with the number of its judge. Returns `None` if this thread has no name,
+/// because the test cannot be run again then.
 fn name_of_judge() -> Option<String> {
     static JUDGES: Mutex<Option<HashMap<String, u32>>> = Mutex::new(None);
     let test = std::thread::current().name()?.to_string();
@@ -133,7 +133,7 @@ fn process_of(name: &str, file: &Path) -> std::io::Result<Child> {
     command.env(MINE, name).env(MEMORY, file).stdin(Stdio::piped()).stdout(Stdio::null()).spawn()
 }
 
-/// Makes the runs that the parent process asks for, until the parent ends.
+/// Makes the runs that the parent process asks for until the parent ends.
 fn serve<S: Sync>(source: &Source<S>, options: &Options) -> ! {
     let file = std::env::var_os(MEMORY).and_then(|it| File::options().read(true).write(true).open(it).ok());
     let memory = file.and_then(|it| Memory::of(&it, Area::SIZE).ok());

@@ -1,4 +1,4 @@
-//! Finds the judge and runs it: `liblistset`, or a program.
+//! Finds and runs the judge, which is `liblistset` or a program.
 use std::fmt;
 use std::io;
 use std::path::Path;
@@ -7,7 +7,7 @@ use std::process::{Command, Stdio};
 use crate::words::*;
 use crate::{no_verdict, Failure};
 
-/// A judge, and its statement about its proof.
+/// A judge, and what it states about its proof.
 pub struct Judge {
     name: String,
     proof: String,
@@ -42,7 +42,7 @@ impl Judge {
             return no_verdict(say(IS_FOLDER, &[&name]));
         }
         let command = if name.ends_with(".js") { vec!["node".to_string(), name.clone()] } else { vec![name.clone()] };
-        // (the user sees what a judge prints while it is built)
+        // (so that the user sees what a judge prints while it is built)
         match ran(Command::new(&command[0]).args(&command[1..]).args(["--version", "--long"]).stderr(Stdio::inherit())) {
             Ok((Some(127), _)) | Err(_) => no_verdict(say(NO_JUDGE, &[&name])),
             Ok((_, version)) => Ok(Judge { name, proof: proof_in(&version), command }),
@@ -79,12 +79,12 @@ fn ran(command: &mut Command) -> io::Result<Answer> {
     Ok((ended.status.code(), String::from_utf8_lossy(&said).trim().to_string()))
 }
 
-/// Returns the number in the second line, if the first one begins with `ok`.
+/// Returns the number in the second line if the first line begins with `ok`.
 fn overlapped_in(said: &str) -> Option<u64> {
     said.strip_prefix("ok ")?.lines().nth(1)?.split(" of them").next()?.parse().ok()
 }
 
-/// Returns the line that states whether a judge is proved.
+/// Returns the line in which a judge states whether it is proved.
 fn proof_in(version: &str) -> String {
     version.lines().find(|it| it.starts_with("proof ")).unwrap_or("proof unknown").to_string()
 }
@@ -107,7 +107,7 @@ mod library {
 
     pub fn judge(recording: &std::path::Path) -> std::io::Result<super::Answer> {
         let (file, mut room, mut status) = (std::fs::File::open(recording)?, [0; 8192], 0);
-        // SAFETY: the pointers are to a buffer of this size and to a status, which nobody else accesses.
+        // SAFETY: the pointers refer to a buffer of this size and to a status, neither of which anything else accesses.
         let length = unsafe { listset_judge_from(file.as_raw_fd(), room.as_mut_ptr(), room.len(), &mut status) };
         Ok((Some(status.into()), String::from_utf8_lossy(&room[..length]).trim().to_string()))
     }

@@ -1,4 +1,4 @@
-//! Tests whether a concurrent set of your own is linearizable, in one line of a test:
+//! Tests whether your own concurrent set is linearizable, in one line of a test:
 //!
 //! ```ignore
 //! #[test]
@@ -7,16 +7,16 @@
 //! }
 //! ```
 //!
-//! `MySet` has `new`, `add`, `remove` and `contains`; for any other set, pass closures to [`judge`]. Threads call new sets,
-//! and the begin and the end of each call are recorded. A judge decides whether some order of the calls explains their
-//! replies.
+//! `MySet` has `new`, `add`, `remove` and `contains`; for any other set, pass closures to [`judge`]. Threads call new
+//! sets, and the begin and the end of each call are recorded. A judge decides whether some order of the calls explains
+//! their replies.
 //!
-//! The judge is `liblistset`, if `build.rs` finds it. Otherwise it is the program that the environment variable
-//! `LISTSET` names, or else `listset` in `PATH`. `LISTSET` can also name a `listset.js`, which node runs. If it is
-//! `skip`, nothing is judged.
+//! The judge is `liblistset` if `build.rs` finds it. Otherwise it is the program named by the environment variable
+//! `LISTSET` or, if that is not set, `listset` in `PATH`. `LISTSET` can also name a `listset.js`, which is run with
+//! node. If `LISTSET` is `skip`, nothing is judged.
 //!
-//! On Unix the sets are called in a process of their own, which runs this test again up to this judge. If a set crashes
-//! or hangs there, its calls so far are judged.
+//! On Unix, the sets are called in a separate process, which runs this test again up to this judge. If a set crashes or
+//! hangs there, the calls made so far are judged.
 
 mod area;
 mod child;
@@ -38,40 +38,41 @@ use judges::Judge;
 use recording::Recording;
 use words::*;
 
-/// Options of a test. All are checked before the first set is created.
+/// Options of a test. All of them are checked before the first set is created.
 #[derive(Clone, Debug)]
 pub struct Options {
-    /// The number of threads that call a set at once: 1 to 64. 0 uses the presets in turn.
+    /// The number of threads that call a set at the same time: 1 to 64. 0 cycles through the presets.
     pub threads: u32,
-    /// The number of calls of each thread: at least 1, and at most 1,000,000,000 for all threads together. 0 uses the
-    /// presets in turn. After each 20,000 calls of all threads, these are written to the file while the threads wait.
+    /// The number of calls of each thread: at least 1, and at most 1,000,000,000 for all threads together. 0 cycles
+    /// through the presets. After every 20,000 calls of all threads together, the calls are written to the file while
+    /// the threads wait.
     pub calls: u32,
-    /// The number of keys: 1 to 1,048,576. 0 uses the presets in turn. With more than eight keys, half of the calls use
-    /// the first four.
+    /// The number of keys: 1 to 1,048,576. 0 cycles through the presets. With more than eight keys, half of the calls
+    /// use the first four.
     pub keys: u32,
     /// The percentage of calls before which a thread pauses, for at most a few microseconds: 0 to 100. Unless it is 0,
-    /// threads in a process of the set's own are also stopped during calls, by the signal SIGURG.
+    /// threads in the set's own process are also interrupted during calls by the signal SIGURG.
     pub pauses: u32,
     /// The number of runs: 1 to 1,000,000. A run uses one set, or several new sets one after another. Run `i` uses the
     /// seed `seed + i`.
     pub runs: u32,
-    /// The seed of the calls, keys and pauses of the first run.
+    /// The random seed for the calls, keys and pauses of the first run.
     pub seed: u32,
-    /// A run is cut short as hung if no call begins or ends for this many seconds: 1 to 3,600.
+    /// If no call begins or ends for this many seconds, a run is considered hung and is cut short: 1 to 3,600.
     pub seconds: u32,
-    /// No run begins after this many seconds of the test: 1 to 604,800.
+    /// No new run begins once the test has taken this many seconds: 1 to 604,800.
     pub within: u32,
     /// The test fails with `TooFew` if less than this percentage of the calls overlap a change of their key.
     pub at_least: u32,
-    /// The shares of `add`, `remove` and `contains`.
+    /// The relative frequencies of `add`, `remove` and `contains`.
     pub shares: [u32; 3],
-    /// If false, sets are called in this process, which crashes or hangs with them. For debuggers, for coverage, and
-    /// for sets that need threads of this process.
+    /// If `false`, sets are called in this process, which crashes or hangs with them. Useful for debuggers, for
+    /// coverage, and for sets that need threads of this process.
     pub own_process: bool,
-    /// If true, `contains` is called for each key before all other calls, to record the opening keys.
+    /// If `true`, `contains` is called for each key before all other calls to record the opening keys.
     pub opens_with_keys: bool,
-    /// The folder that keeps the recording of each run. If `None`, only the recording of a failed run is kept: in the
-    /// folder that the variable `LISTSET_RECORD` names, or else in the folder for temporary files.
+    /// The folder in which the recording of each run is kept. If `None`, only the recording of a failed run is kept, in
+    /// the folder named by the variable `LISTSET_RECORD`, or else in the folder for temporary files.
     pub record: Option<PathBuf>,
 }
 
@@ -101,8 +102,8 @@ pub(crate) struct Range {
     most: u64,
 }
 
-/// The shape of a run: the number of threads, of new sets one after another, of calls of each thread on each set, and
-/// of keys. The keys are the multiples of `times`.
+/// The sizes of a run: the number of threads, of new sets used one after another, of calls per thread and set, and of
+/// keys. The keys are the multiples of `times`.
 #[derive(Clone, Copy)]
 pub(crate) struct Shape {
     name: &'static str,
@@ -114,7 +115,7 @@ pub(crate) struct Shape {
 }
 
 impl Shape {
-    /// Returns how many calls a thread makes in a part. The last part of a set can have fewer.
+    /// Returns how many calls a thread makes in a part. The last part on a set can have fewer.
     fn rows(&self) -> u32 {
         self.calls.min(PART / self.threads)
     }
@@ -140,7 +141,7 @@ impl Options {
         }
     }
 
-    /// Returns the preset for a seed, changed by these options.
+    /// Returns the preset for a seed, modified by these options.
     fn shape_of(&self, seed: u64) -> Shape {
         let mut it = PRESETS[(seed as usize + PRESETS.len() - 1) % PRESETS.len()];
         if self.threads > 0 {
@@ -158,8 +159,8 @@ impl Options {
         it
     }
 
-    /// Applies the environment variables. `LISTSET_SECONDS` repeats runs for this many seconds, with seeds from the current time
-    /// on; `LISTSET_SEED` sets the first seed.
+    /// Applies the environment variables. `LISTSET_SECONDS` repeats runs for this many seconds, with seeds counting up
+    /// from the current time. `LISTSET_SEED` sets the first seed.
     fn by_environment(&self) -> Result<Options, Failure> {
         let mut it = self.clone();
         let seconds = number_of("LISTSET_SECONDS", 0, 1, RANGES[6].most as u32)?;
@@ -171,8 +172,8 @@ impl Options {
         Ok(it)
     }
 
-    /// Returns a shape whose calls overlap more: more threads, even more than processors, and fewer keys, unless these
-    /// options set them. The number of all calls does not grow.
+    /// Returns a shape whose calls overlap more: with more threads (possibly more than processors) and fewer keys,
+    /// except where these options set them. The total number of calls does not grow.
     fn harder(&self, it: Shape) -> Shape {
         let processors = std::thread::available_parallelism().map_or(1, |it| it.get()) as u32;
         let threads = if self.threads == 0 { (2 * it.threads).max(processors + 2).min(64) } else { it.threads };
@@ -181,25 +182,25 @@ impl Options {
         Shape { threads, calls, keys, ..it }
     }
 
-    /// Returns the shapes of all presets, changed by these options.
+    /// Returns the shapes of all presets, modified by these options.
     fn shapes(&self) -> impl Iterator<Item = Shape> + '_ {
         (1..=PRESETS.len() as u64).map(|it| self.shape_of(it))
     }
 }
 
-/// The result of a test without a failure: some order explains each run. `Display` prints it.
+/// The result of a successful test: some order explains each run. `Display` formats it.
 #[derive(Clone, Debug)]
 #[non_exhaustive]
 pub struct Verdict {
     pub calls: u64,
-    /// The number of calls that overlapped a change of their key, as the judge counted them.
+    /// The number of calls that overlapped a change of their key, as counted by the judge.
     pub overlapped: u64,
-    /// The name of the judge, and its statement about its proof.
+    /// The name of the judge, and what it states about its proof.
     pub judge: String,
 }
 
 impl Verdict {
-    /// Decides whether too few calls overlapped for `ok` to mean much.
+    /// Returns `true` if so few calls overlapped that `ok` says little.
     fn is_few(&self) -> bool {
         is_few(self.overlapped, self.calls)
     }
@@ -231,11 +232,11 @@ pub struct Failed {
     /// The file with the recording.
     pub file: PathBuf,
     pub judge: String,
-    /// The whole message.
+    /// The complete message.
     pub text: String,
 }
 
-/// The error of a test. `Display` and `unwrap` print the whole message.
+/// Why a test failed. `Display` and `unwrap` print the complete message.
 #[non_exhaustive]
 pub enum Failure {
     /// No order explains the run.
@@ -265,7 +266,8 @@ impl Debug for Failure {
 
 impl std::error::Error for Failure {}
 
-/// A reply of a call: `bool`, or `Option<bool>`, in which `None` is an unknown outcome, such as after a timeout.
+/// The reply of a call: `bool`, or `Option<bool>` where `None` means that the outcome is unknown, for example after a
+/// timeout.
 pub trait Reply {
     fn known(self) -> Option<bool>;
 }
@@ -282,8 +284,8 @@ impl Reply for Option<bool> {
     }
 }
 
-/// Judges a type with `new()`, `add(&self, u32) -> bool`, `remove` and `contains`. `make: FUNCTION` replaces `new`, and
-/// `Options` can follow.
+/// Judges a type with `new()`, `add(&self, u32) -> bool`, `remove` and `contains`. `make: FUNCTION` replaces `new`.
+/// `Options` can be added as the last argument.
 #[macro_export]
 macro_rules! judge {
     ($set:ty) => {
@@ -300,19 +302,19 @@ macro_rules! judge {
     };
 }
 
-/// How a test creates its sets and calls them by the numbers of keys.
+/// How a test creates its sets, and how it calls them with the numbers of keys.
 struct Source<'a, S> {
     make: &'a dyn Fn() -> S,
     reply: Replies<'a, S>,
     shown: &'a dyn Fn(u32) -> String,
-    /// Whether the test has a function for keys.
+    /// Whether the test has a function that converts numbers to keys.
     has_keys: bool,
 }
 
-/// Calls `add`, `remove` or `contains` (0 to 2) of a key, and returns the reply.
+/// Calls `add`, `remove` or `contains` (0 to 2) with a key and returns the reply.
 type Replies<'a, S> = &'a (dyn Fn(&S, u8, u32) -> Option<bool> + Sync);
 
-/// Judges the sets that `make` creates. The three closures are called from many threads at once.
+/// Judges the sets that `make` creates. Many threads call the three closures at the same time.
 pub fn judge<S: Sync, A: Reply, R: Reply, C: Reply>(
     make: impl Fn() -> S,
     add: impl Fn(&S, u32) -> A + Sync,
@@ -329,7 +331,7 @@ pub fn judge<S: Sync, A: Reply, R: Reply, C: Reply>(
     judged(&Source { make: &make, reply: &reply, shown: &|key| key.to_string(), has_keys: false }, &options)
 }
 
-/// Judges sets with keys of another type. `key` returns the key of a number, and must return a different key for each
+/// Judges sets with keys of another type. `key` converts a number to a key, and must return a different key for each
 /// number.
 pub fn judge_keys<S: Sync, K: Eq + Hash + Debug + Sync, A: Reply, R: Reply, C: Reply>(
     make: impl Fn() -> S,
@@ -387,7 +389,7 @@ fn judged<S: Sync>(source: &Source<S>, options: &Options) -> Result<Verdict, Fai
     Tester { source, options, runner: &runner, judge: &judge }.all()
 }
 
-/// The state of a test: judges one run after another.
+/// The state of a test. Judges runs one after another.
 struct Tester<'a, S> {
     source: &'a Source<'a, S>,
     options: &'a Options,
@@ -396,7 +398,7 @@ struct Tester<'a, S> {
 }
 
 impl<S: Sync> Tester<'_, S> {
-    /// Makes the requested runs, each up to three times, then more runs while few calls have overlapped.
+    /// Makes the requested runs, each up to three times, and then more runs while few calls have overlapped.
     fn all(&self) -> Result<Verdict, Failure> {
         let mut verdict = Verdict { calls: 0, overlapped: 0, judge: self.judge.to_string() };
         let (began, options) = (Instant::now(), self.options);

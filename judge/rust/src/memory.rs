@@ -4,7 +4,7 @@ use std::io;
 use std::ops::Deref;
 use std::sync::atomic::AtomicU32;
 
-/// The numbers of this process, or of a file that processes share.
+/// Numbers in the memory of this process, or in a file that processes share.
 pub enum Memory {
     Own(Vec<AtomicU32>),
     #[cfg_attr(not(unix), allow(dead_code))]
@@ -26,7 +26,7 @@ impl Memory {
         if place as isize == -1 {
             return Err(io::Error::last_os_error());
         }
-        // SAFETY: the mapping exists until the drop, and every bit pattern is a valid number.
+        // SAFETY: the mapping exists until it is dropped, and every bit pattern is a valid number.
         Ok(Memory::Shared(unsafe { std::slice::from_raw_parts(place.cast(), size) }))
     }
 

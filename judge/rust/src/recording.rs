@@ -1,4 +1,4 @@
-//! Judges a recorded run, and writes the message of a failure.
+//! Judges a recorded run, and writes the message if the run failed.
 use std::fs::File;
 use std::path::PathBuf;
 use std::sync::atomic::AtomicU32;
@@ -9,7 +9,7 @@ use crate::judges::{Judge, Judged};
 use crate::words::*;
 use crate::{no_verdict, Failed, Failure, Options, Shape, Source};
 
-/// The file with the recording of a run, which grows during the run. Deleted on drop unless it is kept.
+/// The file with the recording of a run, which grows during the run. It is deleted on drop unless it is kept.
 pub struct Recording<'a> {
     judge: &'a Judge,
     shape: Shape,
@@ -31,8 +31,8 @@ impl<'a> Recording<'a> {
         }
     }
 
-    /// Judges the recording. Returns how many calls overlapped a change of their key. `trouble` is why the run was cut
-    /// short, if it was.
+    /// Judges the recording. Returns how many calls overlapped a change of their key. `trouble` is the reason if the
+    /// run was cut short.
     pub(crate) fn judged<S>(mut self, source: &Source<S>, area: &Area, trouble: Option<String>) -> Result<u64, Failure> {
         let (lines, under_way) = area.lines();
         if trouble.is_some() && area.write(&format!("{lines}cut\n")).is_err() {
@@ -56,7 +56,8 @@ impl<'a> Recording<'a> {
         Err(if trouble.is_some() { Failure::CutShort(failed) } else { Failure::NotLinearizable(failed) })
     }
 
-    /// Describes the key of a number in the recording, and its set if the run has several. Empty if the number is enough.
+    /// Describes the key with this number in the recording, and its set if the run has several. Returns an empty text
+    /// if the number says enough.
     fn key_line<S>(&self, number: u32, source: &Source<S>) -> String {
         let shown = (source.shown)(number % self.shape.keys * self.shape.times);
         let of_set = if self.shape.sets > 1 { say(IN_SET, &[&(number / self.shape.keys + 1)]) } else { String::new() };
@@ -68,8 +69,8 @@ impl<'a> Recording<'a> {
         }
     }
 
-    /// Writes the calls that show a refusal to a small file beside the recording. Returns the part of the message that
-    /// names the file.
+    /// Writes the calls that show why a key is refused to a small file beside the recording. Returns the part of the
+    /// message that names this file.
     fn alone(&self, key: u32) -> String {
         let stem = self.path.file_stem().unwrap_or_default().to_string_lossy();
         let small = self.path.with_file_name(format!("{stem}-key-{key}.calls"));
@@ -80,12 +81,12 @@ impl<'a> Recording<'a> {
     }
 }
 
-/// Returns the number of the key that the judge names.
+/// Returns the key that the judge names, as a number.
 fn key_in(refused: &str) -> Option<u32> {
     refused.split("of key ").nth(1)?.split(' ').next()?.parse().ok()
 }
 
-/// Returns the first line of several calls, and how many more there are.
+/// Returns the first of several calls' lines, and how many more there are.
 fn first_of(lines: &str) -> String {
     match lines.lines().count() {
         0 => "no call".to_string(),

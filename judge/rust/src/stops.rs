@@ -1,4 +1,4 @@
-//! Stops a thread during its calls for at least a microsecond, by a timer that sends SIGURG to the thread.
+//! Interrupts a thread during its calls for at least a microsecond, with a timer that sends SIGURG to the thread.
 
 #[cfg(all(target_os = "linux", any(target_arch = "x86_64", target_arch = "aarch64")))]
 mod timer {
@@ -32,7 +32,7 @@ mod timer {
     impl Stops {
         pub fn of_this_thread() -> Option<Stops> {
             let mut timer = -1i32;
-            // SAFETY: the numbers are those of Linux, the event lives as long as the call, and the handler only sleeps.
+            // SAFETY: the numbers are those of Linux, the event outlives the call, and the handler only sleeps.
             unsafe {
                 let thread = syscall(THREAD) as i32;
                 let event = Event { value: 0, signal: URGENT, notify: TO_THREAD, thread, rest: [0; 11] };
@@ -44,7 +44,7 @@ mod timer {
             Some(Stops(timer))
         }
 
-        /// Stops this thread once after this many nanoseconds, whatever it does then.
+        /// Interrupts this thread once after this many nanoseconds, whatever it is doing then.
         pub fn after(&self, nanoseconds: u32) {
             let once = [0i64, 0, 0, i64::from(nanoseconds)];
             // SAFETY: the array has the layout of an `itimerspec`.
@@ -60,7 +60,7 @@ mod timer {
     }
 
     extern "C" fn stop(_: i32) {
-        // SAFETY: a signal handler can call `usleep`.
+        // SAFETY: a signal handler may call `usleep`.
         unsafe { usleep(1) };
     }
 }

@@ -63,7 +63,7 @@ pub const NOT_IN_CI: &str = "LISTSET is skip, but the variable CI is set: in CI 
 pub const NUMBER: &str = "the variable %s is %s, but must be a number from %s to %s";
 // end of what is made
 
-/// Replaces each `%s` of a text.
+/// Replaces each `%s` in a text.
 pub fn say(text: &str, with: &[&dyn std::fmt::Display]) -> String {
     let mut pieces = text.split("%s");
     let first = pieces.next().unwrap_or_default().to_string();

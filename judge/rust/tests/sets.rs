@@ -1,5 +1,5 @@
-//! Judges the set that the variable SET names, with the options in HOW, such as "threads=4 runs=2", once or as often as
-//! TESTS says. Prints the kind of the result, and the result.
+//! Judges the set that the variable SET names, with the options in HOW, such as "threads=4 runs=2". Does so once, or as
+//! often as TESTS says. Prints the result and its kind.
 use std::collections::{BTreeMap, BTreeSet};
 use std::sync::atomic::{AtomicU32, Ordering::SeqCst};
 use std::sync::{Arc, Mutex};
@@ -25,7 +25,7 @@ impl<K: Ord + Clone> Right<K> {
     }
 }
 
-/// A right set, except for the error that the variable SET names.
+/// A correct set, except for the error that the variable SET names.
 struct Set {
     is: String,
     keys: Right<u32>,
@@ -41,8 +41,8 @@ impl Set {
         Set { is, keys: Right(Mutex::new(keys)), calls: AtomicU32::new(0), parts: Mutex::default() }
     }
 
-    /// Makes a call. With "first use" each key has a set of its own, which its first call creates; two calls can both
-    /// create it. With "collides", keys with the same remainder are one key.
+    /// Makes a call. With "first use", each key has its own set, which its first call creates; two calls can both
+    /// create it. With "collides", keys with the same remainder are treated as one key.
     fn call(&self, call: fn(&Right<u32>, &u32) -> bool, key: u32) -> bool {
         if self.is != "first use" {
             return call(&self.keys, &if self.is == "collides" { key % 64 } else { key });
@@ -56,7 +56,7 @@ impl Set {
         call(&part, &key)
     }
 
-    /// Loses each fiftieth reply: the outcome is unknown, or the call is made again.
+    /// Loses one reply in fifty: the outcome is then unknown, or the call is repeated.
     fn called(&self, call: fn(&Right<u32>, &u32) -> bool, key: u32) -> Option<bool> {
         let reply = self.call(call, key);
         let is_lost = ["not known", "again"].contains(&&*self.is) && self.calls.fetch_add(1, SeqCst) % 50 == 49;
@@ -67,7 +67,8 @@ impl Set {
         }
     }
 
-    /// Never returns from a `remove`. Keeps the lock, unless it panics: other threads that find the lock poisoned panic too.
+    /// Hangs in a `remove` while holding the lock. If it panics instead, the lock is poisoned, and other threads that
+    /// find it poisoned panic too.
     fn stop(&self) {
         let _held = (self.is != "throws").then(|| self.keys.0.lock().unwrap());
         match (&*self.is, self.calls.fetch_add(1, SeqCst)) {
@@ -159,7 +160,7 @@ fn print() {
 
 static COUNTED: Mutex<u64> = Mutex::new(0);
 
-/// A right set whose `add` takes a lock that another test holds nearly all the time.
+/// A correct set whose `add` takes a lock that another test holds nearly all the time.
 #[test]
 fn another_test_holds_a_lock() {
     let holder = std::thread::spawn(|| {

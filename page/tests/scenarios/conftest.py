@@ -1,6 +1,8 @@
-"""Scenarios: a person uses the page by keys, clicks and touches, and sees the results. They run in each installed browser.
+"""Scenarios in which a person uses the page with keys, clicks and touches, and sees the results. They run in each
+installed browser.
 
-    pytest page/tests/scenarios [--browser chromium] [--shots FOLDER]"""
+pytest page/tests/scenarios [--browser chromium] [--shots FOLDER]
+"""
 
 import functools
 import http.server
@@ -13,13 +15,13 @@ import pytest
 import webdriver  # (with build/ in the path, by pytest.ini)
 
 PAGE = pathlib.Path(__file__).resolve().parents[2]
-SECONDS = 60  # in which something has to be seen
-SLOW = 2  # seconds that the engine takes to come over a slow network
-SCENARIOS = {"webkit": 8}  # for which one browser is used, as WebKit's driver gives up after some dozen pages; others for all
+SECONDS = 60  # the time within which something must be visible
+SLOW = 2  # the seconds that the engine takes to load over a slow network
+SCENARIOS = {"webkit": 8}  # how many scenarios one browser is used for, since WebKit's driver fails after some dozen pages; other browsers are used for all
 
 
 class Quiet(http.server.SimpleHTTPRequestHandler):
-    """Serves the files of the page. slow.html is the page over a slow network, cases.json has the program's answers."""
+    """Serves the files of the page. slow.html is the page over a slow network, and cases.json has the program's answers."""
 
     cases = None
 
@@ -50,18 +52,18 @@ class Visitor(webdriver.Browser):
         self.size(1300, 900)
 
     def open(self, address="", file="index.html"):
-        """Opens an address of the page as if it was typed."""
+        """Opens an address of the page as if it had been typed."""
         self.go("about:blank")
         self.go(f"{self.place}/{file}{address}")
         self.wait("return document.body.dataset.ready === 'yes'")
 
     def inside(self, text, *given):
-        """Evaluates a script in the page, with `listsets` for what its modules export."""
+        """Evaluates a script in the page. In the script, `listsets` has what the page's modules export."""
         words = f"JSON.stringify(((...given) => {{ {text} }})(...{json.dumps(given)}) ?? null)"
         return json.loads(self.script("return (window.wrappedJSObject ?? window).eval(arguments[0])", words))
 
     def wait(self, text, *given, seconds=SECONDS):
-        """Waits until a script returns a true value, and returns the value."""
+        """Waits until a script returns a true value, and returns that value."""
         end = time.monotonic() + seconds
         while not (found := self.script(text, *given)):
             assert time.monotonic() < end, f"not seen in {seconds} s: {text} {given}"
@@ -69,15 +71,15 @@ class Visitor(webdriver.Browser):
         return found
 
     def idle(self):
-        """Waits until no play is running."""
+        """Waits until nothing is being played."""
         self.wait("return document.body.dataset.busy !== 'yes'")
 
     def revealed(self):
-        """Waits until the answer is shown and no play is running."""
+        """Waits until the answer is shown and nothing is being played."""
         self.wait("return document.querySelector('.reveal') !== null && document.body.dataset.busy !== 'yes'")
 
     def step(self, keys):
-        """Presses the letters of threads. Waits after each until its steps are shown."""
+        """Presses the letters of threads. After each, waits until its steps are shown."""
         for key in keys:
             self.press(key)
             self.idle()
@@ -90,11 +92,11 @@ class Visitor(webdriver.Browser):
         return self.script("return document.querySelector(arguments[0])?.innerText ?? ''", what)
 
     def is_seen(self, what):
-        """Whether a part has a box on the page."""
+        """Returns whether a part has a box on the page."""
         return self.script("return [...document.querySelectorAll(arguments[0])].some((it) => it.getClientRects().length > 0)", what)
 
     def in_window(self, what):
-        """Whether a part is in the window within two seconds, and not covered."""
+        """Returns whether a part is in the window within two seconds and is not covered."""
         return any(self.is_in_window(what) or time.sleep(0.1) for _ in range(20))
 
     def is_in_window(self, what):
@@ -110,7 +112,7 @@ class Visitor(webdriver.Browser):
             const box = it.getBoundingClientRect(); return [box.left + box.width / 2, box.top + box.height / 2]""", what, words)
 
     def unfold(self, what):
-        """Opens a fold, unless it is open."""
+        """Opens a collapsible part, unless it is already open."""
         if not self.script("return document.querySelector(arguments[0]).open", what):
             self.click(f"{what} > summary")
 
@@ -121,7 +123,7 @@ class Visitor(webdriver.Browser):
         self.point(*self.middle(what, words), "touch")
 
     def choose(self, what, value):
-        """Chooses an option. Sends the page the event; the browser's own list is not opened."""
+        """Chooses an option by sending the event to the page; the browser's own list is not opened."""
         self.script("""const it = document.querySelector(arguments[0]); it.focus(); it.value = arguments[1];
             it.dispatchEvent(new Event("change", { bubbles: true }))""", what, value)
 
@@ -166,7 +168,7 @@ def place(request):
 
 
 class Turns:
-    """Browsers of one kind, one after the other. Each serves some scenarios. A dead one is replaced."""
+    """Browsers of one kind, used one after another. Each runs some scenarios, and is replaced if it has died."""
 
     def __init__(self, name, place):
         self.name, self.place, self.one, self.left = name, place, None, 0
@@ -194,7 +196,7 @@ def turns(browser, place):
 
 @pytest.fixture
 def visitor(turns, place, request):
-    """A first-time visitor."""
+    """Returns a first-time visitor."""
     one = turns.next()
     one.size(1300, 900)
     one.go(f"{place}/tests/nothing.html")
@@ -209,6 +211,6 @@ def visitor(turns, place, request):
 
 @pytest.fixture
 def another(browser, place, turns):
-    """A second person with their own profile."""
+    """Returns a second person with their own profile."""
     with Visitor(browser, place) as one:
         yield one

@@ -1,4 +1,4 @@
-"""Access: by the key Tab alone, in both schemes of colours, with a finger, and at twice the size."""
+"""Tests access with the Tab key alone, in both colour schemes, with a finger, and at twice the size."""
 
 import pytest
 from test_stage import fit
@@ -69,7 +69,7 @@ def go(visitor, address):
 
 
 @pytest.mark.parametrize("size", [(1280, 720), (683, 320), (390, 844)], ids=["1280x720", "twice-as-large", "phone"])
-def test_each_stop_of_tab_is_seen_and_none_is_a_trap(visitor, size):
+def test_each_tab_stop_is_visible_and_can_be_left(visitor, size):
     fit(visitor, *size)
     visitor.open("#read")
     hidden = []
@@ -82,7 +82,7 @@ def test_each_stop_of_tab_is_seen_and_none_is_a_trap(visitor, size):
             if (stop := visitor.script(FOCUSED)) is None or stop[0] == 1 and stops:
                 break
             if stop[2].startswith("IFRAME") or stop[2] == "INPUT hw-due":
-                continue  # a frame has stops of its own, and so has a date
+                continue  # a frame has its own tab stops, and so does a date field
             assert stops[-1:] != [stop[0]], f"{address}: Tab does not leave {stop[2]}"
             stops.append(stop[0])
             if not stop[1]:
@@ -92,7 +92,7 @@ def test_each_stop_of_tab_is_seen_and_none_is_a_trap(visitor, size):
     assert hidden == [], "\n".join(hidden)
 
 
-def test_a_finger_has_40_pixels(visitor):
+def test_touch_targets_have_40_pixels(visitor):
     if visitor.name != "chromium":
         pytest.skip("only Chromium's driver has a finger")
     fit(visitor, 390, 844)
@@ -107,7 +107,7 @@ def test_a_finger_has_40_pixels(visitor):
 
 
 @pytest.mark.parametrize("scheme", ["light", "dark"])
-def test_texts_stand_out(visitor, scheme):
+def test_texts_have_contrast_in_each_colour_scheme(visitor, scheme):
     if visitor.name != "chromium":
         pytest.skip("only Chromium's driver chooses the scheme")
     fit(visitor, 1280, 720)
@@ -124,7 +124,7 @@ def test_texts_stand_out(visitor, scheme):
     assert faint == [], "\n".join(faint)
 
 
-def test_at_twice_the_size_nothing_is_wider_and_no_bar_stays(visitor):
+def test_at_twice_the_size_nothing_overflows_and_no_bar_stays(visitor):
     fit(visitor, 683, 320)
     visitor.open("#read")
     for address in PLACES:

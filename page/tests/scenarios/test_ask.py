@@ -1,13 +1,13 @@
-"""Guess, then see: each question is answered, shown, changed and left."""
+"""Tests "guess, then see": each question is answered, shown, changed and left."""
 
 
 def hurried(visitor):
-    """The run is shown to its end at once by a key."""
+    """Shows the run to its end at once, with a key."""
     visitor.press("Right")
     visitor.revealed()
 
 
-def test_each_question_is_shown_changed_and_left(visitor):
+def test_each_question_can_be_answered_shown_changed_and_left(visitor):
     visitor.open("#ask")
     names = visitor.script("return [...document.querySelectorAll('#scene .card')].map((it) => it.hash.slice(5))")
     assert len(names) == 18
@@ -26,7 +26,7 @@ def test_each_question_is_shown_changed_and_left(visitor):
             assert visitor.is_seen("[data-do=if]"), name
 
 
-def test_a_branch_stands_beside_the_example(visitor):
+def test_the_readers_own_run_is_beside_the_example(visitor):
     visitor.open("#ask=stale-pred")
     visitor.press("2")
     visitor.revealed()
@@ -40,7 +40,7 @@ def test_a_branch_stands_beside_the_example(visitor):
     assert "Your own branch" in visitor.text(".reveal")
 
 
-def test_the_map_ticks_what_was_guessed(visitor):
+def test_the_map_ticks_answered_questions(visitor):
     for name, option in (("two-removers", 1), ("stale-pred", 0)):
         visitor.open(f"#ask={name}")
         visitor.press(str(option + 1))
@@ -53,7 +53,7 @@ def test_the_map_ticks_what_was_guessed(visitor):
     assert "2 seen" in visitor.text(".score")
 
 
-def test_a_frame_in_another_page(visitor):
+def test_a_question_works_in_a_frame_of_another_page(visitor):
     visitor.open("#story=2")
     visitor.settle()
     visitor.go(f"{visitor.place}/tests/nothing.html")
@@ -69,10 +69,10 @@ def test_a_frame_in_another_page(visitor):
     assert visitor.script("return document.querySelector('iframe').contentDocument.querySelector('.you').innerText").startswith("You said: ")
     leaves = "it.getClientRects().length > 0 && it.target !== '_blank'"
     links = f"return [...document.querySelector('iframe').contentDocument.links].filter((it) => {leaves}).length"
-    assert visitor.script(links) == 0  # nothing leads out of the frame
+    assert visitor.script(links) == 0  # no link leads out of the frame
     visitor.settle()
     visitor.open()
-    visitor.wait("return location.hash.includes('story=2')")  # what was looked at in a frame is not where one was
+    visitor.wait("return location.hash.includes('story=2')")  # what was viewed in a frame does not count as the reader's last place
 
 
 def test_old_addresses_open_the_questions(visitor):
@@ -82,8 +82,8 @@ def test_old_addresses_open_the_questions(visitor):
     assert visitor.is_seen(".list svg") and visitor.event() == 17
 
 
-def test_sentences_are_whole(visitor):
-    """Of each event of each example, as the story tells it."""
+def test_each_event_of_the_examples_has_complete_sentences(visitor):
+    """Checks the sentence at each event of each example."""
     visitor.open("#ask")
     told = visitor.inside("""const { LiveRun, QUESTIONS, APPENDIX, taleOf, momentAt } = listsets;
         return [...QUESTIONS, ...APPENDIX].flatMap(({ list, opening, threads = 2, quota = 4, lines, rest }) => {

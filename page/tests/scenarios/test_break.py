@@ -1,4 +1,6 @@
-"""Break: each level is won, its answer is not told, the contradiction is in sight, and what is missing is struck out."""
+"""Tests the levels with broken lists: each is won, its answer is not given away, the contradiction is visible, and the
+missing check is struck out.
+"""
 
 import pathlib
 
@@ -6,7 +8,7 @@ SCHEDULES = pathlib.Path(__file__).resolve().parents[3] / "examples/schedules/la
 
 
 def won(visitor):
-    """Level 1 by its hints: both walk, B does its whole add, A ends."""
+    """Wins level 1 with its hints: both threads traverse, B makes its whole add, and A ends."""
     visitor.open("#break=1")
     for key in "aaabbbbbbaa":
         if not visitor.is_seen(".reveal"):
@@ -14,26 +16,26 @@ def won(visitor):
     visitor.revealed()
 
 
-def test_a_won_level_keeps_its_answer_to_itself(visitor):
+def test_a_won_level_does_not_give_away_its_answer(visitor):
     won(visitor)
     assert visitor.text(".reveal .why").startswith("Broken.") and visitor.is_seen("[data-option]")
     assert "break lock" not in visitor.text("main") and "Level" not in visitor.title
     assert visitor.inside("return JSON.parse(localStorage.getItem('listset-broken')).lock").startswith("break lock #list=coarse")
 
 
-def test_the_contradiction_is_in_sight(visitor):
+def test_the_contradiction_is_visible(visitor):
     won(visitor)
     assert visitor.text(".ledger .odd") == "4" and visitor.in_window(".ledger") and visitor.in_window(".list svg")
 
 
-def test_the_contradiction_is_in_sight_on_a_phone(visitor):
+def test_the_contradiction_is_visible_on_a_phone(visitor):
     visitor.size(390, 844)
     won(visitor)
     visitor.settle()
     assert visitor.in_window(".ledger .odd")
 
 
-def test_a_wrong_answer_has_its_reply_and_the_right_one_strikes_the_line(visitor):
+def test_a_wrong_answer_gets_a_reply_and_the_right_one_strikes_out_the_line(visitor):
     won(visitor)
     visitor.click("[data-option]", "releases the lock")
     assert "No: it releases the lock only after that." in visitor.text("#talk")
@@ -49,7 +51,7 @@ def test_a_wrong_answer_has_its_reply_and_the_right_one_strikes_the_line(visitor
     assert "1 of 10 broken" in visitor.text(".score") and visitor.text(".card[href='#break=1'] .sign") == "✓"
 
 
-def test_a_won_level_can_be_explored_on(visitor):
+def test_a_won_level_can_be_explored_further(visitor):
     won(visitor)
     visitor.press("a")
     visitor.idle()
@@ -62,7 +64,7 @@ def test_a_won_level_can_be_explored_on(visitor):
     assert visitor.hash == where and visitor.text(".reveal .why").startswith("Broken.")
 
 
-def test_hints_are_in_words(visitor):
+def test_hints_use_words_instead_of_row_numbers(visitor):
     visitor.open("#break=8")
     for _ in range(3):
         visitor.click("#hint")
@@ -71,8 +73,10 @@ def test_hints_are_in_words(visitor):
     assert visitor.text("#hint") == "Start over"
 
 
-def test_each_level_is_broken_by_the_schedule_of_the_examples(visitor):
-    """Each level opens with the run of a link; it is shown as broken, its answer can be given, and no row is left without a line."""
+def test_the_schedule_of_the_examples_breaks_each_level(visitor):
+    """Each level opens with the run in a link. The run is shown as broken, its answer can be given, and each row has a
+    line.
+    """
     visitor.open("#break")
     levels = visitor.inside("return Object.keys(listsets.BREAK_LEVELS)")
     for number, name in enumerate(levels, 1):
@@ -101,23 +105,23 @@ def test_a_self_loop_does_not_cross_its_key(visitor):
         const node = document.querySelector(`#order [data-part="node ${name}"]`);
         const path = document.querySelector(`#order [data-part="link ${name}"] path`).getAttribute("d").match(/[\\d.]+/g).map(Number);
         return path.filter((_, at) => at % 2 === 1).slice(1).map((y) => y - Number(node.dataset.y))""")
-    assert all(y < 0 for y in points)  # it goes around above the node
+    assert all(y < 0 for y in points)  # the loop goes around above the node
 
 
-def test_a_run_that_ends_rightly_is_told(visitor):
+def test_a_run_that_does_not_break_the_list_is_reported(visitor):
     visitor.open("#break=2")
     visitor.step("aaabbbababab")
     assert "not broken this time" in visitor.text("#talk") and visitor.is_seen("[data-again]")
 
 
-def test_a_level_has_one_number(visitor):
+def test_a_level_has_the_same_number_everywhere(visitor):
     visitor.open("#break")
     assert visitor.text(".card[href='#break=7'] i").startswith("level 7 ")
     visitor.open("#break=7")
     assert visitor.is_seen("#figure") and "level 7" in visitor.script("return document.querySelector('.kicker').textContent")
 
 
-def test_a_key_begins_no_second_call(visitor):
+def test_a_key_does_not_begin_a_second_call(visitor):
     visitor.open("#break=1")
     visitor.step("aaaaaaaaa")
     assert "Press begin" in visitor.text(".tale") and visitor.text("[data-begin='0']") == "begin"

@@ -1,21 +1,21 @@
-"""Judge, Compare, files, and what is told of wrong ones."""
+"""Tests Judge, Compare and files, and what the page says about wrong files."""
 
 from test_stage import fit
 
 
-def test_what_is_missing_of_a_call_is_told(visitor):
+def test_an_answer_without_point_and_reply_is_reported(visitor):
     visitor.open("#example=snip&judge")
     visitor.click("#judge-ask")
     assert "point" in visitor.text("#judge-verdict") and "reply" in visitor.text("#judge-verdict")
 
 
-def test_the_button_that_judges_is_in_sight(visitor):
+def test_the_judge_button_is_visible(visitor):
     fit(visitor, 1280, 720)
     visitor.open("#example=snip&judge")
     assert visitor.in_window("#judge-ask")
 
 
-def test_points_by_keys_keep_the_focus(visitor):
+def test_points_placed_with_keys_keep_the_focus(visitor):
     visitor.open("#example=snip&judge")
     visitor.script("document.querySelector('#judge-bars [data-call]').focus()")
     visitor.press("Right", "Right")
@@ -34,7 +34,7 @@ def test_recorded_calls_are_judged(visitor):
     visitor.wait("return document.getElementById('recorded-verdict').innerText.startsWith('listset: line 2')")
 
 
-def test_what_a_recording_says_of_its_end_is_told(visitor):
+def test_the_page_states_how_a_recording_ends(visitor):
     visitor.size(1366, 760)
     visitor.open("#judge")
     visitor.type("#recorded-text", "listset-calls 1\ncall 0 add 5 1 4 true\nend\n")
@@ -48,7 +48,7 @@ def test_what_a_recording_says_of_its_end_is_told(visitor):
     assert visitor.script("return document.getElementById('recorded-verdict').className") == "fault"
 
 
-def test_a_refusal_has_its_headline_its_picture_and_its_threads(visitor):
+def test_a_refusal_has_a_headline_a_picture_and_threads(visitor):
     visitor.size(1366, 900)
     visitor.open("#judge")
     calls = ["0 add 7 1 6 true", "1 contains 3 2 5 true", "0 remove 3 8 14 true", "1 contains 7 9 12 false", "2 add 5 10 15 true"]
@@ -67,7 +67,7 @@ def opened(visitor, name, text):
     visitor.settle()
 
 
-def test_files(visitor):
+def test_files_of_each_kind_are_opened(visitor):
     visitor.open("#example=snip")
     trace = visitor.inside("return listsets.now.run.trace.text")
     report = visitor.inside("return listsets.askNow('listset_replay', listsets.now.run.text).text")
@@ -80,13 +80,13 @@ def test_files(visitor):
     assert visitor.text("#fault") == ""
 
 
-def test_a_course_file_is_opened_as_one(visitor):
+def test_a_course_file_is_opened_as_a_course(visitor):
     visitor.open("#example=snip")
     opened(visitor, "bad.course", "listset-course 1\ncourse Monday\nlesson first\n")
     assert visitor.is_seen("#lesson-faults") and visitor.text("#lesson-faults").startswith("line ")
 
 
-def test_compare_by_keys_and_back(visitor):
+def test_two_lists_can_be_compared_with_keys_in_both_directions(visitor):
     visitor.open("#ask")
     visitor.click("#more summary")
     visitor.click("nav a[href='#compare']")
@@ -98,28 +98,28 @@ def test_compare_by_keys_and_back(visitor):
     assert visitor.is_seen("#scene .card")
 
 
-def test_a_wrong_address_is_told(visitor):
+def test_a_wrong_address_is_reported(visitor):
     visitor.open("#example=nothing")
     assert "nothing" in visitor.text("#told")
     visitor.open("#list=lazy&threads=2&quota=x")
     assert "quota" in visitor.text("#told")
 
 
-def test_without_webassembly(visitor):
+def test_without_webassembly_the_stored_examples_work(visitor):
     visitor.open("#example=snip", file="tests/less.html")
     assert "WebAssembly" in visitor.text("#no-engine") and "undefined" not in visitor.text("#no-engine")
     visitor.press("Right")
     assert visitor.event() == 1
 
 
-def test_no_dead_link_in_the_documents(visitor):
+def test_the_documents_have_no_dead_links(visitor):
     for page in ("how-it-works", "classic", "tables"):
         visitor.go(f"{visitor.place}/{page}.html")
         links = visitor.script("return [...document.links].map((it) => it.href)")
         assert not [it for it in links if "/docs/" in it or it.endswith(".md")], page
 
 
-def test_a_phone_by_touch(visitor):
+def test_a_phone_can_be_used_by_touch(visitor):
     visitor.size(390, 844)
     visitor.open("#example=snip")
     visitor.touch("#next")
@@ -130,7 +130,7 @@ def test_a_phone_by_touch(visitor):
     assert wide[0] <= wide[1]
 
 
-def test_a_lecture_is_left_by_escape(visitor):
+def test_escape_leaves_a_lecture(visitor):
     visitor.open("#example=snip&event=5&view=lecture")
     assert not visitor.is_seen("#top") and visitor.is_seen(".list svg")
     visitor.press("PageDown", "Escape")

@@ -1,4 +1,6 @@
-"""Solve: a lesson is tried, solved and explored on; a teacher's course goes from profile to profile."""
+"""Tests the lessons: one is tried, solved and explored further; and a teacher's course is passed from one profile to
+another.
+"""
 
 COURSE = """listset-course 1
 course Monday
@@ -30,7 +32,7 @@ def courses(visitor):
 
 
 def solved(visitor):
-    """The course's lesson, as a student does it: A walks to the node of 5, B removes it, A looks at the mark."""
+    """Solves the course's lesson as a student would: A walks to the node of 5, B removes it, and A looks at the mark."""
     begin(visitor, 0, "contains", 5)
     visitor.step("a")
     begin(visitor, 1, "remove", 5)
@@ -42,7 +44,7 @@ def solved(visitor):
     visitor.wait("return document.querySelector('.reveal') !== null")
 
 
-def test_a_lesson_is_solved_and_explored_on(visitor, another):
+def test_a_solved_lesson_can_be_explored_further(visitor, another):
     courses(visitor)
     visitor.type("#lesson-course-text", COURSE)
     visitor.click("#lesson-link")
@@ -68,20 +70,20 @@ def test_a_lesson_is_solved_and_explored_on(visitor, another):
     assert "course Monday" in text and "first #list=lazy&threads=2&quota=0&opening=5&s=b0.contains.5" in text
 
 
-def test_three_threads_and_the_goal_are_in_sight(visitor):
+def test_three_threads_and_the_goal_are_visible(visitor):
     visitor.open("#learn=one-lock")
     visitor.step("cab")
     assert all(visitor.is_in_window(it) for it in ("#goal", "[data-thread='0']", "[data-thread='1']", "[data-thread='2']"))
 
 
-def test_a_key_asks_which_call(visitor):
+def test_a_key_asks_which_call_to_begin(visitor):
     visitor.open("#learn=marked-in-chain")
     visitor.press("a")
     assert "Which call" in visitor.text(".tale") and visitor.script("return document.activeElement.dataset.call") == "0"
     assert not visitor.is_seen("[data-step='0']")
 
 
-def test_the_last_try_is_there_again(visitor):
+def test_the_last_attempt_is_restored(visitor):
     visitor.open("#learn=one-lock")
     visitor.step("ab")
     visitor.settle()
@@ -94,7 +96,7 @@ def test_the_last_try_is_there_again(visitor):
     assert visitor.hash == "#learn=one-lock" and where.startswith("#learn=one-lock&list=coarse")
 
 
-def test_no_answer_is_told_unasked(visitor):
+def test_no_answer_is_shown_before_it_is_requested(visitor):
     visitor.open("#learn=lost-pred")
     before = visitor.text("main")
     visitor.click("#hint")
@@ -105,7 +107,7 @@ def test_no_answer_is_told_unasked(visitor):
     assert not visitor.is_seen(".reveal")
 
 
-def test_each_lesson_is_solved_by_its_answer(visitor):
+def test_the_answer_of_each_lesson_solves_it(visitor):
     visitor.open("#learn")
     lessons = visitor.inside("return listsets.learning.panel.course.lessons.map(({ name }) => name)")
     assert len(lessons) == 12
@@ -129,7 +131,7 @@ def test_a_faulty_course_has_no_link(visitor):
     assert visitor.text("#lesson-faults").startswith("line 5:") and not visitor.is_seen("#lesson-link-text")
 
 
-def test_a_goal_without_a_bound_is_told(visitor):
+def test_a_goal_without_a_bound_is_reported(visitor):
     steps = "".join(f"  step {it} of 0\n" for it in "ABCDEF")
     goal = f"goal\n{steps}  call Z of 0: remove, key 9, answers true\n  say It goes on.\n"
     courses(visitor)
@@ -138,7 +140,7 @@ def test_a_goal_without_a_bound_is_told(visitor):
     assert "line 3:" in visitor.text("#lesson-faults") and "too many ways" in visitor.text("#lesson-faults")
 
 
-def test_kept_work_of_the_version_before_opens(visitor):
+def test_work_stored_by_the_previous_version_opens(visitor):
     kept = visitor.script("const ask = new XMLHttpRequest(); ask.open('GET', 'kept.json', false); ask.send(); return ask.responseText")
     visitor.script("for (const [name, text] of Object.entries(JSON.parse(arguments[0]))) localStorage.setItem(name, text)", kept)
     visitor.open("#learn=one-lock")

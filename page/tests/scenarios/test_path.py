@@ -1,4 +1,4 @@
-"""The path: a first-time visitor goes through it by presses, guesses and keys, and finds the way back."""
+"""Tests the path: a first-time visitor follows it with clicks, guesses and keys, and finds the way back."""
 
 import pytest
 
@@ -16,7 +16,7 @@ def test_a_first_visit_opens_the_path(visitor):
 
 
 @pytest.mark.parametrize("number", ["1", "2", "3", "4", "4.2", "4.3", "5", "6", "7", "7.2", "8", "9", "9.2"])
-def test_who_presses_show_me_gets_through(visitor, number):
+def test_pressing_show_me_leads_through_each_story(visitor, number):
     visitor.open(f"#story={number}")
     for _ in range(60):
         stage = visitor.inside("return listsets.now.scene.stage")
@@ -31,7 +31,7 @@ def test_who_presses_show_me_gets_through(visitor, number):
 
 
 @pytest.mark.parametrize(("keys", "lost"), [("abbbaa", 6), ("baaabb", 5), ("abaabb", 5), ("aabbba", 6)])
-def test_each_way_to_lose_a_number(visitor, keys, lost):
+def test_each_way_to_lose_a_number_is_shown(visitor, keys, lost):
     visitor.open("#story=2")
     visitor.step(keys)
     visitor.revealed()
@@ -39,7 +39,7 @@ def test_each_way_to_lose_a_number(visitor, keys, lost):
     assert visitor.is_seen(".list .lost") and visitor.in_window(".ledger")
 
 
-def test_a_number_that_is_not_lost_and_one_press_back(visitor):
+def test_a_run_without_a_loss_is_reported_and_can_be_undone(visitor):
     visitor.open("#story=2")
     visitor.step("aaabbb")
     assert "nothing is lost" in visitor.text("#talk") and visitor.text("#show-me") == "Start over"
@@ -47,7 +47,7 @@ def test_a_number_that_is_not_lost_and_one_press_back(visitor):
     assert "nothing is lost" not in visitor.text("#talk")
 
 
-def test_the_last_press_leads_on_and_can_be_taken_back(visitor):
+def test_the_last_press_focuses_the_next_button_and_can_be_undone(visitor):
     visitor.open("#story=1")
     while not visitor.is_seen(".reveal"):
         visitor.click("[data-step]")
@@ -57,7 +57,7 @@ def test_the_last_press_leads_on_and_can_be_taken_back(visitor):
     assert not visitor.is_seen(".reveal") and "Press the blue button" in visitor.text("#talk")
 
 
-def test_buttons_stay_where_they_are(visitor):
+def test_buttons_do_not_move(visitor):
     visitor.open("#story=5")
     places = set()
     for key in "abbba":
@@ -66,7 +66,7 @@ def test_buttons_stay_where_they_are(visitor):
     assert len(places) == 1
 
 
-def test_who_waits_has_a_pale_button(visitor):
+def test_a_waiting_thread_has_a_disabled_button(visitor):
     visitor.size(1300, 1000)
     visitor.open("#story=3")
     guess(visitor, "3")
@@ -76,7 +76,7 @@ def test_who_waits_has_a_pale_button(visitor):
     assert visitor.text("[data-step='1']").startswith("take the lock")
 
 
-def test_why_two_locks(visitor):
+def test_the_story_shows_why_two_locks_are_needed(visitor):
     visitor.open("#story=4")
     guess(visitor, "2")
     visitor.click("#go-on")
@@ -100,7 +100,7 @@ def test_why_two_locks(visitor):
     visitor.wait("return location.hash === '#story=4.3'")
 
 
-def test_show_a_step_leads_on_from_where_the_reader_is(visitor):
+def test_show_a_step_continues_from_the_current_event(visitor):
     for address, keys in (("#story=2", "a"), ("#story=5", "ab"), ("#story=4.2", "bb")):
         visitor.open(address)
         visitor.step(keys)
@@ -111,14 +111,14 @@ def test_show_a_step_leads_on_from_where_the_reader_is(visitor):
             visitor.idle()
         assert "lost" in visitor.text(".why b") or "no longer in the list" in visitor.text(".why b"), address
     visitor.open("#story=5")
-    visitor.step("aabb")  # A holds its locks before B has removed anything: nothing can be lost any more
+    visitor.step("aabb")  # A holds its locks before B has removed anything, so no key can be lost any more
     visitor.click("#show-me")
     assert "Start over" in visitor.text("#talk") and visitor.text("#show-me") == "Start over"
     visitor.click("#show-me")
     assert not visitor.is_seen("[data-undo]") and visitor.text("#show-me") == "Show a step"
 
 
-def test_a_mark_warns_an_add_and_a_thread_helps(visitor):
+def test_a_mark_warns_an_add_and_another_thread_helps(visitor):
     for address, told, word in (("#story=7.2", "sees a mark on its pred", "the mark warned A"), ("#story=9.2", "5 is unlinked", "Neither.")):
         visitor.open(address)
         seen = ""
@@ -128,7 +128,7 @@ def test_a_mark_warns_an_add_and_a_thread_helps(visitor):
         assert told in seen and word in visitor.text(".why b"), address
 
 
-def test_a_wrong_guess_has_its_reply_and_steps_are_no_entries(visitor):
+def test_a_wrong_guess_gets_a_reply_and_steps_add_no_history_entries(visitor):
     visitor.open("#story=3")
     before = visitor.script("return history.length")
     guess(visitor, "2")
@@ -138,7 +138,7 @@ def test_a_wrong_guess_has_its_reply_and_steps_are_no_entries(visitor):
     assert visitor.script("return history.length") == before
 
 
-def test_continue_by_keys_and_back(visitor):
+def test_a_key_opens_the_next_story_and_back_returns(visitor):
     visitor.open("#story=3")
     guess(visitor, "3")
     assert visitor.focus() == "BUTTON go-on"
@@ -149,7 +149,7 @@ def test_continue_by_keys_and_back(visitor):
     visitor.wait("return document.querySelector('h1').innerText.startsWith('One lock')")
 
 
-def test_who_comes_back_goes_on(visitor):
+def test_a_returning_visitor_continues_where_they_left(visitor):
     visitor.open("#story=3")
     guess(visitor, "3")
     visitor.click("#go-on")
@@ -162,7 +162,7 @@ def test_who_comes_back_goes_on(visitor):
     assert "done" in visitor.script("return document.querySelectorAll('.dots a')[2].className")
 
 
-def test_a_link_to_where_one_is_begins_anew(visitor):
+def test_a_link_to_the_current_place_restarts_it(visitor):
     visitor.open("#story=3")
     guess(visitor, "3")
     visitor.click("nav a[href='#story']")
@@ -171,7 +171,7 @@ def test_a_link_to_where_one_is_begins_anew(visitor):
     assert "You said: as far as A." in visitor.text(".reveal")
 
 
-def test_the_moment_is_found_and_not_told(visitor):
+def test_the_reader_finds_the_moment_before_it_is_shown(visitor):
     visitor.open("#story=8")
     visitor.press("2")
     visitor.wait("return document.querySelectorAll('.content.press').length === 3")
@@ -186,7 +186,7 @@ def test_the_moment_is_found_and_not_told(visitor):
     assert "linearizable" in visitor.text(".reveal")
 
 
-def test_tab_leads_through_the_times_of_the_set(visitor):
+def test_tab_visits_the_moments_of_the_set(visitor):
     visitor.open("#story=8")
     visitor.press("2")
     visitor.wait("return document.querySelectorAll('.content.press').length === 3")
@@ -201,7 +201,7 @@ def test_tab_leads_through_the_times_of_the_set(visitor):
     assert "linearizable" in visitor.text(".reveal")
 
 
-def test_step_by_the_code(visitor):
+def test_steps_follow_the_code(visitor):
     visitor.open("#code=lazy")
     visitor.step("ab")
     for _ in range(2):
@@ -241,7 +241,7 @@ def test_live_regions_of_a_step_say_a_sentence_once(visitor):
 
 
 @pytest.mark.parametrize("number", [1, 2, 4, 8, 10])
-def test_a_phone_by_thumb(visitor, number):
+def test_the_path_works_on_a_phone(visitor, number):
     visitor.size(390, 844)
     visitor.open(f"#story={number}")
     wide = visitor.script("return [document.documentElement.scrollWidth, document.documentElement.clientWidth]")
@@ -257,7 +257,7 @@ def test_a_phone_by_thumb(visitor, number):
         assert visitor.script(ends)
 
 
-def test_a_slide_by_a_presenters_keys(visitor):
+def test_a_slide_follows_a_presenters_keys(visitor):
     visitor.open("#story=2&view=lecture")
     assert not visitor.is_seen("#top") and not visitor.is_seen(".dots")
     for _ in range(8):
@@ -269,7 +269,7 @@ def test_a_slide_by_a_presenters_keys(visitor):
     assert visitor.is_seen("#top")
 
 
-def test_wrong_addresses_are_told(visitor):
+def test_wrong_addresses_are_reported(visitor):
     for address, word in (("#story=77", "77"), ("#ask=nothing", "nothing"), ("#break=99", "99"), ("#story=2&view=small", "small"), ("#story=4.7", "4.7"), ("#story=2.2", "2.2")):
         visitor.open(address)
         assert word in visitor.text("#told"), address

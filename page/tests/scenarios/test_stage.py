@@ -1,11 +1,13 @@
-"""The stage: on each screen, in windows of laptops, a large screen and a phone, labels are readable and nothing is cut or covered."""
+"""Tests the stage in windows of laptops, a large screen and a phone: labels are readable, and nothing is cut off or
+covered.
+"""
 
 import pathlib
 
 import pytest
 
 SCHEDULES = pathlib.Path(__file__).resolve().parents[3] / "examples/schedules/lacks"
-SIZES = {(1366, 640): 16, (1280, 720): 16, (1536, 730): 16, (1920, 1080): 18, (390, 844): 13}  # windows, and the least size of a label
+SIZES = {(1366, 640): 16, (1280, 720): 16, (1536, 730): 16, (1920, 1080): 18, (390, 844): 13}  # the windows, and the minimum size of a label in each
 FAULTS = r"""
 const least = arguments[0], found = [];
 const isSeen = (it) => it.getClientRects().length > 0 && getComputedStyle(it).visibility !== "hidden";
@@ -41,7 +43,9 @@ STILL = """const own = window.matchMedia.bind(window);
 
 
 def fit(visitor, width, height):
-    """Sizes the window. Chromium's narrow windows are a phone's, with touch. Firefox and WebKit have windows of 450 to 500 pixels at least."""
+    """Resizes the window. Narrow windows in Chromium are those of a phone, with touch. In Firefox and WebKit, windows
+    cannot be narrower than 450 to 500 pixels.
+    """
     if width < 500 and visitor.name == "chromium":
         visitor.devtools("Emulation.setDeviceMetricsOverride", width=width, height=height, deviceScaleFactor=1, mobile=True)
         visitor.devtools("Emulation.setTouchEmulationEnabled", enabled=True)
@@ -52,7 +56,7 @@ def fit(visitor, width, height):
 
 
 class Walk:
-    """A walk through the page in one window. Collects what is wrong, and reports it at the end."""
+    """Walks through the page in one window, collects everything that is wrong, and reports it at the end."""
 
     def __init__(self, visitor, size):
         self.visitor, self.least, self.faults = visitor, SIZES[size], []
@@ -73,7 +77,7 @@ class Walk:
         self.faults += [f"{where}: {fault}" for fault in self.visitor.script(FAULTS, self.least)]
 
     def boxes(self):
-        """Returns where the list and the threads' buttons are. Steps must not move them."""
+        """Returns the positions of the list and of the threads' buttons, which steps must not move."""
         return self.visitor.script("""return [...document.querySelectorAll("#figure :is(.list, .dock)")]
             .flatMap((it) => [it.getBoundingClientRect().top, it.getBoundingClientRect().height].map(Math.round))""")
 

@@ -1,11 +1,13 @@
-"""For teachers: a lecture, an assignment as one link, what a class handed in; and the student who opens the link."""
+"""Tests what teachers use: a lecture, an assignment as a single link, and what a class handed in. Also tests the student
+who opens the link.
+"""
 
 import json
 
 LINK = "#assignment=Week+3&learn=one-lock.lost-pred&break=6.7&judge=lazy.2.5.2.17"
 
 
-def test_homework_is_one_link_that_lasts(visitor, another):
+def test_homework_is_one_permanent_link(visitor, another):
     visitor.open("#teachers")
     visitor.type("#hw-title", "Week 3")
     visitor.click("[value=one-lock]")
@@ -30,7 +32,7 @@ def test_homework_is_one_link_that_lasts(visitor, another):
     student.wait("return document.querySelector('h1').innerText === 'Week 3'")
 
 
-def test_a_due_day_is_in_the_link(visitor):
+def test_the_link_contains_the_due_day(visitor):
     visitor.open("#teachers")
     visitor.click("[value=one-lock]")
     visitor.type("#hw-due", "2026-12-04")
@@ -40,7 +42,7 @@ def test_a_due_day_is_in_the_link(visitor):
     assert visitor.text(".due") == "Due: 2026-12-04"
 
 
-def test_notes_follow_the_slides_and_a_handout_is_printed(visitor):
+def test_notes_follow_the_slides_and_a_handout_can_be_printed(visitor):
     visitor.open("#notes")
     assert visitor.text("h1") == "1. Lose a number" and ":" in visitor.text("#notes-clock")
     visitor.press("Right")
@@ -49,12 +51,12 @@ def test_notes_follow_the_slides_and_a_handout_is_printed(visitor):
     assert visitor.script("return document.querySelectorAll('.sheet .list svg').length") == 13
 
 
-def test_an_assignment_names_what_it_does_not_know(visitor):
+def test_an_assignment_names_its_unknown_tasks(visitor):
     visitor.open("#assignment=x&learn=no-such&break=99&judge=bad")
     assert "lesson no-such, level 99, run bad" in visitor.text("#scene")
 
 
-def test_what_is_done_is_ticked_and_handed_in(visitor):
+def test_completed_tasks_are_ticked_and_handed_in(visitor):
     kept = visitor.script("const ask = new XMLHttpRequest(); ask.open('GET', 'kept.json', false); ask.send(); return ask.responseText")
     visitor.script("for (const [name, text] of Object.entries(JSON.parse(arguments[0]))) localStorage.setItem(name, text)", kept)
     visitor.open(LINK)
@@ -82,11 +84,11 @@ BROKEN = "break lock #list=coarse&threads=2&quota=2&opening=3.7&s=b0.add.5,b1.ad
 
 
 def marked(number):
-    """A solution that no other number has: before, A has looked for other keys."""
+    """Returns a solution that no other number has: before it, A has looked for other keys."""
     return MARKED.format("".join(f"b0.contains.{1 + int(digit)},g0.2," for digit in f"{number:05b}"))
 
 
-def test_a_class_is_checked(visitor):
+def test_hand_ins_of_a_class_are_checked(visitor):
     copies = [7, 8, 9]
     lines = [f"{marked(7 if it in copies else it)}\n{BROKEN}" for it in range(30)]
     files = [[f"{it}.txt", HAND_IN.format("Week 3", f"Student {it} ({1000 + it})", lines[it])] for it in range(30)]
@@ -116,7 +118,7 @@ def test_a_class_is_checked(visitor):
     assert visitor.text("#in-told") == "This is no link of an assignment: “#assignment=” is missing." and not visitor.is_seen(".class")
 
 
-def test_who_has_a_number_is_one_student(visitor):
+def test_hand_ins_with_the_same_number_are_one_student(visitor):
     names = ["Anna Abel (12)", "Hana Gök (12)", "Bo (7)", "bo (7)", "Cy (MSc)"]
     visitor.open("#teachers")
     dropped(visitor, [[f"{at}.txt", HAND_IN.format("x", name, BROKEN)] for at, name in enumerate(names)])
@@ -140,7 +142,7 @@ def test_a_task_leads_to_the_next_task(visitor):
     assert visitor.event() == 1 and visitor.script("return document.getElementById('judge-level').value") == "replies"
 
 
-def test_start_afresh(visitor):
+def test_stored_work_can_be_cleared(visitor):
     visitor.open("#assignment=x&learn=one-lock")
     visitor.type("#hand-student", "Ada")
     visitor.open("#teachers")
@@ -158,7 +160,7 @@ def fit(visitor, width, height):
     visitor.size(width, height + visitor.script("return arguments[0] - innerHeight", height))  # the window has a frame
 
 
-def test_the_lecture_goes_on_by_one_key(visitor):
+def test_one_key_leads_through_the_lecture(visitor):
     visitor.open("#teachers")
     slides = visitor.script("return [...document.querySelectorAll('.plan a')].map((it) => it.hash)")
     fit(visitor, 1280, 720)
@@ -184,7 +186,7 @@ def test_the_lecture_goes_on_by_one_key(visitor):
     assert "the slides 1 to 11" in visitor.text("#told")
 
 
-def test_a_slide_takes_every_key_and_stops_where_it_is_decided(visitor):
+def test_a_slide_accepts_every_key_and_stops_at_the_decision(visitor):
     visitor.open("#lecture=1")
     visitor.press("a", "b", "a", "b")
     visitor.wait("return document.querySelectorAll('.dock .thread').length === 2 && document.querySelector('[data-undo]') !== null")
@@ -204,7 +206,7 @@ def test_a_slide_takes_every_key_and_stops_where_it_is_decided(visitor):
     visitor.wait("return document.querySelector('.tale').innerText.includes('returns true')")
 
 
-def test_a_slide_follows_its_window(visitor):
+def test_a_slide_adapts_to_its_window(visitor):
     height = lambda: visitor.script("return Math.round(document.querySelector('.list svg').getBoundingClientRect().height)")
     visitor.size(800, 600)
     visitor.open("#lecture=1")

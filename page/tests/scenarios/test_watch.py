@@ -1,7 +1,7 @@
-"""The bench: a run step by step, a choice of one's own, keys, the play, the browser's history."""
+"""Tests the bench: a run step by step, the reader's own choices, keys, the player, and the browser's history."""
 
 
-def test_one_goes_on_from_here_by_the_code(visitor):
+def test_the_code_continues_from_the_current_event(visitor):
     visitor.open("#example=marked-in-chain&event=20")
     visitor.click("#go-on-here")
     visitor.wait("return location.hash.startsWith('#code=lazy&quota=4&opening=&s=')")
@@ -14,12 +14,12 @@ def test_one_goes_on_from_here_by_the_code(visitor):
     assert visitor.event() == 20
 
 
-def test_an_old_what_if_opens_as_its_schedule(visitor):
+def test_an_old_what_if_address_opens_its_schedule(visitor):
     visitor.open("#watch=snip&list=lock-free&threads=2&quota=4&s=b0.add.5,g0.1&event=2")
     assert visitor.event() == 2 and visitor.text("#where") == "event 2 of 2"
 
 
-def test_the_next_visit_opens_what_was_looked_at(visitor):
+def test_the_next_visit_opens_the_last_place(visitor):
     visitor.open("#example=snip")
     visitor.press("Right", "Right", "Right")
     visitor.settle()
@@ -28,11 +28,11 @@ def test_the_next_visit_opens_what_was_looked_at(visitor):
     assert visitor.event() == 3 and "#example=snip" in visitor.hash
 
 
-def test_a_step_is_no_entry_of_the_history(another):
+def test_a_step_adds_no_history_entry(another):
     visitor = another
     visitor.open("#judge")
     before = visitor.script("return history.length")
-    visitor.click("#scene [href='#example=snip&judge']")  # WebKit's Back passes over what a script alone has opened
+    visitor.click("#scene [href='#example=snip&judge']")  # WebKit's Back skips pages that only a script has opened
     visitor.wait("return document.getElementById('where').innerText.startsWith('event 0 ')")
     for _ in range(4):
         visitor.press("Right")
@@ -57,7 +57,7 @@ def test_a_direct_link_says_who_ran_it(visitor):
     assert "proved replayer" in visitor.text("#source")
 
 
-def test_titles_are_words(visitor):
+def test_titles_are_readable_words(visitor):
     visitor.open("#example=snip&event=3")
     assert visitor.title.startswith(visitor.text("#question")) and "event" not in visitor.title
     visitor.open("#compare")
@@ -68,7 +68,7 @@ def test_titles_are_words(visitor):
         assert len(title) > 10 and "one-lock" not in title and "undefined" not in title and not title.startswith(":"), address
 
 
-def test_keys_and_slider(visitor):
+def test_keys_and_the_slider_move_through_the_run(visitor):
     visitor.open("#example=read-in-anothers-step")
     visitor.press("Right")
     assert visitor.event() == 1
@@ -81,7 +81,7 @@ def test_keys_and_slider(visitor):
 
 
 def test_live_regions_say_a_sentence_once(visitor):
-    """Of a step the sentence alone is heard, once: on the bench, and of two lists at most one of each."""
+    """A screen reader hears only the sentence of a step, once: on the bench, and for two lists at most one from each."""
     for address, key, most in (("#example=snip", "Right", 1), ("#compare", "Left", 2)):
         visitor.open(address)
         visitor.script("""window.said = []; const isLive = (it) => it?.closest("[aria-live=polite], [role=status], [role=alert], output") ?? null;
@@ -93,14 +93,14 @@ def test_live_regions_say_a_sentence_once(visitor):
         assert set(heard) == {"tale"} and len(heard) <= most, address
 
 
-def test_print_shows_the_run_alone(visitor):
+def test_printing_shows_only_the_run(visitor):
     visitor.open("#example=snip&event=5")
     rules = visitor.script("""return [...document.styleSheets].flatMap((sheet) => [...sheet.cssRules])
         .some((rule) => rule.media?.mediaText === "print")""")
     assert rules
 
 
-def test_in_a_frame(visitor):
+def test_a_run_works_in_a_frame(visitor):
     visitor.open("#example=snip&event=5")
     visitor.go(f"{visitor.place}/tests/nothing.html")
     visitor.script("""const frame = document.createElement("iframe");

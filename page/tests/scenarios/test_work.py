@@ -1,4 +1,4 @@
-"""A student's work: schedules as text, undo, long runs, what is read aloud, and all of the examples."""
+"""Tests a student's work: schedules as text, undo, long runs, what a screen reader reads, and all examples."""
 
 import json
 
@@ -10,7 +10,7 @@ def run_text(visitor, text):
     visitor.press("Control+Enter")
 
 
-def test_all_examples_go_to_their_end(visitor):
+def test_all_examples_play_to_their_end(visitor):
     visitor.open("#example=snip")
     names = visitor.inside("return listsets.examples().map(({ name }) => name)")
     assert len(names) == 18
@@ -25,7 +25,7 @@ def test_all_examples_go_to_their_end(visitor):
         assert found[0] == found[1], name
 
 
-def test_texts_that_are_refused_are_told_where_they_stand(visitor):
+def test_refused_texts_are_reported_with_their_lines(visitor):
     visitor.open("#example=snip")
     run_text(visitor, HEADER.format("coarse") + "begin 0 add 5\ngo 0 3\ngo 1 1\n")
     assert "line 7: Idle" in visitor.text("#fault") and visitor.text("#where") == "event 4 of 4"
@@ -37,7 +37,7 @@ def test_texts_that_are_refused_are_told_where_they_stand(visitor):
     assert visitor.text("#fault") == "" and not visitor.is_seen("#old")
 
 
-def test_a_new_schedule_and_work_of_ones_own(visitor):
+def test_the_readers_own_schedule_is_kept(visitor):
     visitor.open("#example=snip&event=3")
     visitor.choose("#new-list", "optimistic")
     visitor.click("#new")
@@ -56,7 +56,7 @@ def test_a_million_events_can_be_cancelled(visitor):
     assert not visitor.is_seen("#long") and visitor.text("#fault").startswith("The run was cancelled")
 
 
-def test_what_is_to_come_is_hidden_and_can_be_shown(visitor):
+def test_future_events_are_hidden_and_can_be_shown(visitor):
     visitor.open("#example=read-in-anothers-step&event=12")
     visitor.script("scrollTo(0, 0)")
     hidden = visitor.script("return document.querySelectorAll('.calls .point').length")
@@ -67,7 +67,7 @@ def test_what_is_to_come_is_hidden_and_can_be_shown(visitor):
     assert not visitor.script("return document.getElementById('hides').checked")
 
 
-def test_controls_have_names_and_ids_stand_once(visitor):
+def test_controls_have_names_and_ids_are_unique(visitor):
     for address in ("#example=snip", "#learn=one-lock", "#break=3", "#judge", "#compare", "#example=snip&judge", "#story=2", "#ask=snip", "#teachers",
                     "#assignment=x&learn=one-lock", "#code=lazy", "#learn"):
         visitor.open(address)
@@ -80,7 +80,7 @@ def test_controls_have_names_and_ids_stand_once(visitor):
         assert nameless == [] and twice == [], address
 
 
-def test_no_place_is_wider_than_a_phone(visitor):
+def test_no_part_of_the_page_is_wider_than_a_phone(visitor):
     visitor.size(390, 844)
     for address in ("#story=3", "#ask", "#ask=snip", "#break=1", "#learn", "#learn=one-lock", "#code=lazy", "#judge", "#compare", "#read", "#teachers",
                     "#example=snip", "#example=snip&judge", "#assignment=x&learn=one-lock&break=6"):
@@ -89,7 +89,7 @@ def test_no_place_is_wider_than_a_phone(visitor):
         assert wide[0] <= wide[1], address
 
 
-def test_by_keys_alone_from_the_top_to_a_step(visitor):
+def test_a_step_can_be_reached_with_keys_alone(visitor):
     visitor.open("#example=snip")
     visitor.script("document.activeElement.blur()")
     visitor.press("Tab")
@@ -100,7 +100,7 @@ def test_by_keys_alone_from_the_top_to_a_step(visitor):
     assert visitor.event() == 1 and visitor.focus() == "BUTTON next"
 
 
-def test_a_card_that_is_opened_leads_to_its_run(visitor):
+def test_an_opened_card_leads_to_its_run(visitor):
     visitor.open("#break")
     visitor.script("document.querySelector('#scene .card').focus()")
     visitor.press("Enter")
@@ -108,7 +108,7 @@ def test_a_card_that_is_opened_leads_to_its_run(visitor):
     assert visitor.focus().startswith("H1")
 
 
-def test_one_is_judged(visitor):
+def test_the_readers_order_is_judged(visitor):
     visitor.open("#example=read-in-anothers-step&judge")
     assert not visitor.is_seen("#past") and not visitor.is_seen("#question-box")
     visitor.script("document.querySelector('#judge-level').focus()")
@@ -126,15 +126,15 @@ def test_a_schedule_of_a_broken_list_opens_its_level(visitor):
     assert visitor.text("h1").startswith("One thread at a time") and "too big" in visitor.text(".tale") or "reads" in visitor.text(".tale")
 
 
-def test_a_numbered_run_is_the_same_for_all(visitor, another):
+def test_a_numbered_run_is_the_same_for_everyone(visitor, another):
     visitor.open("#seed=lazy.2.5.2.17")
     text = visitor.inside("return listsets.now.run.text")
     another.open("#seed=lazy.2.5.2.17&judge")
     assert another.inside("return listsets.now.run.text") == text and another.is_seen("#judge-ask")
 
 
-def test_a_slow_network(visitor):
-    """The engine comes late: the example is there from its trace before, and the page says who ran it."""
+def test_the_page_works_before_the_engine_has_loaded(visitor):
+    """If the engine loads late, the example is already there from its stored trace, and the page says who ran it."""
     visitor.go(f"{visitor.place}/slow.html#example=snip&event=3")
     visitor.wait("return document.body.dataset.ready === 'soon'")
     assert visitor.event() == 3 and "kept beside the page" in visitor.text("#source")
@@ -144,7 +144,7 @@ def test_a_slow_network(visitor):
     assert visitor.event() == 4 and "proved replayer" in visitor.text("#source")
 
 
-def test_the_engine_gives_the_programs_bytes(visitor, request):
+def test_the_engine_prints_the_same_bytes_as_the_program(visitor, request):
     if request.config.getoption("--cases") is None:
         return
     visitor.open("#example=snip")

@@ -1,7 +1,8 @@
-"""Drives the installed browsers by a person's keys, clicks and touches, and reads what is visible.
+"""Drives the installed browsers with a person's keys, clicks and touches, and reads what is visible.
 
-Chromium and WebKit speak WebDriver over HTTP (chromedriver, WebKitWebDriver). Firefox speaks Marionette, the same commands over a
-socket of its own, so that no geckodriver is needed."""
+Chromium and WebKit use WebDriver over HTTP (chromedriver, WebKitWebDriver). Firefox uses Marionette, which has the same
+commands over its own socket, so geckodriver is not needed.
+"""
 
 import base64
 import json
@@ -21,7 +22,7 @@ NEEDS = {"chromium": ("chromium-driver", ["chromedriver"]), "firefox": ("firefox
 KEYS = {"Enter": "\ue007", "Tab": "\ue004", "Escape": "\ue00c", "Left": "\ue012", "Up": "\ue013", "Right": "\ue014", "Down": "\ue015",
         "Home": "\ue011", "PageUp": "\ue00e", "PageDown": "\ue00f", "End": "\ue010", "Space": " ", "Backspace": "\ue003"}
 SHIFT, CONTROL = "\ue008", "\ue009"
-# Names of the same commands: of WebDriver over HTTP (method and path), and of Marionette.
+# The names of each command: in WebDriver over HTTP (method and path), and in Marionette.
 COMMANDS = {"go": ("POST", "url", "WebDriver:Navigate"), "back": ("POST", "back", "WebDriver:Back"),
             "reload": ("POST", "refresh", "WebDriver:Refresh"), "script": ("POST", "execute/sync", "WebDriver:ExecuteScript"),
             "act": ("POST", "actions", "WebDriver:PerformActions"), "picture": ("GET", "screenshot", "WebDriver:TakeScreenshot"),
@@ -42,7 +43,7 @@ def free_port():
 
 
 def started(words, folder):
-    """Starts a process that ends with this one. `folder` holds its settings."""
+    """Starts a process that ends together with this one. `folder` contains its settings."""
     homes = {f"XDG_{it}_HOME": folder for it in ("CONFIG", "DATA", "CACHE")}
     silent = {"stdin": subprocess.DEVNULL, "stdout": subprocess.DEVNULL, "stderr": subprocess.DEVNULL}
     return subprocess.Popen([*processes.guarded(), *words], **silent, env={**os.environ, **homes})
@@ -103,7 +104,7 @@ class OverMarionette:
 
 
 def until(deed, fault, seconds=120):
-    """Retries a deed until it does not raise `fault`, and returns its value."""
+    """Repeats an action until it does not raise `fault`, and returns its value."""
     end = time.monotonic() + seconds
     while True:
         try:
@@ -128,7 +129,7 @@ def connection(name, path, folder):
 
 
 class Browser:
-    """A browser with its own profile. It ends with the `with`."""
+    """A browser with its own profile. It ends with the `with` block."""
 
     def __init__(self, name):
         self.name, self.folder = name, tempfile.TemporaryDirectory(ignore_cleanup_errors=True)
@@ -176,7 +177,7 @@ class Browser:
         pathlib.Path(path).write_bytes(base64.b64decode(self.at.command("picture", {"full": False})))
 
     def press(self, *keys):
-        """Presses keys one after the other. `Shift+Left` holds the first."""
+        """Presses keys one after another. `Shift+Left` holds the first one down."""
         deeds = []
         for key in keys:
             *held, last = key.split("+") if len(key) > 1 else [key]

@@ -8,16 +8,17 @@ use lset_history::History;
 use lset_words::CallRecord;
 use std::alloc::{AllocError, Global};
 
-/// The calls of a report that were read so far, and the fields that decide whether a call can follow them.
+/// The calls read so far, and the fields that decide which call can come next.
 #[derive(Drop)]
 pub(crate) struct CallsSoFar {
-    /// The history of the calls, for a set that opens empty.
+    /// The calls as a history of a set that opens empty.
     pub history: History,
-    /// The begin of the last call; 0 before the first call.
+    /// The moment at which the last call began; 0 before the first call.
     pub last_begun: u32,
-    /// For each thread, the end of its last call; 0 before its first call, and while a call is pending.
+    /// The moment at which each thread's last call ended; 0 before the thread's first call and while its call is
+    /// pending.
     pub last_ends: Vec<u32>,
-    /// For each thread, whether its last call is pending.
+    /// Whether each thread's last call is pending.
     pub busy: Vec<bool>,
 }
 
@@ -40,7 +41,7 @@ fn is_open(made: CallRecord) -> bool
 }
 
 impl CallsSoFar {
-    /// Returns a value without calls, for `threads` threads with a quota of `quota` each. Allocates.
+    /// Creates an empty value for `threads` threads with a quota of `quota` each. Allocates.
     pub fn new(alloc: Global, threads: u32, quota: u32) -> Result<CallsSoFar, AllocError>
         requires { IsWithin (record { threads = threads; quota = quota; opening = 0 }) }
         ensures tracks { IfOk result (λ s. Tracks s) }
@@ -54,7 +55,7 @@ impl CallsSoFar {
         })
     }
 
-    /// Returns whether the last call of some thread ended at this moment, which is not 0.
+    /// Returns `true` if some thread's last call ended at `moment`, which must not be 0.
     fn is_last_end(&self, moment: u32) -> bool
         ensures { result ≡ is_last_end self.now.last_ends.items moment }
     {
@@ -70,8 +71,8 @@ impl CallsSoFar {
         }
     }
 
-    /// Returns whether a call can follow these calls. A moment after the last begin is taken only if it is the end of a
-    /// thread's last call. The function compares these ends, so no set of moments is needed.
+    /// Returns `true` if a call can follow these calls. A moment after the last begin is taken only if some thread's
+    /// last call ended at it, so comparing these ends is enough and no set of moments is kept.
     pub fn may_follow(&self, made: CallRecord) -> bool
         requires { Tracks self.now }
         ensures { result ≡ may_follow (threads_of self.now) self.now.history.calls made }

@@ -13,7 +13,7 @@ ghost use Rattle.lset_report.specs.ReportReading.{
 use lset_text::{Cause, Version, cut, is_reply, number, read_call, read_reply};
 use lset_words::{CallRecord, Key, Placed};
 
-/// The section of a report that the reader has reached.
+/// The section that a report reader has reached.
 #[derive(Clone, Copy)]
 pub enum Section {
     Opening,
@@ -23,7 +23,7 @@ pub enum Section {
     Done,
 }
 
-/// A line of a report after the header: an opening key, a call with its number, a place in the order, a key, or the end.
+/// A line of a report after its header: an opening key, a numbered call, a place in the order, a final key, or the end.
 #[derive(Clone, Copy)]
 pub enum Line {
     Opening(u32),
@@ -34,7 +34,7 @@ pub enum Line {
 }
 
 impl Line {
-    /// Returns the section of the line.
+    /// Returns the section to which the line belongs.
     pub fn section(self) -> Section
         ensures { result ≡ section_after self }
     {
@@ -48,7 +48,7 @@ impl Line {
     }
 }
 
-/// The fields of a call's line up to its begin.
+/// The fields of a call's line up to the moment at which the call begins.
 #[derive(Clone, Copy)]
 struct Begun<'a> {
     word: &'a [u8],
@@ -103,7 +103,7 @@ fn ended_call(version: Version, pieces: Begun<'_>, end: &[u8], reply: &[u8]) -> 
     Ok(Line::Call(id, made))
 }
 
-/// Returns the call of a line, from its first fields and the rest of the line.
+/// Parses a call from the first fields of its line and the rest of the line.
 fn call(version: Version, word: &[u8], id: &[u8], thread: &[u8], rest: &[u8]) -> Result<Line, Cause>
     ensures { result ≡ first_of version Cause.Line (open_kind ∷ ended_kind ∷ []) (word.now ∷ id.now ∷ thread.now
         ∷ cut_at 32 rest.now) }
@@ -174,7 +174,7 @@ fn end(word: &[u8]) -> Result<Line, Cause>
     Ok(Line::End)
 }
 
-/// Reads a line of a report. `section` is the section that the reader has reached.
+/// Parses a line of a report. `section` is the section that the reader has reached.
 pub(crate) fn line_of_report(version: Version, section: Section, line: &[u8]) -> Result<Line, Cause>
     ensures { result ≡ line_in version Cause.Line (kinds version section) line.now }
 {

@@ -1,18 +1,18 @@
-//! A buffer of fixed size for the trace. It is larger than the longest line of an event, so writing to it does not
+//! A buffer of fixed size for the trace. It has room for the longest line of an event, so that writing a line does not
 //! allocate.
 use arrayvec::ArrayString;
 use itoa::Buffer;
 
-/// The size of a chunk, in bytes.
+/// The capacity of a chunk, in bytes.
 const ROOM: usize = 16_384;
 
-/// An upper bound for the bytes of an event's line, and for the bytes of one key in the line of a chain.
+/// An upper bound, in bytes, for an event's line and for one key in a chain's line.
 const MOST_OF_LINE: usize = 1_024;
 
-/// The part of a trace that is not yet passed to its sink.
+/// The part of a trace that has not been passed to the sink yet.
 pub(crate) type Chunk = ArrayString<ROOM>;
 
-/// Decides whether a chunk has too little space for one more line.
+/// Returns `true` if a chunk might not have room for another line.
 pub(crate) fn is_full(chunk: &Chunk) -> bool {
     ROOM - MOST_OF_LINE < chunk.as_str().len()
 }

@@ -19,7 +19,7 @@ fn put_reply(out: &mut Chunk, reply: Reply) {
     }
 }
 
-/// Writes an access and the value that it saw. For a store both are one value, which is written once.
+/// Writes an access and the value that it saw. A store sees the value that it stores, so the value is written once.
 fn put_access(out: &mut Chunk, action: Action, seen: u64) {
     let (verb, index) = match action {
         Action::Load(index) => ("load ", index),
@@ -46,7 +46,7 @@ fn put_access(out: &mut Chunk, action: Action, seen: u64) {
     put_value(out, word, seen);
 }
 
-/// Writes a node register, if its value changed.
+/// Writes a node register if its value changed.
 fn put_node_change(out: &mut Chunk, name: &str, before: u64, after: u64) {
     if before != after {
         put(out, name);
@@ -54,7 +54,7 @@ fn put_node_change(out: &mut Chunk, name: &str, before: u64, after: u64) {
     }
 }
 
-/// Writes a key register, if its value changed.
+/// Writes a key register if its value changed.
 fn put_key_change(out: &mut Chunk, name: &str, before: u64, after: u64) {
     if before != after {
         put(out, name);
@@ -62,7 +62,7 @@ fn put_key_change(out: &mut Chunk, name: &str, before: u64, after: u64) {
     }
 }
 
-/// Writes each part of a thread's state that changed.
+/// Writes the parts of a thread's state that changed.
 fn put_changes(out: &mut Chunk, before: &Local, after: &Local) {
     put_node_change(out, " pred ", before.pred, after.pred);
     put_node_change(out, " curr ", before.curr, after.curr);
@@ -83,7 +83,7 @@ fn put_changes(out: &mut Chunk, before: &Local, after: &Local) {
     }
 }
 
-/// Writes the number of the call that an event began or ended, if it did.
+/// Writes the number of the call that an event began or ended, if any.
 fn put_call(out: &mut Chunk, number: Option<u32>) {
     if let Some(number) = number {
         put(out, " call ");
@@ -99,7 +99,7 @@ fn put_begin(out: &mut Chunk, call: Call, number: Option<u32>) {
     put_call(out, number);
 }
 
-/// Writes what the event did, the row of the thread after the event, and the registers that changed.
+/// Writes what the event did, the thread's row after the event, and the registers that changed.
 fn put_deed(out: &mut Chunk, event: &TracedEvent) {
     match event.deed {
         Deed::Begin(call) => put_begin(out, call, event.made.call),

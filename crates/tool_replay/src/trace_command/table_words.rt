@@ -1,10 +1,10 @@
-//! Writes the words of a list: three of the list itself, and three of each node.
+//! Names the words of a list: three words belong to the list, and three to each node.
 use crate::trace_command::chunks::{Chunk, put, put_number};
 
-/// The key word of the tail.
+/// The value of the tail's key word.
 const ABOVE_ALL_KEYS: u64 = 4_294_967_297;
 
-/// A word of a list: one of the three of the list itself, or one of the three of the node with this number.
+/// A word of a list: one of the list's own three, or one of the three of the node with this number.
 #[derive(Clone, Copy)]
 pub(crate) enum TableWord {
     ListLock,
@@ -16,7 +16,7 @@ pub(crate) enum TableWord {
 }
 
 impl TableWord {
-    /// Returns the word at `index`. Every index has a word, even past the end of the table.
+    /// Returns the word at `index`, which can be past the end of the table.
     pub fn at(index: u64) -> TableWord {
         let Some(past) = index.checked_sub(3) else {
             return match index {
@@ -70,7 +70,7 @@ fn put_lock(out: &mut Chunk, word: u64) {
     }
 }
 
-/// Appends the name of a word, such as `n2.link`.
+/// Appends a word's name, such as `n2.link`.
 pub(crate) fn put_name(out: &mut Chunk, word: TableWord) {
     let (node, field) = match word {
         TableWord::ListLock => return put(out, "list.lock"),
@@ -84,7 +84,7 @@ pub(crate) fn put_name(out: &mut Chunk, word: TableWord) {
     put(out, field);
 }
 
-/// Appends the value of a word, in the notation of the word. A link is written as the next node, with a star if it is
+/// Appends a word's value in the notation for that word. A link is written as the next node, with a star if it is
 /// marked.
 pub(crate) fn put_value(out: &mut Chunk, word: TableWord, value: u64) {
     match word {

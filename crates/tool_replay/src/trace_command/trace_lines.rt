@@ -10,23 +10,23 @@ use std::alloc::{AllocError, Global};
 use std::io::Write;
 use tool_base::{Trouble, put as put_out};
 
-/// Line 1 of a trace.
+/// The first line of a trace.
 const TITLE: &str = "listset-trace 1";
 
-/// A destination for text that arrives in pieces.
+/// A destination for text that arrives piece by piece.
 pub trait Sink {
-    /// Appends a piece of the text.
+    /// Appends the next piece of the text.
     fn take(&mut self, text: &str) -> Result<(), Trouble>;
 }
 
-/// A sink that collects the text in memory.
+/// Collects the text in memory.
 impl Sink for Vec<u8> {
     fn take(&mut self, text: &str) -> Result<(), Trouble> {
         Ok(self.extend_from_slice(text.as_bytes())?)
     }
 }
 
-/// A sink that writes the text to an output.
+/// A sink that writes to an output.
 #[derive(Drop)]
 pub(crate) struct Output<'a, W> {
     pub output: &'a mut W,
@@ -42,8 +42,8 @@ impl<W: Write> Sink for Output<'_, W> {
     }
 }
 
-/// Returns the text of a trace before its first event: the header, with a line `lacks NAME` after the list if `lacks`
-/// names a check, and the opening keys, which are the first chain.
+/// Returns the start of a trace, before the first event: the header, with `lacks NAME` after the list if a check is
+/// missing, and the opening keys as the first chain.
 pub(crate) fn head_of(
     alloc: Global,
     schedule: &Schedule,
@@ -61,7 +61,7 @@ pub(crate) fn head_of(
     Ok(head)
 }
 
-/// A trace that is being written. Full chunks have been passed to the sink.
+/// A trace in progress. Full chunks have already been passed to the sink.
 #[derive(Drop)]
 pub struct Lines<'a, S> {
     chunk: Chunk,
@@ -69,7 +69,7 @@ pub struct Lines<'a, S> {
 }
 
 impl<S: Sink> Lines<'_, S> {
-    /// Starts a trace, before its first event.
+    /// Starts a trace into `sink`.
     pub fn to(sink: &mut S) -> Lines<'_, S> {
         Lines {
             chunk: Chunk::new(),
@@ -77,7 +77,7 @@ impl<S: Sink> Lines<'_, S> {
         }
     }
 
-    /// Appends the line of an event and, if the event has a chain, the line of the chain.
+    /// Appends the line of an event, and the line of its chain if it has one.
     #[inline(always)]
     pub fn add(&mut self, event: &TracedEvent) -> Result<(), Trouble> {
         self.pour_full()?;
@@ -88,8 +88,7 @@ impl<S: Sink> Lines<'_, S> {
         }
     }
 
-    /// Appends the last line: `end` or, if an event could not be made, the number of its line and the name of the
-    /// cause.
+    /// Appends the last line: `end` or, if an event was refused, its line number and the cause.
     pub fn end(&mut self, refused: Option<(u64, &str)>) -> Result<(), Trouble> {
         self.pour_full()?;
         match refused {
@@ -118,7 +117,7 @@ impl<S: Sink> Lines<'_, S> {
         Ok(())
     }
 
-    /// Appends the line of a chain. A marked node has a star.
+    /// Appends the line of a chain. Marked nodes have a star.
     fn add_chain(&mut self, chain: &[ChainKey]) -> Result<(), Trouble> {
         put(&mut self.chunk, "chain");
         for place in chain {

@@ -17,8 +17,7 @@ use lset_words::Kind;
 use std::alloc::Global;
 use tool_base::Trouble;
 
-/// Traces a run from its first event on, and returns the status: 1 if an event cannot be made, which ends the trace,
-/// otherwise 0.
+/// Traces a run from its first event. Returns 1 if an event is refused, which ends the trace, otherwise 0.
 fn trace<W: Steps + Drop, S: Sink>(
     schedule: &Schedule,
     run: Run<W>,
@@ -44,7 +43,7 @@ fn trace<W: Steps + Drop, S: Sink>(
     Ok(0)
 }
 
-/// Traces a schedule on the list of the machine `M`.
+/// Traces a schedule on the machine `M`.
 fn trace_on<M: Machine, S: Sink>(
     alloc: Global,
     schedule: &Schedule,
@@ -58,8 +57,8 @@ fn trace_on<M: Machine, S: Sink>(
     trace(schedule, run, sink)
 }
 
-/// Traces a schedule on the list that it names. The list is chosen by a `match` here, since a task of `on_list` cannot
-/// hold the sink.
+/// Traces a schedule on the list that it names. The list is selected with a `match`, because a task of `on_list` cannot
+/// contain the sink.
 fn trace_named<S: Sink>(
     alloc: Global,
     schedule: &Schedule,
@@ -77,8 +76,8 @@ fn trace_named<S: Sink>(
     }
 }
 
-/// Reads a schedule from `text`, traces it into the sink, and returns the status: 1 if an event cannot be made, which
-/// ends the trace, otherwise 0.
+/// Reads a schedule from `text` and traces it into the sink. Returns 1 if an event is refused, which ends the trace,
+/// otherwise 0.
 pub(crate) fn trace_into<S: Sink>(
     alloc: Global,
     options: Trace,

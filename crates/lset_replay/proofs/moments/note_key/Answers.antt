@@ -14,7 +14,7 @@ other_bool true false d = refl
 other_bool false true d = refl
 other_bool a b d = absurd cc
 
--- A change of a key that is not already present or absent
+-- The change is real: the key was absent and is added, or was present and is removed.
 turn_of : (changes : ℕ → List ℕ) (key moment : ℕ) (there present : Bool) → ((j : ℕ) → All (λ m. m < moment) (changes j))
     → there ≡ is_present changes key moment → not (beq there present) ≡ true → present ≡ not (is_present_now changes key)
 turn_of changes key moment there present later is other =

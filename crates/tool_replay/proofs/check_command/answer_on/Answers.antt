@@ -1,7 +1,7 @@
 use Rattle.std.proofs.Common.{Some, sym, refl}
 use Rattle.tool_replay.proofs.check_command.answer_on.Goals as goal
 
--- `check_order` returned the first fault of the order, and the line names this fault
+-- The line names the fault that `check_order` returned, which is the first fault of the order.
 pub returns-in_ok-refusal_text-in-Err-clause-judged :
     goal.returns-in_ok-refusal_text-in-Err-clause-judged
 returns-in_ok-refusal_text-in-Err-clause-judged c =

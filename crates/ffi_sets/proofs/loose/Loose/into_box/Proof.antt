@@ -1,4 +1,4 @@
--- `into_box` makes the box again.
+-- `into_box` puts the box together again.
 use contract.BorrowLft.{◌⊑◌}
 use denote.Triple.Clauses.{Lasts, lasts}
 use denote.Triple.Call.{calls_at_last}

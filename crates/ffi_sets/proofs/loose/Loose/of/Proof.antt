@@ -1,4 +1,4 @@
--- `of` takes the box apart.
+-- `of` takes a box apart.
 use mir.Raw.{raw as bare}
 use base.Fml.{fsep}
 use types.Logic.{sem}
