@@ -6,8 +6,6 @@ use Rattle.lset_words.specs.Account.{Content, IsCeiling}
 use Rattle.lset_history.specs.Changes.{IsFirst, is_present, IsBounded, first_passing, same_key, smallest_present, has_ceiling}
 use Rattle.lset_history.proofs.FirstMoments.{first_passing_is, one_first}
 use Rattle.lset_history.proofs.CeilingSearch.{CeilingAt}
-use Rattle.std.proofs.lemmas.Grind.{common_steps}
-use Rattle.std.proofs.lemmas.Bool.Decides.{nat_tests}
 
 same_key_is : (a b : Option ℕ) → same_key a b ≡ true → a ≡ b
 same_key_is None None e = refl
@@ -16,7 +14,10 @@ same_key_is a b e = absurd cc
 
 same_key_same : (a b : Option ℕ) → a ≡ b → same_key a b ≡ true
 same_key_same None None e = refl
-same_key_same (Some a) (Some b) e = grind (arith, common_steps, nat_tests, equal_test)
+same_key_same (Some a) (Some b) e = equal_test a b (some_is a b e)
+  where
+    some_is : (a b : ℕ) → Some a ≡ Some b → a ≡ b
+    some_is a b e = cc
 same_key_same a b e = absurd cc
 
 module _ (changes : ℕ → List ℕ) (bounded : IsBounded changes) (key : ℕ) where
@@ -33,7 +34,13 @@ module _ (changes : ℕ → List ℕ) (bounded : IsBounded changes) (key : ℕ) 
   one_ceiling m None None h g = refl
   one_ceiling m None (Some y) h g = absurd (h y g.0 g.1)
   one_ceiling m (Some x) None h g = absurd (g x h.0 h.1)
-  one_ceiling m (Some x) (Some y) h g = grind (arith, common_steps, nat_tests)
+  one_ceiling m (Some x) (Some y) h g = elim (order x y) [
+    | inl e ↦ ap Some e
+    | inr d ↦ elim d [ inl l ↦ absurd (g.2 x h.0 l h.1) | inr l ↦ absurd (h.2 y g.0 l g.1) ]
+  ]
+    where
+      order : (j k : ℕ) → (j ≡ k) ⊎ ((j < k) ⊎ (k < j))
+      order j k = grind arith
 
   -- The test is true if and only if the key is the smallest.
   pub tested : (found : Option ℕ) (m : ℕ) → has_ceiling changes key found m ≡ true → CeilingAt changes key found m
@@ -52,7 +59,11 @@ module _ (changes : ℕ → List ℕ) (bounded : IsBounded changes) (key : ℕ) 
   -- The search finds the first moment at which the test is true.
   pub ceiling_search : (found : Option ℕ) (from to : ℕ) (o : Option ℕ) → from ≤ to →
       IsFirst (CeilingAt changes key found) from to o → o ≡ first_passing true (has_ceiling changes key found) from (to - from)
-  ceiling_search found from to o l h = grind (arith, common_steps, nat_tests, one_first, first_tested, first_passing_is)
+  ceiling_search found from to o l h =
+      one_first (λ m. has_ceiling changes key found m ≡ true) from to o (first_passing true (has_ceiling changes key found) from
+      (to - from))
+      (first_tested found from to o h)
+      (first_passing_is true (has_ceiling changes key found) from (to - from) to (omega arith))
 
 -- If two contents have the same keys, `ceiling` finds the same key in both.
 pub ceiling_by : (P Q : Content) (k : ℕ) (o : Option ℕ) → ((j : ℕ) → P j → Q j) → ((j : ℕ) → Q j → P j) → IsCeiling P k o →

@@ -7,7 +7,6 @@ use Rattle.std.proofs.lemmas.Bool.{lt-ltb, le-ltb}
 use Rattle.std.proofs.lemmas.List.Elements.{All-get_or, All-from_get_or}
 use Rattle.lset_words.proofs.Numbers.{equal_test, unequal_test}
 use Rattle.lset_history.specs.Changes.{ChangesValue, moments_of, state_at, state_after, is_present, is_present_now, with_change}
-use Rattle.std.proofs.lemmas.Bool.Decides.{nat_tests}
 
 -- Negates a `Bool` n times.
 abbrev pub turned : ℕ → Bool → Bool
@@ -54,7 +53,9 @@ module _ (changes : ℕ → List ℕ) (key at : ℕ) where
 
   pub turns_there : All (λ x. x < at) (changes key)
       → is_present (with_change changes key at) key at ≡ not (is_present_now changes key)
-  turns_there h = grind (arith, common_steps, nat_tests, equal_test, state_from_change)
+  turns_there h = rw (equal_test key key refl)
+      (state_from_change false (changes key) at at (λ j n. let a : get_or (changes key) j 0 < at =
+      All-get_or (λ x. x < at) (changes key) j 0 n h in omega arith) (omega arith))
 
 -- From the last change on, a key's presence is its final presence.
 pub present_past : (changes : ℕ → List ℕ) (k m : ℕ) → All (λ x. x ≤ m) (changes k)
@@ -75,7 +76,11 @@ all_below ms k at l h = All-from_get_or (λ x. x < at) ms 0 (λ i below.
 
 pub all_upto_change : (changes : ℕ → List ℕ) (key k at j : ℕ) → All (λ x. x ≤ k) (changes j) → k ≤ at
     → All (λ x. x ≤ at) (with_change changes key at j)
-all_upto_change changes key k at j h l = grind (arith, common_steps, nat_tests)
+all_upto_change changes key k at j h l = by_test (j == key)
+  where
+    by_test : (b : Bool) → All (λ x. x ≤ at) (if b then changes j ++ at ∷ [] else changes j)
+    by_test true = all_pushed (changes j) k at h l
+    by_test false = all_upto_later (changes j) k at l h
 
 -- One more change of a key negates its final presence.
 state_after_change : (b : Bool) (ms : List ℕ) (at : ℕ) → state_after b (ms ++ at ∷ []) ≡ not (state_after b ms)
@@ -85,4 +90,6 @@ state_after_change b (m ∷ ms) at = state_after_change (not b) ms at
 module _ (c d : ChangesValue) (key last at : ℕ) (noted : (k : ℕ) → moments_of d k ≡ with_change (moments_of c) key at k) where
   pub noted_now : (present : Bool) → present ≡ not (is_present_now (moments_of c) key) →
       is_present_now (moments_of d) key ≡ present
-  noted_now present turn = grind (arith, common_steps, nat_tests, equal_test, state_after_change)
+  noted_now present turn = ap (λ ms. state_after false ms) (noted key)
+      ∙ ap (λ b. state_after false (if b then moments_of c key ++ at ∷ [] else moments_of c key)) (equal_test key key refl)
+      ∙ state_after_change false (moments_of c key) at ∙ sym turn

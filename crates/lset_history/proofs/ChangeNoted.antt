@@ -21,7 +21,6 @@ use Rattle.lset_history.specs.Changes.{is_present_now, with_change, IsLaterThanA
 use Rattle.lset_history.proofs.KeySets.{same_test}
 use Rattle.lset_history.proofs.Keys.{has_false}
 use Rattle.lset_history.proofs.ChangeLaws.{noted_now}
-use Rattle.std.proofs.lemmas.Bool.Decides.{nat_tests}
 
 abbrev pub Kept : Type 0
 Kept = BTreeMap ℕ (Vec ℕ Global)
@@ -42,7 +41,13 @@ noted_in keys m k = ap moments_in (lookup-map_values (λ (v : Vec ℕ Global). v
 noted_items : (m n : Kept) (key at : ℕ) (w : Vec ℕ Global) → UpdatesBy nat_cmp (nat_cmp key) m n (Some w)
     → w.items ≡ items_in (get nat_cmp m key) ++ at ∷ [] → (k : ℕ) → items_in (get nat_cmp n k)
     ≡ (if k == key then items_in (get nat_cmp m k) ++ at ∷ [] else items_in (get nat_cmp m k))
-noted_items m n key at w up is k = grind (arith, common_steps, nat_tests)
+noted_items m n key at w up is k = ap items_in (up.0 k) ∙ by_test (k == key) refl
+  where
+    by_test : (b : Bool) → (k == key) ≡ b → items_in (cond (is_eq (nat_cmp key k)) (Some w) (get nat_cmp m k))
+        ≡ (if b then items_in (get nat_cmp m k) ++ at ∷ [] else items_in (get nat_cmp m k))
+    by_test true e = ap (λ z. items_in (cond z (Some w) (get nat_cmp m k))) (sym (same_test key k) ∙ e) ∙ is
+        ∙ ap (λ z. items_in (get nat_cmp m z) ++ at ∷ []) (sym (same_number k key e))
+    by_test false e = ap (λ z. items_in (cond z (Some w) (get nat_cmp m k))) (sym (same_test key k) ∙ e)
 
 pub noted_map : (m n : Kept) (key at : ℕ) (w : Vec ℕ Global) → UpdatesBy nat_cmp (nat_cmp key) m n (Some w)
     → w.items ≡ items_in (get nat_cmp m key) ++ at ∷ []
@@ -141,12 +146,18 @@ kept_listed c old new now e kept =
 pub kept_present : (c : ChangesValue) (keys_at : BTreeMap ℕ ℕ) (old new : BTreeSet ℕ)
     → ((k : ℕ) → IsTrue (contains nat_cmp old k) → IsTrue (contains nat_cmp new k)) → AreKept c keys_at old →
     AreKept c keys_at new
-kept_present c keys_at old new more kept = grind (arith, common_steps, nat_tests)
+kept_present c keys_at old new more kept =
+    let present : (k : ℕ) → is_present_now (moments_of c) k ≡ true → IsTrue (contains nat_cmp new k) =
+    λ k now. more k (kept.present k now) in
+    assumption present
 
 -- ---- Lemmas about the keys of a tree after an insertion or a removal
 pub has_after : (key : ℕ) (old new : BTreeSet ℕ) → Updates nat_cmp old new key true → (k : ℕ) → IsTrue (contains nat_cmp old k)
     → IsTrue (contains nat_cmp new k)
-has_after key old new up k has = grind (arith, common_steps, nat_tests, same_or_not, same_test, unequal_test)
+has_after key old new up k has = elim (same_or_not k key) [
+  | inl e ↦ subst (λ z. IsTrue (contains nat_cmp new z)) (sym e) up.1
+  | inr n ↦ up.2 k (sym (same_test key k) ∙ unequal_test k key n) ∙ has
+]
 
 pub others_after : (key : ℕ) (old new : BTreeSet ℕ) → set.UpdatesBy nat_cmp (nat_cmp key) old new false → (k : ℕ) → k ≢ key
     → IsTrue (contains nat_cmp old k) → IsTrue (contains nat_cmp new k)
@@ -164,7 +175,17 @@ present_opened false e = e
 pub kept_opened : (keys : List ℕ) (keys_at : BTreeMap ℕ ℕ) (now : BTreeSet ℕ) → IsStrictlyIncreasing keys
     → All (λ k. k < 2 ^ 32) keys → ((k : ℕ) → has_key k keys ≡ true → IsTrue (contains nat_cmp now k))
     → AreKept (record { opening = keys; entries = [] }) keys_at now
-kept_opened keys keys_at now increasing small has = grind (arith, common_steps, nat_tests, opened_then, has_false, present_opened)
+kept_opened keys keys_at now increasing small has = record {
+  opening = increasing;
+  increase = λ k. opened_then (λ ms. IsStrictlyIncreasing ms) (λ i l. absurd (omega arith)) (λ i l. absurd (omega arith)) (has_key k keys);
+  bounded = λ k high. ap (λ b. (if b then 0 ∷ [] else []) ++ []) (has_false k keys (λ c. absurd (too_high k high c)));
+  listed = λ k. opened_then (λ ms. All (IsListed keys_at k) ms) (All-nil (IsListed keys_at k))
+      (All-cons (IsListed keys_at k) 0 [] (λ some. absurd (omega (arith, some))) (All-nil (IsListed keys_at k))) (has_key k keys);
+  present = λ k now_there. has k (present_opened (has_key k keys) now_there);
+}
+  where
+    too_high : (k : ℕ) → 2 ^ 32 ≤ k → Contains keys k → ⊥
+    too_high k high c = let low : k < 2 ^ 32 = All-contains (λ x. x < 2 ^ 32) keys k small c in omega (arith, high, low)
 
 -- Returns the entries of the map as plain lists. Writing back a value with the same items does not change them.
 abbrev pub shown : List (ℕ × Vec ℕ Global) → List (ℕ × List ℕ)

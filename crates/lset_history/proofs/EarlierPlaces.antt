@@ -16,8 +16,6 @@ use Rattle.lset_words.specs.History.{answered, call_numbered}
 use Rattle.lset_history.specs.Faults.{HasWrongReply, Passes, place_at, placed_call, set_left_by}
 use Rattle.lset_history.specs.Checks.{stands, MarksCalls, HasReply, HasOtherReply, HasReplies, after_order, after_reply}
 use Rattle.lset_history.specs.Oracle.{OracleValue}
-use Rattle.std.proofs.lemmas.Grind.{common_steps}
-use Rattle.std.proofs.lemmas.Bool.Decides.{nat_tests}
 
 -- If a call is among the first i places, it is at one of them.
 pub stands_earlier : (order : List Placed) (i n : ℕ) → stands (take i order) n ≡ true
@@ -45,7 +43,15 @@ stands_nowhere (p ∷ ps) (suc i) n h (suc k) low inside =
 pub marks_more : (marks : List Bool) (order : List Placed) (i : ℕ) → i < length order
     → (place_at order i).call < length marks → MarksCalls marks (take i order)
     → MarksCalls (set marks (place_at order i).call true) (take (i + 1) order)
-marks_more marks order i inside low holds q = grind (arith, common_steps, nat_tests, list_any_more, cases_eq, get_or-set_same, or_right, eq-eqb, get_or-set_other, ne_eqb, or-false)
+marks_more marks order i inside low holds q =
+    let call = (place_at order i).call in
+    let more = list_any_more (λ (p : Placed). p.call == q) order i (place_at [] 0) inside in
+    elim (cases_eq call q) [
+      | inl e ↦ subst (λ n. get_or (set marks call true) n false ≡ true) e (get_or-set_same marks call true false low)
+          ∙ sym (more ∙ or_right _ _ (eq-eqb call q e))
+      | inr ne ↦ get_or-set_other marks call q true false (λ e. ne (sym e))
+          ∙ holds q ∙ sym (more ∙ ap (λ b. stands (take i order) q || b) (ne_eqb call q ne) ∙ or-false _)
+    ]
 
 -- States that the set returns the place's reply after the calls of the earlier places.
 abbrev GivesReply : ℕ → List CallRecord → List Placed → ℕ → SetState → Type 0
@@ -102,7 +108,9 @@ replies_more o calls order i inside h r = record {
 pub order_more : (o : OracleValue) (calls : List CallRecord) (order : List Placed) (i : ℕ) → i < length order
     → after_order o calls (take (i + 1) order)
     ≡ after_reply (after_order o calls (take i order)) (placed_call calls order i) (place_at order i).reply
-order_more o calls order i inside = grind (arith, common_steps, nat_tests, left_more)
+order_more o calls order i inside =
+    ap (λ (s : SetState). let v : OracleValue = record { threads = o.threads; quota = o.quota; state = s } in v)
+    (left_more calls order i o.state inside)
 
 -- Gathers the facts about one place that the loop over the places needs. `x` is the place's call.
 pub reply_there : (o now : OracleValue) (calls : List CallRecord) (order : List Placed) (i : ℕ) (x : CallRecord)

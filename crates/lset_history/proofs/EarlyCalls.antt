@@ -9,8 +9,6 @@ use Rattle.lset_words.specs.declared.history.CallRecord.{CallRecord}
 use Rattle.lset_words.specs.declared.history.Placed.{Placed}
 use Rattle.lset_history.specs.Checks.{smallest_with}
 use Rattle.lset_history.specs.Faults.{place_at, placed_call, IsTooEarly, Passes, RefusesFirst}
-use Rattle.std.proofs.lemmas.Grind.{common_steps}
-use Rattle.std.proofs.lemmas.Bool.Decides.{nat_tests}
 
 -- States that the call at place i or a later place ended before a given moment.
 abbrev pub EndsBefore : ℕ → Option (ℕ × Reply) → Type 0
@@ -83,7 +81,14 @@ too_early_here calls order j (k, from, inside, ends) = (k, omega arith, inside, 
 pub early_here : (calls : List CallRecord) (order : List Placed) (j moment : ℕ) (smallest : Option ℕ) → j < length order
     → moment ≡ (placed_call calls order j).begun → EndsSmallest calls order (suc j) smallest → IsSomeAnd smallest (λ end. end < moment)
     → FindsEarly calls order j (Some (place_at order j).call)
-early_here calls order j moment smallest inside e h low = grind (arith, common_steps, nat_tests, too_early_here)
+early_here calls order j moment smallest inside e h low = record {
+  place = j;
+  from = omega arith;
+  inside = inside;
+  names = refl;
+  refused = too_early_here calls order j (rw e at (h.below moment low));
+  first = λ earlier from before. absurd (omega arith);
+}
 
 pub early_later : (calls : List CallRecord) (order : List Placed) (j moment : ℕ) (smallest early : Option ℕ)
     → moment ≡ (placed_call calls order j).begun → EndsSmallest calls order (suc j) smallest

@@ -2,8 +2,6 @@
 use Rattle.std.proofs.Common.{◌≡◌, ℕ, zero, suc, ◌+◌, ◌<◌, ◌≤◌, ◌⊎◌, inl, inr, Bool, true, false, refl, ap, subst, arith}
 use Rattle.std.specs.Prelude.{Option, Some, None}
 use Rattle.lset_history.specs.Changes.{IsFirst, is_same, first_passing}
-use Rattle.std.proofs.lemmas.Grind.{common_steps}
-use Rattle.std.proofs.lemmas.Bool.Decides.{nat_tests}
 
 same_or_not : (asked b : Bool) → ((is_same asked b ≡ true) × (b ≡ asked)) ⊎ ((is_same asked b ≡ false) × (b ≡ asked → ⊥))
 same_or_not true false = inr (refl, λ e. cc)
@@ -16,7 +14,12 @@ first_or_after first m a = grind arith
 later_first : (P : ℕ → Type 0) (first last : ℕ) (o : Option ℕ) → (P first → ⊥) → IsFirst P (suc first) last o →
     IsFirst P first last o
 later_first P first last None n h = λ m a b i. elim (first_or_after first m a) [ inl e ↦ n (subst P e i) | inr l ↦ h m l b i ]
-later_first P first last (Some k) n h = grind (arith, common_steps, nat_tests, first_or_after)
+later_first P first last (Some k) n h = (
+  (let a : suc first ≤ k = h.0 in omega arith),
+  h.1,
+  h.2,
+  λ m a b i. elim (first_or_after first m a) [ inl e ↦ n (subst P e i) | inr l ↦ h.3 m l b i ],
+)
 
 pub first_passing_is : (asked : Bool) (f : ℕ → Bool) (first n last : ℕ) → last ≡ first + n
     → IsFirst (λ m. f m ≡ asked) first last (first_passing asked f first n)
@@ -41,4 +44,10 @@ pub one_first : (P : ℕ → Type 0) (first last : ℕ) (o p : Option ℕ) → I
 one_first P first last None None h g = refl
 one_first P first last None (Some k) h g = absurd (h k g.0 g.1 g.2)
 one_first P first last (Some j) None h g = absurd (g j h.0 h.1 h.2)
-one_first P first last (Some j) (Some k) h g = grind (arith, common_steps, nat_tests)
+one_first P first last (Some j) (Some k) h g = elim (order j k) [
+  | inl e ↦ ap Some e
+  | inr d ↦ elim d [ inl l ↦ absurd (g.3 j h.0 l h.2) | inr l ↦ absurd (h.3 k g.0 l g.2) ]
+]
+  where
+    order : (j k : ℕ) → (j ≡ k) ⊎ ((j < k) ⊎ (k < j))
+    order j k = grind arith

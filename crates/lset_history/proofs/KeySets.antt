@@ -13,8 +13,6 @@ use Rattle.std.proofs.lemmas.Map.Keys.{sorted_head, sorted_tail}
 use Rattle.std.proofs.lemmas.Bool.{cases_order, ne_eqb, eq-eqb, lt-ltb, le-ltb, or_parts, or_from, false≢true, cond-true}
 use Rattle.std.proofs.lemmas.Bool.{cond-false, cases_Bool, eqb-true}
 use Rattle.lset_words.specs.SequentialSet.{has_key, with_key, without_key}
-use Rattle.std.proofs.lemmas.Grind.{common_steps}
-use Rattle.std.proofs.lemmas.Bool.Decides.{nat_tests}
 
 less : (k x : ℕ) → k < x → nat_cmp k x ≡ Less
 less k x h = sym (nat_cmp_is k x Less h)
@@ -26,7 +24,11 @@ pub greater : (k x : ℕ) → x < k → nat_cmp k x ≡ Greater
 greater k x h = sym (nat_cmp_is k x Greater h)
 
 pub same_test : (k x : ℕ) → (x == k) ≡ is_eq (nat_cmp k x)
-same_test k x = grind (arith, common_steps, nat_tests, cases_order, eq-eqb, equal, ne_eqb, less, greater)
+same_test k x = elim (cases_order k x) [
+  | inl e ↦ eq-eqb x k (sym e) ∙ sym (ap is_eq (equal k x e))
+  | inr (inl b) ↦ ne_eqb x k (λ e. omega arith) ∙ sym (ap is_eq (less k x b))
+  | inr (inr a) ↦ ne_eqb x k (λ e. omega arith) ∙ sym (ap is_eq (greater k x a))
+]
 
 pub has_key_tree : (k : ℕ) (keys : List ℕ) → has_key k keys ≡ list_any (is_at (nat_cmp k)) keys
 has_key_tree k [] = refl

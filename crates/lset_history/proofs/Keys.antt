@@ -6,7 +6,6 @@ use Rattle.lset_words.proofs.IncreasingLists.{contains-cons, contains-head, cont
 use Rattle.lset_words.specs.SequentialSet.{has_key, with_key, without_key}
 use Rattle.lset_words.proofs.Numbers.{same_number, equal_test, unequal_test, same_or_not}
 use Rattle.std.proofs.lemmas.Bool.{cases_Bool}
-use Rattle.std.proofs.lemmas.Grind.{common_steps}
 
 -- ---- Lemmas about membership as a `Bool`
 pub has_true : (k : ℕ) (xs : List ℕ) → Contains xs k → has_key k xs ≡ true
@@ -39,23 +38,39 @@ member_or_not k xs = elim (cases_Bool (has_key k xs)) [ inl e ↦ inl (has_from 
 -- ---- Lemmas about adding and removing a key, with membership as a `Bool`
 pub has_with : (k : ℕ) (xs : List ℕ) → has_key k (with_key k xs) ≡ true
 has_with k [] = rw (equal_test k k refl) refl
-has_with k (x ∷ xs) = grind (arith, common_steps, nat_tests, cases_Bool, equal_test, has_with k xs)
+has_with k (x ∷ xs) = elim (cases_Bool (nat_lt k x)) [
+  | inl t ↦ rw t (rw (equal_test k k refl) refl)
+  | inr f ↦ rw f (elim (cases_Bool (x == k)) [ inl s ↦ rw s refl | inr n ↦ rw n (has_with k xs) ])
+]
 
 pub has_with_other : (k j : ℕ) (xs : List ℕ) → j ≢ k → has_key k (with_key j xs) ≡ has_key k xs
 has_with_other k j [] n = rw (unequal_test j k n) refl
-has_with_other k j (x ∷ xs) n = grind (arith, common_steps, nat_tests, cases_Bool, unequal_test, has_with_other k j xs n)
+has_with_other k j (x ∷ xs) n = elim (cases_Bool (nat_lt j x)) [
+  | inl t ↦ rw t (rw (unequal_test j k n) refl)
+  | inr f ↦ rw f (rw (has_with_other k j xs n) refl)
+]
 
 pub has_without : (k : ℕ) (xs : List ℕ) → has_key k (without_key k xs) ≡ false
 has_without k [] = refl
-has_without k (x ∷ xs) = grind (arith, common_steps, nat_tests, cases_Bool, has_without k xs)
+has_without k (x ∷ xs) = elim (cases_Bool (x == k)) [
+  | inl t ↦ rw t (has_without k xs)
+  | inr f ↦ rw f (rw f (has_without k xs))
+]
 
 pub has_without_other : (k j : ℕ) (xs : List ℕ) → j ≢ k → has_key k (without_key j xs) ≡ has_key k xs
 has_without_other k j [] n = refl
-has_without_other k j (x ∷ xs) n = grind (arith, common_steps, nat_tests, cases_Bool, unequal_test, same_number, has_without_other k j xs n)
+has_without_other k j (x ∷ xs) n = elim (cases_Bool (x == j)) [
+  | inl t ↦ (let e : (x == k) ≡ false = unequal_test x k (λ q. n (sym (same_number x j t) ∙ q)) in
+      rw t (rw e (has_without_other k j xs n)))
+  | inr f ↦ rw f (rw (has_without_other k j xs n) refl)
+]
 
 -- ---- Lemmas about adding and removing a key, with membership as a proposition
 pub with_keeps : (k j : ℕ) (xs : List ℕ) → (j ≡ k) ⊎ Contains xs j → Contains (with_key k xs) j
-with_keeps k j xs h = grind (arith, common_steps, nat_tests, same_or_not, has_from, has_with, has_with_other, has_true)
+with_keeps k j xs h = elim (same_or_not k j) [
+  | inl e ↦ has_from j (with_key k xs) (rw e (has_with j xs))
+  | inr n ↦ has_from j (with_key k xs) (has_with_other j k xs n ∙ elim h [ inl e ↦ absurd (n (sym e)) | inr c ↦ has_true j xs c ])
+]
 
 pub with_from : (k j : ℕ) (xs : List ℕ) → Contains (with_key k xs) j → (j ≡ k) ⊎ Contains xs j
 with_from k j xs c = elim (same_or_not k j) [

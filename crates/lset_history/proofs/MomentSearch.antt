@@ -15,23 +15,27 @@ use Rattle.lset_history.proofs.FirstMoments.{first_same}
 use Rattle.lset_history.proofs.Keys.{has_true, has_false}
 use Rattle.lset_history.specs.Changes.{IsFirst, state_at, IsCountUpTo}
 use Rattle.lset_history.proofs.ChangeLaws.{turned, state_between}
-use Rattle.std.proofs.lemmas.Grind.{common_steps}
-use Rattle.std.proofs.lemmas.Bool.Decides.{nat_tests}
 
 pub halved : (b low high next_low next_high : ℕ) → high - low < 2 ^ b → low < high → 2 * (next_high - next_low) ≤ high - low
     → (0 < b) × (next_high - next_low < 2 ^ (b - 1))
 halved zero low high next_low next_high h l g = absurd (let k : high - low < 1 = h in omega arith)
-halved (suc b) low high next_low next_high h l g = grind (arith, common_steps, nat_tests, pow-suc)
+halved (suc b) low high next_low next_high h l g =
+    let k : high - low < 2 ^ b * 2 = subst (λ z. high - low < z) (pow-suc 2 b) h in
+    (omega arith, subst (λ z. next_high - next_low < 2 ^ z) (let e : b ≡ suc b - 1 = omega arith in e) (omega arith))
 
 -- A lower bound on the comparisons: at least half of the range remains after each.
 pub half_needed : (k low high next_low next_high : ℕ) → 2 ^ k ≤ high - low + 1 → high - low ≤ 2 * (next_high - next_low) + 2
     → 2 ^ (k - 1) ≤ next_high - next_low + 1
 half_needed zero low high next_low next_high h l = let one : 2 ^ (zero - 1) ≡ 1 = refl in omega arith
-half_needed (suc k) low high next_low next_high h l = grind (arith, common_steps, nat_tests, pow-suc)
+half_needed (suc k) low high next_low next_high h l =
+    let g : 2 ^ k * 2 ≤ high - low + 1 = subst (λ z. z ≤ high - low + 1) (pow-suc 2 k) h in
+    subst (λ z. 2 ^ z ≤ next_high - next_low + 1) (let e : k ≡ suc k - 1 = omega arith in e) (omega arith)
 
 pub no_look_left : (k : ℕ) → 2 ^ k ≤ 1 → k ≡ 0
 no_look_left zero h = refl
-no_look_left (suc k) h = grind (arith, common_steps, nat_tests, pow-suc, pow_pos)
+no_look_left (suc k) h =
+    let g : 2 ^ k * 2 ≤ 1 = subst (λ z. z ≤ 1) (pow-suc 2 k) h in
+    let p : 0 < 2 ^ k = pow_pos k in omega arith
 
 pub below_increases : (ms : List ℕ) → IsStrictlyIncreasing ms → (i j : ℕ) → i ≤ j → j < length ms → get_or ms i 0 ≤ get_or ms j 0
 below_increases ms increase i j l below = elim (below_or_not i j) [
@@ -51,7 +55,10 @@ odd_or_even (suc n) = elim (odd_or_even n) [
 ]
 
 pub turned_is : (n : ℕ) → (n % 2 == 1) ≡ turned n false
-turned_is n = grind (arith, common_steps, nat_tests, odd_or_even, equal_test, unequal_test)
+turned_is n = elim (odd_or_even n) [
+  | inl h ↦ (equal_test (n % 2) 1 h.0 ∙ sym h.1)
+  | inr h ↦ (unequal_test (n % 2) 1 (λ e. let a : n % 2 ≡ 0 = h.0 in omega arith) ∙ sym h.1)
+]
 
 -- Lemmas about a `Bool` that is negated n times from a first value.
 differ : (x there : Bool) → not (beq x there) ≡ (if there then not x else x)
@@ -106,7 +113,12 @@ module _ (there : Bool) (ms : List ℕ) (increase : IsStrictlyIncreasing ms) (wa
 
   pub found_next : (turned count there ≡ wanted → ⊥) → count < length ms → get_or ms count 0 ≤ to
       → IsFirst Wanted from to (Some (get_or ms count 0))
-  found_next n k l = grind (arith, common_steps, nat_tests, next_above, turns, other_turned, turned, stays)
+  found_next n k l = (
+    (let a : from < get_or ms count 0 = next_above k in omega arith),
+    l,
+    turns k ∙ other_turned (turned count there) wanted n,
+    λ m a b i. n (sym (stays m a (λ z. b)) ∙ i),
+  )
 
 -- From moment 0 on, an opening key is present.
 pub state_opened : (b : Bool) (ms : List ℕ) (m : ℕ) → state_at false ((if b then 0 ∷ [] else []) ++ ms) m ≡ state_at b ms m
@@ -129,7 +141,9 @@ at_most_20 n looked h l = h 20 (omega arith) (let e : 2 ^ 20 ≡ 1048576 = refl 
 module _ (there : Bool) (ms all : List ℕ) (is : all ≡ (if there then 0 ∷ [] else []) ++ ms) where
   pub first_of_all : (wanted : Bool) (from to : ℕ) (o : Option ℕ) → IsFirst (λ m. state_at there ms m ≡ wanted) from to o
       → IsFirst (λ m. state_at false all m ≡ wanted) from to o
-  first_of_all wanted from to o h = grind (arith, common_steps, nat_tests, first_same, state_opened)
+  first_of_all wanted from to o h = first_same (λ m. state_at there ms m ≡ wanted) (λ m. state_at false all m ≡ wanted)
+      (λ m p. ap (λ z. state_at false z m) is ∙ state_opened there ms m ∙ p)
+      (λ m q. sym (state_opened there ms m) ∙ sym (ap (λ z. state_at false z m) is) ∙ q) from to o h
 
   pub few_looks : (looked : ℕ) → ((b : ℕ) → b ≤ 64 → length ms < 2 ^ b → looked ≤ b) → length all ≤ 1000000 → looked ≤ 20
   few_looks looked h few = at_most_20 (length ms) looked h (no_longer there ms 1000000 (subst (λ z. length z ≤ 1000000) is few))

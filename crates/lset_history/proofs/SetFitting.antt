@@ -15,7 +15,6 @@ use Rattle.lset_words.specs.declared.Reply.TheVariants as reply
 use Rattle.lset_words.specs.Account.{Content, Fits}
 use Rattle.lset_history.specs.Laws.{IncreasesFor}
 use Rattle.lset_history.proofs.Keys.{has_true, has_from, has_false, has_none, with_keeps, without_from, member_or_not}
-use Rattle.std.proofs.lemmas.Grind.{common_steps}
 
 -- States that the key is in the list, and that no key of the list is between k and this key.
 abbrev pub IsCeilingIn : ℕ → List ℕ → ℕ → Type 0
@@ -87,12 +86,18 @@ none_ceiling k (y ∷ ys) e j a m = elim (cases_Bool (nat_lt y k)) [
 -- Either the list has no key at or above k, or it has a smallest one.
 pub ceiling_cases : (k : ℕ) (xs : List ℕ) → (ceiling_in k xs ≡ Nothing) ⊎ ((x : Key) × (ceiling_in k xs ≡ At x))
 ceiling_cases k [] = inl refl
-ceiling_cases k (y ∷ ys) = grind (arith, common_steps, nat_tests, cases_Bool, ceiling_cases k ys)
+ceiling_cases k (y ∷ ys) = elim (cases_Bool (nat_lt y k)) [
+  | inl f ↦ rw f (ceiling_cases k ys)
+  | inr f ↦ rw f (inr (record { 0 = y }, refl))
+]
 
 -- The set replies to a `Ceiling` with `At` or `Nothing` only.
 pub ceiling_not : {A : Type 0} (k : ℕ) (xs : List ℕ) (r : Reply) → ceiling_in k xs ≡ r → ((x : Key) → At x ≡ r → ⊥) →
     (Nothing ≡ r → ⊥) → A
-ceiling_not k xs r e f g = grind (arith, common_steps, nat_tests, ceiling_cases)
+ceiling_not k xs r e f g = elim (ceiling_cases k xs) [
+  | inl h ↦ absurd (g (sym h ∙ e))
+  | inr h ↦ absurd (f h.0 (sym h.1 ∙ e))
+]
 
 abbrev key_told : Reply → ℕ
 key_told (reply.At x) = x.0

@@ -25,24 +25,35 @@ use Rattle.lset_words.specs.declared.Reply.TheVariants.{True, False, Full, At, N
 use Rattle.lset_words.specs.SequentialSet.{SetState, has_key, ceiling_in}
 use Rattle.lset_history.specs.Oracle.{OracleValue, set_of, Answers, PutsIn, KeepsCounts}
 use Rattle.lset_history.proofs.KeySets.{has_key_tree, with_key_tree, without_key_tree, without_absent}
-use Rattle.std.proofs.lemmas.Grind.{common_steps}
-use Rattle.std.proofs.lemmas.Bool.Decides.{nat_tests}
 
 abbrev in_tree : ℕ → List ℕ → Bool
 in_tree k keys = list_any (is_at (nat_cmp k)) keys
 
 pub add_present : (o : OracleValue) (t : ℕ) (k : Key) → in_tree k.0 o.state.keys ≡ true → Answers o o t (Add k) False
-add_present o t k h = grind (arith, common_steps, nat_tests, cond-true, has_key_tree)
+add_present o t k h = record {
+  reply_is = sym (cond-true (has_key k.0 o.state.keys) False _ (has_key_tree k.0 o.state.keys ∙ h));
+  state_is = refl;
+}
 
 pub add_full : (o : OracleValue) (t : ℕ) (k : Key) (count : ℕ) → count ≡ get_or o.state.counts t 0
     → in_tree k.0 o.state.keys ≡ false → count ≡ o.quota → Answers o o t (Add k) Full
-add_full o t k count read h full = grind (arith, common_steps, nat_tests, cond-false, has_key_tree, cond-true, eq-eqb)
+add_full o t k count read h full = record {
+  reply_is = sym (cond-false (has_key k.0 o.state.keys) False _ (has_key_tree k.0 o.state.keys ∙ h)
+      ∙ cond-true (get_or o.state.counts t 0 == o.quota) Full True (eq-eqb _ _ (sym read ∙ full)));
+  state_is = refl;
+}
 
 pub add_new : (quota : ℕ) (s : SetState) (t : ℕ) (k : Key) (count : ℕ) → count ≡ get_or s.counts t 0
     → in_tree k.0 s.keys ≡ false → count ≢ quota → Answers (set_of quota s.keys s.counts)
     (set_of quota (insert_key nat_cmp s.keys k.0) (set s.counts t (count + 1)))
     t (Add k) True
-add_new quota s t k count read h room = grind (arith, common_steps, nat_tests, has_key_tree, cond-false, ne_eqb, length-set, with_key_tree)
+add_new quota s t k count read h room =
+    let absent = has_key_tree k.0 s.keys ∙ h in
+    record {
+      reply_is = sym (cond-false (has_key k.0 s.keys) False _ absent
+          ∙ cond-false (get_or s.counts t 0 == quota) Full True (ne_eqb _ _ (λ e. room (read ∙ e))));
+      state_is = rw (length-set s.counts t (count + 1), ← with_key_tree k.0 s.keys absent, read) refl;
+    }
 
 pub puts_in : (quota : ℕ) (s : SetState) (t : ℕ) (k : Key) (count : ℕ) → count ≡ get_or s.counts t 0
     → in_tree k.0 s.keys ≡ false → count ≢ quota → PutsIn (set_of quota s.keys s.counts) t (Add k)
@@ -67,8 +78,14 @@ removed quota s t k false e increasing = record {
 
 pub contained : (o : OracleValue) (t : ℕ) (k : Key) (found : Bool) → found ≡ in_tree k.0 o.state.keys
     → Answers o o t (Contains k) (cond found True False)
-contained o t k true e = grind (arith, common_steps, nat_tests, cond-true, has_key_tree)
-contained o t k false e = grind (arith, common_steps, nat_tests, cond-false, has_key_tree)
+contained o t k true e = record {
+  reply_is = sym (cond-true (has_key k.0 o.state.keys) True False (has_key_tree k.0 o.state.keys ∙ sym e));
+  state_is = refl;
+}
+contained o t k false e = record {
+  reply_is = sym (cond-false (has_key k.0 o.state.keys) True False (has_key_tree k.0 o.state.keys ∙ sym e));
+  state_is = refl;
+}
 
 -- Returns the keys from k on. The first of them is the smallest at or above k.
 abbrev from_on : ℕ → List ℕ → List ℕ
@@ -79,22 +96,34 @@ first_reply [] = Nothing
 first_reply (x ∷ xs) = At (record { 0 = x })
 
 at_or_above : (k x : ℕ) → k ≤ x → range_contains nat_cmp (Included k) Unbounded x ≡ true
-at_or_above k x h = grind (arith, common_steps, nat_tests, cases_order)
+at_or_above k x h = elim (cases_order k x) [
+  | inl e ↦ rw (sym (nat_cmp_is k x Equal e)) refl
+  | inr n ↦ elim n [ inl l ↦ rw (sym (nat_cmp_is k x Less l)) refl | inr l ↦ absurd (omega arith) ]
+]
 
 not_above : (k x : ℕ) → x < k → range_contains nat_cmp (Included k) Unbounded x ≡ false
 not_above k x h = rw (sym (nat_cmp_is k x Greater h)) refl
 
 ceiling_range : (k : ℕ) (keys : List ℕ) → ceiling_in k keys ≡ first_reply (from_on k keys)
 ceiling_range k [] = refl
-ceiling_range k (x ∷ xs) = grind (arith, common_steps, nat_tests, below_or_not, lt-ltb, not_above, le-ltb, at_or_above, ceiling_range k xs)
+ceiling_range k (x ∷ xs) = elim (below_or_not x k) [
+  | inl l ↦ rw (lt-ltb x k l, not_above k x l) (ceiling_range k xs)
+  | inr g ↦ rw (le-ltb x k g, at_or_above k x g) refl
+]
 
 pub ceiling_first : (o : OracleValue) (t : ℕ) (k : Key) (x : ℕ) (rest found : List ℕ) → found ≡ from_on k.0 o.state.keys
     → found ≡ x ∷ rest → Answers o o t (Ceiling k) (At (record { 0 = x }))
-ceiling_first o t k x rest found is first = grind (arith, common_steps, nat_tests, ceiling_range)
+ceiling_first o t k x rest found is first = record {
+  reply_is = sym (ceiling_range k.0 o.state.keys ∙ ap first_reply (sym is ∙ first));
+  state_is = refl;
+}
 
 pub ceiling_nowhere : (o : OracleValue) (t : ℕ) (k : Key) (found : List ℕ) → found ≡ from_on k.0 o.state.keys
     → found ≡ [] → Answers o o t (Ceiling k) Nothing
-ceiling_nowhere o t k found is none = grind (arith, common_steps, nat_tests, ceiling_range)
+ceiling_nowhere o t k found is none = record {
+  reply_is = sym (ceiling_range k.0 o.state.keys ∙ ap first_reply (sym is ∙ none));
+  state_is = refl;
+}
 
 pub keeps_add : (quota : ℕ) (s : SetState) (t count : ℕ) (keys : List ℕ) → KeepsCounts quota s
     → IsStrictlySortedBy nat_cmp keys → count ≤ quota → count ≢ quota

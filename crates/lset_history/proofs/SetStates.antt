@@ -12,8 +12,6 @@ use Rattle.lset_words.proofs.IncreasingLists.{IncreasesFrom, increases_from_incr
 use Rattle.lset_history.proofs.Keys.{with_keeps, with_from, without_keeps, without_from, with_increases, without_increases}
 use Rattle.lset_history.proofs.SetFitting.{SameKeys}
 use Rattle.lset_words.specs.Words.{Opening}
-use Rattle.std.proofs.lemmas.Grind.{common_steps}
-use Rattle.std.proofs.lemmas.Bool.Decides.{nat_tests}
 
 -- Returns the keys after a change.
 abbrev pub keys_after : Option Change → List ℕ → List ℕ
@@ -86,7 +84,12 @@ long_on t change counts = refl
 shows_on : (threads quota : ℕ) (log : Log) (contents : Contents) (counts : Counts) (k : ℕ) (e : Entry) (s : SetState)
     → Enters threads quota log contents counts k e → Shows threads (contents k) (counts k) s
     → Shows threads (contents (suc k)) (counts (suc k)) (set_after e s)
-shows_on threads quota log contents counts k (began t call) s h w = grind (arith, common_steps, nat_tests, same_keys)
+shows_on threads quota log contents counts k (began t call) s h w = record {
+  keys = same_keys (contents k) (contents (suc k)) s.keys h.content w.keys;
+  increasing = w.increasing;
+  long = w.long;
+  numbers = λ u l. w.numbers u l ∙ sym (h.same_counts u l);
+}
 shows_on threads quota log contents counts k (stepped t change reply) s h w = record {
   keys = keys_on change (contents k) (contents (suc k)) s.keys h.content w.keys;
   increasing = increases_on change (contents k) (contents (suc k)) s.keys h.content w.keys w.increasing;
@@ -100,7 +103,12 @@ shows_on threads quota log contents counts k (stepped t change reply) s h w = re
 -- At every moment, the sequential set has the content and the counts of the account.
 pub shows_at : (op : Opening) (last : ℕ) (log : Log) (contents : Contents) (counts : Counts)
     → Account op last log contents counts → (k : ℕ) → k ≤ last → Shows op.threads (contents k) (counts k) (set_at op log k)
-shows_at op last log contents counts a zero l = grind (arith, common_steps, nat_tests, increases_from_increasing, length-replicate, get_or-replicate)
+shows_at op last log contents counts a zero l = record {
+  keys = a.opens;
+  increasing = increases_from_increasing op.keys a.increasing;
+  long = length-replicate op.threads 0;
+  numbers = λ t m. get_or-replicate op.threads t 0 0 m ∙ sym (a.none_yet t m);
+}
 shows_at op last log contents counts a (suc k) l =
     shows_on op.threads op.quota log contents counts k (log k) (set_at op log k) (a.enters k (omega arith))
     (shows_at op last log contents counts a k (omega arith))

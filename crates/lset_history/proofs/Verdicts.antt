@@ -22,7 +22,6 @@ use Rattle.lset_history.specs.Faults.{Explains, IsFault, Passes, RefusesFirst, M
 use Rattle.lset_history.specs.Faults.{IsTwice, HasWrongReply, IsTooEarly, place_at, set_left_by}
 use Rattle.lset_history.specs.Checks.{HasKnownCalls, stands, MarksCalls, IsLeftOut, HasReplies, after_order}
 use Rattle.lset_history.proofs.EarlierPlaces.{stands_earlier, legal_at, passes_replies}
-use Rattle.std.proofs.lemmas.Bool.Decides.{nat_tests}
 
 -- Reading a place inside the order returns the same place for every default.
 read_place : (order : List Placed) (i : ℕ) (d : Placed) → i < length order → get_or order i d ≡ place_at order i
@@ -180,7 +179,9 @@ too_early_fault h calls order keys marks oracle number l r e =
 keys_after : (h : HistoryValue) (calls : List CallRecord) (order : List Placed) (marks : List Bool) (oracle : OracleValue)
     → LeavesNoneOut h calls order marks oracle
     → (after_order oracle calls order).state.keys ≡ (set_left_by (opening_set h.opening) h.calls order).keys
-keys_after h calls order marks oracle l = grind (arith, common_steps, nat_tests)
+keys_after h calls order marks oracle l =
+    ap (λ (o : OracleValue). (after_order o calls order).state.keys) l.opens
+    ∙ ap (λ (xs : List CallRecord). (set_left_by (opening_set h.opening) xs order).keys) l.stands_once.calls_are
 
 pub wrong_set_fault : (h : HistoryValue) (calls : List CallRecord) (order : List Placed) (keys : List ℕ) (marks : List Bool)
     (oracle now : OracleValue)
@@ -246,8 +247,12 @@ never_wrong quota start calls order i inside l (inl w) =
 
 pub not_explained : (h : HistoryValue) (order : List Placed) (keys : List ℕ) (fault : OrderFault)
     → IsFault h order keys fault → fault ≢ Memory → Explains h order keys → ⊥
-not_explained h order keys (Unknown number) f ne x = grind (arith, common_steps, nat_tests)
-not_explained h order keys (Twice number) f ne x = grind (arith, common_steps, nat_tests, pair_of_places)
+not_explained h order keys (Unknown number) f ne x =
+    let low = x.linearizes.known f.place (place_at [] 0) f.inside in
+    let past = f.refused in omega arith
+not_explained h order keys (Twice number) f ne x =
+    let twice = f.1.refused in
+    pair_of_places (λ (p r : Placed). p.call ≢ r.call) order twice.0 f.1.place x.linearizes.once twice.1 f.1.inside twice.2
 not_explained h order keys (Missing number) f ne x = never_missing h.opening.quota _ h.calls order number x.linearizes f.2.missing
 not_explained h order keys (WrongReply number) f ne x =
     never_wrong h.opening.quota _ h.calls order f.3.place f.3.inside x.linearizes f.3.refused
