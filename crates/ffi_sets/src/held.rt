@@ -32,7 +32,7 @@ pub struct ReceiptOfSet<M: Machine> {
 }
 
 /// The value of a full seat of C: a seat of a set of one of the five lists, a receipt of such a set, or the keys of a closed set.
-/// `Nothing` stands in the box while a function has taken the value out.
+/// The box contains `Nothing` while a function has taken the value out.
 #[derive(Drop)]
 pub enum Held {
     Coarse(SeatOfSet<CoarseList>),
