@@ -355,15 +355,16 @@ class Seat:
     __contains__ = contains
 
     def contains_now(self, key):
-        """Makes a `contains` of a lazy or a lock-free list. Such a call waits for no lock, and has at most `most_reads` steps in every run of the
-        list, whatever the other threads do. Raises `Fault` on the other lists."""
+        """Makes a `contains` of a lazy or a lock-free list. Such a call waits for no lock, and makes at most `most_reads` steps, whatever the
+        other threads do. Raises `Fault` on the other lists."""
         reply = self._reply(_NOW, key)
         if reply == MAY_BLOCK:
             raise Fault(READS_BLOCK)
         return bool(reply)
 
     def ceiling(self, key):
-        """Returns the smallest key of the set that is at least `key`, or None."""
+        """Returns the smallest key of the set that is at least `key`, or None. On a lock-free list the call can wait until another thread adds
+        or removes a key."""
         at = _U32()
         return at.value if self._reply(_CEILING, key, at) == AT else None
 
@@ -404,8 +405,8 @@ class Seat:
 
 
 def most_reads(seats, quota, keys=0):
-    """Returns the maximum number of steps of `Seat.contains_now` in the runs of a list that was opened with `seats` seats, this quota and `keys`
-    keys; 0 if no set opens with these."""
+    """Returns the maximum number of steps of `Seat.contains_now` of a list that was opened with `seats` seats, this quota and `keys` keys;
+    0 if no set opens with these."""
     return _MOST_READS(_number(seats, "number of seats"), _number(quota, "quota"), _number(keys, "number of keys"))
 
 
@@ -502,7 +503,7 @@ class Shared:
     __contains__ = contains
 
     def ceiling(self, key):
-        """Returns the smallest key of the set that is at least `key`, or None."""
+        """Returns the smallest key of the set that is at least `key`, or None. Can wait as `Seat.ceiling` can."""
         return self._by(lambda it: it.ceiling(key))
 
     def close(self):
@@ -715,7 +716,7 @@ class OwnSeat:
     __contains__ = contains
 
     def ceiling(self, key):
-        """Returns the smallest key of the set that is at least `key`, or None."""
+        """Returns the smallest key of the set that is at least `key`, or None. Can wait as `Seat.ceiling` can."""
         return self._by(lambda it: it.seat.ceiling(key))
 
     def drop(self):

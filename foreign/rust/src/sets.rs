@@ -176,7 +176,7 @@ unsafe impl Send for Receipt {}
 // SAFETY: no function takes `&Receipt`.
 unsafe impl Sync for Receipt {}
 
-/// Returns the maximum number of steps of [`Seat::contains_now`] in the runs of a list that was opened with `seats` seats, this quota and
+/// Returns the maximum number of steps of [`Seat::contains_now`] of a list that was opened with `seats` seats, this quota and
 /// `keys` keys; 0 if no set opens with these.
 pub fn most_reads(seats: u32, quota: u32, keys: u32) -> u64 {
     // SAFETY: the function takes only numbers.
@@ -303,8 +303,8 @@ impl Seat {
         replied(unsafe { listset_contains(&mut self.raw, key) }) == TRUE
     }
 
-    /// Makes a `contains` of a lazy or a lock-free list. Such a call waits for no lock, and has at most [`most_reads`] steps in every run of
-    /// the list, whatever the other threads do. Returns [`Fault::ReadsBlock`] on the other lists.
+    /// Makes a `contains` of a lazy or a lock-free list. Such a call waits for no lock, and makes at most [`most_reads`] steps,
+    /// whatever the other threads do. Returns [`Fault::ReadsBlock`] on the other lists.
     pub fn contains_now(&mut self, key: u32) -> Result<bool, Fault> {
         match replied(unsafe { listset_contains_now(&mut self.raw, key) }) {
             MAY_BLOCK => Err(Fault::ReadsBlock),
@@ -325,7 +325,8 @@ impl Seat {
         told(unsafe { listset_after(&mut self.raw, &mut given.raw) })
     }
 
-    /// Returns the smallest key of the set that is at least `key`.
+    /// Returns the smallest key of the set that is at least `key`. On a lock-free list the call can wait until another thread adds or removes
+    /// a key.
     pub fn ceiling(&mut self, key: u32) -> Option<u32> {
         let mut at = 0;
         (replied(unsafe { listset_ceiling(&mut self.raw, key, &mut at) }) == AT).then_some(at)
