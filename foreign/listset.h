@@ -224,17 +224,16 @@ LISTSET_USED listset_reply listset_remove(listset_seat *seat, uint32_t key);
 /// Replies LISTSET_TRUE if a key is in the set, otherwise LISTSET_FALSE.
 LISTSET_USED listset_reply listset_contains(listset_seat *seat, uint32_t key);
 
-/// Finds the smallest key in the set that is at least `key`. Replies LISTSET_AT and writes the key to `*at`, or replies
-/// LISTSET_NOTHING.
+/// Finds the smallest key of the set that is at least `key`. Replies LISTSET_AT and writes the key to `*at`, or replies LISTSET_NOTHING. On a
+/// lock-free list the call can wait until another thread adds or removes a key.
 LISTSET_USED listset_reply listset_ceiling(listset_seat *seat, uint32_t key, uint32_t *at);
 
-/// Replies LISTSET_TRUE if a key is in the set, otherwise LISTSET_FALSE, without waiting for a lock. Works on lazy and
-/// lock-free lists, where the call makes at most `listset_most_reads` steps in every run, whatever other threads do. On
-/// the other lists, makes no call and replies LISTSET_MAY_BLOCK.
+/// Makes a `listset_contains` of a lazy or a lock-free list. Such a call waits for no lock, and makes at most `listset_most_reads` steps,
+/// whatever the other threads do. Makes no call and replies LISTSET_MAY_BLOCK on the other lists.
 LISTSET_USED listset_reply listset_contains_now(listset_seat *seat, uint32_t key);
 
-/// Returns the maximum number of steps that a `listset_contains_now` makes in any run of a list opened with `seats`
-/// seats, this quota and `opening` keys. Returns 0 if no set can be opened with these.
+/// Returns the maximum number of steps of a `listset_contains_now` of a list that was opened with `seats` seats, this quota and
+/// `opening` keys; 0 if no set opens with these.
 uint64_t listset_most_reads(uint32_t seats, uint32_t quota, uint32_t opening);
 
 /// Stores a receipt of everything that `seat` has seen in `out`, which must be empty. The receipt can be sent to

@@ -375,17 +375,16 @@ class Seat:
     __contains__ = contains
 
     def contains_now(self, key):
-        """Returns whether a key is in the set, without waiting for a lock. Works on lazy and lock-free lists, where the
-        call makes at most `most_reads` steps in every run, whatever other threads do. Raises `Fault` on the other
-        lists.
-        """
+        """Makes a `contains` of a lazy or a lock-free list. Such a call waits for no lock, and makes at most `most_reads` steps, whatever the
+        other threads do. Raises `Fault` on the other lists."""
         reply = self._reply(_NOW, key)
         if reply == MAY_BLOCK:
             raise Fault(READS_BLOCK)
         return bool(reply)
 
     def ceiling(self, key):
-        """Returns the smallest key in the set that is at least `key`, or None."""
+        """Returns the smallest key of the set that is at least `key`, or None. On a lock-free list the call can wait until another thread adds
+        or removes a key."""
         at = _U32()
         return at.value if self._reply(_CEILING, key, at) == AT else None
 
@@ -428,9 +427,8 @@ class Seat:
 
 
 def most_reads(seats, quota, keys=0):
-    """Returns the maximum number of steps that a `Seat.contains_now` makes in any run of a list opened with `seats` seats,
-    this quota and `keys` keys. Returns 0 if no set can be opened with these.
-    """
+    """Returns the maximum number of steps of `Seat.contains_now` of a list that was opened with `seats` seats, this quota and `keys` keys;
+    0 if no set opens with these."""
     return _MOST_READS(_number(seats, "number of seats"), _number(quota, "quota"), _number(keys, "number of keys"))
 
 
@@ -534,7 +532,7 @@ class Shared:
     __contains__ = contains
 
     def ceiling(self, key):
-        """Returns the smallest key in the set that is at least `key`, or None."""
+        """Returns the smallest key of the set that is at least `key`, or None. Can wait as `Seat.ceiling` can."""
         return self._by(lambda it: it.ceiling(key))
 
     def close(self):
@@ -758,7 +756,7 @@ class OwnSeat:
     __contains__ = contains
 
     def ceiling(self, key):
-        """Returns the smallest key in the set that is at least `key`, or None."""
+        """Returns the smallest key of the set that is at least `key`, or None. Can wait as `Seat.ceiling` can."""
         return self._by(lambda it: it.seat.ceiling(key))
 
     def drop(self):

@@ -122,6 +122,18 @@ static void expect_patience() {
   expect(mine.add(100) == added::is_true && rests.add(101) == added::is_true && rests.ceiling(99) == 100u, "calls that go on");
 }
 
+// Expects that a call without patience waits while a thread stays in a call, and is made after that call has ended.
+static void expect_waits(list kind) {
+  renewed_set set(kind, 2, 1);
+  auto mine = set.split(), rests = set.split();
+  expect(mine.add(1) == added::is_true, "an add before the quota is used");
+  std::unique_lock<std::mutex> stays(places_of(set)[1].lock);
+  auto waits = std::async(std::launch::async, [&] { return mine.add(2); });
+  expect(waits.wait_for(50ms) == std::future_status::timeout, "an add that waits");
+  stays.unlock();
+  expect(waits.get() == added::is_true && rests.contains(2), "an add that has waited");
+}
+
 static void expect_seats() {
   renewed_set set(list::lock_free, 2, 1);
   {
@@ -218,6 +230,7 @@ int main(int count, char **words) {
   expect_two_users();
   for (list kind : LISTS) {
     expect_reads_and_receipts(kind);
+    expect_waits(kind);
     expect(is_explained(words[1], kind, kind == list::lazy ? 16384 : 100, many), "calls of eight threads");
   }
   return wrong != 0;

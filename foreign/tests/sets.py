@@ -232,6 +232,18 @@ def seats_of_a_renewed_set():
     assert none.split().try_add(1) is Added.FULL
 
 
+def waits_without_patience(kind):
+    """Expects that a call without patience waits while another thread stays in a call, and is made after that call has ended."""
+    of = listset.RenewedSet(kind, 2, 1)
+    mine, rests = of.split(), of.split()
+    assert mine.add(1)
+    with concurrent.futures.ThreadPoolExecutor(1) as thread:
+        with of._places[1].lock:
+            waits = thread.submit(mine.add, 2)
+            assert not concurrent.futures.wait([waits], timeout=0.05).done
+        assert waits.result() and 2 in rests
+
+
 def shared(kind):
     of = listset.Shared(kind, 2, 500, [7])
     found = by_threads(lambda number: [of.try_add(KEYS + number + THREADS * key) for key in range(300)])
@@ -295,6 +307,7 @@ for it in listset.LISTS:
     ends(it)
     reads_and_receipts(it)
     renewed_by_itself(it, 1 if it == "fine" else 50)
+    waits_without_patience(it)
     shared(it)
 renewed_by_hand()
 seats_of_a_renewed_set()

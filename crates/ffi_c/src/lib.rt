@@ -8,7 +8,7 @@ ghost use Rattle.lset_words.specs.declared.Call.TheVariants.{Add, Remove, Contai
 ghost use Rattle.std.specs.Prelude.{◌≡◌, ◌<◌};
 ghost use Rattle.lset_words.specs.Words.{IsWithin};
 ghost use Rattle.lset_steps.specs.BoundedReads.{most_reads};
-ghost use Rattle.ffi_sets.specs.Calls.{HasCeiling, HasGiven, HasHeeded, HasMade};
+ghost use Rattle.ffi_sets.specs.Calls.{HasCeiling, HasGiven, HasHeeded, HasMade, HasReadHeld};
 ghost use Rattle.ffi_sets.specs.Sets.{GathersAt};
 
 use ffi_sets::CSeat;
@@ -72,9 +72,9 @@ pub extern "C" fn listset_contains(alloc: Global, seat: &mut CSeat, key: u32) ->
     ffi_sets::contains_key(alloc, seat, key)
 }
 
-/// Finds the smallest key in the set that is at least `key`. Returns 3 and writes the key to `at`, or returns 4 if
-/// there is no such key. Returns 255 if `seat` is empty or a closed set. On a coarse, fine or optimistic list, blocks
-/// while another thread holds a lock that the call needs. Does not allocate.
+/// Finds the smallest key of the set that is at least `key`. Returns 3 and writes the key to `at`, or returns 4 if the set has no
+/// such key. Returns 255 if `seat` is empty or a closed set. On a coarse, fine or optimistic list the call blocks while another
+/// thread holds a lock that it needs. On a lock-free list it can wait until another thread adds or removes a key. Does not allocate.
 #[unsafe(no_mangle)]
 pub extern "C" fn listset_ceiling(alloc: Global, seat: &mut CSeat, key: u32, at: &mut u32) -> u8
     ensures { HasCeiling seat.old.full seat.old.held (Ceiling (record { 0 = key })) result at.old at.new seat.new.full seat.new.held }
@@ -82,15 +82,13 @@ pub extern "C" fn listset_ceiling(alloc: Global, seat: &mut CSeat, key: u32, at:
     ffi_sets::ceiling_at(alloc, seat, key, at)
 }
 
-/// Returns 1 if `key` is in the set and 0 if it is not, without waiting for a lock. Makes no call and returns 254 on a
-/// coarse, fine or optimistic list, or 255 if `seat` is empty or a closed set. Does not allocate.
-///
-/// No clause bounds the number of steps of the call. However, its steps are those of a run of the list (see
-/// `HasAnswered` in the clause), and in every run a `contains` of these lists makes at most `listset_most_reads` steps
-/// (`lset_steps::laws::bounded_reads`).
+/// Returns 1 if `key` is in the set, 0 if it is not, without blocking: whatever other threads do, the call makes at most
+/// `listset_most_reads` steps. Makes no call and returns 254 on a coarse, fine or optimistic list, 255 if `seat` is empty or a closed
+/// set. Does not allocate.
 #[unsafe(no_mangle)]
 pub extern "C" fn listset_contains_now(alloc: Global, seat: &mut CSeat, key: u32) -> u8
-    ensures { result < 254 → HasMade seat.old.full seat.old.held (Contains (record { 0 = key })) result seat.new.full seat.new.held }
+    ensures made { result < 254 → HasMade seat.old.full seat.old.held (Contains (record { 0 = key })) result seat.new.full seat.new.held }
+    ensures within { result < 254 → HasReadHeld seat.old.held seat.new.held }
 {
     ffi_sets::contains_key_now(alloc, seat, key)
 }

@@ -1,5 +1,4 @@
--- Lemmas that the proofs about machine code share, and the machine values of a seat and of a box, as its pointer.
--- Assumes `Logic`.
+-- Definitions for the proofs by hand: the machine values of a seat, and of a box as its pointer. Assumes `Logic`.
 pub use Rattle.std.proofs.Common.{◌≡◌, List, [], ◌∷◌, ◌++◌, refl, sym, ap, ◌∙◌, subst, ℕ, zero, suc, lit<}
 pub use mathlib.Core.Bool.{Bool, true, false, ◌&&◌}
 pub use mir.Syntax.{Fn, a_type, dcons, dnil, Ty, ty_ptr, ty_bool, ty_struct, impl, tcons, tnil}
@@ -83,7 +82,7 @@ slot_at k [] = plain (λ _. unit)
 slot_at zero (s ∷ ss) = s
 slot_at (suc k) (s ∷ ss) = slot_at k ss
 
--- A struct described by its fields only: what it owns does not depend on its name.
+-- A struct by its fields alone: what the struct owns does not depend on its name.
 abbrev pub plainly : List RattleType → RattleType
 plainly Rs = Struct (record { name = []; args = []; types = []; fields = Rs })
 
@@ -110,7 +109,7 @@ pub seat_typed : (t : Bool) (p : Ptr) → Good seat_ty (seat_val t p)
 seat_typed t (block_ptr b o) = (tt, (tt, (tt, tt)))
 seat_typed t null_ptr = (tt, (tt, (record { fits = lit< tt }, tt)))
 
--- A seat's box, represented by its pointer.
+-- The box of a seat, as its pointer
 abbrev pub Freed : RattleType
 Freed = Loose held.the_row HP.the_row HL.the_row_laws GI.ghosts
 

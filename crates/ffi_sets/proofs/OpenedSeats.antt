@@ -8,7 +8,7 @@ use Rattle.ffi_sets.specs.Facts.{AreOf}
 abbrev IsOf : SetValue → SeatValue → Type 0
 IsOf set s = (s.set ≡ set) × (s.held ≡ 1)
 
--- A fact that holds of all seats holds of the first ones and of the others.
+-- A fact of all seats is a fact of the first ones and of the rest.
 parts : (set : SetValue) (xs ys : List SeatValue) → AllByRecursion (IsOf set) (xs ++ ys)
     → AllByRecursion (IsOf set) xs × AllByRecursion (IsOf set) ys
 parts set [] ys all = (tt, all)

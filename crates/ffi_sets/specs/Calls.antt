@@ -3,10 +3,13 @@ use Rattle.std.specs.Prelude.{◌≡◌, ℕ, Bool, true, false, Option, Some, N
 use Rattle.lset_words.specs.declared.Call.{Call}
 use Rattle.lset_words.specs.declared.Reply.{Reply}
 use Rattle.lset_words.specs.declared.Reply.TheVariants as reply
+use Rattle.lset_words.specs.Words.{sizes}
+use Rattle.lset_words.specs.Records.{thread_of}
 use Rattle.lset_steps.specs.Steps.{Table}
+use Rattle.lset_steps.specs.BoundedReads.{most_reads}
 use Rattle.lset_rule.specs.Runs.{StartsWith}
 use Rattle.lset_live.specs.Seats.{SetValue, SeatValue, ReceiptValue}
-use Rattle.lset_live.specs.Explained.{HasAnswered}
+use Rattle.lset_live.specs.Explained.{HasAnswered, HasMadeAtMost}
 use Rattle.ffi_sets.specs.declared.held.Held.{Held}
 use Rattle.ffi_sets.specs.Sets.{table_in, set_in, seat_in, spare_in, keys_in, number_in, receipt_in, SameSet}
 
@@ -18,7 +21,7 @@ HasCalledOf T set (Some old) c None None = Unit {0}
 HasCalledOf T set None c None None = Unit {0}
 HasCalledOf T set old c r new = ⊥
 
--- The number that represents a reply; 255 if there is none.
+-- The number of a reply; 255 if there is none
 abbrev pub code_of : Option Reply → ℕ
 code_of (Some reply.False) = 0
 code_of (Some reply.True) = 1
@@ -39,7 +42,20 @@ pub record HasCalledHeld (h : Held) (c : Call) (r : Option Reply) (h' : Held) : 
   pub keys : keys_in h' ≡ keys_in h
   pub called : CallsIn (table_in h) (set_in h) (seat_in h) c r (seat_in h')
 
--- The call c from a seat of C returned n. For an empty seat, n is 255 and the seat stays empty.
+-- A contains from a seat was made in at most most_reads steps of its thread.
+abbrev pub HasReadOf : SetValue → Option SeatValue → Option SeatValue → Type 0
+HasReadOf set (Some old) (Some new) = HasMadeAtMost (most_reads (sizes set.shape)) (thread_of old.past) new.events
+HasReadOf set old new = ⊥
+
+abbrev pub ReadsIn : Option SetValue → Option SeatValue → Option SeatValue → Type 0
+ReadsIn (Some set) old new = HasReadOf set old new
+ReadsIn None old new = ⊥
+
+-- A contains from the value of a seat of C was made in at most most_reads steps of the seat's thread.
+abbrev pub HasReadHeld : Held → Held → Type 0
+HasReadHeld h h' = ReadsIn (set_in h) (seat_in h) (seat_in h')
+
+-- A call c from a seat of C returned n. From an empty seat n is 255, and the seat is still empty.
 abbrev pub HasMade : Bool → Held → Call → ℕ → Bool → Held → Type 0
 HasMade true h c n true h' = (r : Option Reply) × (n ≡ code_of r) × HasCalledHeld h c r h'
 HasMade false h c n false h' = n ≡ 255
@@ -56,19 +72,18 @@ HasCeiling true h c n a a' true h' = (r : Option Reply) × (n ≡ code_of r) × 
 HasCeiling false h c n a a' false h' = (n ≡ 255) × (a' ≡ a)
 HasCeiling full h c n a a' full' h' = ⊥
 
--- A receipt of everything that a seat has seen.
-abbrev pub noted_by : Option SeatValue → Option ReceiptValue
-noted_by (Some s) = Some (record { set = s.set; events = s.events })
-noted_by None = None
+-- A seat gave a receipt: it is of the seat's set, and of all that the seat has seen.
+abbrev pub HasNotedOf : Option SeatValue → Option ReceiptValue → Type 0
+HasNotedOf (Some s) (Some given) = given ≡ record { set = s.set; events = s.events }
+HasNotedOf s given = ⊥
 
--- The value h issued a receipt for its set and number. The receipt stands for everything that the seat has seen, and h
--- is unchanged.
+-- The value h has a seat that gave a receipt, with the number of the seat's set. h is unchanged.
 pub record HasNotedHeld (h given h' : Held) : Type 0 where
   pub same : SameSet h h'
   pub spare : spare_in h' ≡ spare_in h
   pub seat : seat_in h' ≡ seat_in h
   pub number : number_in given ≡ number_in h
-  pub receipt : receipt_in given ≡ noted_by (seat_in h)
+  pub noted : HasNotedOf (seat_in h) (receipt_in given)
 
 abbrev pub HasGiven : Bool → Held → Bool → Held → Bool → Held → Type 0
 HasGiven true h true given true h' = HasNotedHeld h given h'

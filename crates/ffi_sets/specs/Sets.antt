@@ -20,7 +20,7 @@ table_in (Lazy o) = Some lazy
 table_in (LockFree o) = Some lock_free
 table_in h = None
 
--- The receipt, if the value is one.
+-- The receipt, if the value is a receipt
 abbrev pub receipt_in : Held → Option ReceiptValue
 receipt_in (CoarseReceipt o) = Some o.receipt
 receipt_in (FineReceipt o) = Some o.receipt
@@ -29,7 +29,7 @@ receipt_in (LazyReceipt o) = Some o.receipt
 receipt_in (LockFreeReceipt o) = Some o.receipt
 receipt_in h = None
 
--- The set to which the seat or receipt belongs, and the set's number.
+-- The set of the seat or of the receipt, and the set's number
 abbrev pub set_in : Held → Option SetValue
 set_in (Coarse o) = Some (arc_value o.set)
 set_in (Fine o) = Some (arc_value o.set)
@@ -56,7 +56,7 @@ number_in (LazyReceipt o) = Some o.number
 number_in (LockFreeReceipt o) = Some o.number
 number_in h = None
 
--- The seat that makes calls, and the seats that can be split off it.
+-- The seat that makes calls, and the seats that can be split off it
 abbrev pub seat_in : Held → Option SeatValue
 seat_in (Coarse o) = o.seat
 seat_in (Fine o) = o.seat
@@ -83,17 +83,16 @@ pub record SameSet (h h' : Held) : Type 0 where
   pub set : set_in h' ≡ set_in h
   pub number : number_in h' ≡ number_in h
 
--- Seats and receipts with the same number belong to the same set. If several sets are open, the caller must ensure
--- this.
+-- Seats and receipts with the same number belong to the same set. The caller ensures this if several sets are open.
 abbrev pub Gathers : Held → Held → Type 0
 Gathers h h' = number_in h ≡ number_in h' → set_in h ≡ set_in h'
 
--- What the caller must ensure about two full seats of C.
+-- `Gathers` of two seats of C, if both are full
 abbrev pub GathersAt : Bool → Held → Bool → Held → Type 0
 GathersAt true h true h' = Gathers h h'
 GathersAt into h from h' = Unit {0}
 
--- The seat and those that can be split off it are ALL SEATS of the set.
+-- The seat, with the seats that can be split off it, holds ALL SEATS of the set.
 abbrev pub IsWhole : SetValue → Option SeatValue → List SeatValue → Type 0
 IsWhole set (Some seat) spare = seat.held + length spare ≡ set.shape.threads
 IsWhole set None spare = ⊥

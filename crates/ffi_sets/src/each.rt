@@ -1,13 +1,14 @@
-//! Implements the operations on a `Held` by matching on its list.
-ghost use Rattle.std.specs.Prelude.{◌≤◌, IfNone, IfSome};
+//! Functions on a `Held`. Each matches on the list of the value.
+ghost use Rattle.lset_words.specs.declared.Call.TheVariants.{Contains};
+ghost use Rattle.std.specs.Prelude.{◌≤◌, Some, IfNone, IfSome, IfOk, IfErr};
 ghost use Rattle.ffi_sets.specs.Sets.{Gathers};
-ghost use Rattle.ffi_sets.specs.Calls.{HasCalledHeld, HasHeededHeld, HasNotedHeld};
+ghost use Rattle.ffi_sets.specs.Calls.{HasCalledHeld, HasHeededHeld, HasNotedHeld, HasReadHeld};
 
 use crate::codes::{MAY_BLOCK, NO_MORE, NO_SEAT};
 use crate::held::Held;
 use crate::holding::open_of;
 use lset_live::OpenFault;
-use lset_words::{Call, Reply};
+use lset_words::{Call, Key, Reply};
 use std::alloc::Global;
 
 /// Opens a set of the list `kind`: 0 coarse, 1 fine, 2 optimistic, 3 lazy, 4 lock-free. Returns `None` for any other
@@ -45,16 +46,20 @@ pub fn call_held(held: &mut Held, call: Call) -> Option<Reply>
     }
 }
 
-/// Returns why a `contains` from the seat in `held` can block: `MAY_BLOCK` on a coarse, fine or optimistic list,
-/// `NO_SEAT` if `held` has no seat. Returns `None` on the other lists, where every step of a `contains` is a load.
-pub fn why_reads_block(held: &Held) -> Option<u8>
-    ensures { IfSome result (λ n. 254 ≤ n) }
+/// Makes a `contains` from the seat in `held` without blocking, in at most `most_reads` steps. Returns an error and makes no call:
+/// `MAY_BLOCK` on a coarse, fine or optimistic list, `NO_SEAT` if `held` has no seat.
+pub fn read_held(held: &mut Held, key: Key) -> Result<Reply, u8>
+    ensures called { IfOk result (λ r. HasCalledHeld held.old (Contains key) (Some r) held.new) }
+    ensures within { IfOk result (λ r. HasReadHeld held.old held.new) }
+    ensures error { IfErr result (λ n. 254 ≤ n) }
 {
-    match held {
-        Held::Lazy(_) | Held::LockFree(_) => None,
-        Held::Coarse(_) | Held::Fine(_) | Held::Optimistic(_) => Some(MAY_BLOCK),
-        _ => Some(NO_SEAT),
-    }
+    let reply = match held {
+        Held::Lazy(of) => of.contains_now(key),
+        Held::LockFree(of) => of.contains_now(key),
+        Held::Coarse(_) | Held::Fine(_) | Held::Optimistic(_) => return Err(MAY_BLOCK),
+        _ => None,
+    };
+    reply.ok_or(NO_SEAT)
 }
 
 /// Returns a receipt of everything that the seat in `held` has seen; `None` if `held` has no seat.
@@ -71,8 +76,8 @@ pub fn receipt_held(held: &mut Held) -> Option<Held>
     })
 }
 
-/// Passes the receipt `given` to the seat in `into`. Returns `given` if they are not a seat and a receipt with the same
-/// list and number, otherwise `None`.
+/// Hands the receipt `given` to the seat in `into`. Returns `None` on success, and `given` if these are not a seat and a receipt of one
+/// list and number.
 pub fn heed_held(into: &mut Held, given: Held) -> Option<Held>
     requires { Gathers into.old given }
     ensures { IfNone result (HasHeededHeld into.old given into.new) }
@@ -114,8 +119,8 @@ pub fn has_spare(held: &Held) -> bool {
     }
 }
 
-/// Splits a seat off the seat in `held`. Returns `NO_MORE` if none is left, and `OUT_OF_MEMORY` if the set cannot have
-/// another owner.
+/// Splits a seat off the seat in `held`. Returns the error `NO_MORE` if no seat can be split off, `OUT_OF_MEMORY` if the set
+/// cannot have another owner.
 pub fn split_held(held: &mut Held, alloc: Global) -> Result<Held, u8> {
     Ok(match held {
         Held::Coarse(of) => Held::Coarse(of.split(alloc)?),
@@ -127,8 +132,8 @@ pub fn split_held(held: &mut Held, alloc: Global) -> Result<Held, u8> {
     })
 }
 
-/// Merges the seat in `from` into the seat in `into`. Returns `from` if they are not two seats with the same list and
-/// number, otherwise `None`.
+/// Merges the seat in `from` into the seat in `into`. Returns `None` on success, and `from` if these are not two seats of one list and
+/// number.
 pub fn gather_held(alloc: Global, into: &mut Held, from: Held) -> Option<Held>
     requires { Gathers into.old from }
 {

@@ -32,8 +32,8 @@ pub struct ReceiptOfSet<M: Machine> {
     pub receipt: Receipt<M>,
 }
 
-/// The value of a full seat of C: a seat of one of the five lists, a receipt for such a set, or the keys of a closed
-/// set. `Nothing` is a placeholder while a function has taken the value out of the box.
+/// The value of a full seat of C: a seat of a set of one of the five lists, a receipt of such a set, or the keys of a closed set.
+/// The box contains `Nothing` while a function has taken the value out.
 #[derive(Drop)]
 pub enum Held {
     Coarse(SeatOfSet<CoarseList>),

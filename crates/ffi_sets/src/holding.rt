@@ -1,17 +1,18 @@
-//! Implements the operations on a seat for any list.
+//! Functions on a seat of a set, for any list.
 ghost use Rattle.std.specs.Prelude.{◌≡◌, ◌↔◌, ◌+◌, ◌≤◌, [], Some, IfNone, IfSome, IsTrue, length, vec_capacity};
 ghost use Rattle.std.specs.Arc.{arc_value};
+ghost use Rattle.lset_words.specs.declared.Call.TheVariants.{Contains};
 ghost use Rattle.lset_words.specs.Words.{sizes};
 ghost use Rattle.lset_live.specs.Closes.{most_keys};
-ghost use Rattle.ffi_sets.specs.Calls.{HasCalledOf, HasHeededOf, noted_by};
+ghost use Rattle.ffi_sets.specs.Calls.{HasCalledOf, HasHeededOf, HasNotedOf, HasReadOf};
 ghost use Rattle.ffi_sets.specs.Facts.{AreOf};
 ghost use Rattle.ffi_sets.specs.Sets.{IsWhole};
 
 use crate::codes::{NO_MORE, OUT_OF_MEMORY, SEATS_OUT};
 use crate::held::{ReceiptOfSet, SeatOfSet};
 use crate::yielding::Yielding;
-use lset_live::{Bounded, Countless, LiveSet, OpenFault, Seat, open_with};
-use lset_words::{Call, Reply};
+use lset_live::{Bounded, Countless, LiveSet, OpenContains, OpenFault, Seat, open_with};
+use lset_words::{Call, Key, Reply};
 use std::alloc::Global;
 use std::mem::replace;
 use std::sync::Arc;
@@ -84,8 +85,7 @@ impl<M: Bounded> SeatOfSet<M> {
         Some(reply)
     }
 
-    /// Splits a seat off this one. Returns `NO_MORE` if none is left, and `OUT_OF_MEMORY` if the set cannot have
-    /// another owner.
+    /// Splits a seat off this one. Returns the error `NO_MORE` if none remains, `OUT_OF_MEMORY` if the set cannot have another owner.
     pub fn split(&mut self, alloc: Global) -> Result<SeatOfSet<M>, u8> {
         if self.spare.is_empty() {
             return Err(NO_MORE);
@@ -105,8 +105,8 @@ impl<M: Bounded> SeatOfSet<M> {
         })
     }
 
-    /// Merges `from`, including all seats that can be split off it, into this seat. Returns `from` if the two have
-    /// different numbers or one of them was lost, otherwise `None`.
+    /// Merges `from`, with all seats that can be split off it, into this seat. Returns `None` on success, and `from` if the
+    /// numbers of the two differ or one of them was lost.
     pub fn gather(&mut self, alloc: Global, from: SeatOfSet<M>) -> Option<SeatOfSet<M>>
         requires { self.old.number ≡ from.number → arc_value self.old.set ≡ arc_value from.set }
     {
@@ -135,7 +135,7 @@ impl<M: Bounded> SeatOfSet<M> {
         ensures number { self.new.number ≡ self.old.number }
         ensures spare { self.new.spare.items ≡ self.old.spare.items }
         ensures seat { self.new.seat ≡ self.old.seat }
-        ensures given { IfSome result (λ r. (r.number ≡ self.old.number) × (Some r.receipt ≡ noted_by self.old.seat)) }
+        ensures given { IfSome result (λ r. (r.number ≡ self.old.number) × HasNotedOf self.old.seat (Some r.receipt)) }
     {
         let mut seat = self.seat.take()?;
         let receipt = self.set.receipt(&mut seat);
@@ -146,8 +146,8 @@ impl<M: Bounded> SeatOfSet<M> {
         })
     }
 
-    /// Passes a receipt to this seat, which has then seen everything that the receipt stands for. Returns `given` if it
-    /// has a different number or the seat was lost, otherwise `None`.
+    /// Hands a receipt to this seat, which has then seen all that the receipt stands for. Returns `None` on success, and
+    /// `given` if its number is another one or the seat was lost.
     pub fn after(&mut self, given: ReceiptOfSet<M>) -> Option<ReceiptOfSet<M>>
         requires { self.old.number ≡ given.number → arc_value self.old.set ≡ given.receipt.set }
         ensures set { arc_value self.new.set ≡ arc_value self.old.set }
@@ -190,9 +190,9 @@ impl<M: Bounded> SeatOfSet<M> {
         others as usize == self.spare.len()
     }
 
-    /// Closes the set and returns its final keys. On an error, returns itself and a number: `SEATS_OUT` if it lacks
-    /// some of the set's seats; `OUT_OF_MEMORY` if the buffer for all possible keys cannot be allocated, or if the set
-    /// has another owner, which happens in no run.
+    /// Closes the set and returns its final keys. On an error returns this seat and the number of the error: `SEATS_OUT` if other seats
+    /// are out; `OUT_OF_MEMORY` if room for the most keys of the set cannot be allocated, or if the set has another owner, which happens
+    /// in no run.
     pub fn close(self, alloc: Global) -> Result<Vec<u32>, (SeatOfSet<M>, u8)> {
         if !self.has_all() {
             return Err((self, SEATS_OUT));
@@ -220,5 +220,25 @@ impl<M: Bounded> SeatOfSet<M> {
                 Err((kept, OUT_OF_MEMORY))
             }
         }
+    }
+}
+
+impl<M: OpenContains> SeatOfSet<M> {
+    /// Makes a `contains` from this seat without blocking, in at most `most_reads` steps. Returns `None` if the seat was lost before.
+    pub fn contains_now(&mut self, key: Key) -> Option<Reply>
+        ensures set { arc_value self.new.set ≡ arc_value self.old.set }
+        ensures number { self.new.number ≡ self.old.number }
+        ensures spare { self.new.spare.items ≡ self.old.spare.items }
+        ensures called { HasCalledOf M.table (arc_value self.old.set) self.old.seat (Contains key) result self.new.seat }
+        ensures within { IfSome result (λ r. HasReadOf (arc_value self.old.set) self.old.seat self.new.seat) }
+    {
+        let mut seat = self.seat.take()?;
+        let is_present = self.set.contains_within_bound(&mut seat, key);
+        self.seat = Some(seat);
+        Some(if is_present {
+            Reply::True
+        } else {
+            Reply::False
+        })
     }
 }

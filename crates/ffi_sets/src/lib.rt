@@ -17,7 +17,7 @@ mod yielding;
 
 ghost use Rattle.lset_words.specs.declared.Call.TheVariants.{Add, Remove, Contains, Ceiling};
 ghost use Rattle.std.specs.Prelude.{◌≡◌, ◌<◌};
-ghost use Rattle.ffi_sets.specs.Calls.{HasCeiling, HasGiven, HasHeeded, HasMade};
+ghost use Rattle.ffi_sets.specs.Calls.{HasCeiling, HasGiven, HasHeeded, HasMade, HasReadHeld};
 ghost use Rattle.lset_words.specs.Words.{IsWithin};
 ghost use Rattle.lset_steps.specs.BoundedReads.{most_reads as bound};
 ghost use Rattle.ffi_sets.specs.Sets.{GathersAt};
@@ -26,7 +26,7 @@ use answers::{call_from_seat, fault_code, put_new, reply_code};
 use codes::{BAD_KIND, DONE, IS_SEAT, NO_GATHER, NO_MORE, NO_SEAT, OUT_OF_MEMORY};
 use each::{
     call_held, close_held, counts_held, gather_held, has_spare, heed_held, keys_held, open_held,
-    receipt_held, split_held, why_reads_block,
+    read_held, receipt_held, split_held,
 };
 use held::Held;
 use lset_lazy::LazyList;
@@ -123,9 +123,9 @@ pub fn contains_key(alloc: Global, seat: &mut CSeat, key: u32) -> u8
     call_from_seat(alloc, seat, Call::Contains(Key(key)))
 }
 
-/// Finds the smallest key in the set that is at least `key`. Returns 3 and writes the key to `at`, or returns 4 if
-/// there is no such key. Returns 255 if `seat` is empty or a closed set. On a coarse, fine or optimistic list, blocks
-/// while another thread holds a lock that the call needs. Does not allocate.
+/// Finds the smallest key of the set that is at least `key`. Returns 3 and writes the key to `at`, or returns 4 if the set has no
+/// such key. Returns 255 if `seat` is empty or a closed set. On a coarse, fine or optimistic list the call blocks while another
+/// thread holds a lock that it needs. On a lock-free list it can wait until another thread adds or removes a key. Does not allocate.
 pub fn ceiling_at(alloc: Global, seat: &mut CSeat, key: u32, at: &mut u32) -> u8
     ensures { HasCeiling seat.old.full seat.old.held (Ceiling (record { 0 = key })) result at.old at.new seat.new.full seat.new.held }
 {
@@ -140,25 +140,21 @@ pub fn ceiling_at(alloc: Global, seat: &mut CSeat, key: u32, at: &mut u32) -> u8
     reply_code(reply)
 }
 
-/// Returns 1 if `key` is in the set and 0 if it is not, without waiting for a lock. Makes no call and returns 254 on a
-/// coarse, fine or optimistic list, or 255 if `seat` is empty or a closed set. Does not allocate.
-///
-/// No clause bounds the number of steps of the call. However, its steps are those of a run of the list (see
-/// `HasAnswered` in the clause), and in every run a `contains` of these lists makes at most `most_reads` steps
-/// (`lset_steps::laws::bounded_reads`).
+/// Returns 1 if `key` is in the set, 0 if it is not, without blocking: whatever other threads do, the call makes at most `most_reads`
+/// steps. Makes no call and returns 254 on a coarse, fine or optimistic list, 255 if `seat` is empty or a closed set. Does not allocate.
 pub fn contains_key_now(alloc: Global, seat: &mut CSeat, key: u32) -> u8
-    ensures { result < 254 → HasMade seat.old.full seat.old.held (Contains (record { 0 = key })) result seat.new.full seat.new.held }
+    ensures made { result < 254 → HasMade seat.old.full seat.old.held (Contains (record { 0 = key })) result seat.new.full seat.new.held }
+    ensures within { result < 254 → HasReadHeld seat.old.held seat.new.held }
 {
     let Some(mut held) = take(alloc, seat) else {
         return NO_SEAT;
     };
-    if let Some(code) = why_reads_block(&held) {
-        put(seat, held);
-        return code;
-    }
-    let reply = call_held(&mut held, Call::Contains(Key(key)));
+    let read = read_held(&mut held, Key(key));
     put(seat, held);
-    reply_code(reply)
+    match read {
+        Ok(reply) => reply_code(Some(reply)),
+        Err(code) => code,
+    }
 }
 
 /// Returns the maximum number of steps that a `contains` makes in any run of a lazy or lock-free list opened with

@@ -20,7 +20,7 @@ pub use lset_words::SetCalls;
 pub use open_fault::OpenFault;
 pub use opening::{open, open_with};
 pub use receipt::{Receipt, receipts_keep_order};
-pub use running_machine::{Running, RunningReads};
+pub use running_machine::{OpenContains, Running, RunningReads};
 pub use seat::Seat;
 pub use set::{LiveSet, SeatsOut};
 pub use typed_calls::Added;

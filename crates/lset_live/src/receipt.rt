@@ -35,7 +35,7 @@ impl<M: Machine> Model for Receipt<M> {
 
 impl<M: Machine> LiveSet<M> {
     /// Returns a receipt of the events that the seat has seen: its own, and those of gathered seats and receipts. The seat must
-    /// belong to this set, and does not change. Neither blocks nor allocates.
+    /// belong to this set, and does not change. Does not block or allocate.
     pub fn receipt(&self, seat: &mut Seat<M>) -> Receipt<M>
         requires { seat.old.set ≡ self.now }
         ensures seat { seat.new ≡ seat.old }
@@ -48,7 +48,7 @@ impl<M: Machine> LiveSet<M> {
         }
     }
 
-    /// Returns a second receipt with the same events. The receipt must belong to this set. Neither blocks nor allocates.
+    /// Returns a second receipt with the same events. The receipt must belong to this set. Does not block or allocate.
     pub fn copied(&self, receipt: &mut Receipt<M>) -> Receipt<M>
         requires { receipt.old.set ≡ self.now }
         ensures same { receipt.new ≡ receipt.old }
@@ -66,7 +66,7 @@ impl<M: Machine> LiveSet<M> {
 
     /// Adds the events of the receipt to what the seat has seen. Both must belong to this set. Later calls of the seat begin after
     /// all calls in the receipt's events, and each order that explains them has those calls first (`receipts_keep_order`). The
-    /// seat's record and the seats that it holds do not change. Neither blocks nor allocates.
+    /// seat's record and the seats that it holds do not change. Does not block or allocate.
     pub fn after(&self, seat: &mut Seat<M>, receipt: Receipt<M>)
         requires seat { seat.old.set ≡ self.now }
         requires receipt { receipt.set ≡ self.now }

@@ -47,8 +47,9 @@ impl Running for LockFreeList {}
 
 /// A machine whose `contains` does not block on shared words.
 ///
-/// A list with bounded reads (`OpenReads`) implements this trait without a body.
-pub trait RunningReads: Running + OpenReads {
+/// A list with bounded reads (`OpenReads`) implements this trait without a body. It then uses the interpreter
+/// (`lset_rule::interpret_read`).
+pub trait OpenContains: Bounded + OpenReads {
     /// Makes a `contains` without a runtime, so it cannot block, in at most `OpenReads::bound` steps.
     fn contains_now_on(
         table: &Words<Self>,
@@ -63,7 +64,7 @@ pub trait RunningReads: Running + OpenReads {
     }
 }
 
-impl RunningReads for LazyList {
+impl OpenContains for LazyList {
     fn contains_now_on(
         table: &Words<Self>,
         place: &mut TableSeat,
@@ -74,7 +75,7 @@ impl RunningReads for LazyList {
     }
 }
 
-impl RunningReads for LockFreeList {
+impl OpenContains for LockFreeList {
     fn contains_now_on(
         table: &Words<Self>,
         place: &mut TableSeat,
@@ -84,3 +85,10 @@ impl RunningReads for LockFreeList {
         lset_loops::contains_now_on::<Self>(table, place, slots, key)
     }
 }
+
+/// A machine whose calls can wait on shared words, and whose `contains` does not block.
+pub trait RunningReads: Running + OpenReads + OpenContains {}
+
+impl RunningReads for LazyList {}
+
+impl RunningReads for LockFreeList {}

@@ -16,7 +16,7 @@ ghost use Rattle.lset_live.specs.Seats.{reply_of};
 
 use crate::bounded::Bounded;
 use crate::closed::Closed;
-use crate::running_machine::{Running, RunningReads};
+use crate::running_machine::{OpenContains, Running, RunningReads};
 use crate::seat::Seat;
 use crate::typed_calls::truth_of;
 use atomic_table::Table;
@@ -304,10 +304,10 @@ impl<M: Machine> LiveSet<M> {
     }
 }
 
-impl<M: RunningReads> LiveSet<M> {
-    /// Returns whether the key is in the set, without blocking or allocating. The call is wait-free: whatever other threads do,
-    /// it makes at most `bound` steps, each a load (`lset_steps::OpenReads`). In the seat's record the reply is `True` or `False`.
-    pub fn contains_now(&self, seat: &mut Seat<M>, key: Key) -> bool
+impl<M: OpenContains> LiveSet<M> {
+    /// Returns whether the key is in the set, as `contains_now` does. For functions that must not wait, on a list that need not be
+    /// `Running`.
+    pub fn contains_within_bound(&self, seat: &mut Seat<M>, key: Key) -> bool
         requires { seat.old.set ≡ self.now }
         ensures answered { HasAnswered M.table self.now seat.old (Contains key) (reply_of result) seat.new }
         ensures within { HasMadeAtMost (most_reads (sizes self.now.shape)) (thread_of seat.old.past) seat.new.events }
@@ -321,5 +321,17 @@ impl<M: RunningReads> LiveSet<M> {
         );
         seat.slots = slots;
         truth_of(reply)
+    }
+}
+
+impl<M: RunningReads> LiveSet<M> {
+    /// Returns whether the key is in the set, without blocking or allocating. The call is wait-free: whatever other threads do,
+    /// it makes at most `bound` steps, each a load (`lset_steps::OpenReads`). In the seat's record the reply is `True` or `False`.
+    pub fn contains_now(&self, seat: &mut Seat<M>, key: Key) -> bool
+        requires { seat.old.set ≡ self.now }
+        ensures answered { HasAnswered M.table self.now seat.old (Contains key) (reply_of result) seat.new }
+        ensures within { HasMadeAtMost (most_reads (sizes self.now.shape)) (thread_of seat.old.past) seat.new.events }
+    {
+        self.contains_within_bound(seat, key)
     }
 }

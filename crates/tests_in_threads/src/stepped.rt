@@ -1,10 +1,10 @@
-use lset_live::{Bounded, Running, RunningReads};
+use lset_live::{Bounded, OpenContains, Running, RunningReads};
 use lset_steps::{Action, Fed, Local, Machine, OpenReads};
 use lset_words::{Call, Key, Kind};
 use std::marker::PhantomData;
 
-/// The list `M` run by the interpreter of its step table: `Bounded` and `Running` keep their default bodies. Tests and
-/// `bench/run` compare it with the list's loops.
+/// The list `M`, run by the interpreter of its table. `Bounded`, `Running` and `OpenContains` have their default bodies here. Tests and
+/// `bench/run` compare it with the loops of the list.
 pub struct Stepped<M: Machine> {
     list: PhantomData<M>,
 }
@@ -47,5 +47,7 @@ impl<M: OpenReads> OpenReads for Stepped<M> {
 impl<M: Machine> Bounded for Stepped<M> {}
 
 impl<M: Machine> Running for Stepped<M> {}
+
+impl<M: OpenReads> OpenContains for Stepped<M> {}
 
 impl<M: OpenReads> RunningReads for Stepped<M> {}

@@ -307,7 +307,7 @@ impl OwnSeat<'_> {
         self.set.by(self.place, |it| it.seat.contains(key))
     }
 
-    /// Returns the smallest key in the set that is at least `key`.
+    /// Returns the smallest key of the set that is at least `key`. Can wait as [`Seat::ceiling`] can.
     pub fn ceiling(&mut self, key: u32) -> Result<Option<u32>, Fault> {
         self.set.by(self.place, |it| it.seat.ceiling(key))
     }
@@ -321,6 +321,8 @@ impl Drop for OwnSeat<'_> {
 
 #[cfg(test)]
 mod tests {
+    use std::sync::mpsc;
+
     use super::*;
 
     /// While a thread stays in a call, calls of the others time out without being made. After that call, calls succeed
@@ -338,5 +340,22 @@ mod tests {
         drop(seat);
         assert_eq!(set.close(), Ok(vec![1, 2]));
         assert_eq!((set.close(), set.keys()), (Err(Fault::Closed), Err(Fault::Closed)));
+    }
+
+    /// While a thread stays in a call, a call without patience waits. After that call, the waiting call is made.
+    #[test]
+    fn a_call_without_patience_waits() {
+        for list in [List::Lazy, List::LockFree] {
+            let set = RenewedSet::open(list, 2, 1, &[]).unwrap();
+            let (mut seat, (told, heard)) = (set.split().unwrap(), mpsc::channel());
+            assert_eq!(seat.add(1), Ok(Added::True));
+            std::thread::scope(|threads| {
+                let stays = set.places[1].part.lock().unwrap();
+                threads.spawn(move || told.send(seat.add(2)));
+                assert!(heard.recv_timeout(Duration::from_millis(50)).is_err());
+                drop(stays);
+                assert_eq!(heard.recv(), Ok(Ok(Added::True)));
+            });
+        }
     }
 }

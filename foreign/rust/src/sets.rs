@@ -179,8 +179,8 @@ unsafe impl Send for Receipt {}
 // SAFETY: no function takes `&Receipt`.
 unsafe impl Sync for Receipt {}
 
-/// Returns the maximum number of steps that a [`Seat::contains_now`] makes in any run of a list opened with `seats`
-/// seats, this quota and `keys` keys. Returns 0 if no set can be opened with these.
+/// Returns the maximum number of steps of [`Seat::contains_now`] of a list that was opened with `seats` seats, this quota and
+/// `keys` keys; 0 if no set opens with these.
 pub fn most_reads(seats: u32, quota: u32, keys: u32) -> u64 {
     // SAFETY: the function takes only numbers.
     unsafe { listset_most_reads(seats, quota, keys) }
@@ -311,9 +311,8 @@ impl Seat {
         replied(unsafe { listset_contains(&mut self.raw, key) }) == TRUE
     }
 
-    /// Returns whether a key is in the set, without waiting for a lock. Works on lazy and lock-free lists, where the
-    /// call makes at most [`most_reads`] steps in every run, whatever other threads do. Returns [`Fault::ReadsBlock`]
-    /// on the other lists.
+    /// Makes a `contains` of a lazy or a lock-free list. Such a call waits for no lock, and makes at most [`most_reads`] steps,
+    /// whatever the other threads do. Returns [`Fault::ReadsBlock`] on the other lists.
     pub fn contains_now(&mut self, key: u32) -> Result<bool, Fault> {
         match replied(unsafe { listset_contains_now(&mut self.raw, key) }) {
             MAY_BLOCK => Err(Fault::ReadsBlock),
@@ -334,7 +333,8 @@ impl Seat {
         told(unsafe { listset_after(&mut self.raw, &mut given.raw) })
     }
 
-    /// Returns the smallest key in the set that is at least `key`.
+    /// Returns the smallest key of the set that is at least `key`. On a lock-free list the call can wait until another thread adds or removes
+    /// a key.
     pub fn ceiling(&mut self, key: u32) -> Option<u32> {
         let mut at = 0;
         (replied(unsafe { listset_ceiling(&mut self.raw, key, &mut at) }) == AT).then_some(at)

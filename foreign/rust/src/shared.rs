@@ -54,7 +54,7 @@ impl Shared {
         self.by(|seat| seat.contains(key))
     }
 
-    /// Returns the smallest key in the set that is at least `key`.
+    /// Returns the smallest key of the set that is at least `key`. Can wait as [`Seat::ceiling`] can.
     pub fn ceiling(&self, key: u32) -> Option<u32> {
         self.by(|seat| seat.ceiling(key))
     }

@@ -2,7 +2,7 @@ use Rattle.lset_words.specs.declared.Call.TheVariants.{Contains}
 use Rattle.lset_live.proofs.FewSteps.{few_steps}
 use Rattle.lset_live.proofs.SeenExplained.{has_answered}
 use Rattle.lset_live.proofs.TypedReplies.{contains_reply, stands_for}
-use Rattle.lset_live.proofs.set.LiveSet.contains_now.Goals as goal
+use Rattle.lset_live.proofs.set.LiveSet.contains_within_bound.Goals as goal
 
 pub truth_of-requires : goal.truth_of-requires
 truth_of-requires g c =
