@@ -4,7 +4,7 @@ use lset_recording::RecordingReader;
 use std::alloc::Global;
 use std::io::Read;
 use tool_base::{Answer, READ_SIZE, Trouble, ValueName};
-use tool_why::{RunReader, recording_of_key};
+use tool_facts::{RunReader, recording_of_key};
 
 /// Returns the recording of the calls of a key in the recording on an input, or of the few that show its refusal. Allocates; blocks as the
 /// input does.

@@ -1,9 +1,8 @@
 //! The picture of a diagnosis: calls as bars. Bars of calls that overlap in time overlap in columns.
 
 use crate::diagnosis::{Diagnosis, Mark};
-use crate::likely::state_word;
-use crate::made_calls::{Made, NEVER};
 use std::alloc::{AllocError, Global};
+use tool_facts::{Made, NEVER, state_word};
 
 /// The maximum number of columns of the bars.
 const WIDTH: usize = 66;
@@ -31,6 +30,10 @@ fn note_of(alloc: Global, call: Made, mark: Mark) -> Result<String, AllocError> 
         Mark::Leaves(state) => {
             let state = state_word(state);
             format!(in alloc; "   key {key} is {state}")
+        }
+        Mark::Finds(state) => {
+            let state = state_word(state);
+            format!(in alloc; "   finds key {key} {state}")
         }
         Mark::Either => String::from_str(alloc, "   <-- one of two"),
     }
@@ -133,6 +136,16 @@ fn is_after_gap(bars: &[Bar], call: Made) -> bool {
     last > 0 && call.begun > last.saturating_add(LONG)
 }
 
+/// Writes the line above the changes of other keys.
+fn put_rule(out: &mut String, diagnosis: &Diagnosis) -> Result<(), AllocError> {
+    let (shown, all) = (diagnosis.beside.len(), diagnosis.beside_count);
+    if shown < all {
+        writeln!(out, "---------- also running ({shown} of {all})")
+    } else {
+        out.push_str("---------- also running\n")
+    }
+}
+
 /// Draws the calls of a diagnosis in at most `most` lines. Allocates.
 pub(crate) fn put_picture(
     alloc: Global,
@@ -145,7 +158,8 @@ pub(crate) fn put_picture(
         bars.push(Bar::new(alloc, one.call, one.mark)?)?;
     }
     let own = bars.len();
-    if own.saturating_add(diagnosis.beside.len()) < most {
+    let room = most.saturating_sub(own.saturating_add(1));
+    if diagnosis.beside.len() <= room {
         for call in &diagnosis.beside {
             bars.push(Bar::new(alloc, *call, Mark::Nothing)?)?;
         }
@@ -155,7 +169,7 @@ pub(crate) fn put_picture(
     let gaps = bars.len() < most;
     for (i, bar) in bars.iter().enumerate() {
         if i == own {
-            out.push_str("---------- also running\n")?;
+            put_rule(out, diagnosis)?;
         }
         if gaps && i < own && is_after_gap(&bars, bar.call) {
             let from = bar.from;

@@ -1,13 +1,10 @@
 //! Counts: calls of a key that need it to change more often than it can. They show a refusal if no two calls clash.
 
 use crate::diagnosis::Diagnosis;
-use crate::key_calls::KeyCalls;
-use crate::made_calls::{Made, NEVER};
-use crate::run_reader::Recorded;
-use crate::stretches::{stretches_of, sure_before};
 use lset_judge::{Count, StreamCall, find_count};
 use lset_words::{Key, Presence};
 use std::alloc::{AllocError, Global};
+use tool_facts::{KeyCalls, Made, NEVER, Recorded, stretches_of};
 
 /// The maximum number of calls in which a count is searched. The time of the search grows with the square of their number.
 const MOST_COUNTED: usize = 4_000;

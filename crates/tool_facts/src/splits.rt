@@ -102,7 +102,7 @@ impl Split {
 }
 
 /// Returns the longest split of a key, by the number of its answers. Allocates.
-pub(crate) fn longest_split(alloc: Global, key: &KeyCalls) -> Result<Option<Split>, AllocError> {
+pub fn longest_split(alloc: Global, key: &KeyCalls) -> Result<Option<Split>, AllocError> {
     let mut best: Option<Split> = None;
     let mut split = Split::since(key.key, 0);
     let mut quiet = 0;

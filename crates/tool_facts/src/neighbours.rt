@@ -6,14 +6,14 @@ const MOST_BACK: usize = 100_000;
 
 /// The completed changes of all keys in the order of their begins, each with the latest end of the changes up to it.
 #[derive(Drop)]
-pub(crate) struct Neighbours {
+pub struct Neighbours {
     changes: Vec<Made>,
     latest: Vec<u64>,
 }
 
 impl Neighbours {
     /// Returns the completed changes among calls in the order of their begins. Allocates.
-    pub(crate) fn of(alloc: Global, calls: &[Made]) -> Result<Neighbours, AllocError> {
+    pub fn of(alloc: Global, calls: &[Made]) -> Result<Neighbours, AllocError> {
         let mut changes = Vec::new(alloc);
         let mut latest = Vec::new(alloc);
         let mut last = 0;
@@ -29,7 +29,7 @@ impl Neighbours {
 
     /// Returns at most `most` completed changes of other keys that overlap the time from `since` to `until`, the last to begin first.
     /// Allocates.
-    pub(crate) fn around(
+    pub fn around(
         &self,
         alloc: Global,
         key: u32,
@@ -53,13 +53,7 @@ impl Neighbours {
     }
 
     /// Returns whether a completed change of another key overlaps the time from `since` to `until`, by an operation if one is given.
-    pub(crate) fn overlap(
-        &self,
-        key: u32,
-        since: u64,
-        until: u64,
-        operation: Option<Operation>,
-    ) -> bool {
+    pub fn overlap(&self, key: u32, since: u64, until: u64, operation: Option<Operation>) -> bool {
         let sought = match operation {
             None => Sought::OfOtherKey,
             Some(operation) => Sought::OfOtherKeyBy(operation),
@@ -68,8 +62,14 @@ impl Neighbours {
     }
 
     /// Returns whether a completed remove of a smaller key overlaps the time from `since` to `until`.
-    pub(crate) fn unlink_below(&self, key: u32, since: u64, until: u64) -> bool {
+    pub fn unlink_below(&self, key: u32, since: u64, until: u64) -> bool {
         self.has(key, since, until, Sought::RemoveOfSmallerKey)
+    }
+
+    /// Returns whether a completed change of another key overlaps `change` and began at `since` or later.
+    pub fn has_since(&self, change: Made, since: u64) -> bool {
+        let sought = Sought::OfOtherKeySince(since);
+        self.has(change.key, change.begun, change.ended, sought)
     }
 
     /// Returns whether a completed change that is sought overlaps the time from `since` to `until`.
@@ -94,6 +94,7 @@ impl Neighbours {
 enum Sought {
     OfOtherKey,
     OfOtherKeyBy(Operation),
+    OfOtherKeySince(u64),
     RemoveOfSmallerKey,
 }
 
@@ -103,6 +104,7 @@ impl Sought {
         match self {
             Sought::OfOtherKey => call.key != key,
             Sought::OfOtherKeyBy(operation) => call.key != key && call.operation == operation,
+            Sought::OfOtherKeySince(since) => call.key != key && call.begun >= since,
             Sought::RemoveOfSmallerKey => call.key < key && call.operation == Operation::Remove,
         }
     }

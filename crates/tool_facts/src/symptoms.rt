@@ -29,18 +29,18 @@ pub enum Symptom {
 
 /// A clash with its symptom.
 #[derive(Clone, Copy)]
-pub(crate) struct Place {
-    pub(crate) key: u32,
-    pub(crate) clash: Clash,
-    pub(crate) symptom: Symptom,
+pub struct Place {
+    pub key: u32,
+    pub clash: Clash,
+    pub symptom: Symptom,
     /// The call with the one wrong reply.
-    pub(crate) wrong: Option<Made>,
+    pub wrong: Option<Made>,
     /// An add or remove that returned false: with the other reply the calls around have an order.
-    pub(crate) silent: Option<Made>,
+    pub silent: Option<Made>,
     /// Whether the calls around have an order with the other reply of one call.
-    pub(crate) is_turned: bool,
+    pub is_turned: bool,
     /// The number of calls of the key that begin by the end of the clash.
-    pub(crate) begun: usize,
+    pub begun: usize,
 }
 
 /// Returns the only element. `None` if there are none or more.
@@ -67,7 +67,7 @@ fn only_turned(
 }
 
 /// Returns the symptom of a call with the one wrong reply.
-pub(crate) fn symptom_of_reply(call: Made) -> Symptom {
+pub fn symptom_of_reply(call: Made) -> Symptom {
     match call.needs() {
         Some(Presence::Present) => Symptom::Found(call.operation),
         _ => Symptom::Missed(call.operation),
@@ -93,7 +93,7 @@ fn both_true(clash: &Clash) -> Option<Operation> {
 }
 
 /// Returns the place of a clash, with its symptom. Allocates.
-pub(crate) fn place_of(
+pub fn place_of(
     alloc: Global,
     key: &KeyCalls,
     stretches: &[Stretch],
@@ -132,7 +132,7 @@ pub(crate) fn place_of(
 }
 
 /// Returns the places of a key that do not overlap one another in time, in the order of time. Allocates.
-pub(crate) fn places_of(alloc: Global, key: &KeyCalls) -> Result<Vec<Place>, AllocError> {
+pub fn places_of(alloc: Global, key: &KeyCalls) -> Result<Vec<Place>, AllocError> {
     let stretches = stretches_of(alloc, key)?;
     let clashes = clashes_of(alloc, key, &stretches)?;
     let mut places = Vec::new(alloc);
@@ -144,26 +144,14 @@ pub(crate) fn places_of(alloc: Global, key: &KeyCalls) -> Result<Vec<Place>, All
 
 impl Place {
     /// Returns whether the key was lost or came back.
-    pub(crate) fn is_gone(&self) -> bool {
+    pub fn is_gone(&self) -> bool {
         matches!(self.symptom, Symptom::Lost | Symptom::CameBack)
     }
 
     /// Returns the length of the place in time. A place that is less clear counts as longer.
-    pub(crate) fn length(&self) -> u64 {
+    pub fn length(&self) -> u64 {
         let length = self.clash.until.saturating_sub(self.clash.begun());
         let is_long = self.clash.stretch.is_some() || self.clash.second.is_none();
         length.saturating_add(if is_long { 1_000_000_000 } else { 0 })
     }
-}
-
-/// Returns the shortest place with a symptom.
-pub(crate) fn shortest(places: &[Place], symptom: Symptom) -> Option<Place> {
-    let mut best: Option<Place> = None;
-    for place in places {
-        let is_shorter = best.is_none_or(|best| place.length() < best.length());
-        if place.symptom == symptom && is_shorter {
-            best = Some(*place);
-        }
-    }
-    best
 }

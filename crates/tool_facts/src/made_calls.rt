@@ -1,6 +1,7 @@
 use lset_judge::StreamCall;
 use lset_text::call_word;
 use lset_words::{Call, Key, Presence, Reply};
+use std::alloc::AllocError;
 
 /// The end of a pending call, or of a call whose reply is not known.
 pub const NEVER: u64 = u64::MAX;
@@ -24,7 +25,7 @@ impl Operation {
     }
 
     /// Returns the operation that changes a key to a state.
-    pub(crate) fn that_makes(state: Presence) -> Operation {
+    pub fn that_makes(state: Presence) -> Operation {
         match state {
             Presence::Present => Operation::Add,
             Presence::Absent => Operation::Remove,
@@ -33,7 +34,7 @@ impl Operation {
 }
 
 /// Returns the other state of a key.
-pub(crate) fn other(state: Presence) -> Presence {
+pub fn other(state: Presence) -> Presence {
     match state {
         Presence::Present => Presence::Absent,
         Presence::Absent => Presence::Present,
@@ -55,7 +56,7 @@ pub struct Made {
 
 impl Made {
     /// Returns a call of the judge's stream as a `Made`.
-    pub(crate) fn of(call: StreamCall) -> Made {
+    pub fn of(call: StreamCall) -> Made {
         let operation = match call.call {
             Call::Add(_) => Operation::Add,
             Call::Remove(_) => Operation::Remove,
@@ -76,7 +77,7 @@ impl Made {
     }
 
     /// Returns the call for the judge's stream.
-    pub(crate) fn to_stream(self) -> StreamCall {
+    pub fn to_stream(self) -> StreamCall {
         let key = Key(self.key);
         let call = match self.operation {
             Operation::Add => Call::Add(key),
@@ -97,7 +98,7 @@ impl Made {
     }
 
     /// Returns the state that the key needs to have just before the call takes effect. `None` if the reply is not known.
-    pub(crate) fn needs(self) -> Option<Presence> {
+    pub fn needs(self) -> Option<Presence> {
         let yes = self.reply?;
         let is_present = match self.operation {
             Operation::Contains | Operation::Remove => yes,
@@ -111,12 +112,12 @@ impl Made {
     }
 
     /// Returns whether the call changed its key, or can have changed it.
-    pub(crate) fn changes(self) -> bool {
+    pub fn changes(self) -> bool {
         self.operation != Operation::Contains && self.reply != Some(false)
     }
 
     /// Returns the state to which the call changed its key, or can have changed it.
-    pub(crate) fn makes(self) -> Option<Presence> {
+    pub fn makes(self) -> Option<Presence> {
         if !self.changes() {
             return None;
         }
@@ -128,18 +129,18 @@ impl Made {
     }
 
     /// Returns the state in which a completed call leaves its key. `None` if the reply is not known.
-    pub(crate) fn leaves(self) -> Option<Presence> {
+    pub fn leaves(self) -> Option<Presence> {
         let needs = self.needs()?;
         Some(self.makes().unwrap_or(needs))
     }
 
     /// Returns whether the call ended without a change of its key.
-    pub(crate) fn reads(self) -> bool {
+    pub fn reads(self) -> bool {
         self.reply.is_some() && !self.changes()
     }
 
     /// Returns the call with the other reply.
-    pub(crate) fn turned(self) -> Made {
+    pub fn turned(self) -> Made {
         Made {
             reply: self.reply.map(|yes| !yes),
             ..self
@@ -147,7 +148,7 @@ impl Made {
     }
 
     /// Returns the call as it was at a moment: pending if it ended later.
-    pub(crate) fn cut_at(self, moment: u64) -> Made {
+    pub fn cut_at(self, moment: u64) -> Made {
         if self.ended <= moment {
             return self;
         }
@@ -159,7 +160,28 @@ impl Made {
     }
 
     /// Returns whether the call overlaps the time from `since` to `until`.
-    pub(crate) fn overlaps(self, since: u64, until: u64) -> bool {
+    pub fn overlaps(self, since: u64, until: u64) -> bool {
         self.begun <= until && self.ended >= since
+    }
+}
+
+/// Writes the thread, operation, key, begin, end and reply of a call, with `-` for an end and a reply that are not known.
+pub fn put_call(out: &mut String, call: Made) -> Result<(), AllocError> {
+    let (thread, word, key, begun) = (call.thread, call.operation.word(), call.key, call.begun);
+    write!(out, "{thread} {word} {key} {begun} ")?;
+    match call.reply {
+        Some(yes) if call.ended < NEVER => {
+            let ended = call.ended;
+            write!(out, "{ended} {yes}")
+        }
+        _ => out.push_str("- -"),
+    }
+}
+
+/// Returns the word of a state in messages.
+pub fn state_word(state: Presence) -> &'static str {
+    match state {
+        Presence::Present => "present",
+        Presence::Absent => "absent",
     }
 }

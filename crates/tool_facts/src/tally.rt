@@ -1,6 +1,7 @@
 use crate::crossings::Crossings;
 use crate::fullness::Fullness;
-use crate::made_calls::{Made, Operation};
+use crate::key_calls::KeyCalls;
+use crate::made_calls::{Made, Operation, other};
 use crate::neighbours::Neighbours;
 use crate::symptoms::{Place, Symptom};
 use lset_words::Presence;
@@ -51,6 +52,10 @@ pub struct Tally {
     pub usually_full: u64,
     /// At how many of 100 other times of the same length a change of another key ran.
     pub usual: u64,
+    /// Of `lost` and `came_back` that a call shows: the change before is known.
+    pub made: u64,
+    /// Of `made`: a change of another key that can have read the set before the change, and written it afterwards, overlapped the change.
+    pub fits: u64,
     /// At how many of all contradictions no two calls of the run overlapped.
     pub apart: u64,
     /// The number of keys with contradictions.
@@ -100,7 +105,7 @@ impl Tally {
     }
 
     /// Counts a contradiction.
-    pub(crate) fn add(&mut self, place: &Place) {
+    pub fn add(&mut self, place: &Place) {
         more(&mut self.places);
         self.add_kind(place);
         self.begun = self
@@ -118,6 +123,25 @@ impl Tally {
         let by_changes = place.clash.stretch.is_some();
         if by_changes && place.clash.was == Presence::Present {
             more(&mut self.crossed);
+        }
+    }
+
+    /// Counts a change that was undone, and whether a change of another key can have written back what it read before. `key` has the calls
+    /// of the key.
+    pub fn add_change(&mut self, key: &KeyCalls, place: &Place, neighbours: &Neighbours) {
+        let Some(second) = place.clash.second else {
+            return;
+        };
+        let was = place.clash.was;
+        let change = key.change_before(was, second.begun);
+        let Some(change) = change.filter(|_| place.is_gone()) else {
+            return;
+        };
+        let before = key.change_before(other(was), change.begun);
+        let since = before.map_or(0, |before| before.begun);
+        more(&mut self.made);
+        if neighbours.has_since(change, since) {
+            more(&mut self.fits);
         }
     }
 
@@ -189,7 +213,7 @@ impl Tally {
 
     /// Counts what ran at the times of contradictions. `calls` are all calls of the recording, and `losses` all
     /// contradictions in which a key was lost, in the order of time.
-    pub(crate) fn add_times(
+    pub fn add_times(
         &mut self,
         alloc: Global,
         places: &[Place],
@@ -213,7 +237,7 @@ impl Tally {
 impl Tally {
     /// Compares the number of keys that are present at losses with the number at other moments. `calls` are all calls of the recording, and
     /// `losses` contradictions in which a key was lost within a short time.
-    pub(crate) fn add_fullness(&mut self, calls: &[Made], losses: &[Place], full: &Fullness) {
+    pub fn add_fullness(&mut self, calls: &[Made], losses: &[Place], full: &Fullness) {
         let mut least = u64::MAX;
         for loss in losses {
             more(&mut self.short);

@@ -26,13 +26,13 @@ struct Around {
 
 /// The repairs of a clash.
 #[derive(Drop)]
-pub(crate) struct Repairs {
+pub struct Repairs {
     /// Calls. If any one of them had the other reply, the calls around the clash would have an order.
-    pub(crate) turned: Vec<Made>,
+    pub turned: Vec<Made>,
     /// Adds and removes that returned false. If any one of them were missing, the calls around the clash would have an order.
-    pub(crate) dropped: Vec<Made>,
+    pub dropped: Vec<Made>,
     /// Whether the calls around the clash would have an order with one more change between its two calls.
-    pub(crate) change: bool,
+    pub change: bool,
 }
 
 impl Repairs {
@@ -188,7 +188,7 @@ fn repairs_until(
 }
 
 /// Returns the repairs of a clash that give an order to the calls around it and to some calls after it. Allocates.
-pub(crate) fn repairs_of(
+pub fn repairs_of(
     alloc: Global,
     key: &KeyCalls,
     stretches: &[Stretch],
@@ -214,7 +214,7 @@ pub(crate) fn repairs_of(
 
 /// Returns whether the other reply of a call was expected: the calls that had begun when the call ended have no order, and have one with the
 /// other reply. Allocates.
-pub(crate) fn is_expected(
+pub fn is_expected(
     alloc: Global,
     key: &KeyCalls,
     stretches: &[Stretch],

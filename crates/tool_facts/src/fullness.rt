@@ -5,7 +5,7 @@ use std::alloc::{AllocError, Global};
 
 /// How many keys are shown present at each moment: the last call of the key that has ended left it present.
 #[derive(Drop)]
-pub(crate) struct Fullness {
+pub struct Fullness {
     /// The moments at which the number changes, in increasing order.
     ends: Vec<u64>,
     counts: Vec<u64>,
@@ -26,7 +26,7 @@ fn by_ends(alloc: Global, calls: &[Made]) -> Result<Vec<Made>, AllocError> {
 
 impl Fullness {
     /// Returns the numbers of a recording. Allocates.
-    pub(crate) fn of(alloc: Global, runs: &Runs<'_>) -> Result<Fullness, AllocError> {
+    pub fn of(alloc: Global, runs: &Runs<'_>) -> Result<Fullness, AllocError> {
         let opening = &runs.recorded.opening;
         let mut present = Vec::from_elem(alloc, false, runs.places())?;
         for key in opening {
@@ -59,7 +59,7 @@ impl Fullness {
     }
 
     /// Returns the number of keys that are shown present just before a moment.
-    pub(crate) fn before(&self, moment: u64) -> u64 {
+    pub fn before(&self, moment: u64) -> u64 {
         let at = self.ends.partition_point(|end| *end < moment);
         self.counts
             .get(at.wrapping_sub(1))
@@ -68,7 +68,7 @@ impl Fullness {
     }
 
     /// Returns at how many of 100 begins of calls, in a sample, between `least` and `most` keys are shown present.
-    pub(crate) fn share_between(&self, calls: &[Made], least: u64, most: u64) -> u64 {
+    pub fn share_between(&self, calls: &[Made], least: u64, most: u64) -> u64 {
         let step = calls.len().checked_div(SAMPLED).unwrap_or(0);
         let (mut count, mut tried, mut next) = (0u64, 0u64, 0usize);
         for (index, call) in calls.iter().enumerate() {

@@ -72,11 +72,11 @@ impl Proofs {
 
 /// The calls of a key, with its opening state, and its final state if that is known.
 #[derive(Drop)]
-pub(crate) struct KeyCalls {
-    pub(crate) key: u32,
-    pub(crate) calls: Vec<Made>,
-    pub(crate) opening: Presence,
-    pub(crate) left: Option<Presence>,
+pub struct KeyCalls {
+    pub key: u32,
+    pub calls: Vec<Made>,
+    pub opening: Presence,
+    pub left: Option<Presence>,
     puts: Makers,
     takes: Makers,
     present: Proofs,
@@ -85,7 +85,7 @@ pub(crate) struct KeyCalls {
 
 impl KeyCalls {
     /// Returns the calls of a key, given in the order of their begins, indexed for searches. Allocates.
-    pub(crate) fn new(
+    pub fn new(
         alloc: Global,
         key: u32,
         calls: Vec<Made>,
@@ -109,7 +109,7 @@ impl KeyCalls {
     }
 
     /// Returns whether a call that changed the key to a state, or can have done so, overlaps the time from `since` to `until`.
-    pub(crate) fn may_become(&self, state: Presence, since: u64, until: u64) -> bool {
+    pub fn may_become(&self, state: Presence, since: u64, until: u64) -> bool {
         match state {
             Presence::Present => self.puts.overlap(since, until),
             Presence::Absent => self.takes.overlap(since, until),
@@ -117,7 +117,7 @@ impl KeyCalls {
     }
 
     /// Returns the call that began last among those that had ended before a moment and left the key in a state.
-    pub(crate) fn proof_before(&self, state: Presence, moment: u64) -> Option<Made> {
+    pub fn proof_before(&self, state: Presence, moment: u64) -> Option<Made> {
         match state {
             Presence::Present => self.present.before(moment),
             Presence::Absent => self.absent.before(moment),
@@ -125,18 +125,18 @@ impl KeyCalls {
     }
 
     /// Returns the number of calls that began by a moment.
-    pub(crate) fn begun_by(&self, moment: u64) -> usize {
+    pub fn begun_by(&self, moment: u64) -> usize {
         self.calls.partition_point(|call| call.begun <= moment)
     }
 
     /// Returns the calls that began after a moment.
-    pub(crate) fn after(&self, moment: u64) -> &[Made] {
+    pub fn after(&self, moment: u64) -> &[Made] {
         self.calls.get(self.begun_by(moment)..).unwrap_or(&[])
     }
 
     /// Returns the calls of an operation that returned false and overlap the time from `since` to `until`. Looks at the `MOST_OLDER` calls
     /// that began last before `since`.
-    pub(crate) fn refusals(
+    pub fn refusals(
         &self,
         alloc: Global,
         operation: Operation,
@@ -156,7 +156,7 @@ impl KeyCalls {
     }
 
     /// Returns the completed change of the key to a state that began last by a moment.
-    pub(crate) fn change_before(&self, state: Presence, moment: u64) -> Option<Made> {
+    pub fn change_before(&self, state: Presence, moment: u64) -> Option<Made> {
         let end = self.begun_by(moment);
         let earlier = self.calls.get(..end).unwrap_or(&[]);
         let changed = |call: &&Made| call.makes() == Some(state) && call.reply.is_some();
@@ -164,7 +164,7 @@ impl KeyCalls {
     }
 
     /// Returns the begin of the first change after a moment. `NEVER` if there is none.
-    pub(crate) fn next_change(&self, moment: u64) -> u64 {
+    pub fn next_change(&self, moment: u64) -> u64 {
         let change = self.after(moment).iter().find(|call| call.changes());
         change.map_or(NEVER, |call| call.begun)
     }

@@ -10,21 +10,21 @@ use std::alloc::{AllocError, Global};
 
 /// A clash of a key.
 #[derive(Clone, Copy)]
-pub(crate) struct Clash {
+pub struct Clash {
     /// The call that leaves the key in the state `was`. `None` if `stretch` leaves it so, or if `was` is the opening state.
-    pub(crate) first: Option<Made>,
+    pub first: Option<Made>,
     /// The call that needs the other state. `None` if the other state is the final state.
-    pub(crate) second: Option<Made>,
+    pub second: Option<Made>,
     /// Changes that overlap one another, and leave the key in the state `was` by their number.
-    pub(crate) stretch: Option<Stretch>,
-    pub(crate) was: Presence,
-    pub(crate) since: u64,
-    pub(crate) until: u64,
+    pub stretch: Option<Stretch>,
+    pub was: Presence,
+    pub since: u64,
+    pub until: u64,
 }
 
 impl Clash {
     /// Returns whether the two calls overlap.
-    pub(crate) fn overlaps(&self) -> bool {
+    pub fn overlaps(&self) -> bool {
         match (self.first, self.second) {
             (Some(first), Some(second)) => second.begun < first.ended,
             _ => false,
@@ -32,7 +32,7 @@ impl Clash {
     }
 
     /// Returns the begin of the first call of the clash.
-    pub(crate) fn begun(&self) -> u64 {
+    pub fn begun(&self) -> u64 {
         match (self.stretch, self.first, self.second) {
             (Some(stretch), _, _) => stretch.read.map_or(stretch.begun, |read| read.begun),
             (None, Some(first), _) => first.begun,
@@ -83,7 +83,7 @@ fn clash_before(key: &KeyCalls, stretches: &[Stretch], need: Need) -> Option<Cla
 }
 
 /// Returns the clash of a call with calls that had ended before it began.
-pub(crate) fn clash_of(key: &KeyCalls, stretches: &[Stretch], call: Made) -> Option<Clash> {
+pub fn clash_of(key: &KeyCalls, stretches: &[Stretch], call: Made) -> Option<Clash> {
     let need = Need {
         second: Some(call),
         state: call.needs()?,
@@ -162,7 +162,7 @@ impl Apart {
 }
 
 /// Returns clashes of a key that do not overlap one another in time, in the order of time. Allocates.
-pub(crate) fn clashes_of(
+pub fn clashes_of(
     alloc: Global,
     key: &KeyCalls,
     stretches: &[Stretch],

@@ -7,23 +7,23 @@ use std::io::Read;
 /// A recording: the opening keys, the calls in the order of their begins, and the final keys.
 #[derive(Drop)]
 pub struct Recorded {
-    pub(crate) opening: Vec<u32>,
-    pub(crate) calls: Vec<Made>,
-    pub(crate) left: Vec<u32>,
+    pub opening: Vec<u32>,
+    pub calls: Vec<Made>,
+    pub left: Vec<u32>,
     /// Whether the recording was cut off: then the final keys are not known.
-    pub(crate) is_cut: bool,
+    pub is_cut: bool,
     /// Whether these are only the first calls of a longer recording.
-    pub(crate) is_part: bool,
+    pub is_part: bool,
 }
 
 impl Recorded {
     /// Returns the opening state of a key.
-    pub(crate) fn opens(&self, key: u32) -> Presence {
+    pub fn opens(&self, key: u32) -> Presence {
         presence_in(&self.opening, key)
     }
 
     /// Returns the final state of a key. `None` if it is not known.
-    pub(crate) fn leaves(&self, key: u32) -> Option<Presence> {
+    pub fn leaves(&self, key: u32) -> Option<Presence> {
         if self.is_cut {
             None
         } else {
@@ -124,13 +124,13 @@ impl RunReader {
     }
 
     /// Returns all that was read until now.
-    pub(crate) fn recorded(&self) -> &Recorded {
+    pub fn recorded(&self) -> &Recorded {
         &self.recorded
     }
 
     /// Reads to the end of the input, or until more than `most` calls are kept. Returns whether the input has ended, and `None` if a read
     /// fails. Allocates; blocks as the input does.
-    pub(crate) fn read_calls<R: Read>(
+    pub fn read_calls<R: Read>(
         &mut self,
         input: &mut R,
         most: usize,
@@ -153,7 +153,7 @@ impl RunReader {
 
     /// Returns the first `count` calls as a recording that is cut off just before the next call begins. `None` if fewer calls were read, or
     /// if a line is wrong. Allocates.
-    pub(crate) fn first_calls(&self, count: usize) -> Result<Option<Recorded>, AllocError> {
+    pub fn first_calls(&self, count: usize) -> Result<Option<Recorded>, AllocError> {
         let Some(next) = self.recorded.calls.get(count) else {
             return Ok(None);
         };

@@ -8,12 +8,12 @@ use lset_words::{Presence, increases};
 use std::alloc::{AllocError, Global};
 
 /// Returns whether a call is an answer of an operation: it changes nothing.
-pub(crate) fn is_answer(call: Made, operation: Operation) -> bool {
+pub fn is_answer(call: Made, operation: Operation) -> bool {
     call.operation == operation && call.reads()
 }
 
 /// Returns the calls of a key without the answers of an operation.
-pub(crate) fn without(
+pub fn without(
     alloc: Global,
     calls: &[Made],
     operation: Operation,
@@ -28,7 +28,7 @@ pub(crate) fn without(
 }
 
 /// Returns whether the calls of a key have an order without the answers of an operation. Allocates.
-pub(crate) fn is_explained_without(
+pub fn is_explained_without(
     alloc: Global,
     calls: &[Made],
     operation: Operation,
@@ -40,7 +40,7 @@ pub(crate) fn is_explained_without(
 }
 
 /// Returns whether the judge accepts all calls without the answers of an operation, with any final keys if `is_cut`. Allocates.
-pub(crate) fn is_judged_without(
+pub fn is_judged_without(
     alloc: Global,
     recorded: &Recorded,
     operation: Operation,
@@ -73,11 +73,11 @@ const MOST_STEPS: u64 = 50_000_000;
 
 /// The wrong answers of an operation: with each of them alone the other calls have no order.
 #[derive(Drop)]
-pub(crate) struct WrongAnswers {
-    pub(crate) wrong: Vec<Made>,
+pub struct WrongAnswers {
+    pub wrong: Vec<Made>,
     steps: u64,
     /// Whether all answers were decided, and the calls without the wrong answers have an order.
-    pub(crate) is_exact: bool,
+    pub is_exact: bool,
 }
 
 /// A pass over the calls of a key.
@@ -184,7 +184,7 @@ fn is_rest_explained(
 
 impl WrongAnswers {
     /// Returns no wrong answers.
-    pub(crate) fn new(alloc: Global) -> WrongAnswers {
+    pub fn new(alloc: Global) -> WrongAnswers {
         WrongAnswers {
             wrong: Vec::new(alloc),
             steps: MOST_STEPS,
@@ -193,7 +193,7 @@ impl WrongAnswers {
     }
 
     /// Adds the wrong answers of a key whose other calls have an order. Allocates.
-    pub(crate) fn add_of_key(
+    pub fn add_of_key(
         &mut self,
         alloc: Global,
         calls: &[Made],

@@ -1,8 +1,7 @@
 //! A recording of one key: all its calls or, if no order explains them, the few that show it.
 
-use crate::as_record::put_call;
 use crate::key_order::{failing_moment, has_order};
-use crate::made_calls::{Made, NEVER};
+use crate::made_calls::{Made, NEVER, put_call};
 use crate::run_reader::Recorded;
 use lset_words::Presence;
 use std::alloc::{AllocError, Global};

@@ -3,14 +3,14 @@ use std::alloc::{AllocError, Global};
 
 /// The begins of calls at which another call was running.
 #[derive(Drop)]
-pub(crate) struct Crossings {
+pub struct Crossings {
     /// For each call, in the order of their begins: how many of the calls up to it began while another call was running.
     counts: Vec<u32>,
 }
 
 impl Crossings {
     /// Returns the crossings of calls, given in the order of their begins. Allocates.
-    pub(crate) fn of(alloc: Global, calls: &[Made]) -> Result<Crossings, AllocError> {
+    pub fn of(alloc: Global, calls: &[Made]) -> Result<Crossings, AllocError> {
         let mut counts = Vec::new(alloc);
         let (mut count, mut latest) = (0u32, 0u64);
         for call in calls {
@@ -29,7 +29,7 @@ impl Crossings {
     }
 
     /// Returns whether no two of the calls overlapped from `since` to `until`.
-    pub(crate) fn has_none(&self, calls: &[Made], since: u64, until: u64) -> bool {
+    pub fn has_none(&self, calls: &[Made], since: u64, until: u64) -> bool {
         let first = calls.partition_point(|call| call.begun < since);
         let end = calls.partition_point(|call| call.begun <= until);
         self.up_to(first) == self.up_to(end)

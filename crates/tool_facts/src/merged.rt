@@ -59,7 +59,7 @@ fn partner_of(
 
 /// Returns two refused keys whose calls have an order as calls of one key. Of more than `MOST_PAIRED` refused keys, only pairs with the
 /// first one are tried. Allocates.
-pub(crate) fn merged_keys(
+pub fn merged_keys(
     alloc: Global,
     runs: &Runs<'_>,
     refused: &[Refused],
