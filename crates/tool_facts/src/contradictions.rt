@@ -3,7 +3,7 @@
 //! of the second, no order explains the two, whatever all other calls did.
 
 use crate::key_calls::KeyCalls;
-use crate::made_calls::{Made, NEVER, other};
+use crate::made_calls::{Made, NEVER, drop_ended, other};
 use crate::stretches::{Stretch, stretch_before};
 use lset_words::Presence;
 use std::alloc::{AllocError, Global};
@@ -176,7 +176,7 @@ pub fn clashes_of(
         if call.reply.is_none() {
             continue;
         }
-        running.retain(|earlier| earlier.ended > call.begun);
+        drop_ended(&mut running, call.begun);
         for earlier in &running {
             if let Some(clash) = clash_at_once(key, *earlier, call) {
                 apart.keep(clash)?;

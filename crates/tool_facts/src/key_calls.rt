@@ -1,4 +1,4 @@
-use crate::made_calls::{Made, NEVER, Operation};
+use crate::made_calls::{Made, Operation};
 use lset_words::Presence;
 use std::alloc::{AllocError, Global};
 
@@ -161,12 +161,6 @@ impl KeyCalls {
         let earlier = self.calls.get(..end).unwrap_or(&[]);
         let changed = |call: &&Made| call.makes() == Some(state) && call.reply.is_some();
         earlier.iter().rev().find(changed).copied()
-    }
-
-    /// Returns the begin of the first change after a moment. `NEVER` if there is none.
-    pub fn next_change(&self, moment: u64) -> u64 {
-        let change = self.after(moment).iter().find(|call| call.changes());
-        change.map_or(NEVER, |call| call.begun)
     }
 }
 

@@ -185,3 +185,8 @@ pub fn state_word(state: Presence) -> &'static str {
         Presence::Absent => "absent",
     }
 }
+
+/// Removes the calls that had ended by a moment.
+pub fn drop_ended(calls: &mut Vec<Made>, moment: u64) {
+    calls.retain(|call| call.ended > moment);
+}

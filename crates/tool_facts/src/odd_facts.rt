@@ -84,6 +84,15 @@ pub struct OddFound {
 /// The maximum number of calls that the judge judges again. For more calls the rule of each key alone decides, with the same result.
 const MOST_JUDGED: usize = 500_000;
 
+/// Returns the final state of a key. `None` if it is not known, or ignored (`aside`).
+fn left_of(runs: &Runs<'_>, key: u32, aside: bool) -> Option<Presence> {
+    if aside {
+        None
+    } else {
+        runs.recorded.leaves(key)
+    }
+}
+
 /// Returns whether the calls of all refused keys have an order without the answers of an operation, with any final keys if `aside`.
 fn is_odd(
     alloc: Global,
@@ -94,7 +103,7 @@ fn is_odd(
 ) -> Result<bool, AllocError> {
     for one in refused {
         let (calls, opening) = (runs.made_of(one.key), runs.recorded.opens(one.key));
-        let left = runs.recorded.leaves(one.key).filter(|_| !aside);
+        let left = left_of(runs, one.key, aside);
         if !is_explained_without(alloc, calls, operation, opening, left)? {
             return Ok(false);
         }
@@ -117,7 +126,7 @@ fn wrong_answers(
     let mut answers = WrongAnswers::new(alloc);
     for one in refused {
         let (calls, opening) = (runs.made_of(one.key), runs.recorded.opens(one.key));
-        let left = runs.recorded.leaves(one.key).filter(|_| !aside);
+        let left = left_of(runs, one.key, aside);
         answers.add_of_key(alloc, calls, operation, opening, left)?;
     }
     Ok(OddFound {
@@ -210,8 +219,8 @@ fn sound_calls(
     found: &OddFound,
 ) -> Result<Sound, AllocError> {
     let others = without(alloc, runs.made_of(key), found.operation)?;
-    let (opening, left) = (runs.recorded.opens(key), runs.recorded.leaves(key));
-    let left = left.filter(|_| !found.puts_left_aside);
+    let opening = runs.recorded.opens(key);
+    let left = left_of(runs, key, found.puts_left_aside);
     let calls = KeyCalls::new(alloc, key, others, opening, left)?;
     let stretches = if calls.calls.len() < MOST_STRETCHED {
         stretches_of(alloc, &calls)?
@@ -294,10 +303,11 @@ pub fn places_of_odd(
     let crossings = Crossings::of(alloc, calls)?;
     let begins = begins_of(alloc, &found.answers.wrong)?;
     let mut sound: Option<Sound> = None;
+    let mut sound_key: Option<u32> = None;
     let mut finds = false;
     for call in &found.answers.wrong {
-        let is_same = sound.as_ref().is_some_and(|one| one.calls.key == call.key);
-        if !is_same {
+        if sound_key != Some(call.key) {
+            sound_key = Some(call.key);
             more(&mut odd.keys);
             finds = finds || is_found(runs.made_of(call.key), found.operation);
             sound = Some(sound_calls(alloc, runs, call.key, found)?);

@@ -195,8 +195,9 @@ impl<'a> Runs<'a> {
 pub fn first_of(refused: &[Refused]) -> Option<Refused> {
     let mut first: Option<Refused> = None;
     for one in refused {
-        if first.is_none_or(|other| one.moment < other.moment) {
-            first = Some(*one);
+        match first {
+            Some(other) if other.moment <= one.moment => {}
+            _ => first = Some(*one),
         }
     }
     first

@@ -1,5 +1,5 @@
 use crate::key_calls::KeyCalls;
-use crate::made_calls::{Made, NEVER, Operation};
+use crate::made_calls::{Made, NEVER, Operation, drop_ended};
 use lset_words::Presence;
 use std::alloc::{AllocError, Global};
 
@@ -114,7 +114,7 @@ pub fn longest_split(alloc: Global, key: &KeyCalls) -> Result<Option<Split>, All
                 split.count(*earlier);
             }
         }
-        running.retain(|earlier| earlier.ended > call.begun);
+        drop_ended(&mut running, call.begun);
         if call.changes() {
             split.until = call.begun;
             best = larger(best, split);

@@ -146,6 +146,17 @@ fn put_rule(out: &mut String, diagnosis: &Diagnosis) -> Result<(), AllocError> {
     }
 }
 
+/// Returns before how many of the first `own` bars a long time is left out.
+fn count_gaps(bars: &[Bar], own: usize) -> usize {
+    let mut count = 0usize;
+    for bar in bars.get(..own).unwrap_or(&[]) {
+        if is_after_gap(bars, bar.call) {
+            count = count.saturating_add(1);
+        }
+    }
+    count
+}
+
 /// Draws the calls of a diagnosis in at most `most` lines. Allocates.
 pub(crate) fn put_picture(
     alloc: Global,
@@ -166,7 +177,7 @@ pub(crate) fn put_picture(
     }
     place_all(alloc, &mut bars)?;
     let width = width_of(&bars);
-    let gaps = bars.len() < most;
+    let gaps = bars.len().saturating_add(count_gaps(&bars, own)) <= most;
     for (i, bar) in bars.iter().enumerate() {
         if i == own {
             put_rule(out, diagnosis)?;

@@ -211,6 +211,12 @@ fn with_one_answer(
     KeyCalls::new(alloc, key.key, calls, key.opening, left)
 }
 
+/// The maximum number of calls of the key in the picture before a later one is added.
+const MOST_SHOWN: usize = 3;
+
+/// The number of calls of the key before the end of a wrong answer that are looked at for those that overlap it.
+const MOST_EARLIER: usize = 64;
+
 /// The maximum number of changes of other keys in the picture.
 const MOST_BESIDE: usize = 3;
 
@@ -318,6 +324,9 @@ impl Diagnosis {
                 }
             }
         }
+        if self.evidence.odd.is_some() {
+            self.show_around(key, place.wrong)?;
+        }
         if place.is_gone() && place.clash.until < NEVER {
             let operation = Operation::that_makes(other(clash.was));
             let refusals = key.refusals(alloc, operation, clash.begun(), clash.until)?;
@@ -331,6 +340,25 @@ impl Diagnosis {
                 if change.overlaps(call.begun, call.ended) && call.reads() {
                     self.add_if(Some(change))?;
                 }
+            }
+        }
+        Ok(())
+    }
+
+    /// Adds adds and removes of the key that ran during a wrong answer, whatever they returned.
+    fn show_around(&mut self, key: &KeyCalls, wrong: Option<Made>) -> Result<(), AllocError> {
+        let Some(wrong) = wrong else {
+            return Ok(());
+        };
+        let end = key.begun_by(wrong.ended);
+        let earlier = key.calls.get(..end).unwrap_or(&[]);
+        for call in earlier.iter().rev().take(MOST_EARLIER) {
+            if self.shown.len() >= MOST_SHOWN {
+                return Ok(());
+            }
+            let is_beside = call.operation != Operation::Contains && call.ended > wrong.begun;
+            if is_beside && call.begun != wrong.begun {
+                add(&mut self.shown, *call)?;
             }
         }
         Ok(())

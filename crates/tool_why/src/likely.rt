@@ -237,17 +237,17 @@ fn is_beside_by_chance(tally: &Tally) -> bool {
 /// The minimum number of losses and returns that calls show for a guess.
 const LEAST_TIMED: u64 = 8;
 
-/// Returns whether keys are lost as often as they come back, calls that returned false can have made many of these changes, and most are
+/// Returns whether keys are not mostly lost, calls that returned false can have made many of these changes, and most are
 /// not beside a change of another key that can have written back what it read.
 fn is_carried_out_twice(tally: &Tally) -> bool {
     let (lost, back) = (tally.lost, tally.came_back);
-    let is_even = lost <= back.saturating_mul(2) && back <= lost.saturating_mul(2);
-    let is_alone = tally.fits.saturating_mul(100) <= tally.made.saturating_mul(60);
+    let is_even = lost < back.saturating_mul(2) && back <= lost.saturating_mul(4);
+    let is_alone = tally.fits.saturating_mul(100) <= tally.made.saturating_mul(65);
     is_even && tally.gone() >= MANY_GONE && is_alone && is_least(tally.silent, tally.gone(), 30)
 }
 
 /// The minimum number of losses and returns that show that a change is carried out twice.
-const MANY_GONE: u64 = 20;
+const MANY_GONE: u64 = 15;
 
 /// Returns the likely cause if keys were lost and came back.
 fn cause_of_gone(evidence: &Evidence) -> Option<Cause> {
@@ -272,7 +272,7 @@ fn cause_of_gone(evidence: &Evidence) -> Option<Cause> {
     }
     if lost >= back.saturating_mul(2) {
         Some(Cause::OldLink)
-    } else if is_least(tally.fits, tally.made, 75) {
+    } else if is_least(tally.fits, tally.made, 75) && is_least(tally.silent, tally.gone(), 20) {
         Some(Cause::OldCopy)
     } else if is_least(tally.below, tally.timed(), 85) {
         Some(Cause::WrittenBack)

@@ -306,10 +306,10 @@ fn put_around(out: &mut String, odd: &Odd) -> Result<(), AllocError> {
     Ok(())
 }
 
-/// Writes the first contradiction of the run, if the picture shows a later one.
+/// Writes the first contradiction of the run, if the picture shows a later one of another key.
 fn put_first(out: &mut String, diagnosis: &Diagnosis) -> Result<(), AllocError> {
     let (key, moment) = (diagnosis.first_key, diagnosis.first_moment);
-    if moment < diagnosis.until && moment < NEVER {
+    if key != diagnosis.key && moment < diagnosis.until && moment < NEVER {
         writeln!(
             out,
             "the first contradiction of the run: the calls of key {key} up to moment {moment}"
@@ -334,7 +334,7 @@ fn answers_cause_text(cause: Cause) -> &'static str {
         Cause::ThreadCache =>
             "contains reads a cache of its thread, which changes by other threads do not update",
         Cause::MovedKeys =>
-            "contains walks while other calls move its key (an array, a swap, a bucket that is half moved), and does not look again",
+            "contains walks while other calls move its key (an array, a swap, a flush, a half moved bucket), and does not look again",
         Cause::LateCopy =>
             "contains reads a copy that is updated after add and remove return (a cache, a replica)",
         Cause::OneKey => "a hash, a comparison, a filter or a limit treats a key unlike others",
