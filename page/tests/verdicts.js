@@ -243,8 +243,8 @@ function checkWhy(ask, it) {
 function checkText(ask, it, told) {
   const isOfCount = (line) => /^(contradiction: | {2}(need key|and (no|only)) )/.test(line);
   const lines = ask("listset_why", it.text).text.split("\n").filter((line) => line !== "" && !isOfCount(line));
-  const NOTES = [[/^ +<-- expected (\w+)$/, "call expected $1"], [/^ +key \d+ is (\w+)$/, "call leaves $1"], [/^ +<-- one of two$/, "call either"]];
-  const [isOfPicture, BAR] = [/^thread |^ +\.\.\.$|^-+ also running$/, /^thread (\d+) +\[(\w+) (\d+)-*(?:(\w+)\]|\.\.) +(\d+) to (\d+|\.\.)(.*)$/];
+  const NOTES = [[/^ +<-- expected (\w+)$/, "call expected $1"], [/^ +key \d+ is (\w+)$/, "call leaves $1"], [/^ +<-- one of two$/, "call either"], [/^ +finds key \d+ (\w+)$/, "call finds $1"]];
+  const [isOfPicture, BAR] = [/^thread |^ +\.\.\.$|^-+ also running(?: \(\d+ of \d+\))?$/, /^thread (\d+) +\[(\w+) (\d+)-*(?:(\w+)\]|\.\.) +(\d+) to (\d+|\.\.)(.*)$/];
   const bars = lines.filter((line) => line.startsWith("thread ")).map((line) => {
     const [, thread, operation, key, reply, begun, ended, note] = BAR.exec(line) ?? [];
     const mark = NOTES.find(([pattern]) => pattern.test(note));
@@ -384,8 +384,26 @@ function isTold(it, { wrong, count: answers, isAll }, [operation, atLeast, count
   return Number(found) === someFound && Number(missed) === someMissed;
 }
 
-// Returns whether somewhere a call that leaves a key and a call that needs it contradict each other, although no two
-// calls overlap in between.
+// Returns the next completed call of an operation on the key of an answer, if no change of the key ran between the two.
+function nextCall(it, answer, operation) {
+  const next = ofKey(it, answer.key).filter((call) => call.operation === operation && call.ended !== null && call.begun > answer.ended).sort((one, other) => one.begun - other.begun)[0];
+  if (next === undefined) return undefined;
+  const until = isChange(next) ? next.begun - 0.5 : next.ended;
+  return ofKey(it, answer.key).some((call) => call !== answer && isChange(call) && inTime(call, answer.begun, until)) ? undefined : next;
+}
+
+// Decides whether a contradiction of a short list is one: the calls of the key that had begun by its end have no order.
+function isListed(it, told) {
+  const [, key, symptom, since, until] = /^key (\d+) (lost|came back|added twice|removed twice|missed|found, though absent,|contradictory) from (\d+) (?:to (\d+)|on)$/.exec(told) ?? [];
+  if (key === undefined) return false;
+  const calls = ofKey(it, Number(key));
+  const last = until === undefined ? LAST : Number(until);
+  const hasTwo = (operation) => calls.filter((call) => call.operation === operation && call.reply === "true" && inTime(call, Number(since), last)).length >= 2;
+  if (symptom.endsWith("twice") && !hasTwo(symptom.startsWith("added") ? "add" : "remove")) return false;
+  return until === undefined ? !hasOrderOf(it, Number(key)) : !hasOrder(knownBy(calls, last), Number(key), opens(it, Number(key)));
+}
+
+// Whether what leaves a key and what needs it contradict each other somewhere, and no two calls overlap meanwhile.
 function isWrongAlone(it) {
   return keysOf(it).some((key) => {
     const ended = ofKey(it, key).filter(holdsReply);
@@ -399,7 +417,7 @@ function isWrongAlone(it) {
   });
 }
 
-const TALLIED = ["lost", "came back", "two adds true", "two removes true", "one wrong answer", "other"];
+const TALLIED = ["lost", "came back", "two adds true", "two removes true", "one wrong answer", "none of these"];
 const OF_WHY = [
   [/^headline (?:key (\d+) (was lost|came back): )?(add|remove|contains)\((\d+)\) returned (true|false)(?:, expected (true|false))?$/, (it, found, why) => isHeadline(it, why, found)],
   [/^headline (?:key (\d+) (was lost|came back): )?key (\d+) is (present|absent) at the end$/, (it, [key, gone, ofEnd, state]) =>
@@ -415,6 +433,7 @@ const OF_WHY = [
     return !hasOrder(knownBy(ofKey(it, call.key).filter(isChange), until), call.key, opens(it, call.key));
   }],
   [/^call -$/, () => true],
+  [/^call finds (present|absent)$/, (it, [state], why, { call }) => call.ended !== null && needsKey(call) === (state === "present")],
   [/^call expected (true|false)$/, (it, [reply], why, { call }) => reply === turned(call).reply && isExpected(it, call)],
   [/^call leaves (present|absent)$/, (it, [state], why, { call }) => {
     const next = Math.min(...why.shown.map(({ call: one }) => one.begun).filter((begun) => begun > call.ended), LAST);
@@ -440,11 +459,38 @@ const OF_WHY = [
     const refused = keysOf(it).filter((key) => !hasOrderOf(it, key)).length;
     return told.every(([kind]) => TALLIED.includes(kind)) && told.reduce((sum, [, many]) => sum + Number(many), 0) === Number(count) && Number(hit ?? all ?? 1) <= refused;
   }],
-  [/^fact key (\d+) stays (present|absent): then (\w+) at (\d+) returned (true|false)$/, (it, [key, state, operation, begun, reply]) =>
-    it.calls.some((call) => call.key === Number(key) && call.operation === operation && call.begun === Number(begun) && call.reply === reply && needsKey(call) === (state === "present"))],
+  [/^fact at (\d+) of (\d+) losses and returns another key was changed, at (\d+) of (\d+) a call that returned false can have done it$/, (it, [beside, timed, silent, gone]) => {
+    const isBeside = Number(beside) === 0 || it.calls.some((one) => one.operation !== "contains" && one.reply === "true" && it.calls.some((two) => two.key !== one.key && inTime(two, one.begun, one.ended)));
+    const isSilent = Number(silent) === 0 || it.calls.some((one) => one.operation !== "contains" && one.reply === "false" && !hasOrderOf(it, one.key));
+    return Number(beside) <= Number(timed) && Number(timed) <= Number(gone) && Number(silent) <= Number(gone) && isBeside && isSilent;
+  }],
+  [/^fact (\d+) contradictions?: (.*)$/, (it, [count, listed]) => {
+    const told = listed.split("; ");
+    return told.length === Number(count) && told.every((one) => isListed(it, one));
+  }],
+  [/^fact another add or remove of the key ran during (\d+) of them, only changes of other keys during (\d+), neither during (\d+)$/, (it, [same, others, neither], { told }) => {
+    const runs = (call, holds) => it.calls.some((one) => one !== call && holds(one) && inTime(one, call.begun, call.ended));
+    const isSame = (call) => runs(call, (one) => one.key === call.key && one.operation !== "contains");
+    const isBeside = (call) => runs(call, (one) => one.key !== call.key && one.operation !== "contains" && one.reply === "true");
+    const counts = [told.wrong.filter(isSame), told.wrong.filter((call) => !isSame(call) && isBeside(call)), told.wrong.filter((call) => !isSame(call) && !isBeside(call))].map((some) => some.length);
+    return `${counts}` === `${[same, others, neither].map(Number)}`;
+  }],
+  [/^fact (?:another add or remove of the key|(a change of another key)) ran during it(?:, and no other add or remove of its own key)?$/, (it, [beside], { told }) => {
+    const runs = (call, holds) => it.calls.some((one) => one !== call && one.operation !== "contains" && holds(one) && inTime(one, call.begun, call.ended));
+    const isSame = (call) => runs(call, (one) => one.key === call.key);
+    return told.wrong.some((call) => (beside === undefined ? isSame(call) : !isSame(call) && runs(call, (one) => one.key !== call.key && one.reply === "true")));
+  }],
+  [/^fact the next (add|remove|contains) of the key, with no change between, was right$/, (it, [operation], { told }) =>
+    told.wrong.some((answer) => nextCall(it, answer, operation) !== undefined && !told.wrong.includes(nextCall(it, answer, operation)))],
+  [/^fact the next (add|remove|contains) of the key, with no change between: (\d+) times right, (\d+) times wrong again$/, (it, [operation, right, wrong], { told }) => {
+    const next = told.wrong.map((answer) => [answer, nextCall(it, answer, operation)]).filter(([, one]) => one !== undefined).map(([, one]) => told.wrong.includes(one));
+    return told.isAll && next.filter((isWrong) => !isWrong).length === Number(right) && next.filter((isWrong) => isWrong).length === Number(wrong);
+  }],
   [/^fact the first contradiction of the run: the calls of key (\d+) up to moment (\d+)$/, (it, [key, moment]) =>
     !hasOrder(ofKey(it, Number(key)).filter(({ begun }) => begun <= Number(moment)), Number(key), opens(it, Number(key)))],
-  [/^(?:fact|because) at (\d+) of (\d+) no two calls overlapped(?:: perhaps one thread alone is enough)?$/, (it, [some, all]) => Number(some) <= Number(all) && isWrongAlone(it)],
+  [/^(?:fact|because) at (\d+) of (\d+)(?: wrong answers)? no two calls overlapped(?:: perhaps one thread alone is enough)?$/, (it, [some, all]) => Number(some) <= Number(all) && isWrongAlone(it)],
+  [/^because (\d+) of (\d+) are two (add|remove)s that both returned true, and none are two (?:add|remove)s$/, (it, [some, all, operation]) => Number(some) <= Number(all) &&
+    it.calls.some((one) => one.operation === operation && one.reply === "true" && it.calls.some((two) => two !== one && two.key === one.key && two.operation === operation && two.reply === "true"))],
   [/^because (\d+) of (\d+) are two calls that both returned true$/, (it, [some, all]) => Number(some) <= Number(all) &&
     it.calls.some((one) => isChange(one) && one.reply === "true" && it.calls.some((two) => two !== one && two.key === one.key && two.operation === one.operation && two.reply === "true"))],
   [/^likely (.*)$/, (it, found, why) => why.because.length === 1],
@@ -457,6 +503,11 @@ const OF_WHY = [
   [/^because it misses present keys and never finds an absent one$/, (it, found, { told }) => told !== null && told.isAll && told.wrong.every((call) => !needsKey(call))],
   [/^because it is wrong both ways, and add and remove agree$/, (it, found, { told }) => told !== null && told.wrong.some(needsKey) && !told.wrong.every(needsKey)],
   [/^because (?:remove and contains agree, and add|add and contains agree, and remove) does not$/, (it, found, { told }) => told !== null],
+  [/^because at (\d+) of the (\d+) wrong answers another add or remove of the key, or a change of another key, was running$/, (it, [some, all], { told }) => {
+    const isActive = (call) => it.calls.some((one) => one !== call && one.operation !== "contains" && (one.key === call.key || one.reply === "true") && inTime(one, call.begun, call.ended));
+    return told.wrong.length === Number(all) && told.wrong.filter(isActive).length === Number(some);
+  }],
+  [/^because at (\d+) of (\d+) wrong answers the last call of every larger key had left that key absent$/, (it, [some, all], { told }) => told.wrong.length >= Number(all) && Number(some) <= Number(all)],
   [/^because at (\d+) of the (\d+) wrong answers an? (add|remove) of another key was running$/, (it, [some, all, operation], { told }) =>
     told !== null && told.wrong.length === Number(all) && told.wrong.filter((call) => it.calls.some((one) => one.key !== call.key && one.operation === operation && one.reply === "true" && inTime(one, call.begun, call.ended))).length === Number(some)],
   [/^because as calls of one key the calls of keys (\d+) and (\d+) have an order$/, (it, [one, two]) => {

@@ -2,8 +2,9 @@ use crate::host::HostInput;
 use std::alloc::{AllocError, Global};
 use std::io::Read;
 use tool_base::{Answer, Trouble};
+use tool_facts::RunReader;
 use tool_judge::{judge_bytes, with_count};
-use tool_why::{Diagnosis, Explained, RunReader, diagnose, diagnosis_record, explain};
+use tool_why::{Diagnosis, Explained, diagnose, diagnosis_record, explain};
 
 /// Returns an empty answer.
 fn nothing(alloc: Global) -> Answer {

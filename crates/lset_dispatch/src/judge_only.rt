@@ -4,7 +4,7 @@ use lset_recording::RecordingReader;
 use std::alloc::Global;
 use std::io::Read;
 use tool_base::{Answer, READ_SIZE, Trouble, ValueName};
-use tool_why::{RunReader, recording_of_key};
+use tool_facts::{RunReader, recording_of_key};
 
 /// Returns a recording with the calls of one key, or with the few of them that show why the key is refused. Allocates.
 /// Blocks while reading the input.

@@ -1,23 +1,10 @@
 //! Writes a diagnosis as a record, whose lines have a name and its values.
 
+use crate::because::put_because;
 use crate::diagnosis::{Diagnosis, Mark};
-use crate::likely::state_word;
-use crate::made_calls::{Made, NEVER};
-use crate::sentences::{cause_text, put_because, put_headline, put_known};
+use crate::sentences::{cause_text, put_headline, put_known};
 use std::alloc::{AllocError, Global};
-
-/// Writes a call's thread, operation, key, begin, end and reply, with `-` for an unknown end or reply.
-pub(crate) fn put_call(out: &mut String, call: Made) -> Result<(), AllocError> {
-    let (thread, word, key, begun) = (call.thread, call.operation.word(), call.key, call.begun);
-    write!(out, "{thread} {word} {key} {begun} ")?;
-    match call.reply {
-        Some(yes) if call.ended < NEVER => {
-            let ended = call.ended;
-            write!(out, "{ended} {yes}")
-        }
-        _ => out.push_str("- -"),
-    }
-}
+use tool_facts::{put_call, state_word};
 
 fn put_mark(out: &mut String, mark: Mark) -> Result<(), AllocError> {
     match mark {
@@ -26,6 +13,10 @@ fn put_mark(out: &mut String, mark: Mark) -> Result<(), AllocError> {
         Mark::Leaves(state) => {
             let state = state_word(state);
             writeln!(out, " leaves {state}")
+        }
+        Mark::Finds(state) => {
+            let state = state_word(state);
+            writeln!(out, " finds {state}")
         }
         Mark::Either => out.push_str(" either\n"),
     }
@@ -39,10 +30,10 @@ fn put_lines(out: &mut String, word: &str, text: &str) -> Result<(), AllocError>
     Ok(())
 }
 
-/// Returns the record of a diagnosis. Its lines are, in this order: `headline TEXT`; `call THREAD OPERATION KEY BEGIN
-/// END REPLY MARK` for each call shown (MARK is `-`, `expected BOOL`, `leaves STATE` or `either`); `also THREAD
-/// OPERATION KEY BEGIN END REPLY` for each change of another key at the same time; `fact TEXT` for each fact; and, if
-/// there is a likely cause, `likely TEXT` and `because TEXT`. Allocates.
+/// Returns the record of a diagnosis. It has, in this order: `headline TEXT`; `call THREAD OPERATION KEY BEGIN END REPLY MARK` for each call
+/// of the key that is shown (MARK is `-`, `expected BOOL`, `leaves STATE`, `finds STATE` or `either`); `also THREAD OPERATION KEY BEGIN END REPLY` for each
+/// change of another key at the same time; `fact TEXT` for each fact; and, if there is a likely cause, `likely TEXT` and `because TEXT`.
+/// Allocates.
 pub fn diagnosis_record(alloc: Global, diagnosis: &Diagnosis) -> Result<String, AllocError> {
     let mut out = String::from_str(alloc, "headline ")?;
     put_headline(&mut out, diagnosis)?;

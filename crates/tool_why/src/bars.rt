@@ -1,9 +1,8 @@
 //! Draws a diagnosis, with calls as bars. Bars overlap in columns if their calls overlap in time.
 
 use crate::diagnosis::{Diagnosis, Mark};
-use crate::likely::state_word;
-use crate::made_calls::{Made, NEVER};
 use std::alloc::{AllocError, Global};
+use tool_facts::{Made, NEVER, state_word};
 
 /// The maximum width of the bars, in columns.
 const WIDTH: usize = 66;
@@ -31,6 +30,10 @@ fn note_of(alloc: Global, call: Made, mark: Mark) -> Result<String, AllocError> 
         Mark::Leaves(state) => {
             let state = state_word(state);
             format!(in alloc; "   key {key} is {state}")
+        }
+        Mark::Finds(state) => {
+            let state = state_word(state);
+            format!(in alloc; "   finds key {key} {state}")
         }
         Mark::Either => String::from_str(alloc, "   <-- one of two"),
     }
@@ -134,6 +137,27 @@ fn is_after_gap(bars: &[Bar], call: Made) -> bool {
     last > 0 && call.begun > last.saturating_add(LONG)
 }
 
+/// Writes the line above the changes of other keys.
+fn put_rule(out: &mut String, diagnosis: &Diagnosis) -> Result<(), AllocError> {
+    let (shown, all) = (diagnosis.beside.len(), diagnosis.beside_count);
+    if shown < all {
+        writeln!(out, "---------- also running ({shown} of {all})")
+    } else {
+        out.push_str("---------- also running\n")
+    }
+}
+
+/// Returns before how many of the first `own` bars a long time is left out.
+fn count_gaps(bars: &[Bar], own: usize) -> usize {
+    let mut count = 0usize;
+    for bar in bars.get(..own).unwrap_or(&[]) {
+        if is_after_gap(bars, bar.call) {
+            count = count.saturating_add(1);
+        }
+    }
+    count
+}
+
 /// Draws the calls of a diagnosis in at most `most` lines. Allocates.
 pub(crate) fn put_picture(
     alloc: Global,
@@ -146,17 +170,18 @@ pub(crate) fn put_picture(
         bars.push(Bar::new(alloc, one.call, one.mark)?)?;
     }
     let own = bars.len();
-    if own.saturating_add(diagnosis.beside.len()) < most {
+    let room = most.saturating_sub(own.saturating_add(1));
+    if diagnosis.beside.len() <= room {
         for call in &diagnosis.beside {
             bars.push(Bar::new(alloc, *call, Mark::Nothing)?)?;
         }
     }
     place_all(alloc, &mut bars)?;
     let width = width_of(&bars);
-    let gaps = bars.len() < most;
+    let gaps = bars.len().saturating_add(count_gaps(&bars, own)) <= most;
     for (i, bar) in bars.iter().enumerate() {
         if i == own {
-            out.push_str("---------- also running\n")?;
+            put_rule(out, diagnosis)?;
         }
         if gaps && i < own && is_after_gap(&bars, bar.call) {
             let from = bar.from;

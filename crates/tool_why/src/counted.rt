@@ -2,13 +2,10 @@
 //! refused if no two calls contradict each other.
 
 use crate::diagnosis::Diagnosis;
-use crate::key_calls::KeyCalls;
-use crate::made_calls::{Made, NEVER};
-use crate::run_reader::Recorded;
-use crate::stretches::{stretches_of, sure_before};
 use lset_judge::{Count, StreamCall, find_count};
 use lset_words::{Key, Presence};
 use std::alloc::{AllocError, Global};
+use tool_facts::{KeyCalls, Made, NEVER, Recorded, stretches_of};
 
 /// The maximum number of calls in which a count is searched. The search takes quadratic time.
 const MOST_COUNTED: usize = 4_000;

@@ -1,71 +1,6 @@
 //! Guesses the likely cause from the facts in the message. Makes no guess if nothing fits.
 
-use crate::made_calls::Operation;
-use crate::splits::Split;
-use crate::tally::Tally;
-use lset_words::Presence;
-
-/// The operation that alone is faulty: without its answers, all calls are linearizable.
-#[derive(Clone, Copy)]
-pub struct Odd {
-    pub operation: Operation,
-    /// The number of wrong answers: adding any one of them to the other calls makes them not linearizable.
-    pub wrong: u64,
-    /// Whether `wrong` counts all wrong answers. If not, there can be more.
-    pub is_exact: bool,
-    /// The number of all answers of the operation.
-    pub of: u64,
-    /// How many wrong answers missed a present key.
-    pub missed: u64,
-    /// How many wrong answers found an absent key.
-    pub found: u64,
-    /// How many wrong answers overlapped the change that they did not see.
-    pub running: u64,
-    /// How many wrong answers overlapped a change that agrees with them.
-    pub starting: u64,
-    /// How many wrong answers overlapped a change of another key.
-    pub beside: u64,
-    /// How many wrong answers overlapped a remove of another key that returned true.
-    pub removing: u64,
-    /// How many wrong answers overlapped an add of another key that returned true.
-    pub adding: u64,
-    /// The percentage of the operation's calls that overlapped a change of another key.
-    pub usual: u64,
-    /// Whether the final keys must be ignored as well.
-    pub puts_left_aside: bool,
-    /// The number of keys with a wrong answer.
-    pub keys: u64,
-    /// Whether the operation never found any of these keys, but found other keys.
-    pub never_finds: bool,
-    /// How many wrong answers agree with the last call of the same key by the same thread.
-    pub own: u64,
-    /// How many wrong answers were compared with the other keys.
-    pub compared: u64,
-    /// How many of the compared answers began while no other key was known to be present.
-    pub lonely: u64,
-    /// The percentage of all calls that began while at most one key was known to be present.
-    pub usually_lonely: u64,
-}
-
-/// The facts from which the cause is guessed.
-#[derive(Clone, Copy)]
-pub struct Evidence {
-    /// Two keys whose calls are linearizable if they are taken as calls of one key.
-    pub merged: Option<(u32, u32)>,
-    pub odd: Option<Odd>,
-    pub tally: Tally,
-    pub split: Option<Split>,
-    /// The number of keys in the recording.
-    pub keys: u64,
-    /// The number of calls in the recording.
-    pub calls: u64,
-    /// Whether these are only the first calls of a longer recording.
-    pub is_part: bool,
-    /// Whether the calls of the smallest key are linearizable, but those of two other keys are not.
-    pub is_first_spared: bool,
-    /// The difference between the largest and the smallest key.
-    pub span: u32,
-}
+use tool_facts::{Evidence, Odd, Operation, Tally};
 
 /// A likely cause.
 #[derive(Clone, Copy)]
@@ -118,7 +53,21 @@ pub enum Cause {
     MadeAgain,
     /// A check and the later write are not atomic.
     CheckThenAct,
-    /// A lock does not exclude other calls of the same key.
+    /// In both changes a check and a later write are not one step.
+    BothCheck,
+    /// In `add` alone a check and a later write are not one step.
+    AddChecks,
+    /// In `remove` alone a check and a later write are not one step.
+    RemoveChecks,
+    /// A change is carried out a second time, after a later change of its key.
+    CarriedOutTwice,
+    /// A search leaves out the last key.
+    LastKey,
+    /// A search ends too early, also without a race.
+    EndsEarly,
+    /// `add` gives up although the key is absent.
+    AddGivesUp,
+    /// A lock does not exclude calls of one key.
     NoLock,
     /// A whole copy overwrites newer changes.
     OldCopy,
@@ -158,51 +107,69 @@ fn share_of_all(percent: u64, times: u64) -> u64 {
     share
 }
 
-/// Returns `true` if it is unlikely (a chance of less than one in four) that all wrong answers overlapped changes of
-/// other keys by accident.
-fn is_no_chance(odd: Odd) -> bool {
+/// Returns whether by chance, in fewer than one of four cases, a change of another key would run during all wrong answers.
+fn is_no_chance(odd: &Odd) -> bool {
     share_of_all(odd.usual, odd.missed) < 250_000
 }
 
-/// Returns `true` if `some` are at least three quarters of the wrong answers.
-fn are_most(some: u64, odd: Odd) -> bool {
+/// Returns whether other adds and removes ran during nearly all wrong answers, and not by chance.
+fn is_beside_others(odd: &Odd) -> bool {
+    odd.wrong >= 3
+        && is_least(odd.active, odd.wrong, 90)
+        && share_of_all(odd.usually_active, odd.wrong) < 250_000
+}
+
+/// Returns whether at least three quarters of the wrong answers are some of them.
+fn are_most(some: u64, odd: &Odd) -> bool {
     some.saturating_mul(4) >= odd.missed.saturating_mul(3)
 }
 
-/// Returns the likely cause if only `contains` is wrong and it only misses keys.
-fn cause_of_misses(odd: Odd) -> Option<Cause> {
-    let only_adds = odd.beside.saturating_sub(odd.removing);
-    let is_moved = is_no_chance(odd) && (odd.missed > 1 || odd.adding == 0);
+/// Returns whether answers are wrong although no calls overlap.
+fn needs_no_overlap(odd: &Odd) -> bool {
+    odd.apart >= 2 && is_least(odd.apart, odd.placed, 10)
+}
+
+/// Returns whether contains misses only the largest key that is present.
+fn is_last(odd: &Odd) -> bool {
+    let is_each = odd.compared >= 10 && is_least(odd.largest, odd.compared, 95);
+    is_each && odd.keys >= 2 && odd.usually_largest <= 75
+}
+
+/// Returns the likely cause if contains alone is wrong, and only misses keys.
+fn cause_of_misses(odd: &Odd) -> Option<Cause> {
+    let is_removed_beside = odd.wrong < 3 && odd.removing == odd.missed && is_no_chance(odd);
     if is_size(odd) {
         Some(Cause::SizeFirst)
     } else if odd.running == odd.missed {
         Some(Cause::NotSeenYet)
-    } else if odd.beside < odd.missed {
-        Some(Cause::Shortcut)
-    } else if are_most(odd.removing, odd) && is_moved {
+    } else if is_last(odd) {
+        Some(Cause::LastKey)
+    } else if needs_no_overlap(odd) {
+        Some(Cause::EndsEarly)
+    } else if is_beside_others(odd) || is_removed_beside {
         Some(Cause::MovedKeys)
-    } else if are_most(only_adds, odd) && odd.missed >= 3 {
+    } else if odd.missed >= 3 && !is_least(odd.active, odd.wrong, 80) {
         Some(Cause::Shortcut)
     } else {
         None
     }
 }
 
-/// Returns `true` if `contains` mostly misses a key when no other key is present, more often than by chance.
-fn is_size(odd: Odd) -> bool {
+/// Returns whether contains mostly misses a key if no other key is present, and not by chance.
+fn is_size(odd: &Odd) -> bool {
     let more_often = odd.usually_lonely.saturating_add(35);
     odd.compared >= 3
         && is_least(odd.lonely, odd.compared, more_often)
         && share_of_all(odd.usually_lonely, odd.lonely) < 50_000
 }
 
-/// Returns `true` if each thread answers what it saw last itself.
-fn is_own(odd: Odd) -> bool {
+/// Returns whether each thread answers what it saw last itself.
+fn is_own(odd: &Odd) -> bool {
     odd.wrong >= 8 && odd.own == odd.wrong
 }
 
-/// Returns the likely cause if only `contains` is wrong.
-fn cause_of_contains(odd: Odd) -> Option<Cause> {
+/// Returns the likely cause if contains alone is wrong.
+fn cause_of_contains(odd: &Odd) -> Option<Cause> {
     if is_own(odd) && odd.found > 0 && odd.running.saturating_mul(2) < odd.wrong {
         Some(Cause::ThreadCache)
     } else if odd.missed > 0 && odd.found > 0 {
@@ -218,21 +185,35 @@ fn cause_of_contains(odd: Odd) -> Option<Cause> {
     }
 }
 
-/// Returns the likely cause if only `remove` is wrong.
-fn cause_of_remove(odd: Odd) -> Cause {
+/// Returns the likely cause if remove alone is wrong.
+fn cause_of_remove(odd: &Odd) -> Cause {
     let is_beside = odd.beside == odd.missed && are_most(odd.adding, odd);
     if odd.missed >= 3 && is_beside && is_no_chance(odd) {
         Cause::RemoveShortcut
+    } else if needs_no_overlap(odd) {
+        Cause::EndsEarly
     } else {
         Cause::RemoveGivesUp
     }
 }
 
-/// Returns the likely cause if only one operation is wrong.
-fn cause_of_odd(odd: Odd) -> Option<Cause> {
+/// Returns the likely cause if add alone is wrong.
+fn cause_of_add(odd: &Odd) -> Option<Cause> {
+    let is_lasting = odd.then_wrong.saturating_mul(2) > odd.wrong;
+    if needs_no_overlap(odd) || is_lasting || odd.running.saturating_mul(2) >= odd.wrong {
+        Some(Cause::AddSeesRemoved)
+    } else if is_beside_others(odd) {
+        Some(Cause::AddGivesUp)
+    } else {
+        None
+    }
+}
+
+/// Returns the likely cause if one operation alone is wrong.
+fn cause_of_odd(odd: &Odd) -> Option<Cause> {
     let is_often = odd.wrong >= odd.keys.saturating_mul(2);
     match odd.operation {
-        Operation::Add => Some(Cause::AddSeesRemoved),
+        Operation::Add => cause_of_add(odd),
         _ if odd.never_finds && is_often => Some(Cause::OneKey),
         Operation::Remove => Some(cause_of_remove(odd)),
         Operation::Contains => cause_of_contains(odd),
@@ -244,7 +225,7 @@ fn is_first_use(evidence: &Evidence) -> bool {
     let tally = evidence.tally;
     let calls = evidence.calls.checked_div(evidence.keys).unwrap_or(0);
     let is_repeated = tally.places > 1 && tally.gone() > 0;
-    is_repeated && calls > tally.begun.saturating_mul(50)
+    is_repeated && calls > tally.begun.saturating_mul(25)
 }
 
 /// Returns `true` if changes of other keys overlapped the losses and returns no more often than other periods.
@@ -253,15 +234,34 @@ fn is_beside_by_chance(tally: &Tally) -> bool {
     share.unwrap_or(0) <= tally.usual.saturating_add(15)
 }
 
+/// The minimum number of losses and returns that calls show for a guess.
+const LEAST_TIMED: u64 = 8;
+
+/// Returns whether keys are not mostly lost, calls that returned false can have made many of these changes, and most are
+/// not beside a change of another key that can have written back what it read.
+fn is_carried_out_twice(tally: &Tally) -> bool {
+    let (lost, back) = (tally.lost, tally.came_back);
+    let is_even = lost < back.saturating_mul(2) && back <= lost.saturating_mul(4);
+    let is_alone = tally.fits.saturating_mul(100) <= tally.made.saturating_mul(65);
+    is_even && tally.gone() >= MANY_GONE && is_alone && is_least(tally.silent, tally.gone(), 30)
+}
+
+/// The minimum number of losses and returns that show that a change is carried out twice.
+const MANY_GONE: u64 = 15;
+
 /// Returns the likely cause if keys were lost and came back.
 fn cause_of_gone(evidence: &Evidence) -> Option<Cause> {
     let tally = &evidence.tally;
     let (lost, back) = (tally.lost, tally.came_back);
-    if tally.swapped >= 4 && is_least(tally.swapped, tally.undone, 60) {
+    let is_written_over = is_least(tally.fits, tally.made, 60);
+    if tally.swapped >= 4 && is_least(tally.swapped, tally.undone, 60) && !is_written_over {
         return Some(Cause::OtherKey);
     }
-    if tally.timed() < 2 * ENOUGH {
+    if tally.timed() < LEAST_TIMED {
         return None;
+    }
+    if is_carried_out_twice(tally) {
+        return Some(Cause::CarriedOutTwice);
     }
     if !is_share(tally.beside, tally.timed(), 90) {
         return if evidence.keys > 1 && is_beside_by_chance(tally) {
@@ -270,22 +270,21 @@ fn cause_of_gone(evidence: &Evidence) -> Option<Cause> {
             None
         };
     }
-    let has_both = tally.both_adds > 0 && tally.both_removes > 0;
-    if !is_least(tally.below, tally.timed(), 85) {
-        Some(Cause::OldCopy)
-    } else if lost.saturating_mul(2) >= back.saturating_mul(3) {
+    if lost >= back.saturating_mul(2) {
         Some(Cause::OldLink)
-    } else if has_both && is_share(tally.both(), tally.places, 5) {
+    } else if is_least(tally.fits, tally.made, 75) && is_least(tally.silent, tally.gone(), 20) {
         Some(Cause::OldCopy)
-    } else {
+    } else if is_least(tally.below, tally.timed(), 85) {
         Some(Cause::WrittenBack)
+    } else {
+        None
     }
 }
 
 /// Returns `true` if keys are lost and come back mostly while a smaller key is removed, but the smallest key never is.
 fn is_unlinked(evidence: &Evidence) -> bool {
     let (tally, timed) = (&evidence.tally, evidence.tally.timed());
-    let is_both_ways = tally.lost > 0 && tally.came_back > 0;
+    let is_both_ways = tally.lost > 0 && tally.came_back.saturating_mul(4) >= tally.lost;
     is_both_ways
         && evidence.is_first_spared
         && timed >= 2 * ENOUGH
@@ -310,13 +309,18 @@ fn needs_no_race(tally: &Tally) -> bool {
     tally.gone() >= 2 * ENOUGH && tally.apart >= ENOUGH && is_share(tally.apart, tally.places, 10)
 }
 
+/// Returns whether no two calls are both true, and most losses are not beside a change that can have written back what it read.
+fn is_displaced(tally: &Tally) -> bool {
+    tally.both() == 0 && !is_least(tally.fits, tally.made, 60)
+}
+
 /// Returns the likely cause if keys are lost while other keys change, and never come back.
 fn cause_of_losses(tally: &Tally) -> Option<Cause> {
     let (sharp, adds, removes) = (tally.sharp, tally.displaced, tally.unlinked);
     let is_only_lost = tally.came_back == 0 && tally.lost >= 2 * ENOUGH;
     if !is_only_lost {
         None
-    } else if is_share(adds, sharp, 95) && !is_least(removes, sharp, 90) {
+    } else if is_displaced(tally) && is_share(adds, sharp, 95) && !is_least(removes, sharp, 90) {
         Some(Cause::Displaced)
     } else if needs_no_race(tally) && is_share(removes, sharp, 95) && !is_least(adds, sharp, 90) {
         Some(Cause::Batch)
@@ -360,7 +364,23 @@ fn cause_in_one_thread(evidence: &Evidence) -> Option<Cause> {
 /// If two keys differ by at least this much, their difference overflows a signed 32-bit number.
 const WIDE: u32 = 0x8000_0000;
 
-/// Returns the likely cause if overlapping changes go wrong.
+/// The number of calls of a key from which on it is no chance that each key is hit only once.
+const MANY_CALLS: u64 = 30;
+
+/// Returns which changes look first and then act.
+fn check_then_act(tally: &Tally) -> Cause {
+    if tally.both_removes == 0 && tally.both_adds >= ENOUGH {
+        Cause::AddChecks
+    } else if tally.both_adds == 0 && tally.both_removes >= ENOUGH {
+        Cause::RemoveChecks
+    } else if tally.both_adds > 0 && tally.both_removes > 0 {
+        Cause::BothCheck
+    } else {
+        Cause::CheckThenAct
+    }
+}
+
+/// Returns the likely cause if changes that overlap go wrong.
 fn cause_of_races(evidence: &Evidence) -> Option<Cause> {
     let tally = &evidence.tally;
     if is_first_use(evidence) {
@@ -372,12 +392,13 @@ fn cause_of_races(evidence: &Evidence) -> Option<Cause> {
     }
     let is_all_both = tally.places >= 2 && tally.both() == tally.places;
     if is_all_both || is_share(tally.both(), tally.places, 40) {
-        return Some(Cause::CheckThenAct);
+        return Some(check_then_act(tally));
     }
     if is_earlier_look(tally) {
         return Some(Cause::EarlierLook);
     }
-    if tally.places == tally.keys && tally.keys >= 8 {
+    let calls = evidence.calls.checked_div(evidence.keys).unwrap_or(0);
+    if tally.places == tally.keys && tally.keys >= 8 && calls >= MANY_CALLS {
         return Some(Cause::Replaced);
     }
     if tally.others.saturating_mul(2) > tally.places {
@@ -406,7 +427,7 @@ pub(crate) fn likely(evidence: &Evidence) -> Option<Cause> {
     if evidence.merged.is_some() {
         return Some(Cause::TwoKeys);
     }
-    if let Some(odd) = evidence.odd {
+    if let Some(odd) = &evidence.odd {
         return cause_of_odd(odd);
     }
     if evidence.split.is_some_and(|split| split.is_long()) {
@@ -422,13 +443,5 @@ pub(crate) fn likely(evidence: &Evidence) -> Option<Cause> {
     match cause_in_one_thread(evidence) {
         Some(cause) => Some(cause),
         None => cause_of_races(evidence),
-    }
-}
-
-/// Returns the word for a state in messages.
-pub(crate) fn state_word(state: Presence) -> &'static str {
-    match state {
-        Presence::Present => "present",
-        Presence::Absent => "absent",
     }
 }

@@ -1,21 +1,10 @@
-//! Writes the message of a diagnosis: headline, picture, scope, duration, and a likely cause.
+//! The sentences of a diagnosis: headline, scope, duration, and the likely cause.
 
-use crate::bars::put_picture;
-use crate::counted::count_in;
-use crate::diagnosis::{Diagnosis, diagnose};
-use crate::likely::{Cause, Evidence, Odd, state_word};
-use crate::made_calls::{Made, NEVER, Operation, other};
-use crate::run_reader::{Recorded, RunReader};
-use crate::splits::Split;
-use crate::symptoms::Symptom;
-use crate::tally::Tally;
-use lset_judge::Count;
+use crate::diagnosis::Diagnosis;
+use crate::likely::Cause;
 use lset_words::Presence;
-use std::alloc::{AllocError, Global};
-use std::io::Read;
-
-/// The maximum number of nonblank lines, including the verdict but not the line that a test adds.
-const MOST_LINES: usize = 15;
+use std::alloc::AllocError;
+use tool_facts::{Made, NEVER, Odd, Operation, Place, Split, Symptom, Tally, other, state_word};
 
 /// Writes a line such as `contains(3) returned true, expected false`.
 fn put_returned(out: &mut String, call: Made, expected: bool) -> Result<(), AllocError> {
@@ -177,7 +166,41 @@ fn put_kinds(out: &mut String, tally: &Tally) -> Result<(), AllocError> {
     put_kind(out, "two removes true", tally.both_removes)?;
     let replies = tally.missed.saturating_add(tally.found);
     put_kind(out, "one wrong answer", replies)?;
-    put_kind(out, "other", tally.others)
+    put_kind(out, "none of these", tally.others)
+}
+
+/// Returns the words for the symptom of a contradiction in a list of a few.
+fn symptom_text(symptom: Symptom) -> &'static str {
+    match symptom {
+        Symptom::Missed(_) => "missed",
+        Symptom::Found(_) => "found, though absent,",
+        Symptom::BothTrue(Operation::Add) => "added twice",
+        Symptom::BothTrue(_) => "removed twice",
+        Symptom::Lost => "lost",
+        Symptom::CameBack => "came back",
+        Symptom::TooMany(_) | Symptom::Unclear => "contradictory",
+    }
+}
+
+/// Writes each of a few contradictions: the key, the symptom, and the time.
+fn put_few(out: &mut String, few: &[Place]) -> Result<(), AllocError> {
+    put_count(out, places_len(few), "contradiction", "contradictions")?;
+    let mut mark = ":";
+    for place in few {
+        let (key, since, symptom) = (place.key, place.clash.begun(), symptom_text(place.symptom));
+        write!(out, "{mark} key {key} {symptom} ")?;
+        match place.clash.until {
+            NEVER => write!(out, "from {since} on")?,
+            until => write!(out, "from {since} to {until}")?,
+        }
+        mark = ";";
+    }
+    out.push_str("\n")
+}
+
+/// Returns the number of places.
+fn places_len(places: &[Place]) -> u64 {
+    u64::try_from(places.len()).unwrap_or(u64::MAX)
 }
 
 /// Writes the number of contradictions, of keys, and of each kind.
@@ -185,6 +208,9 @@ fn put_tally(out: &mut String, diagnosis: &Diagnosis) -> Result<(), AllocError> 
     let tally = &diagnosis.evidence.tally;
     if tally.places == 0 {
         return Ok(());
+    }
+    if !diagnosis.few.is_empty() {
+        return put_few(out, &diagnosis.few);
     }
     put_count(out, tally.places, "contradiction", "contradictions")?;
     let (keys, all) = (tally.keys, diagnosis.evidence.keys);
@@ -227,19 +253,63 @@ fn put_apart(out: &mut String, tally: &Tally) -> Result<(), AllocError> {
     )
 }
 
-/// Writes how long the error lasts, and the first contradiction in the run.
-fn put_duration(out: &mut String, diagnosis: &Diagnosis) -> Result<(), AllocError> {
-    if let Some(later) = diagnosis.later {
-        let (word, begun, key) = (later.operation.word(), later.begun, later.key);
-        let yes = later.reply == Some(true);
-        let state = later.needs().map_or("", state_word);
-        writeln!(
-            out,
-            "key {key} stays {state}: then {word} at {begun} returned {yes}"
+/// Writes how often another key was changed at losses and returns, and how often a call that returned false can have made the change.
+fn put_gone_beside(out: &mut String, tally: &Tally) -> Result<(), AllocError> {
+    let (beside, timed) = (tally.beside, tally.timed());
+    let (silent, gone) = (tally.silent, tally.gone());
+    if timed == 0 {
+        return Ok(());
+    }
+    writeln!(
+        out,
+        "at {beside} of {timed} losses and returns another key was changed, at {silent} of {gone} a call that returned false can have done it"
+    )
+}
+
+/// Writes what ran during the only wrong answer, and whether the next call was right.
+fn put_around_one(out: &mut String, odd: &Odd) -> Result<(), AllocError> {
+    let word = odd.operation.word();
+    if odd.same > 0 {
+        out.push_str("another add or remove of the key ran during it\n")?;
+    } else if odd.active > 0 {
+        out.push_str(
+            "a change of another key ran during it, and no other add or remove of its own key\n",
         )?;
     }
+    if odd.then_right > 0 {
+        writeln!(
+            out,
+            "the next {word} of the key, with no change between, was right"
+        )?;
+    }
+    Ok(())
+}
+
+/// Writes what ran during the wrong answers, and whether the next calls were right.
+fn put_around(out: &mut String, odd: &Odd) -> Result<(), AllocError> {
+    if odd.wrong == 1 {
+        return put_around_one(out, odd);
+    }
+    let (same, other) = (odd.same, odd.active.saturating_sub(odd.same));
+    let neither = odd.wrong.saturating_sub(odd.active);
+    writeln!(
+        out,
+        "another add or remove of the key ran during {same} of them, only changes of other keys during {other}, neither during {neither}"
+    )?;
+    let (right, wrong, word) = (odd.then_right, odd.then_wrong, odd.operation.word());
+    if odd.is_exact && right.saturating_add(wrong) > 0 {
+        writeln!(
+            out,
+            "the next {word} of the key, with no change between: {right} times right, {wrong} times wrong again"
+        )?;
+    }
+    Ok(())
+}
+
+/// Writes the first contradiction of the run, if the picture shows a later one of another key.
+fn put_first(out: &mut String, diagnosis: &Diagnosis) -> Result<(), AllocError> {
     let (key, moment) = (diagnosis.first_key, diagnosis.first_moment);
-    if moment < diagnosis.until && moment < NEVER {
+    if key != diagnosis.key && moment < diagnosis.until && moment < NEVER {
         writeln!(
             out,
             "the first contradiction of the run: the calls of key {key} up to moment {moment}"
@@ -256,7 +326,7 @@ fn answers_cause_text(cause: Cause) -> &'static str {
         Cause::NotSeenYet =>
             "contains does not look at what add changes first (it reads a cache, a counter, a second link)",
         Cause::TakenLater =>
-            "contains reads a copy that removed keys leave later (a cache, a replica, a filter)",
+            "contains reads a copy that removed keys leave only later (a delayed removal, a cache, a replica, a filter)",
         Cause::Shortcut =>
             "contains has a shortcut that returns false too early (a size, a filter, a bucket)",
         Cause::SizeFirst =>
@@ -264,12 +334,18 @@ fn answers_cause_text(cause: Cause) -> &'static str {
         Cause::ThreadCache =>
             "contains reads a cache of its thread, which changes by other threads do not update",
         Cause::MovedKeys =>
-            "contains walks while changes of other keys move its key (an array, a swap, an iterator)",
+            "contains walks while other calls move its key (an array, a swap, a flush, a half moved bucket), and does not look again",
         Cause::LateCopy =>
             "contains reads a copy that is updated after add and remove return (a cache, a replica)",
         Cause::OneKey => "a hash, a comparison, a filter or a limit treats a key unlike others",
         Cause::AddSeesRemoved =>
-            "add takes a node that was removed (marked, not unlinked) for a present one",
+            "add takes a removed node that is still linked for a present one (a mark not checked, an unlink that was lost)",
+        Cause::AddGivesUp =>
+            "add gives up and returns false (a failed exchange or lock that is not tried again)",
+        Cause::LastKey =>
+            "contains leaves out the last key (a loop or search with a bound that is too small)",
+        Cause::EndsEarly =>
+            "the search ends too early, also without a race (a freed slot, a filter bit that another key cleared, a bound)",
         Cause::RemoveShortcut =>
             "remove has a shortcut that returns false too early (a size that add updates late)",
         _ => "remove gives up on a present key (a failed exchange, a walk that lost its way)",
@@ -286,7 +362,7 @@ pub(crate) fn cause_text(cause: Cause) -> &'static str {
         Cause::Overflow =>
             "a comparison overflows (a difference of keys in a signed number of 32 bits)",
         Cause::Displaced =>
-            "an add of another key takes its place (a limit, an eviction, a shared slot)",
+            "an add of another key drops it (a table that grows, a limit, an eviction, a shared slot)",
         Cause::Batch =>
             "a remove of another key carries out earlier removes (a batch, a queue), also of keys that were added again",
         Cause::OtherKey =>
@@ -294,7 +370,7 @@ pub(crate) fn cause_text(cause: Cause) -> &'static str {
         Cause::OneThread =>
             "an error without a race (a probe that ends too early, a comparison, a limit)",
         Cause::TwoPlaces =>
-            "the operations look at two places for a key (a slot and its node, a node that is reused)",
+            "calls reach the key by two ways that no longer agree (a node reused too early, as in ABA; a slot and its node)",
         Cause::FirstUse =>
             "two first calls each create the same thing (a bucket, a node, a table), and one is lost",
         Cause::GoesOn =>
@@ -304,13 +380,21 @@ pub(crate) fn cause_text(cause: Cause) -> &'static str {
         Cause::MadeAgain =>
             "a call is repeated after it took effect, and returns the reply of the second attempt",
         Cause::CheckThenAct =>
-            "check, then act: both calls look before either changes the set (no lock, or one that lets both in)",
+            "check, then act: two calls look before either changes the set (no lock, or one that lets both in)",
+        Cause::BothCheck =>
+            "check, then act, in add and in remove: two calls look before either changes the set (no lock, or one that lets both in)",
+        Cause::AddChecks =>
+            "add checks, then acts: two adds look before either inserts (a check before the lock, and none after it)",
+        Cause::RemoveChecks =>
+            "remove checks, then acts: two removes look before either takes the key out, and both report it",
+        Cause::CarriedOutTwice =>
+            "a change is carried out twice (by a helper, or repeated), and the second time undoes a later change",
         Cause::NoLock =>
             "calls of one key do not exclude each other (two locks, a lock that fails, a load and then a store)",
         Cause::OldCopy =>
-            "an older copy of the set is written over newer changes (copy on write, a whole table)",
+            "an older copy is written over newer changes of other keys (copy on write, a whole table, a shared word)",
         Cause::OldLink =>
-            "a link is written without a check that it is current (behind a node that is being unlinked)",
+            "a link is written without a check that it is current (an insert behind an unlinked node, a head stored over another)",
         Cause::Unlinked =>
             "a node is linked to a neighbour that is being removed (no marks, or marks that are not checked)",
         Cause::WrittenBack =>
@@ -320,360 +404,27 @@ pub(crate) fn cause_text(cause: Cause) -> &'static str {
     }
 }
 
-/// Writes the fact for a `contains` that finds absent keys, or is wrong both ways.
-fn put_because_of_found(out: &mut String, odd: &Odd, cause: Cause) -> Result<(), AllocError> {
-    let (running, found, own, wrong) = (odd.running, odd.found, odd.own, odd.wrong);
-    let only = if odd.is_exact { "only " } else { "" };
-    match cause {
-        Cause::MarkNotRead if found == 1 => writeln!(
-            out,
-            "a remove of the key was still running at the wrong answer"
-        ),
-        Cause::MarkNotRead => writeln!(
-            out,
-            "at {running} of the {found} wrong answers a remove of the key was still running"
-        ),
-        Cause::TakenLater => writeln!(
-            out,
-            "it {only}finds absent keys, and at {running} of {found} of these answers a remove of the key still ran"
-        ),
-        Cause::ThreadCache => writeln!(
-            out,
-            "before {own} of the {wrong} wrong answers the last call of the key by the same thread left it so"
-        ),
-        _ => writeln!(out, "it is wrong both ways, and add and remove agree"),
-    }
-}
-
-/// Writes the fact for a `contains` that misses present keys.
-fn put_because_of_missed(out: &mut String, odd: &Odd, cause: Cause) -> Result<(), AllocError> {
-    let (missed, removing) = (odd.missed, odd.removing);
-    let (compared, lonely) = (odd.compared, odd.lonely);
-    match cause {
-        Cause::NotSeenYet if missed == 1 => writeln!(
-            out,
-            "an add of the key was still running at the wrong answer"
-        ),
-        Cause::NotSeenYet => writeln!(
-            out,
-            "at all {missed} wrong answers an add of the key was still running"
-        ),
-        Cause::MovedKeys => writeln!(
-            out,
-            "at {removing} of the {missed} wrong answers a remove of another key was running"
-        ),
-        Cause::SizeFirst => writeln!(
-            out,
-            "at {lonely} of {compared} wrong answers the last call of every other key had left that key absent"
-        ),
-        _ if odd.is_exact => writeln!(out, "it misses present keys and never finds an absent one"),
-        _ => writeln!(out, "it misses present keys"),
-    }
-}
-
-/// Writes the fact for a cause in the faulty operation.
-fn put_because_of_odd(out: &mut String, odd: &Odd, cause: Cause) -> Result<(), AllocError> {
-    let (missed, wrong, adding) = (odd.missed, odd.wrong, odd.adding);
-    let keys = if odd.keys == 1 { "key" } else { "keys" };
-    match cause {
-        Cause::MarkNotRead | Cause::TakenLater | Cause::ThreadCache | Cause::LateCopy => {
-            put_because_of_found(out, odd, cause)
-        }
-        Cause::NotSeenYet | Cause::MovedKeys | Cause::SizeFirst | Cause::Shortcut => {
-            put_because_of_missed(out, odd, cause)
-        }
-        Cause::OneKey => writeln!(
-            out,
-            "it never found the {keys} of its {wrong} wrong answers, and found others"
-        ),
-        Cause::RemoveShortcut => writeln!(
-            out,
-            "at {adding} of the {missed} wrong answers an add of another key was running"
-        ),
-        Cause::AddSeesRemoved => writeln!(out, "remove and contains agree, and add does not"),
-        _ => writeln!(out, "add and contains agree, and remove does not"),
-    }
-}
-
-/// Writes the fact for a cause that concerns wrong replies or simultaneous changes.
-fn put_because_of_calls(out: &mut String, tally: &Tally, cause: Cause) -> Result<(), AllocError> {
-    let (gone, both, places) = (tally.gone(), tally.both(), tally.places);
-    let (silent, turned, begun) = (tally.silent, tally.turned, tally.begun);
-    let (crossed, lost) = (tally.crossed, tally.lost);
-    match cause {
-        Cause::FirstUse => writeln!(out, "all is among the first {begun} calls of a key"),
-        Cause::GoesOn => writeln!(
-            out,
-            "at {crossed} of the {lost} losses a remove ran among the overlapping changes before"
-        ),
-        Cause::EarlierLook => writeln!(
-            out,
-            "at {turned} of {gone} losses and returns one other reply gives an order; two calls true: {both}"
-        ),
-        Cause::MadeAgain => writeln!(
-            out,
-            "at {silent} of {gone} losses and returns a call that returned false can have done it; two calls true: {both}"
-        ),
-        Cause::CheckThenAct => writeln!(
-            out,
-            "{both} of {places} are two calls that both returned true"
-        ),
-        _ => writeln!(out, "they disagree as long as nothing changes the key"),
-    }
-}
-
-/// Writes the fact for a cause by which keys are only lost.
-fn put_because_of_lost(out: &mut String, tally: &Tally, cause: Cause) -> Result<(), AllocError> {
-    let (lost, sharp, short) = (tally.lost, tally.sharp, tally.short);
-    let (added, removed, least) = (tally.displaced, tally.unlinked, tally.least_full);
-    write!(out, "keys are lost ({lost}) and never come back, and at ")?;
-    match cause {
-        Cause::Displaced => writeln!(out, "{added} of {sharp} short losses another key was added"),
-        Cause::Batch => writeln!(
-            out,
-            "{removed} of {sharp} short losses another key was removed"
-        ),
-        _ => writeln!(
-            out,
-            "{short} short losses at least {least} keys were shown present"
-        ),
-    }
-}
-
-/// Writes the fact for a cause that needs no race.
-fn put_because_of_one(
-    out: &mut String,
-    evidence: &Evidence,
-    cause: Cause,
-) -> Result<(), AllocError> {
-    let (tally, span) = (&evidence.tally, evidence.span);
-    let (lost, back, undone) = (tally.lost, tally.came_back, tally.undone);
-    let (apart, places) = (tally.apart, tally.places);
-    match cause {
-        Cause::KeptTwice if lost == 0 => writeln!(
-            out,
-            "keys come back ({back}), {undone} times after a remove that returned true, and are never lost"
-        ),
-        Cause::KeptTwice => writeln!(
-            out,
-            "keys come back ({back}), only an add misses one ({lost}), and at {apart} of {places} no two calls overlapped"
-        ),
-        Cause::Overflow => writeln!(
-            out,
-            "at {apart} of {places} no two calls overlapped, and keys differ by up to {span}"
-        ),
-        _ => writeln!(out, "at {apart} of {places} no two calls overlapped"),
-    }
-}
-
-/// Writes the fact for a cause by which keys are lost and come back.
-fn put_because_of_gone(
-    out: &mut String,
-    evidence: &Evidence,
-    cause: Cause,
-) -> Result<(), AllocError> {
-    let tally = &evidence.tally;
-    let (lost, back, timed, both) = (tally.lost, tally.came_back, tally.timed(), tally.both());
-    let (beside, alone, below, keys) = (tally.beside, tally.alone, tally.below, tally.keys);
-    let (swapped, undone) = (tally.swapped, tally.undone);
-    match cause {
-        Cause::NoLock => writeln!(
-            out,
-            "at {alone} of {timed} losses and returns no change of another key was running"
-        ),
-        Cause::OldCopy => writeln!(
-            out,
-            "keys are lost ({lost}) and come back ({back}), two calls return true ({both}), and at {beside} of {timed} another key changes"
-        ),
-        Cause::OldLink => writeln!(
-            out,
-            "keys are lost ({lost}) more than they come back ({back}), at {beside} of {timed} beside another change"
-        ),
-        Cause::Unlinked => writeln!(
-            out,
-            "at {below} of {timed} losses and returns a smaller key was removed, and the smallest key is never hit"
-        ),
-        Cause::WrittenBack => writeln!(
-            out,
-            "keys come back ({back}) and are lost ({lost}), at {beside} of {timed} beside another change"
-        ),
-        Cause::OtherKey => writeln!(
-            out,
-            "another key was lost at {swapped} of the {undone} removes after which their key came back"
-        ),
-        _ => writeln!(out, "{keys} keys are hit, each once"),
-    }
-}
-
-/// Writes the fact for the likely cause.
-pub(crate) fn put_because(
-    out: &mut String,
-    diagnosis: &Diagnosis,
-    cause: Cause,
-) -> Result<(), AllocError> {
-    let evidence = &diagnosis.evidence;
-    if let Some((one, two)) = evidence.merged {
-        return writeln!(
-            out,
-            "as calls of one key the calls of keys {one} and {two} have an order"
-        );
-    }
-    if let Some(odd) = &evidence.odd {
-        return put_because_of_odd(out, odd, cause);
-    }
-    match cause {
-        Cause::FirstUse
-        | Cause::GoesOn
-        | Cause::EarlierLook
-        | Cause::MadeAgain
-        | Cause::CheckThenAct
-        | Cause::TwoPlaces => put_because_of_calls(out, &evidence.tally, cause),
-        Cause::Displaced | Cause::Batch | Cause::Evicted => {
-            put_because_of_lost(out, &evidence.tally, cause)
-        }
-        Cause::KeptTwice | Cause::Overflow | Cause::OneThread => {
-            put_because_of_one(out, evidence, cause)
-        }
-        _ => put_because_of_gone(out, evidence, cause),
-    }
-}
-
 /// Writes the scope and the duration.
 pub(crate) fn put_known(out: &mut String, diagnosis: &Diagnosis) -> Result<(), AllocError> {
     match &diagnosis.evidence.odd {
-        Some(odd) => put_odd(out, odd)?,
+        Some(odd) => {
+            put_odd(out, odd)?;
+            put_around(out, odd)?;
+        }
         None => put_tally(out, diagnosis)?,
+    }
+    if diagnosis.cause.is_none() && diagnosis.few.is_empty() {
+        put_gone_beside(out, &diagnosis.evidence.tally)?;
     }
     if let Some(split) = diagnosis.evidence.split.filter(|split| split.is_long()) {
         put_split(out, &split)?;
     } else if !matches!(diagnosis.cause, Some(Cause::OneThread | Cause::Overflow)) {
         put_apart(out, &diagnosis.evidence.tally)?;
     }
-    put_duration(out, diagnosis)?;
+    put_first(out, diagnosis)?;
     if diagnosis.evidence.is_part {
         let calls = diagnosis.evidence.calls;
         writeln!(out, "only the first {calls} calls were looked at")?;
     }
     Ok(())
-}
-
-/// Writes the scope, the duration and the likely cause.
-fn put_facts(out: &mut String, diagnosis: &Diagnosis) -> Result<(), AllocError> {
-    put_known(out, diagnosis)?;
-    if let Some(cause) = diagnosis.cause {
-        let text = cause_text(cause);
-        writeln!(out, "likely: {text}")?;
-        out.push_str("  because ")?;
-        put_because(out, diagnosis, cause)?;
-    }
-    Ok(())
-}
-
-/// Returns the number of nonblank lines.
-fn lines_of(text: &str) -> usize {
-    text.lines().filter(|line| !line.is_empty()).count()
-}
-
-/// Returns the message of a diagnosis, without the verdict. Together with the `used` lines above it, the message has at
-/// most 15 nonblank lines. Allocates.
-pub fn diagnosis_text(
-    alloc: Global,
-    diagnosis: &Diagnosis,
-    used: usize,
-) -> Result<String, AllocError> {
-    let mut facts = String::new(alloc);
-    put_facts(&mut facts, diagnosis)?;
-    let taken = lines_of(&facts).saturating_add(used).saturating_add(1);
-    let room = MOST_LINES.saturating_sub(taken);
-    let mut out = String::new(alloc);
-    out.push_str("\n")?;
-    put_headline(&mut out, diagnosis)?;
-    if !diagnosis.shown.is_empty() {
-        out.push_str("\n")?;
-        put_picture(alloc, &mut out, diagnosis, room)?;
-    }
-    out.push_str("\n")?;
-    out.push_str(facts.as_str())?;
-    Ok(out)
-}
-
-/// The number of lines that a count has in a message.
-const COUNT_LINES: usize = 3;
-
-/// The number of lines that a verdict without a contradiction has.
-const LEAST_USED: usize = 2;
-
-/// The explanation of a refused recording.
-#[derive(Drop)]
-pub struct Explained {
-    /// A count for the refused key, if the verdict has no contradiction and a count was found.
-    pub count: Option<Count>,
-    /// The diagnosis as text.
-    pub text: String,
-}
-
-/// The number of calls after which reading stops if they are not linearizable. Only these first calls are then
-/// explained.
-const MOST_EXPLAINED: usize = 1_000_000;
-
-/// Describes a diagnosis in an explanation. `recorded` has the calls with their later ends.
-fn described(
-    alloc: Global,
-    recorded: &Recorded,
-    diagnosis: &Diagnosis,
-    used: usize,
-) -> Result<Explained, AllocError> {
-    let count = if used <= LEAST_USED {
-        count_in(alloc, recorded, diagnosis)?
-    } else {
-        None
-    };
-    let lines = if count.is_some() { COUNT_LINES } else { 0 };
-    let text = diagnosis_text(alloc, diagnosis, used.saturating_add(lines))?;
-    Ok(Explained { count, text })
-}
-
-/// Explains why the first calls of a longer recording are not linearizable; `None` if they are.
-fn explain_first(
-    alloc: Global,
-    reader: &RunReader,
-    used: usize,
-) -> Result<Option<Explained>, AllocError> {
-    let Some(part) = reader.first_calls(MOST_EXPLAINED)? else {
-        return Ok(None);
-    };
-    let Some(mut diagnosis) = diagnose(alloc, &part)? else {
-        return Ok(None);
-    };
-    diagnosis.complete(&reader.recorded().calls);
-    Ok(Some(described(alloc, reader.recorded(), &diagnosis, used)?))
-}
-
-/// Reads a recording and explains why no order explains it. The verdict above the explanation has `used` lines: two if
-/// it has no contradiction. If the first `MOST_EXPLAINED` calls are not linearizable, explains only these and does not
-/// read the other lines. Returns `None` if a read fails, if the text is not a recording, or if some order explains it.
-/// Allocates. Blocks while reading.
-pub fn explain<R: Read>(
-    alloc: Global,
-    input: &mut R,
-    used: usize,
-) -> Result<Option<Explained>, AllocError> {
-    let mut reader = RunReader::new(alloc);
-    match reader.read_calls(input, MOST_EXPLAINED)? {
-        None => return Ok(None),
-        Some(true) => {}
-        Some(false) => {
-            let first = explain_first(alloc, &reader, used)?;
-            if first.is_some() || reader.read_calls(input, usize::MAX)?.is_none() {
-                return Ok(first);
-            }
-        }
-    }
-    let Some(recorded) = reader.finish() else {
-        return Ok(None);
-    };
-    match diagnose(alloc, &recorded)? {
-        None => Ok(None),
-        Some(diagnosis) => Ok(Some(described(alloc, &recorded, &diagnosis, used)?)),
-    }
 }

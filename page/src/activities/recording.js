@@ -41,7 +41,7 @@ function keysInWords(text, { kind }) {
 async function withDiagnosis(verdict, text) {
   const why = verdict.kind === "none" ? diagnosisIn((await askLong("listset_why_record", text, false)).text) : null;
   if (why === null) return verdict;
-  const inWords = (mark) => (mark === "either" ? "one of the two is wrong" : mark.replace("leaves", "leaves the key"));
+  const inWords = (mark) => (mark === "either" ? "one of the two is wrong" : mark.replace(/^(leaves|finds) /, "$1 the key "));
   const marked = why.calls.filter(({ mark }) => mark !== "").map((call) => `${recordedInWords(call)}: ${inWords(call.mark)}`);
   const likely = why.likely === null ? [] : [`Likely: ${why.likely}.`, `Because ${why.because}.`];
   const also = why.also.length === 0 ? [] : [`At the same time: ${why.also.map(recordedInWords).join("; ")}.`];

@@ -2,7 +2,7 @@
 import { callOfRecording } from "../engine/answers.js";
 
 /**
- * A call of the key that shows the bug has a mark: the answer that was expected, the state that it leaves, or that either was allowed.
+ * A call of the key that shows the bug has a mark: the answer that was expected, the state that it leaves or finds, or that either was allowed.
  * @typedef {ReturnType<typeof callOfRecording> & { mark: string }} CallOfBug
  * @typedef {{ headline: string, calls: CallOfBug[], also: CallOfBug[], facts: string[], likely: string | null, because: string | null }} Diagnosis
  */

@@ -1,8 +1,7 @@
 //! Writes a recording of one key: all of its calls or, if they are not linearizable, a few that show it.
 
-use crate::as_record::put_call;
 use crate::key_order::{failing_moment, has_order};
-use crate::made_calls::{Made, NEVER};
+use crate::made_calls::{Made, NEVER, put_call};
 use crate::run_reader::Recorded;
 use lset_words::Presence;
 use std::alloc::{AllocError, Global};

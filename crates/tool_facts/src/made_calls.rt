@@ -1,6 +1,7 @@
 use lset_judge::StreamCall;
 use lset_text::call_word;
 use lset_words::{Call, Key, Presence, Reply};
+use std::alloc::AllocError;
 
 /// The end of a pending call, or of a call whose reply is unknown.
 pub const NEVER: u64 = u64::MAX;
@@ -23,8 +24,8 @@ impl Operation {
         }
     }
 
-    /// Returns the operation that brings a key into this state.
-    pub(crate) fn that_makes(state: Presence) -> Operation {
+    /// Returns the operation that changes a key to a state.
+    pub fn that_makes(state: Presence) -> Operation {
         match state {
             Presence::Present => Operation::Add,
             Presence::Absent => Operation::Remove,
@@ -32,8 +33,8 @@ impl Operation {
     }
 }
 
-/// Returns the opposite state.
-pub(crate) fn other(state: Presence) -> Presence {
+/// Returns the other state of a key.
+pub fn other(state: Presence) -> Presence {
     match state {
         Presence::Present => Presence::Absent,
         Presence::Absent => Presence::Present,
@@ -54,8 +55,8 @@ pub struct Made {
 }
 
 impl Made {
-    /// Converts a call from the judge's stream.
-    pub(crate) fn of(call: StreamCall) -> Made {
+    /// Returns a call of the judge's stream as a `Made`.
+    pub fn of(call: StreamCall) -> Made {
         let operation = match call.call {
             Call::Add(_) => Operation::Add,
             Call::Remove(_) => Operation::Remove,
@@ -75,8 +76,8 @@ impl Made {
         }
     }
 
-    /// Converts the call for the judge's stream.
-    pub(crate) fn to_stream(self) -> StreamCall {
+    /// Returns the call for the judge's stream.
+    pub fn to_stream(self) -> StreamCall {
         let key = Key(self.key);
         let call = match self.operation {
             Operation::Add => Call::Add(key),
@@ -96,8 +97,8 @@ impl Made {
         }
     }
 
-    /// Returns the state that the key must have just before the call takes effect; `None` if the reply is unknown.
-    pub(crate) fn needs(self) -> Option<Presence> {
+    /// Returns the state that the key needs to have just before the call takes effect. `None` if the reply is not known.
+    pub fn needs(self) -> Option<Presence> {
         let yes = self.reply?;
         let is_present = match self.operation {
             Operation::Contains | Operation::Remove => yes,
@@ -110,13 +111,13 @@ impl Made {
         })
     }
 
-    /// Returns `true` if the call changed its key, or may have done so.
-    pub(crate) fn changes(self) -> bool {
+    /// Returns whether the call changed its key, or can have changed it.
+    pub fn changes(self) -> bool {
         self.operation != Operation::Contains && self.reply != Some(false)
     }
 
-    /// Returns the state into which the call brought its key, or may have brought it.
-    pub(crate) fn makes(self) -> Option<Presence> {
+    /// Returns the state to which the call changed its key, or can have changed it.
+    pub fn makes(self) -> Option<Presence> {
         if !self.changes() {
             return None;
         }
@@ -127,19 +128,19 @@ impl Made {
         }
     }
 
-    /// Returns the state in which a completed call leaves its key; `None` if the reply is unknown.
-    pub(crate) fn leaves(self) -> Option<Presence> {
+    /// Returns the state in which a completed call leaves its key. `None` if the reply is not known.
+    pub fn leaves(self) -> Option<Presence> {
         let needs = self.needs()?;
         Some(self.makes().unwrap_or(needs))
     }
 
-    /// Returns `true` if the call ended without changing its key.
-    pub(crate) fn reads(self) -> bool {
+    /// Returns whether the call ended without a change of its key.
+    pub fn reads(self) -> bool {
         self.reply.is_some() && !self.changes()
     }
 
-    /// Returns the call with the opposite reply.
-    pub(crate) fn turned(self) -> Made {
+    /// Returns the call with the other reply.
+    pub fn turned(self) -> Made {
         Made {
             reply: self.reply.map(|yes| !yes),
             ..self
@@ -147,7 +148,7 @@ impl Made {
     }
 
     /// Returns the call as it was at a moment: pending if it ended later.
-    pub(crate) fn cut_at(self, moment: u64) -> Made {
+    pub fn cut_at(self, moment: u64) -> Made {
         if self.ended <= moment {
             return self;
         }
@@ -158,8 +159,34 @@ impl Made {
         }
     }
 
-    /// Returns `true` if the call overlaps the time from `since` to `until`.
-    pub(crate) fn overlaps(self, since: u64, until: u64) -> bool {
+    /// Returns whether the call overlaps the time from `since` to `until`.
+    pub fn overlaps(self, since: u64, until: u64) -> bool {
         self.begun <= until && self.ended >= since
     }
+}
+
+/// Writes the thread, operation, key, begin, end and reply of a call, with `-` for an end and a reply that are not known.
+pub fn put_call(out: &mut String, call: Made) -> Result<(), AllocError> {
+    let (thread, word, key, begun) = (call.thread, call.operation.word(), call.key, call.begun);
+    write!(out, "{thread} {word} {key} {begun} ")?;
+    match call.reply {
+        Some(yes) if call.ended < NEVER => {
+            let ended = call.ended;
+            write!(out, "{ended} {yes}")
+        }
+        _ => out.push_str("- -"),
+    }
+}
+
+/// Returns the word of a state in messages.
+pub fn state_word(state: Presence) -> &'static str {
+    match state {
+        Presence::Present => "present",
+        Presence::Absent => "absent",
+    }
+}
+
+/// Removes the calls that had ended by a moment.
+pub fn drop_ended(calls: &mut Vec<Made>, moment: u64) {
+    calls.retain(|call| call.ended > moment);
 }

@@ -29,18 +29,18 @@ pub enum Symptom {
 
 /// A contradiction with its symptom.
 #[derive(Clone, Copy)]
-pub(crate) struct Place {
-    pub(crate) key: u32,
-    pub(crate) clash: Clash,
-    pub(crate) symptom: Symptom,
-    /// The call with the only wrong reply.
-    pub(crate) wrong: Option<Made>,
-    /// An add or remove that returned false. If it had returned true, the surrounding calls would be linearizable.
-    pub(crate) silent: Option<Made>,
-    /// Whether the surrounding calls are linearizable with the opposite reply of one call.
-    pub(crate) is_turned: bool,
-    /// How many calls of the key had begun by the end of the contradiction.
-    pub(crate) begun: usize,
+pub struct Place {
+    pub key: u32,
+    pub clash: Clash,
+    pub symptom: Symptom,
+    /// The call with the one wrong reply.
+    pub wrong: Option<Made>,
+    /// An add or remove that returned false: with the other reply the calls around have an order.
+    pub silent: Option<Made>,
+    /// Whether the calls around have an order with the other reply of one call.
+    pub is_turned: bool,
+    /// The number of calls of the key that begin by the end of the clash.
+    pub begun: usize,
 }
 
 /// Returns the only element; `None` if there are none or several.
@@ -67,8 +67,8 @@ fn only_turned(
     Ok(only(&found))
 }
 
-/// Returns the symptom of a call with the only wrong reply.
-pub(crate) fn symptom_of_reply(call: Made) -> Symptom {
+/// Returns the symptom of a call with the one wrong reply.
+pub fn symptom_of_reply(call: Made) -> Symptom {
     match call.needs() {
         Some(Presence::Present) => Symptom::Found(call.operation),
         _ => Symptom::Missed(call.operation),
@@ -93,8 +93,8 @@ fn both_true(clash: &Clash) -> Option<Operation> {
     }
 }
 
-/// Determines the symptom of a contradiction. Allocates.
-pub(crate) fn place_of(
+/// Returns the place of a clash, with its symptom. Allocates.
+pub fn place_of(
     alloc: Global,
     key: &KeyCalls,
     stretches: &[Stretch],
@@ -132,9 +132,8 @@ pub(crate) fn place_of(
     Ok(place)
 }
 
-/// Returns the contradictions of a key with their symptoms, without those that overlap others, ordered by time.
-/// Allocates.
-pub(crate) fn places_of(alloc: Global, key: &KeyCalls) -> Result<Vec<Place>, AllocError> {
+/// Returns the places of a key that do not overlap one another in time, in the order of time. Allocates.
+pub fn places_of(alloc: Global, key: &KeyCalls) -> Result<Vec<Place>, AllocError> {
     let stretches = stretches_of(alloc, key)?;
     let clashes = clashes_of(alloc, key, &stretches)?;
     let mut places = Vec::new(alloc);
@@ -145,27 +144,15 @@ pub(crate) fn places_of(alloc: Global, key: &KeyCalls) -> Result<Vec<Place>, All
 }
 
 impl Place {
-    /// Returns `true` if the key was lost or came back.
-    pub(crate) fn is_gone(&self) -> bool {
+    /// Returns whether the key was lost or came back.
+    pub fn is_gone(&self) -> bool {
         matches!(self.symptom, Symptom::Lost | Symptom::CameBack)
     }
 
-    /// Returns the duration of the contradiction. A less clear one counts as longer.
-    pub(crate) fn length(&self) -> u64 {
+    /// Returns the length of the place in time. A place that is less clear counts as longer.
+    pub fn length(&self) -> u64 {
         let length = self.clash.until.saturating_sub(self.clash.begun());
         let is_long = self.clash.stretch.is_some() || self.clash.second.is_none();
         length.saturating_add(if is_long { 1_000_000_000 } else { 0 })
     }
-}
-
-/// Returns the shortest contradiction with this symptom.
-pub(crate) fn shortest(places: &[Place], symptom: Symptom) -> Option<Place> {
-    let mut best: Option<Place> = None;
-    for place in places {
-        let is_shorter = best.is_none_or(|best| place.length() < best.length());
-        if place.symptom == symptom && is_shorter {
-            best = Some(*place);
-        }
-    }
-    best
 }

@@ -7,39 +7,39 @@ use std::alloc::{AllocError, Global};
 
 /// Calls that end later.
 #[derive(Drop)]
-pub(crate) struct Pending {
+pub struct Pending {
     calls: Vec<Made>,
 }
 
 impl Pending {
     /// Returns an empty list.
-    pub(crate) fn new(alloc: Global) -> Pending {
+    pub fn new(alloc: Global) -> Pending {
         Pending {
             calls: Vec::new(alloc),
         }
     }
 
     /// Returns a copy. Allocates.
-    pub(crate) fn copied(&self, alloc: Global) -> Result<Pending, AllocError> {
+    pub fn copied(&self, alloc: Global) -> Result<Pending, AllocError> {
         Ok(Pending {
             calls: Vec::from_slice(alloc, &self.calls)?,
         })
     }
 
-    /// Adds a call if it has an end.
-    pub(crate) fn push(&mut self, call: Made) -> Result<(), AllocError> {
+    /// Adds a call if it is completed later.
+    pub fn push(&mut self, call: Made) -> Result<(), AllocError> {
         if call.reply.is_some() {
             self.calls.push(call)?;
         }
         Ok(())
     }
 
-    pub(crate) fn len(&self) -> usize {
+    pub fn len(&self) -> usize {
         self.calls.len()
     }
 
-    /// Removes and returns the call with the earliest end, if that is before a moment.
-    pub(crate) fn next_before(&mut self, at: u64) -> Option<Made> {
+    /// Removes and returns the call that ends first, if it ends before a moment.
+    pub fn next_before(&mut self, at: u64) -> Option<Made> {
         let mut least: Option<usize> = None;
         let mut end = at;
         for (i, call) in self.calls.iter().enumerate() {
@@ -60,7 +60,7 @@ impl Pending {
 /// What the rule knows of a key: its state, the moment of its last change, and the ends of the pending changes that
 /// have not taken effect.
 #[derive(Drop)]
-pub(crate) struct KeyState {
+pub struct KeyState {
     state: Presence,
     turned: u64,
     adds: Vec<u64>,
@@ -90,8 +90,8 @@ fn are_alike(some: &[u64], others: &[u64]) -> bool {
 }
 
 impl KeyState {
-    /// Creates the state of a key with no pending changes.
-    pub(crate) fn new(alloc: Global, state: Presence) -> KeyState {
+    /// Returns the state of a key with no pending changes.
+    pub fn new(alloc: Global, state: Presence) -> KeyState {
         KeyState {
             state,
             turned: 0,
@@ -101,7 +101,7 @@ impl KeyState {
     }
 
     /// Returns a copy. Allocates.
-    pub(crate) fn copied(&self, alloc: Global) -> Result<KeyState, AllocError> {
+    pub fn copied(&self, alloc: Global) -> Result<KeyState, AllocError> {
         Ok(KeyState {
             state: self.state,
             turned: self.turned,
@@ -110,8 +110,8 @@ impl KeyState {
         })
     }
 
-    /// Returns `true` if every continuation that is accepted after the state `than` is also accepted after this one.
-    pub(crate) fn is_like(&self, than: &KeyState) -> bool {
+    /// Returns whether every continuation that is accepted from state `than` is accepted from this state.
+    pub fn is_like(&self, than: &KeyState) -> bool {
         self.state == than.state
             && self.turned >= than.turned
             && are_alike(&self.adds, &than.adds)
@@ -126,8 +126,8 @@ impl KeyState {
         }
     }
 
-    /// Applies the pending change with the nearest end that can change the state. Returns `true` if there was one.
-    pub(crate) fn flip(&mut self, at: u64) -> bool {
+    /// Applies the pending change with the nearest end that can change the state. Returns whether there was one.
+    pub fn flip(&mut self, at: u64) -> bool {
         if !self.take_next() {
             return false;
         }
@@ -136,8 +136,8 @@ impl KeyState {
         true
     }
 
-    /// Returns `true` if the reply of the ending call agrees with the state.
-    pub(crate) fn satisfies(&self, call: Made) -> bool {
+    /// Returns whether the call that ends has its reply explained.
+    pub fn satisfies(&self, call: Made) -> bool {
         match call.makes() {
             Some(Presence::Present) => !self.adds.contains(&call.ended),
             Some(Presence::Absent) => !self.removes.contains(&call.ended),
@@ -148,9 +148,8 @@ impl KeyState {
         }
     }
 
-    /// Applies pending changes until the reply of the ending call agrees with the state. Returns `true` if that is
-    /// possible.
-    pub(crate) fn settle(&mut self, call: Made) -> bool {
+    /// Applies pending changes until the call that ends has its reply explained. Returns whether that is possible.
+    pub fn settle(&mut self, call: Made) -> bool {
         let most = self.adds.len().saturating_add(self.removes.len());
         for _ in 0..most {
             if self.satisfies(call) {
@@ -164,7 +163,7 @@ impl KeyState {
     }
 
     /// Records the begin of a call.
-    pub(crate) fn begin(&mut self, call: Made) -> Result<(), AllocError> {
+    pub fn begin(&mut self, call: Made) -> Result<(), AllocError> {
         match call.makes() {
             Some(Presence::Present) => self.adds.push(call.ended)?,
             Some(Presence::Absent) => self.removes.push(call.ended)?,
@@ -173,8 +172,8 @@ impl KeyState {
         Ok(())
     }
 
-    /// Processes all ends before a moment. Returns the first end up to which the calls are not linearizable.
-    pub(crate) fn end_before(&mut self, pending: &mut Pending, at: u64) -> Option<u64> {
+    /// Processes the ends before a moment. Returns the first end by which no order explains the calls.
+    pub fn end_before(&mut self, pending: &mut Pending, at: u64) -> Option<u64> {
         for _ in 0..pending.len() {
             let call = pending.next_before(at)?;
             if !self.settle(call) {
@@ -184,8 +183,8 @@ impl KeyState {
         None
     }
 
-    /// Returns `true` if `left` is a possible final state of the key.
-    pub(crate) fn may_be_left(&self, left: Option<Presence>) -> bool {
+    /// Returns whether `left` can be the final state of the key.
+    pub fn may_be_left(&self, left: Option<Presence>) -> bool {
         let turns = match self.state {
             Presence::Present => !self.removes.is_empty(),
             Presence::Absent => !self.adds.is_empty(),
@@ -194,10 +193,9 @@ impl KeyState {
     }
 }
 
-/// Returns the first moment up to which a key's calls, in the order in which they began, are not linearizable. Returns
-/// `NEVER` if the calls are linearizable but no order leaves the final state, and `None` if nothing is wrong.
-/// Allocates.
-pub(crate) fn failing_moment(
+/// Returns the first moment by which no order explains the calls of a key, given in the order of their begins, from an opening state. `NEVER`
+/// if orders explain the calls, and none leaves the final state. `None` if an order explains the calls and leaves it. Allocates.
+pub fn failing_moment(
     alloc: Global,
     calls: &[Made],
     opening: Presence,
@@ -222,9 +220,8 @@ pub(crate) fn failing_moment(
     })
 }
 
-/// Returns `true` if some order explains a key's calls from an opening state and leaves the final state, if one is
-/// given. Allocates.
-pub(crate) fn has_order(
+/// Returns whether some order explains the calls of a key from an opening state, and leaves the final state if one is given. Allocates.
+pub fn has_order(
     alloc: Global,
     calls: &[Made],
     opening: Presence,

@@ -8,13 +8,13 @@ use lset_judge::{Judge, StreamFault, Verdict};
 use lset_words::{Presence, increases};
 use std::alloc::{AllocError, Global};
 
-/// Returns `true` if a call is an answer of this operation, that is, changes nothing.
-pub(crate) fn is_answer(call: Made, operation: Operation) -> bool {
+/// Returns whether a call is an answer of an operation: it changes nothing.
+pub fn is_answer(call: Made, operation: Operation) -> bool {
     call.operation == operation && call.reads()
 }
 
-/// Returns a key's calls without the answers of an operation.
-pub(crate) fn without(
+/// Returns the calls of a key without the answers of an operation.
+pub fn without(
     alloc: Global,
     calls: &[Made],
     operation: Operation,
@@ -28,8 +28,8 @@ pub(crate) fn without(
     Ok(others)
 }
 
-/// Returns `true` if a key's calls are linearizable without the answers of an operation. Allocates.
-pub(crate) fn is_explained_without(
+/// Returns whether the calls of a key have an order without the answers of an operation. Allocates.
+pub fn is_explained_without(
     alloc: Global,
     calls: &[Made],
     operation: Operation,
@@ -40,9 +40,8 @@ pub(crate) fn is_explained_without(
     has_order(alloc, &others, opening, left)
 }
 
-/// Returns `true` if the judge accepts all calls without the answers of an operation (with any final keys, if
-/// `is_cut`). Allocates.
-pub(crate) fn is_judged_without(
+/// Returns whether the judge accepts all calls without the answers of an operation, with any final keys if `is_cut`. Allocates.
+pub fn is_judged_without(
     alloc: Global,
     recorded: &Recorded,
     operation: Operation,
@@ -75,11 +74,11 @@ const MOST_STEPS: u64 = 50_000_000;
 
 /// The wrong answers of an operation: adding any one of them to the other calls makes them not linearizable.
 #[derive(Drop)]
-pub(crate) struct WrongAnswers {
-    pub(crate) wrong: Vec<Made>,
+pub struct WrongAnswers {
+    pub wrong: Vec<Made>,
     steps: u64,
-    /// Whether all answers were decided, and the calls without the wrong ones are linearizable.
-    pub(crate) is_exact: bool,
+    /// Whether all answers were decided, and the calls without the wrong answers have an order.
+    pub is_exact: bool,
 }
 
 /// The state of a pass over a key's calls.
@@ -186,8 +185,8 @@ fn is_rest_explained(
 }
 
 impl WrongAnswers {
-    /// Creates an empty collection.
-    pub(crate) fn new(alloc: Global) -> WrongAnswers {
+    /// Returns no wrong answers.
+    pub fn new(alloc: Global) -> WrongAnswers {
         WrongAnswers {
             wrong: Vec::new(alloc),
             steps: MOST_STEPS,
@@ -195,8 +194,8 @@ impl WrongAnswers {
         }
     }
 
-    /// Adds the wrong answers for a key whose other calls are linearizable. Allocates.
-    pub(crate) fn add_of_key(
+    /// Adds the wrong answers of a key whose other calls have an order. Allocates.
+    pub fn add_of_key(
         &mut self,
         alloc: Global,
         calls: &[Made],

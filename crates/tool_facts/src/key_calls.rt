@@ -1,4 +1,4 @@
-use crate::made_calls::{Made, NEVER, Operation};
+use crate::made_calls::{Made, Operation};
 use lset_words::Presence;
 use std::alloc::{AllocError, Global};
 
@@ -74,11 +74,11 @@ impl Proofs {
 
 /// The calls of a key, with its opening state and, if known, its final state.
 #[derive(Drop)]
-pub(crate) struct KeyCalls {
-    pub(crate) key: u32,
-    pub(crate) calls: Vec<Made>,
-    pub(crate) opening: Presence,
-    pub(crate) left: Option<Presence>,
+pub struct KeyCalls {
+    pub key: u32,
+    pub calls: Vec<Made>,
+    pub opening: Presence,
+    pub left: Option<Presence>,
     puts: Makers,
     takes: Makers,
     present: Proofs,
@@ -86,8 +86,8 @@ pub(crate) struct KeyCalls {
 }
 
 impl KeyCalls {
-    /// Indexes the calls of a key for searches. The calls must be in the order in which they began. Allocates.
-    pub(crate) fn new(
+    /// Returns the calls of a key, given in the order of their begins, indexed for searches. Allocates.
+    pub fn new(
         alloc: Global,
         key: u32,
         calls: Vec<Made>,
@@ -110,36 +110,35 @@ impl KeyCalls {
         })
     }
 
-    /// Returns `true` if a call that changed the key to this state, or can have done so, overlaps the time from `since`
-    /// to `until`.
-    pub(crate) fn may_become(&self, state: Presence, since: u64, until: u64) -> bool {
+    /// Returns whether a call that changed the key to a state, or can have done so, overlaps the time from `since` to `until`.
+    pub fn may_become(&self, state: Presence, since: u64, until: u64) -> bool {
         match state {
             Presence::Present => self.puts.overlap(since, until),
             Presence::Absent => self.takes.overlap(since, until),
         }
     }
 
-    /// Returns the last call to begin among those that had ended before a moment and left the key in this state.
-    pub(crate) fn proof_before(&self, state: Presence, moment: u64) -> Option<Made> {
+    /// Returns the call that began last among those that had ended before a moment and left the key in a state.
+    pub fn proof_before(&self, state: Presence, moment: u64) -> Option<Made> {
         match state {
             Presence::Present => self.present.before(moment),
             Presence::Absent => self.absent.before(moment),
         }
     }
 
-    /// Returns how many calls had begun by a moment.
-    pub(crate) fn begun_by(&self, moment: u64) -> usize {
+    /// Returns the number of calls that began by a moment.
+    pub fn begun_by(&self, moment: u64) -> usize {
         self.calls.partition_point(|call| call.begun <= moment)
     }
 
     /// Returns the calls that began after a moment.
-    pub(crate) fn after(&self, moment: u64) -> &[Made] {
+    pub fn after(&self, moment: u64) -> &[Made] {
         self.calls.get(self.begun_by(moment)..).unwrap_or(&[])
     }
 
-    /// Returns the calls of an operation that returned false and overlap the time from `since` to `until`. Of the calls
-    /// that began before `since`, considers only the last `MOST_OLDER`.
-    pub(crate) fn refusals(
+    /// Returns the calls of an operation that returned false and overlap the time from `since` to `until`. Looks at the `MOST_OLDER` calls
+    /// that began last before `since`.
+    pub fn refusals(
         &self,
         alloc: Global,
         operation: Operation,
@@ -158,18 +157,12 @@ impl KeyCalls {
         Ok(found)
     }
 
-    /// Returns the last completed change of the key to this state that had begun by a moment.
-    pub(crate) fn change_before(&self, state: Presence, moment: u64) -> Option<Made> {
+    /// Returns the completed change of the key to a state that began last by a moment.
+    pub fn change_before(&self, state: Presence, moment: u64) -> Option<Made> {
         let end = self.begun_by(moment);
         let earlier = self.calls.get(..end).unwrap_or(&[]);
         let changed = |call: &&Made| call.makes() == Some(state) && call.reply.is_some();
         earlier.iter().rev().find(changed).copied()
-    }
-
-    /// Returns the moment at which the next change begins; `NEVER` if there is none.
-    pub(crate) fn next_change(&self, moment: u64) -> u64 {
-        let change = self.after(moment).iter().find(|call| call.changes());
-        change.map_or(NEVER, |call| call.begun)
     }
 }
 

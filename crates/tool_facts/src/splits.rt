@@ -1,5 +1,5 @@
 use crate::key_calls::KeyCalls;
-use crate::made_calls::{Made, NEVER, Operation};
+use crate::made_calls::{Made, NEVER, Operation, drop_ended};
 use lset_words::Presence;
 use std::alloc::{AllocError, Global};
 
@@ -101,8 +101,8 @@ impl Split {
     }
 }
 
-/// Returns the split of a key with the most answers. Allocates.
-pub(crate) fn longest_split(alloc: Global, key: &KeyCalls) -> Result<Option<Split>, AllocError> {
+/// Returns the longest split of a key, by the number of its answers. Allocates.
+pub fn longest_split(alloc: Global, key: &KeyCalls) -> Result<Option<Split>, AllocError> {
     let mut best: Option<Split> = None;
     let mut split = Split::since(key.key, 0);
     let mut quiet = 0;
@@ -114,7 +114,7 @@ pub(crate) fn longest_split(alloc: Global, key: &KeyCalls) -> Result<Option<Spli
                 split.count(*earlier);
             }
         }
-        running.retain(|earlier| earlier.ended > call.begun);
+        drop_ended(&mut running, call.begun);
         if call.changes() {
             split.until = call.begun;
             best = larger(best, split);

@@ -1,6 +1,7 @@
 use crate::crossings::Crossings;
 use crate::fullness::Fullness;
-use crate::made_calls::{Made, Operation};
+use crate::key_calls::KeyCalls;
+use crate::made_calls::{Made, Operation, other};
 use crate::neighbours::Neighbours;
 use crate::symptoms::{Place, Symptom};
 use lset_words::Presence;
@@ -51,7 +52,11 @@ pub struct Tally {
     pub usually_full: u64,
     /// The percentage of other periods of the same length in which a change of another key ran.
     pub usual: u64,
-    /// How many contradictions, of all kinds, have no two overlapping calls.
+    /// Of `lost` and `came_back` that a call shows: the change before is known.
+    pub made: u64,
+    /// Of `made`: a change of another key that can have read the set before the change, and written it afterwards, overlapped the change.
+    pub fits: u64,
+    /// At how many of all contradictions no two calls of the run overlapped.
     pub apart: u64,
     /// The number of keys with contradictions.
     pub keys: u64,
@@ -100,7 +105,7 @@ impl Tally {
     }
 
     /// Counts a contradiction.
-    pub(crate) fn add(&mut self, place: &Place) {
+    pub fn add(&mut self, place: &Place) {
         more(&mut self.places);
         self.add_kind(place);
         self.begun = self
@@ -121,7 +126,26 @@ impl Tally {
         }
     }
 
-    /// Counts a loss during which these changes of other keys ran.
+    /// Counts a change that was undone, and whether a change of another key can have written back what it read before. `key` has the calls
+    /// of the key.
+    pub fn add_change(&mut self, key: &KeyCalls, place: &Place, neighbours: &Neighbours) {
+        let Some(second) = place.clash.second else {
+            return;
+        };
+        let was = place.clash.was;
+        let change = key.change_before(was, second.begun);
+        let Some(change) = change.filter(|_| place.is_gone()) else {
+            return;
+        };
+        let before = key.change_before(other(was), change.begun);
+        let since = before.map_or(0, |before| before.begun);
+        more(&mut self.made);
+        if neighbours.has_since(change, since) {
+            more(&mut self.fits);
+        }
+    }
+
+    /// Counts a loss at whose time these changes of other keys ran.
     fn add_beside(&mut self, changes: &[Made]) {
         if changes.is_empty() || changes.len() > MOST_BESIDE {
             return;
@@ -188,9 +212,9 @@ impl Tally {
         }
     }
 
-    /// Counts what else ran during each contradiction. `calls` are all calls of the recording. `losses` are all
-    /// contradictions in which a key was lost, ordered by time.
-    pub(crate) fn add_times(
+    /// Counts what ran at the times of contradictions. `calls` are all calls of the recording, and `losses` all
+    /// contradictions in which a key was lost, in the order of time.
+    pub fn add_times(
         &mut self,
         alloc: Global,
         places: &[Place],
@@ -212,9 +236,9 @@ impl Tally {
 }
 
 impl Tally {
-    /// Compares the number of keys present at losses with the number at other moments. `calls` are all calls of the
-    /// recording. `losses` are the contradictions in which a key was lost within a short time.
-    pub(crate) fn add_fullness(&mut self, calls: &[Made], losses: &[Place], full: &Fullness) {
+    /// Compares the number of keys that are present at losses with the number at other moments. `calls` are all calls of the recording, and
+    /// `losses` contradictions in which a key was lost within a short time.
+    pub fn add_fullness(&mut self, calls: &[Made], losses: &[Place], full: &Fullness) {
         let mut least = u64::MAX;
         for loss in losses {
             more(&mut self.short);

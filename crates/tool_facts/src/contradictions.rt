@@ -4,36 +4,36 @@
 //! whatever other calls did.
 
 use crate::key_calls::KeyCalls;
-use crate::made_calls::{Made, NEVER, other};
+use crate::made_calls::{Made, NEVER, drop_ended, other};
 use crate::stretches::{Stretch, stretch_before};
 use lset_words::Presence;
 use std::alloc::{AllocError, Global};
 
 /// A contradiction between calls of one key.
 #[derive(Clone, Copy)]
-pub(crate) struct Clash {
-    /// The call that leaves the key in the state `was`. `None` if `stretch` does, or if `was` is the opening state.
-    pub(crate) first: Option<Made>,
-    /// The call that needs the other state. `None` if that is the final state.
-    pub(crate) second: Option<Made>,
-    /// Overlapping changes that leave the key in the state `was`, which follows from their number.
-    pub(crate) stretch: Option<Stretch>,
-    pub(crate) was: Presence,
-    pub(crate) since: u64,
-    pub(crate) until: u64,
+pub struct Clash {
+    /// The call that leaves the key in the state `was`. `None` if `stretch` leaves it so, or if `was` is the opening state.
+    pub first: Option<Made>,
+    /// The call that needs the other state. `None` if the other state is the final state.
+    pub second: Option<Made>,
+    /// Changes that overlap one another, and leave the key in the state `was` by their number.
+    pub stretch: Option<Stretch>,
+    pub was: Presence,
+    pub since: u64,
+    pub until: u64,
 }
 
 impl Clash {
-    /// Returns `true` if the two calls overlap.
-    pub(crate) fn overlaps(&self) -> bool {
+    /// Returns whether the two calls overlap.
+    pub fn overlaps(&self) -> bool {
         match (self.first, self.second) {
             (Some(first), Some(second)) => second.begun < first.ended,
             _ => false,
         }
     }
 
-    /// Returns the moment at which the first call of the contradiction began.
-    pub(crate) fn begun(&self) -> u64 {
+    /// Returns the begin of the first call of the clash.
+    pub fn begun(&self) -> u64 {
         match (self.stretch, self.first, self.second) {
             (Some(stretch), _, _) => stretch.read.map_or(stretch.begun, |read| read.begun),
             (None, Some(first), _) => first.begun,
@@ -83,8 +83,8 @@ fn clash_before(key: &KeyCalls, stretches: &[Stretch], need: Need) -> Option<Cla
     None
 }
 
-/// Finds earlier calls that had ended before `call` began and contradict it.
-pub(crate) fn clash_of(key: &KeyCalls, stretches: &[Stretch], call: Made) -> Option<Clash> {
+/// Returns the clash of a call with calls that had ended before it began.
+pub fn clash_of(key: &KeyCalls, stretches: &[Stretch], call: Made) -> Option<Clash> {
     let need = Need {
         second: Some(call),
         state: call.needs()?,
@@ -165,8 +165,8 @@ impl Apart {
     }
 }
 
-/// Returns the contradictions of a key, without those that overlap others, ordered by time. Allocates.
-pub(crate) fn clashes_of(
+/// Returns clashes of a key that do not overlap one another in time, in the order of time. Allocates.
+pub fn clashes_of(
     alloc: Global,
     key: &KeyCalls,
     stretches: &[Stretch],
@@ -180,7 +180,7 @@ pub(crate) fn clashes_of(
         if call.reply.is_none() {
             continue;
         }
-        running.retain(|earlier| earlier.ended > call.begun);
+        drop_ended(&mut running, call.begun);
         for earlier in &running {
             if let Some(clash) = clash_at_once(key, *earlier, call) {
                 apart.keep(clash)?;

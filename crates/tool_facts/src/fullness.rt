@@ -5,7 +5,7 @@ use std::alloc::{AllocError, Global};
 
 /// How many keys are known to be present at each moment, namely those that their last completed call left present.
 #[derive(Drop)]
-pub(crate) struct Fullness {
+pub struct Fullness {
     /// The moments at which the number changes, in increasing order.
     ends: Vec<u64>,
     counts: Vec<u64>,
@@ -25,8 +25,8 @@ fn by_ends(alloc: Global, calls: &[Made]) -> Result<Vec<Made>, AllocError> {
 }
 
 impl Fullness {
-    /// Computes the numbers for a recording. Allocates.
-    pub(crate) fn of(alloc: Global, runs: &Runs<'_>) -> Result<Fullness, AllocError> {
+    /// Returns the numbers of a recording. Allocates.
+    pub fn of(alloc: Global, runs: &Runs<'_>) -> Result<Fullness, AllocError> {
         let opening = &runs.recorded.opening;
         let mut present = Vec::from_elem(alloc, false, runs.places())?;
         for key in opening {
@@ -58,8 +58,8 @@ impl Fullness {
         Ok(full)
     }
 
-    /// Returns the number of keys that are known to be present just before a moment.
-    pub(crate) fn before(&self, moment: u64) -> u64 {
+    /// Returns the number of keys that are shown present just before a moment.
+    pub fn before(&self, moment: u64) -> u64 {
         let at = self.ends.partition_point(|end| *end < moment);
         self.counts
             .get(at.wrapping_sub(1))
@@ -67,9 +67,8 @@ impl Fullness {
             .unwrap_or(self.first)
     }
 
-    /// Returns the percentage of calls, in a sample, at whose begin between `least` and `most` keys are known to be
-    /// present.
-    pub(crate) fn share_between(&self, calls: &[Made], least: u64, most: u64) -> u64 {
+    /// Returns at how many of 100 begins of calls, in a sample, between `least` and `most` keys are shown present.
+    pub fn share_between(&self, calls: &[Made], least: u64, most: u64) -> u64 {
         let step = calls.len().checked_div(SAMPLED).unwrap_or(0);
         let (mut count, mut tried, mut next) = (0u64, 0u64, 0usize);
         for (index, call) in calls.iter().enumerate() {

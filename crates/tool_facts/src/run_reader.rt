@@ -7,23 +7,23 @@ use std::io::Read;
 /// A recording: the opening keys, the calls in the order in which they began, and the final keys.
 #[derive(Drop)]
 pub struct Recorded {
-    pub(crate) opening: Vec<u32>,
-    pub(crate) calls: Vec<Made>,
-    pub(crate) left: Vec<u32>,
-    /// Whether the recording was cut off, so that the final keys are unknown.
-    pub(crate) is_cut: bool,
+    pub opening: Vec<u32>,
+    pub calls: Vec<Made>,
+    pub left: Vec<u32>,
+    /// Whether the recording was cut off: then the final keys are not known.
+    pub is_cut: bool,
     /// Whether these are only the first calls of a longer recording.
-    pub(crate) is_part: bool,
+    pub is_part: bool,
 }
 
 impl Recorded {
     /// Returns the opening state of a key.
-    pub(crate) fn opens(&self, key: u32) -> Presence {
+    pub fn opens(&self, key: u32) -> Presence {
         presence_in(&self.opening, key)
     }
 
-    /// Returns a key's final state; `None` if it is unknown.
-    pub(crate) fn leaves(&self, key: u32) -> Option<Presence> {
+    /// Returns the final state of a key. `None` if it is not known.
+    pub fn leaves(&self, key: u32) -> Option<Presence> {
         if self.is_cut {
             None
         } else {
@@ -123,14 +123,14 @@ impl RunReader {
         }
     }
 
-    /// Returns everything read so far.
-    pub(crate) fn recorded(&self) -> &Recorded {
+    /// Returns all that was read until now.
+    pub fn recorded(&self) -> &Recorded {
         &self.recorded
     }
 
-    /// Reads to the end of the input, or until more than `most` calls are kept. Returns `true` if the input has ended,
-    /// and `None` if a read fails. Allocates. Blocks while reading.
-    pub(crate) fn read_calls<R: Read>(
+    /// Reads to the end of the input, or until more than `most` calls are kept. Returns whether the input has ended, and `None` if a read
+    /// fails. Allocates; blocks as the input does.
+    pub fn read_calls<R: Read>(
         &mut self,
         input: &mut R,
         most: usize,
@@ -151,9 +151,9 @@ impl RunReader {
         Ok(None)
     }
 
-    /// Returns the first `count` calls as a recording that was cut off just before the next call began. Returns `None`
-    /// if fewer calls were read or a line is wrong. Allocates.
-    pub(crate) fn first_calls(&self, count: usize) -> Result<Option<Recorded>, AllocError> {
+    /// Returns the first `count` calls as a recording that is cut off just before the next call begins. `None` if fewer calls were read, or
+    /// if a line is wrong. Allocates.
+    pub fn first_calls(&self, count: usize) -> Result<Option<Recorded>, AllocError> {
         let Some(next) = self.recorded.calls.get(count) else {
             return Ok(None);
         };

@@ -8,13 +8,13 @@ use std::alloc::{AllocError, Global};
 
 /// Overlapping changes of a key, from the first begin to the last end. No other change overlaps the stretch.
 #[derive(Clone, Copy)]
-pub(crate) struct Stretch {
-    pub(crate) begun: u64,
-    pub(crate) ended: u64,
-    /// The key's state after these changes in every order, if it follows from their number and from `read`.
-    pub(crate) leaves: Option<Presence>,
-    /// An earlier call that shows the key's state, if that is needed.
-    pub(crate) read: Option<Made>,
+pub struct Stretch {
+    pub begun: u64,
+    pub ended: u64,
+    /// The state of the key after the changes in every order, if it follows from their number and from `read`.
+    pub leaves: Option<Presence>,
+    /// A call before the changes that shows the state of the key, if it is needed.
+    pub read: Option<Made>,
 }
 
 /// How many changes of each kind a stretch has so far.
@@ -105,8 +105,8 @@ fn stretch_of(key: &KeyCalls, sum: Sum, last: Option<Stretch>) -> Stretch {
     }
 }
 
-/// Returns the stretches of a key ordered by time, up to the first pending change. Allocates.
-pub(crate) fn stretches_of(alloc: Global, key: &KeyCalls) -> Result<Vec<Stretch>, AllocError> {
+/// Returns the stretches of a key in the order of time, up to the first pending change. Allocates.
+pub fn stretches_of(alloc: Global, key: &KeyCalls) -> Result<Vec<Stretch>, AllocError> {
     let mut found: Vec<Stretch> = Vec::new(alloc);
     let mut sum: Option<Sum> = None;
     for call in &key.calls {
@@ -131,13 +131,13 @@ pub(crate) fn stretches_of(alloc: Global, key: &KeyCalls) -> Result<Vec<Stretch>
 }
 
 /// Returns the last stretch that had ended before a moment.
-pub(crate) fn stretch_before(stretches: &[Stretch], moment: u64) -> Option<Stretch> {
+pub fn stretch_before(stretches: &[Stretch], moment: u64) -> Option<Stretch> {
     let at = stretches.partition_point(|stretch| stretch.ended < moment);
     stretches.get(at.wrapping_sub(1)).copied()
 }
 
 /// Returns the last stretch that had ended before a moment and leaves a known state.
-pub(crate) fn sure_before(stretches: &[Stretch], moment: u64) -> Option<Stretch> {
+pub fn sure_before(stretches: &[Stretch], moment: u64) -> Option<Stretch> {
     let at = stretches.partition_point(|stretch| stretch.ended < moment);
     let earlier = stretches.get(..at).unwrap_or(&[]);
     let found = earlier

@@ -7,14 +7,14 @@ const MOST_BACK: usize = 100_000;
 /// The completed changes of all keys, in the order in which they began. Each has the latest end of all changes up to
 /// it.
 #[derive(Drop)]
-pub(crate) struct Neighbours {
+pub struct Neighbours {
     changes: Vec<Made>,
     latest: Vec<u64>,
 }
 
 impl Neighbours {
-    /// Indexes the completed changes among these calls. Allocates.
-    pub(crate) fn of(alloc: Global, calls: &[Made]) -> Result<Neighbours, AllocError> {
+    /// Returns the completed changes among calls in the order of their begins. Allocates.
+    pub fn of(alloc: Global, calls: &[Made]) -> Result<Neighbours, AllocError> {
         let mut changes = Vec::new(alloc);
         let mut latest = Vec::new(alloc);
         let mut last = 0;
@@ -28,9 +28,9 @@ impl Neighbours {
         Ok(Neighbours { changes, latest })
     }
 
-    /// Returns at most `most` completed changes of other keys that overlap the time from `since` to `until`, the latest
-    /// first. Allocates.
-    pub(crate) fn around(
+    /// Returns at most `most` completed changes of other keys that overlap the time from `since` to `until`, the last to begin first.
+    /// Allocates.
+    pub fn around(
         &self,
         alloc: Global,
         key: u32,
@@ -53,15 +53,8 @@ impl Neighbours {
         Ok(found)
     }
 
-    /// Returns `true` if a completed change of another key overlaps the time from `since` to `until`. If an operation
-    /// is given, considers only its changes.
-    pub(crate) fn overlap(
-        &self,
-        key: u32,
-        since: u64,
-        until: u64,
-        operation: Option<Operation>,
-    ) -> bool {
+    /// Returns whether a completed change of another key overlaps the time from `since` to `until`, by an operation if one is given.
+    pub fn overlap(&self, key: u32, since: u64, until: u64, operation: Option<Operation>) -> bool {
         let sought = match operation {
             None => Sought::OfOtherKey,
             Some(operation) => Sought::OfOtherKeyBy(operation),
@@ -69,12 +62,18 @@ impl Neighbours {
         self.has(key, since, until, sought)
     }
 
-    /// Returns `true` if a completed remove of a smaller key overlaps the time from `since` to `until`.
-    pub(crate) fn unlink_below(&self, key: u32, since: u64, until: u64) -> bool {
+    /// Returns whether a completed remove of a smaller key overlaps the time from `since` to `until`.
+    pub fn unlink_below(&self, key: u32, since: u64, until: u64) -> bool {
         self.has(key, since, until, Sought::RemoveOfSmallerKey)
     }
 
-    /// Returns `true` if a completed change of the sought kind overlaps the time from `since` to `until`.
+    /// Returns whether a completed change of another key overlaps `change` and began at `since` or later.
+    pub fn has_since(&self, change: Made, since: u64) -> bool {
+        let sought = Sought::OfOtherKeySince(since);
+        self.has(change.key, change.begun, change.ended, sought)
+    }
+
+    /// Returns whether a completed change that is sought overlaps the time from `since` to `until`.
     fn has(&self, key: u32, since: u64, until: u64, sought: Sought) -> bool {
         let end = self.changes.partition_point(|call| call.begun <= until);
         let changes = self.changes.get(..end).unwrap_or(&[]);
@@ -96,6 +95,7 @@ impl Neighbours {
 enum Sought {
     OfOtherKey,
     OfOtherKeyBy(Operation),
+    OfOtherKeySince(u64),
     RemoveOfSmallerKey,
 }
 
@@ -105,6 +105,7 @@ impl Sought {
         match self {
             Sought::OfOtherKey => call.key != key,
             Sought::OfOtherKeyBy(operation) => call.key != key && call.operation == operation,
+            Sought::OfOtherKeySince(since) => call.key != key && call.begun >= since,
             Sought::RemoveOfSmallerKey => call.key < key && call.operation == Operation::Remove,
         }
     }

@@ -27,14 +27,13 @@ struct Around {
 
 /// The possible repairs of a contradiction.
 #[derive(Drop)]
-pub(crate) struct Repairs {
-    /// If any one of these calls had the opposite reply, the calls around the contradiction would be linearizable.
-    pub(crate) turned: Vec<Made>,
-    /// If any one of these adds and removes, which returned false, were missing, the calls around the contradiction
-    /// would be linearizable.
-    pub(crate) dropped: Vec<Made>,
-    /// Whether one more change between the two contradicting calls would make the calls around them linearizable.
-    pub(crate) change: bool,
+pub struct Repairs {
+    /// Calls. If any one of them had the other reply, the calls around the clash would have an order.
+    pub turned: Vec<Made>,
+    /// Adds and removes that returned false. If any one of them were missing, the calls around the clash would have an order.
+    pub dropped: Vec<Made>,
+    /// Whether the calls around the clash would have an order with one more change between its two calls.
+    pub change: bool,
 }
 
 impl Repairs {
@@ -190,8 +189,8 @@ fn repairs_until(
     Ok(repairs)
 }
 
-/// Returns the repairs that make the calls around a contradiction and some later calls linearizable. Allocates.
-pub(crate) fn repairs_of(
+/// Returns the repairs of a clash that give an order to the calls around it and to some calls after it. Allocates.
+pub fn repairs_of(
     alloc: Global,
     key: &KeyCalls,
     stretches: &[Stretch],
@@ -215,9 +214,9 @@ pub(crate) fn repairs_of(
     })
 }
 
-/// Returns `true` if the opposite reply of a call was expected: the calls that had begun by the end of this call are
-/// not linearizable, but would be with that reply. Allocates.
-pub(crate) fn is_expected(
+/// Returns whether the other reply of a call was expected: the calls that had begun when the call ended have no order, and have one with the
+/// other reply. Allocates.
+pub fn is_expected(
     alloc: Global,
     key: &KeyCalls,
     stretches: &[Stretch],

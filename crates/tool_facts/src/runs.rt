@@ -6,10 +6,10 @@ use std::alloc::{AllocError, Global};
 
 /// The calls of a recording, grouped by key.
 #[derive(Drop)]
-pub(crate) struct Runs<'a> {
+pub struct Runs<'a> {
     alloc: Global,
-    pub(crate) recorded: &'a Recorded,
-    /// The keys that have calls, in increasing order.
+    pub recorded: &'a Recorded,
+    /// The keys of calls, in increasing order.
     keys: Vec<u32>,
     /// For each key in `keys`, the index after its last call in `calls`.
     ends: Vec<usize>,
@@ -20,9 +20,9 @@ pub(crate) struct Runs<'a> {
 /// A key whose calls are not linearizable, and the first moment up to which they are not; `NEVER` if no order leaves
 /// the final state.
 #[derive(Clone, Copy)]
-pub(crate) struct Refused {
-    pub(crate) key: u32,
-    pub(crate) moment: u64,
+pub struct Refused {
+    pub key: u32,
+    pub moment: u64,
 }
 
 /// The keys that have calls, in increasing order. If the keys are small numbers, a table maps each key to its index.
@@ -97,8 +97,8 @@ impl KeyTable {
 }
 
 impl<'a> Runs<'a> {
-    /// Groups the calls of a recording by key. Allocates.
-    pub(crate) fn of(alloc: Global, recorded: &'a Recorded) -> Result<Runs<'a>, AllocError> {
+    /// Groups the calls of a recording by their keys. Allocates.
+    pub fn of(alloc: Global, recorded: &'a Recorded) -> Result<Runs<'a>, AllocError> {
         let table = KeyTable::of(alloc, &recorded.calls)?;
         let mut counts = Vec::from_elem(alloc, 0usize, table.keys.len())?;
         for call in &recorded.calls {
@@ -130,13 +130,18 @@ impl<'a> Runs<'a> {
         })
     }
 
+    /// Returns the keys that have calls, in increasing order.
+    pub fn used(&self) -> &[u32] {
+        &self.keys
+    }
+
     /// Returns the number of keys that have calls.
-    pub(crate) fn places(&self) -> usize {
+    pub fn places(&self) -> usize {
         self.keys.len()
     }
 
-    /// Returns the index of a key among those that have calls; `usize::MAX` if the key has none.
-    pub(crate) fn place(&self, key: u32) -> usize {
+    /// Returns the index of a key among those that have calls. `usize::MAX` if the key has none.
+    pub fn place(&self, key: u32) -> usize {
         let place = place_of(&self.keys, key);
         if self.keys.get(place) == Some(&key) {
             place
@@ -145,8 +150,8 @@ impl<'a> Runs<'a> {
         }
     }
 
-    /// Returns a key's calls in the order in which they began.
-    pub(crate) fn made_of(&self, key: u32) -> &[Made] {
+    /// Returns the calls of a key, in the order of their begins.
+    pub fn made_of(&self, key: u32) -> &[Made] {
         let place = self.place(key);
         if place == usize::MAX {
             return &[];
@@ -156,15 +161,15 @@ impl<'a> Runs<'a> {
         self.calls.get(start..end).unwrap_or(&[])
     }
 
-    /// Returns a key's calls, indexed for searches. Allocates.
-    pub(crate) fn calls_of(&self, key: u32) -> Result<KeyCalls, AllocError> {
+    /// Returns the calls of a key, indexed for searches. Allocates.
+    pub fn calls_of(&self, key: u32) -> Result<KeyCalls, AllocError> {
         let calls = Vec::from_slice(self.alloc, self.made_of(key))?;
         let (opening, left) = (self.recorded.opens(key), self.recorded.leaves(key));
         KeyCalls::new(self.alloc, key, calls, opening, left)
     }
 
-    /// Returns all keys in the recording in increasing order. Allocates.
-    pub(crate) fn keys(&self) -> Result<Vec<u32>, AllocError> {
+    /// Returns all keys of the recording in increasing order. Allocates.
+    pub fn keys(&self) -> Result<Vec<u32>, AllocError> {
         let mut keys = Vec::from_slice(self.alloc, &self.keys)?;
         keys.extend_from_slice(&self.recorded.opening)?;
         keys.extend_from_slice(&self.recorded.left)?;
@@ -173,8 +178,8 @@ impl<'a> Runs<'a> {
         Ok(keys)
     }
 
-    /// Returns the keys whose calls are not linearizable. Allocates.
-    pub(crate) fn refused(&self, keys: &[u32]) -> Result<Vec<Refused>, AllocError> {
+    /// Returns the keys whose calls have no order. Allocates.
+    pub fn refused(&self, keys: &[u32]) -> Result<Vec<Refused>, AllocError> {
         let mut refused = Vec::new(self.alloc);
         for key in keys {
             let (opening, left) = (self.recorded.opens(*key), self.recorded.leaves(*key));
@@ -188,11 +193,12 @@ impl<'a> Runs<'a> {
 }
 
 /// Returns the refused key with the earliest moment.
-pub(crate) fn first_of(refused: &[Refused]) -> Option<Refused> {
+pub fn first_of(refused: &[Refused]) -> Option<Refused> {
     let mut first: Option<Refused> = None;
     for one in refused {
-        if first.is_none_or(|other| one.moment < other.moment) {
-            first = Some(*one);
+        match first {
+            Some(other) if other.moment <= one.moment => {}
+            _ => first = Some(*one),
         }
     }
     first

@@ -1,0 +1,178 @@
+//! The facts about a refused recording, from which the message and the guess are made.
+
+use crate::fullness::Fullness;
+use crate::made_calls::Made;
+use crate::merged::merged_keys;
+use crate::neighbours::Neighbours;
+use crate::odd_facts::{Odd, find_odd, places_of_odd};
+use crate::runs::{Refused, Runs};
+use crate::splits::{Split, longest_split};
+use crate::symptoms::{Place, Symptom, places_of};
+use crate::tally::Tally;
+use std::alloc::{AllocError, Global};
+
+/// The facts for the guess.
+#[derive(Clone, Copy)]
+pub struct Evidence {
+    /// Two keys whose calls have an order as calls of one key.
+    pub merged: Option<(u32, u32)>,
+    pub odd: Option<Odd>,
+    pub tally: Tally,
+    pub split: Option<Split>,
+    /// The number of keys of the recording.
+    pub keys: u64,
+    /// The number of calls of the recording.
+    pub calls: u64,
+    /// Whether these are only the first calls of a longer recording.
+    pub is_part: bool,
+    /// Whether the calls of the smallest key have an order, and those of two others have none.
+    pub is_first_spared: bool,
+    /// The difference of the largest and the smallest key.
+    pub span: u32,
+}
+
+/// The maximum number of places of all keys.
+const MOST_PLACES: usize = 20_000;
+
+/// The places of a recording, the odd operation or the tally of the places, and the longest split.
+#[derive(Drop)]
+pub struct Found {
+    pub places: Vec<Place>,
+    /// The first wrong answer of the odd operation.
+    pub wrong: Option<Made>,
+    pub odd: Option<Odd>,
+    pub tally: Tally,
+    pub split: Option<Split>,
+}
+
+/// The maximum number of moments of a loss that is compared with removes of other keys. In a longer time any remove can run by chance.
+const MOST_MOMENTS: u64 = 200;
+
+/// The minimum number of losses that are compared with the number of keys.
+const LEAST_LOST: u64 = 10;
+
+/// Returns the places in which a call shows within `MOST_MOMENTS` that a key was lost, in the order of time.
+fn losses_of(alloc: Global, places: &[Place]) -> Result<Vec<Place>, AllocError> {
+    let mut losses = Vec::new(alloc);
+    for place in places {
+        let is_short = place.clash.until.saturating_sub(place.clash.begun()) <= MOST_MOMENTS;
+        if place.symptom == Symptom::Lost && is_short {
+            losses.push(*place)?;
+        }
+    }
+    losses.sort_unstable_by_key(|place| place.clash.begun());
+    Ok(losses)
+}
+
+/// Returns the places of all refused keys, with their tally.
+fn places_of_all(
+    alloc: Global,
+    runs: &Runs<'_>,
+    refused: &[Refused],
+    neighbours: &Neighbours,
+) -> Result<Found, AllocError> {
+    let mut found = Found {
+        places: Vec::new(alloc),
+        wrong: None,
+        odd: None,
+        tally: Tally::default(),
+        split: None,
+    };
+    for one in refused {
+        if found.places.len() >= MOST_PLACES {
+            break;
+        }
+        let key = runs.calls_of(one.key)?;
+        let places = places_of(alloc, &key)?;
+        for place in &places {
+            found.tally.add(place);
+            found.tally.add_change(&key, place, neighbours);
+            found.places.push(*place)?;
+        }
+        if !places.is_empty() {
+            found.tally.keys = found.tally.keys.saturating_add(1);
+        }
+        found.split = larger_split(found.split, longest_split(alloc, &key)?);
+    }
+    let calls = &runs.recorded.calls;
+    let losses = losses_of(alloc, &found.places)?;
+    found
+        .tally
+        .add_times(alloc, &found.places, calls, neighbours, &losses)?;
+    if found.tally.lost >= LEAST_LOST && found.tally.came_back == 0 {
+        let full = Fullness::of(alloc, runs)?;
+        found.tally.add_fullness(calls, &losses, &full);
+    }
+    Ok(found)
+}
+
+/// Returns the split with more answers.
+fn larger_split(one: Option<Split>, two: Option<Split>) -> Option<Split> {
+    let (Some(first), Some(second)) = (one, two) else {
+        return one.or(two);
+    };
+    let (many, others) = (first.votes(), second.votes());
+    let is_larger = many.present.saturating_add(many.absent)
+        >= others.present.saturating_add(others.absent);
+    if is_larger { one } else { two }
+}
+
+/// Returns the places of the odd operation or, if there is none, of all refused keys.
+pub fn find_all(
+    alloc: Global,
+    runs: &Runs<'_>,
+    refused: &[Refused],
+    neighbours: &Neighbours,
+) -> Result<Found, AllocError> {
+    let Some(odd) = find_odd(alloc, runs, refused)? else {
+        return places_of_all(alloc, runs, refused, neighbours);
+    };
+    let mut places = Vec::new(alloc);
+    let wrong = odd.answers.wrong.first().copied();
+    let odd = places_of_odd(alloc, runs, &odd, &mut places, neighbours)?;
+    Ok(Found {
+        places,
+        wrong,
+        odd: Some(odd),
+        tally: Tally::default(),
+        split: None,
+    })
+}
+
+/// Returns the facts for the guess. `keys` are all keys of the recording. Allocates.
+pub fn evidence_of(
+    alloc: Global,
+    runs: &Runs<'_>,
+    keys: &[u32],
+    refused: &[Refused],
+    found: &Found,
+) -> Result<Evidence, AllocError> {
+    Ok(Evidence {
+        merged: merged_keys(alloc, runs, refused)?,
+        odd: found.odd,
+        tally: found.tally,
+        split: found.split,
+        keys: u64::try_from(keys.len()).unwrap_or(u64::MAX),
+        calls: u64::try_from(runs.recorded.calls.len()).unwrap_or(u64::MAX),
+        is_part: runs.recorded.is_part,
+        is_first_spared: is_first_spared(runs, keys, refused),
+        span: span_of(keys),
+    })
+}
+
+/// Returns the difference of the largest and the smallest of some increasing keys.
+fn span_of(keys: &[u32]) -> u32 {
+    match (keys.first(), keys.last()) {
+        (Some(first), Some(last)) => last.saturating_sub(*first),
+        _ => 0,
+    }
+}
+
+/// Returns whether the calls of the smallest key have an order and those of at least two others have none, and it has as many calls as others.
+fn is_first_spared(runs: &Runs<'_>, keys: &[u32], refused: &[Refused]) -> bool {
+    let (Some(first), Some(hit)) = (keys.first(), refused.first()) else {
+        return false;
+    };
+    let calls = runs.made_of(*first).len().saturating_mul(2);
+    refused.len() >= 2 && hit.key != *first && calls >= runs.made_of(hit.key).len()
+}

@@ -1,0 +1,582 @@
+//! Facts about the odd operation: how many of its answers are wrong, what ran during them, and what the next answers were.
+
+use crate::contradictions::{Clash, clash_of};
+use crate::crossings::Crossings;
+use crate::fullness::Fullness;
+use crate::key_calls::KeyCalls;
+use crate::made_calls::{Made, Operation, other};
+use crate::neighbours::Neighbours;
+use crate::odd::{WrongAnswers, is_answer, is_explained_without, is_judged_without, without};
+use crate::runs::{Refused, Runs};
+use crate::stretches::{Stretch, stretches_of};
+use crate::symptoms::{Place, symptom_of_reply};
+use lset_words::Presence;
+use std::alloc::{AllocError, Global};
+
+/// The odd operation: all calls without its answers have an order.
+#[derive(Clone, Copy)]
+pub struct Odd {
+    pub operation: Operation,
+    /// The number of its wrong answers: with each of them alone the other calls have no order.
+    pub wrong: u64,
+    /// Whether `wrong` counts all wrong answers. Otherwise there can be more.
+    pub is_exact: bool,
+    /// The number of its answers.
+    pub of: u64,
+    /// The number of wrong answers that missed a present key.
+    pub missed: u64,
+    /// The number of wrong answers that found an absent key.
+    pub found: u64,
+    /// The number of wrong answers during which the change that they did not see was still running.
+    pub running: u64,
+    /// The number of wrong answers during which a change that agrees with them was still running.
+    pub starting: u64,
+    /// The number of wrong answers during which a change of another key ran.
+    pub beside: u64,
+    /// The number of wrong answers during which a remove of another key that returned true ran.
+    pub removing: u64,
+    /// The number of wrong answers during which an add of another key that returned true ran.
+    pub adding: u64,
+    /// The number of wrong answers during which another add or remove of the key ran.
+    pub same: u64,
+    /// The number of wrong answers during which another add or remove of the key, or a change of another key ran.
+    pub active: u64,
+    /// During how many of 100 of its calls a change of another key ran.
+    pub usual: u64,
+    /// During how many of 100 of its calls another add or remove of the key, or a change of another key ran.
+    pub usually_active: u64,
+    /// The number of wrong answers after which the next call of the operation, with no change of the key between, was right.
+    pub then_right: u64,
+    /// The number of wrong answers after which the next call of the operation, with no change of the key between, was wrong.
+    pub then_wrong: u64,
+    /// The number of wrong answers whose contradiction was looked at.
+    pub placed: u64,
+    /// Of `placed`: no two calls of the run overlapped in the time of the contradiction.
+    pub apart: u64,
+    /// Whether the final keys are ignored too.
+    pub puts_left_aside: bool,
+    /// The number of keys with wrong answers.
+    pub keys: u64,
+    /// Whether the operation never found any of these keys, and found others.
+    pub never_finds: bool,
+    /// The number of wrong answers before which the last call of the key by the same thread left it as answered.
+    pub own: u64,
+    /// The number of wrong answers that were compared with the other keys.
+    pub compared: u64,
+    /// Of `compared`: the last call of each other key that had ended left that key absent.
+    pub lonely: u64,
+    /// At how many of 100 of its calls at most one key was shown present.
+    pub usually_lonely: u64,
+    /// Of `compared`: the last call of each larger key that had ended left that key absent. 0 if there are many keys.
+    pub largest: u64,
+    /// Of 100 answers that found a key present: no larger key was shown present.
+    pub usually_largest: u64,
+}
+
+/// The odd operation, its wrong answers, and whether the final keys are ignored.
+#[derive(Drop)]
+pub struct OddFound {
+    operation: Operation,
+    puts_left_aside: bool,
+    pub answers: WrongAnswers,
+}
+
+/// The maximum number of calls that the judge judges again. For more calls the rule of each key alone decides, with the same result.
+const MOST_JUDGED: usize = 500_000;
+
+/// Returns the final state of a key. `None` if it is not known, or ignored (`aside`).
+fn left_of(runs: &Runs<'_>, key: u32, aside: bool) -> Option<Presence> {
+    if aside {
+        None
+    } else {
+        runs.recorded.leaves(key)
+    }
+}
+
+/// Returns whether the calls of all refused keys have an order without the answers of an operation, with any final keys if `aside`.
+fn is_odd(
+    alloc: Global,
+    runs: &Runs<'_>,
+    refused: &[Refused],
+    operation: Operation,
+    aside: bool,
+) -> Result<bool, AllocError> {
+    for one in refused {
+        let (calls, opening) = (runs.made_of(one.key), runs.recorded.opens(one.key));
+        let left = left_of(runs, one.key, aside);
+        if !is_explained_without(alloc, calls, operation, opening, left)? {
+            return Ok(false);
+        }
+    }
+    if runs.recorded.calls.len() > MOST_JUDGED {
+        return Ok(true);
+    }
+    let is_cut = aside || runs.recorded.is_cut;
+    is_judged_without(alloc, runs.recorded, operation, is_cut)
+}
+
+/// Returns the wrong answers of the odd operation.
+fn wrong_answers(
+    alloc: Global,
+    runs: &Runs<'_>,
+    refused: &[Refused],
+    operation: Operation,
+    aside: bool,
+) -> Result<OddFound, AllocError> {
+    let mut answers = WrongAnswers::new(alloc);
+    for one in refused {
+        let (calls, opening) = (runs.made_of(one.key), runs.recorded.opens(one.key));
+        let left = left_of(runs, one.key, aside);
+        answers.add_of_key(alloc, calls, operation, opening, left)?;
+    }
+    Ok(OddFound {
+        operation,
+        puts_left_aside: aside,
+        answers,
+    })
+}
+
+/// Returns the odd operation. `None` if no operation alone is wrong. Allocates.
+pub fn find_odd(
+    alloc: Global,
+    runs: &Runs<'_>,
+    refused: &[Refused],
+) -> Result<Option<OddFound>, AllocError> {
+    let tries = [
+        (Operation::Contains, false),
+        (Operation::Contains, true),
+        (Operation::Add, false),
+        (Operation::Remove, false),
+    ];
+    for (operation, aside) in tries {
+        if is_odd(alloc, runs, refused, operation, aside)? {
+            let found = wrong_answers(alloc, runs, refused, operation, aside)?;
+            if !found.answers.wrong.is_empty() {
+                return Ok(Some(found));
+            }
+        }
+    }
+    Ok(None)
+}
+
+/// The adds and removes of a key, whatever they returned, in the order of their begins, each with the latest end of those up to it.
+#[derive(Drop)]
+struct Writers {
+    calls: Vec<Made>,
+    latest: Vec<u64>,
+}
+
+impl Writers {
+    fn of(alloc: Global, calls: &[Made]) -> Result<Writers, AllocError> {
+        let mut writers = Writers {
+            calls: Vec::new(alloc),
+            latest: Vec::new(alloc),
+        };
+        let mut last = 0;
+        for call in calls {
+            if call.operation != Operation::Contains {
+                last = call.ended.max(last);
+                writers.calls.push(*call)?;
+                writers.latest.push(last)?;
+            }
+        }
+        Ok(writers)
+    }
+
+    /// Returns whether one of the calls, other than `answer` itself, overlaps `answer`.
+    fn overlap(&self, answer: Made) -> bool {
+        let end = self.calls.partition_point(|call| call.begun < answer.ended);
+        let calls = self.calls.get(..end).unwrap_or(&[]);
+        let latest = self.latest.get(..end).unwrap_or(&[]);
+        for (call, last) in calls.iter().zip(latest).rev() {
+            if *last < answer.begun {
+                return false;
+            }
+            if call.begun != answer.begun && call.ended > answer.begun {
+                return true;
+            }
+        }
+        false
+    }
+}
+
+/// A key with wrong answers: its calls without the answers of the odd operation, and all its adds and removes.
+#[derive(Drop)]
+struct Sound {
+    calls: KeyCalls,
+    stretches: Vec<Stretch>,
+    writers: Writers,
+}
+
+/// The number of calls of a key from which on no stretches are searched for its wrong answers.
+const MOST_STRETCHED: usize = 50_000;
+
+/// Returns the calls of a key without the answers of the odd operation, indexed for searches.
+fn sound_calls(
+    alloc: Global,
+    runs: &Runs<'_>,
+    key: u32,
+    found: &OddFound,
+) -> Result<Sound, AllocError> {
+    let others = without(alloc, runs.made_of(key), found.operation)?;
+    let opening = runs.recorded.opens(key);
+    let left = left_of(runs, key, found.puts_left_aside);
+    let calls = KeyCalls::new(alloc, key, others, opening, left)?;
+    let stretches = if calls.calls.len() < MOST_STRETCHED {
+        stretches_of(alloc, &calls)?
+    } else {
+        Vec::new(alloc)
+    };
+    let writers = Writers::of(alloc, runs.made_of(key))?;
+    Ok(Sound {
+        calls,
+        stretches,
+        writers,
+    })
+}
+
+/// Returns the place of a wrong answer among the right calls.
+fn place_of_answer(sound: &KeyCalls, call: Made, clash: Clash) -> Place {
+    Place {
+        key: sound.key,
+        clash,
+        symptom: symptom_of_reply(call),
+        wrong: Some(call),
+        silent: None,
+        is_turned: true,
+        begun: sound.begun_by(call.ended),
+    }
+}
+
+/// Returns the odd operation with the number of its wrong answers, and no other counts yet.
+fn odd_of(found: &OddFound) -> Odd {
+    Odd {
+        operation: found.operation,
+        wrong: u64::try_from(found.answers.wrong.len()).unwrap_or(u64::MAX),
+        is_exact: found.answers.is_exact,
+        of: 0,
+        missed: 0,
+        found: 0,
+        running: 0,
+        starting: 0,
+        beside: 0,
+        removing: 0,
+        adding: 0,
+        same: 0,
+        active: 0,
+        usual: 0,
+        usually_active: 0,
+        then_right: 0,
+        then_wrong: 0,
+        placed: 0,
+        apart: 0,
+        puts_left_aside: found.puts_left_aside,
+        keys: 0,
+        never_finds: false,
+        own: 0,
+        compared: 0,
+        lonely: 0,
+        usually_lonely: 0,
+        largest: 0,
+        usually_largest: 0,
+    }
+}
+
+/// Adds one to a count.
+fn more(count: &mut u64) {
+    *count = count.saturating_add(1);
+}
+
+/// The maximum number of contradictions of wrong answers that are looked at.
+const MOST_PLACED: usize = 400;
+
+/// Adds the places of the wrong answers, and returns the facts about the odd operation. Allocates.
+pub fn places_of_odd(
+    alloc: Global,
+    runs: &Runs<'_>,
+    found: &OddFound,
+    places: &mut Vec<Place>,
+    neighbours: &Neighbours,
+) -> Result<Odd, AllocError> {
+    let mut odd = odd_of(found);
+    let calls = &runs.recorded.calls;
+    let crossings = Crossings::of(alloc, calls)?;
+    let begins = begins_of(alloc, &found.answers.wrong)?;
+    let mut sound: Option<Sound> = None;
+    let mut sound_key: Option<u32> = None;
+    let mut finds = false;
+    for call in &found.answers.wrong {
+        if sound_key != Some(call.key) {
+            sound_key = Some(call.key);
+            more(&mut odd.keys);
+            finds = finds || is_found(runs.made_of(call.key), found.operation);
+            sound = Some(sound_calls(alloc, runs, call.key, found)?);
+        }
+        if let Some(sound) = &sound {
+            let made = runs.made_of(call.key);
+            count_answer(sound, *call, &mut odd, neighbours);
+            count_around(&sound.calls, made, *call, &mut odd, &begins);
+            if places.len() < MOST_PLACED {
+                if let Some(clash) = clash_of(&sound.calls, &sound.stretches, *call) {
+                    more(&mut odd.placed);
+                    if crossings.has_none(calls, clash.begun(), clash.until) {
+                        more(&mut odd.apart);
+                    }
+                    places.push(place_of_answer(&sound.calls, *call, clash))?;
+                }
+            }
+        }
+    }
+    count_usual(runs, &mut odd, neighbours);
+    odd.of = count_answers(calls, found.operation);
+    odd.never_finds = !finds && is_found(calls, found.operation);
+    if odd.operation == Operation::Contains && odd.found == 0 {
+        compare_keys(alloc, runs, &found.answers.wrong, &mut odd)?;
+    }
+    Ok(odd)
+}
+
+/// Returns the begins of calls in increasing order.
+fn begins_of(alloc: Global, calls: &[Made]) -> Result<Vec<u64>, AllocError> {
+    let mut begins = Vec::new(alloc);
+    for call in calls {
+        begins.push(call.begun)?;
+    }
+    begins.sort_unstable();
+    Ok(begins)
+}
+
+/// The maximum number of calls of a key that are searched for the last call of a thread.
+const MOST_OWN: usize = 2_000;
+
+/// Returns whether the last call of a key by the thread of an answer left the key as answered.
+fn was_left_so(calls: &[Made], answer: Made) -> bool {
+    let end = calls.partition_point(|call| call.begun < answer.begun);
+    let earlier = calls.get(..end).unwrap_or(&[]).iter().rev();
+    for call in earlier.take(MOST_OWN) {
+        if call.thread == answer.thread {
+            return call.leaves() == answer.needs();
+        }
+    }
+    false
+}
+
+/// The number of calls of a key before a sampled call that are looked at for those that overlap the sampled call.
+const MOST_BEFORE: usize = 64;
+
+/// Returns whether another add or remove of the key ran during a sampled call, whatever it returned.
+fn runs_beside(calls: &[Made], answer: Made) -> bool {
+    let end = calls.partition_point(|call| call.begun < answer.ended);
+    let earlier = calls.get(..end).unwrap_or(&[]).iter().rev();
+    for call in earlier.take(MOST_BEFORE) {
+        let is_other = call.begun != answer.begun && call.operation != Operation::Contains;
+        if is_other && call.ended > answer.begun {
+            return true;
+        }
+    }
+    false
+}
+
+/// Returns whether a change of a key can have taken effect from `since` to `until`.
+fn is_changed(sound: &KeyCalls, since: u64, until: u64) -> bool {
+    sound.may_become(Presence::Present, since, until)
+        || sound.may_become(Presence::Absent, since, until)
+}
+
+/// Returns the next completed call of the same operation that begins after an answer has ended, if no change of the key overlaps the time
+/// between them. An add or remove that returned true may change the key itself.
+fn next_call(sound: &KeyCalls, calls: &[Made], answer: Made) -> Option<Made> {
+    let first = calls.partition_point(|call| call.begun <= answer.ended);
+    for call in calls.get(first..).unwrap_or(&[]) {
+        if call.operation == answer.operation && call.reply.is_some() {
+            let until = if call.changes() {
+                call.begun.saturating_sub(1)
+            } else {
+                call.ended
+            };
+            let is_between = is_changed(sound, answer.begun, until);
+            return if is_between { None } else { Some(*call) };
+        }
+        if call.changes() {
+            return None;
+        }
+    }
+    None
+}
+
+/// Counts what ran during a wrong answer, and whether the next answer is wrong too. `wrong` has the begins of all wrong answers in order.
+fn count_around(sound: &KeyCalls, calls: &[Made], call: Made, odd: &mut Odd, wrong: &[u64]) {
+    if was_left_so(calls, call) {
+        more(&mut odd.own);
+    }
+    if let Some(next) = next_call(sound, calls, call) {
+        match wrong.binary_search(&next.begun) {
+            Ok(_) => more(&mut odd.then_wrong),
+            Err(_) => more(&mut odd.then_right),
+        }
+    }
+}
+
+/// The maximum number of wrong answers that are compared with the other keys.
+const MOST_COMPARED: usize = 200;
+
+/// Returns whether the last of some calls that ended before a moment left the key present.
+fn is_left_present(calls: &[Made], opening: Presence, moment: u64) -> bool {
+    let (mut left, mut latest) = (Some(opening), 0);
+    for call in calls {
+        if call.begun >= moment {
+            break;
+        }
+        if call.ended < moment && call.ended > latest {
+            latest = call.ended;
+            left = call.leaves();
+        }
+    }
+    left == Some(Presence::Present)
+}
+
+/// The maximum number of keys of a recording whose wrong answers are compared with larger keys.
+const MOST_KEYS: usize = 16;
+
+/// Returns whether no larger key is shown present just before a call.
+fn is_largest(runs: &Runs<'_>, call: Made) -> bool {
+    for key in runs.used() {
+        if *key > call.key
+            && is_left_present(runs.made_of(*key), runs.recorded.opens(*key), call.begun)
+        {
+            return false;
+        }
+    }
+    true
+}
+
+/// Returns in how many of 100 answers that found a key present, in a sample, no larger key is shown present.
+fn usually_largest(runs: &Runs<'_>) -> u64 {
+    let calls = &runs.recorded.calls;
+    let step = calls.len().checked_div(SAMPLED).unwrap_or(0);
+    let (mut count, mut tried, mut next) = (0u64, 0u64, 0usize);
+    for (index, call) in calls.iter().enumerate() {
+        if index >= next && has_found(*call, Operation::Contains) {
+            next = index.saturating_add(step);
+            more(&mut tried);
+            if is_largest(runs, *call) {
+                more(&mut count);
+            }
+        }
+    }
+    count.saturating_mul(100).checked_div(tried).unwrap_or(100)
+}
+
+/// Compares the wrong answers with the other keys at the same time: whether another key, and whether a larger key was shown present.
+fn compare_keys(
+    alloc: Global,
+    runs: &Runs<'_>,
+    wrong: &[Made],
+    odd: &mut Odd,
+) -> Result<(), AllocError> {
+    let full = Fullness::of(alloc, runs)?;
+    let has_few = runs.places() <= MOST_KEYS;
+    for call in wrong.iter().take(MOST_COMPARED) {
+        let (key, moment) = (call.key, call.begun);
+        let is_own = is_left_present(runs.made_of(key), runs.recorded.opens(key), moment);
+        let others = full.before(moment).saturating_sub(u64::from(is_own));
+        more(&mut odd.compared);
+        if others == 0 {
+            more(&mut odd.lonely);
+        }
+        if has_few && is_largest(runs, *call) {
+            more(&mut odd.largest);
+        }
+    }
+    odd.usually_lonely = full.share_between(&runs.recorded.calls, 0, 1);
+    if has_few {
+        odd.usually_largest = usually_largest(runs);
+    }
+    Ok(())
+}
+
+/// The number of answers that are sampled.
+const SAMPLED: usize = 500;
+
+/// Counts during how many of 100 calls of the odd operation, in a sample, other changes ran.
+fn count_usual(runs: &Runs<'_>, odd: &mut Odd, neighbours: &Neighbours) {
+    let calls = &runs.recorded.calls;
+    let (mut beside, mut active, mut tried, mut next) = (0u64, 0u64, 0u64, 0usize);
+    let step = calls.len().checked_div(SAMPLED).unwrap_or(0);
+    for (index, call) in calls.iter().enumerate() {
+        if index >= next && call.operation == odd.operation {
+            next = index.saturating_add(step);
+            more(&mut tried);
+            let is_beside = neighbours.overlap(call.key, call.begun, call.ended, None);
+            if is_beside {
+                more(&mut beside);
+            }
+            if is_beside || runs_beside(runs.made_of(call.key), *call) {
+                more(&mut active);
+            }
+        }
+    }
+    odd.usual = beside.saturating_mul(100).checked_div(tried).unwrap_or(0);
+    odd.usually_active = active.saturating_mul(100).checked_div(tried).unwrap_or(0);
+}
+
+/// Returns whether a call of an operation found its key present.
+fn has_found(call: Made, operation: Operation) -> bool {
+    call.operation == operation && call.needs() == Some(Presence::Present)
+}
+
+/// Returns whether any call of an operation found its key present.
+fn is_found(calls: &[Made], operation: Operation) -> bool {
+    for call in calls {
+        if has_found(*call, operation) {
+            return true;
+        }
+    }
+    false
+}
+
+/// Counts a wrong answer, and the changes that ran during it.
+fn count_answer(sound: &Sound, call: Made, odd: &mut Odd, neighbours: &Neighbours) {
+    let Some(needs) = call.needs() else {
+        return;
+    };
+    match needs {
+        Presence::Present => more(&mut odd.found),
+        Presence::Absent => more(&mut odd.missed),
+    }
+    if sound.calls.may_become(other(needs), call.begun, call.ended) {
+        more(&mut odd.running);
+    }
+    if sound.calls.may_become(needs, call.begun, call.ended) {
+        more(&mut odd.starting);
+    }
+    let (key, since, until) = (call.key, call.begun, call.ended);
+    let is_beside = neighbours.overlap(key, since, until, None);
+    if is_beside {
+        more(&mut odd.beside);
+    }
+    let is_same = sound.writers.overlap(call);
+    if is_same {
+        more(&mut odd.same);
+    }
+    if is_beside || is_same {
+        more(&mut odd.active);
+    }
+    if neighbours.overlap(key, since, until, Some(Operation::Remove)) {
+        more(&mut odd.removing);
+    }
+    if neighbours.overlap(key, since, until, Some(Operation::Add)) {
+        more(&mut odd.adding);
+    }
+}
+
+/// Returns the number of answers of an operation.
+fn count_answers(calls: &[Made], operation: Operation) -> u64 {
+    let mut count = 0u64;
+    for call in calls {
+        if is_answer(*call, operation) {
+            more(&mut count);
+        }
+    }
+    count
+}

@@ -1,0 +1,252 @@
+//! The fact below a likely cause, after `because`.
+
+use crate::diagnosis::Diagnosis;
+use crate::likely::Cause;
+use std::alloc::AllocError;
+use tool_facts::{Evidence, Odd, Tally};
+
+/// Writes the fact for a cause of contains that finds absent keys, or is wrong both ways.
+fn put_because_of_found(out: &mut String, odd: &Odd, cause: Cause) -> Result<(), AllocError> {
+    let (running, found, own, wrong) = (odd.running, odd.found, odd.own, odd.wrong);
+    let only = if odd.is_exact { "only " } else { "" };
+    match cause {
+        Cause::MarkNotRead if found == 1 => writeln!(
+            out,
+            "a remove of the key was still running at the wrong answer"
+        ),
+        Cause::MarkNotRead => writeln!(
+            out,
+            "at {running} of the {found} wrong answers a remove of the key was still running"
+        ),
+        Cause::TakenLater => writeln!(
+            out,
+            "it {only}finds absent keys, and at {running} of {found} of these answers a remove of the key still ran"
+        ),
+        Cause::ThreadCache => writeln!(
+            out,
+            "before {own} of the {wrong} wrong answers the last call of the key by the same thread left it so"
+        ),
+        _ => writeln!(out, "it is wrong both ways, and add and remove agree"),
+    }
+}
+
+/// Writes the fact for a cause of contains that misses present keys.
+fn put_because_of_missed(out: &mut String, odd: &Odd, cause: Cause) -> Result<(), AllocError> {
+    let missed = odd.missed;
+    let (compared, lonely) = (odd.compared, odd.lonely);
+    match cause {
+        Cause::NotSeenYet if missed == 1 => writeln!(
+            out,
+            "an add of the key was still running at the wrong answer"
+        ),
+        Cause::NotSeenYet => writeln!(
+            out,
+            "at all {missed} wrong answers an add of the key was still running"
+        ),
+        Cause::SizeFirst => writeln!(
+            out,
+            "at {lonely} of {compared} wrong answers the last call of every other key had left that key absent"
+        ),
+        Cause::LastKey => {
+            let largest = odd.largest;
+            writeln!(
+                out,
+                "at {largest} of {compared} wrong answers the last call of every larger key had left that key absent"
+            )
+        }
+        _ if odd.is_exact => writeln!(out, "it misses present keys and never finds an absent one"),
+        _ => writeln!(out, "it misses present keys"),
+    }
+}
+
+/// Writes the fact for a cause of the odd operation.
+fn put_because_of_odd(out: &mut String, odd: &Odd, cause: Cause) -> Result<(), AllocError> {
+    let (missed, wrong, adding) = (odd.missed, odd.wrong, odd.adding);
+    let (active, apart, placed) = (odd.active, odd.apart, odd.placed);
+    let keys = if odd.keys == 1 { "key" } else { "keys" };
+    match cause {
+        Cause::MarkNotRead | Cause::TakenLater | Cause::ThreadCache | Cause::LateCopy => {
+            put_because_of_found(out, odd, cause)
+        }
+        Cause::NotSeenYet | Cause::LastKey | Cause::SizeFirst | Cause::Shortcut => {
+            put_because_of_missed(out, odd, cause)
+        }
+        Cause::OneKey => writeln!(
+            out,
+            "it never found the {keys} of its {wrong} wrong answers, and found others"
+        ),
+        Cause::RemoveShortcut => writeln!(
+            out,
+            "at {adding} of the {missed} wrong answers an add of another key was running"
+        ),
+        Cause::MovedKeys | Cause::AddGivesUp => writeln!(
+            out,
+            "at {active} of the {wrong} wrong answers another add or remove of the key, or a change of another key, was running"
+        ),
+        Cause::EndsEarly => writeln!(
+            out,
+            "at {apart} of {placed} wrong answers no two calls overlapped"
+        ),
+        Cause::AddSeesRemoved => writeln!(out, "remove and contains agree, and add does not"),
+        _ => writeln!(out, "add and contains agree, and remove does not"),
+    }
+}
+
+/// Writes the fact for a cause of wrong replies, or of changes at the same time.
+fn put_because_of_calls(out: &mut String, tally: &Tally, cause: Cause) -> Result<(), AllocError> {
+    let (gone, both, places) = (tally.gone(), tally.both(), tally.places);
+    let (silent, turned, begun) = (tally.silent, tally.turned, tally.begun);
+    let (crossed, lost) = (tally.crossed, tally.lost);
+    match cause {
+        Cause::FirstUse => writeln!(out, "all is among the first {begun} calls of a key"),
+        Cause::GoesOn => writeln!(
+            out,
+            "at {crossed} of the {lost} losses a remove ran among the overlapping changes before"
+        ),
+        Cause::EarlierLook => writeln!(
+            out,
+            "at {turned} of {gone} losses and returns one other reply gives an order; two calls true: {both}"
+        ),
+        Cause::MadeAgain => writeln!(
+            out,
+            "at {silent} of {gone} losses and returns a call that returned false can have done it; two calls true: {both}"
+        ),
+        Cause::CheckThenAct | Cause::BothCheck => writeln!(
+            out,
+            "{both} of {places} are two calls that both returned true"
+        ),
+        Cause::AddChecks => writeln!(
+            out,
+            "{both} of {places} are two adds that both returned true, and none are two removes"
+        ),
+        Cause::RemoveChecks => writeln!(
+            out,
+            "{both} of {places} are two removes that both returned true, and none are two adds"
+        ),
+        _ => writeln!(out, "they disagree as long as nothing changes the key"),
+    }
+}
+
+/// Writes the fact for a cause of keys that are only lost.
+fn put_because_of_lost(out: &mut String, tally: &Tally, cause: Cause) -> Result<(), AllocError> {
+    let (lost, sharp, short) = (tally.lost, tally.sharp, tally.short);
+    let (added, removed, least) = (tally.displaced, tally.unlinked, tally.least_full);
+    write!(out, "keys are lost ({lost}) and never come back, and at ")?;
+    match cause {
+        Cause::Displaced => writeln!(out, "{added} of {sharp} short losses another key was added"),
+        Cause::Batch => writeln!(
+            out,
+            "{removed} of {sharp} short losses another key was removed"
+        ),
+        _ => writeln!(
+            out,
+            "{short} short losses at least {least} keys were shown present"
+        ),
+    }
+}
+
+/// Writes the fact for a cause that needs no race.
+fn put_because_of_one(
+    out: &mut String,
+    evidence: &Evidence,
+    cause: Cause,
+) -> Result<(), AllocError> {
+    let (tally, span) = (&evidence.tally, evidence.span);
+    let (lost, back, undone) = (tally.lost, tally.came_back, tally.undone);
+    let (apart, places) = (tally.apart, tally.places);
+    match cause {
+        Cause::KeptTwice if lost == 0 => writeln!(
+            out,
+            "keys come back ({back}), {undone} times after a remove that returned true, and are never lost"
+        ),
+        Cause::KeptTwice => writeln!(
+            out,
+            "keys come back ({back}), only an add misses one ({lost}), and at {apart} of {places} no two calls overlapped"
+        ),
+        Cause::Overflow => writeln!(
+            out,
+            "at {apart} of {places} no two calls overlapped, and keys differ by up to {span}"
+        ),
+        _ => writeln!(out, "at {apart} of {places} no two calls overlapped"),
+    }
+}
+
+/// Writes the fact for a cause of keys that are lost and come back.
+fn put_because_of_gone(
+    out: &mut String,
+    evidence: &Evidence,
+    cause: Cause,
+) -> Result<(), AllocError> {
+    let tally = &evidence.tally;
+    let (lost, back, timed, both) = (tally.lost, tally.came_back, tally.timed(), tally.both());
+    let (beside, alone, below, keys) = (tally.beside, tally.alone, tally.below, tally.keys);
+    let (swapped, undone) = (tally.swapped, tally.undone);
+    let (silent, gone) = (tally.silent, tally.gone());
+    match cause {
+        Cause::CarriedOutTwice => writeln!(
+            out,
+            "keys are lost ({lost}) and come back ({back}), and at {silent} of {gone} a call that returned false can have done it"
+        ),
+        Cause::NoLock => writeln!(
+            out,
+            "at {alone} of {timed} losses and returns no change of another key was running"
+        ),
+        Cause::OldCopy => writeln!(
+            out,
+            "keys are lost ({lost}) and come back ({back}), two calls return true ({both}), and at {beside} of {timed} another key changes"
+        ),
+        Cause::OldLink => writeln!(
+            out,
+            "keys are lost ({lost}) more than they come back ({back}), at {beside} of {timed} beside another change"
+        ),
+        Cause::Unlinked => writeln!(
+            out,
+            "at {below} of {timed} losses and returns a smaller key was removed, and the smallest key is never hit"
+        ),
+        Cause::WrittenBack => writeln!(
+            out,
+            "keys come back ({back}) and are lost ({lost}), at {beside} of {timed} beside another change"
+        ),
+        Cause::OtherKey => writeln!(
+            out,
+            "another key was lost at {swapped} of the {undone} removes after which their key came back"
+        ),
+        _ => writeln!(out, "{keys} keys are hit, each once"),
+    }
+}
+
+/// Writes the fact for the likely cause.
+pub(crate) fn put_because(
+    out: &mut String,
+    diagnosis: &Diagnosis,
+    cause: Cause,
+) -> Result<(), AllocError> {
+    let evidence = &diagnosis.evidence;
+    if let Some((one, two)) = evidence.merged {
+        return writeln!(
+            out,
+            "as calls of one key the calls of keys {one} and {two} have an order"
+        );
+    }
+    if let Some(odd) = &evidence.odd {
+        return put_because_of_odd(out, odd, cause);
+    }
+    match cause {
+        Cause::FirstUse
+        | Cause::GoesOn
+        | Cause::EarlierLook
+        | Cause::MadeAgain
+        | Cause::CheckThenAct
+        | Cause::BothCheck
+        | Cause::AddChecks
+        | Cause::RemoveChecks
+        | Cause::TwoPlaces => put_because_of_calls(out, &evidence.tally, cause),
+        Cause::Displaced | Cause::Batch | Cause::Evicted => {
+            put_because_of_lost(out, &evidence.tally, cause)
+        }
+        Cause::KeptTwice | Cause::Overflow | Cause::OneThread => {
+            put_because_of_one(out, evidence, cause)
+        }
+        _ => put_because_of_gone(out, evidence, cause),
+    }
+}

@@ -1,0 +1,133 @@
+//! The message of a diagnosis: headline, picture, scope, duration, and a likely cause.
+
+use crate::bars::put_picture;
+use crate::because::put_because;
+use crate::counted::count_in;
+use crate::diagnosis::{Diagnosis, diagnose};
+use crate::sentences::{cause_text, put_headline, put_known};
+use lset_judge::Count;
+use std::alloc::{AllocError, Global};
+use std::io::Read;
+use tool_facts::{Recorded, RunReader};
+
+/// The maximum number of lines that are not blank, with the verdict and without the line that a test adds.
+const MOST_LINES: usize = 15;
+
+/// Writes the scope, the duration and the likely cause.
+fn put_facts(out: &mut String, diagnosis: &Diagnosis) -> Result<(), AllocError> {
+    put_known(out, diagnosis)?;
+    if let Some(cause) = diagnosis.cause {
+        let text = cause_text(cause);
+        writeln!(out, "likely: {text}")?;
+        out.push_str("  because ")?;
+        put_because(out, diagnosis, cause)?;
+    }
+    Ok(())
+}
+
+/// Returns the number of lines that are not blank.
+fn lines_of(text: &str) -> usize {
+    text.lines().filter(|line| !line.is_empty()).count()
+}
+
+/// Returns the message of a diagnosis, without the verdict. The message and the `used` lines above it have at most 15 lines that are not
+/// blank. Allocates.
+pub fn diagnosis_text(
+    alloc: Global,
+    diagnosis: &Diagnosis,
+    used: usize,
+) -> Result<String, AllocError> {
+    let mut facts = String::new(alloc);
+    put_facts(&mut facts, diagnosis)?;
+    let taken = lines_of(&facts).saturating_add(used).saturating_add(1);
+    let room = MOST_LINES.saturating_sub(taken);
+    let mut out = String::new(alloc);
+    out.push_str("\n")?;
+    put_headline(&mut out, diagnosis)?;
+    if !diagnosis.shown.is_empty() {
+        out.push_str("\n")?;
+        put_picture(alloc, &mut out, diagnosis, room)?;
+    }
+    out.push_str("\n")?;
+    out.push_str(facts.as_str())?;
+    Ok(out)
+}
+
+/// The lines of a count in a message.
+const COUNT_LINES: usize = 3;
+
+/// The number of lines of a verdict without a clash.
+const LEAST_USED: usize = 2;
+
+/// The explanation of a refused recording.
+#[derive(Drop)]
+pub struct Explained {
+    /// A count of the refused key, if the verdict has no clash and a count was found.
+    pub count: Option<Count>,
+    /// The message of the diagnosis.
+    pub text: String,
+}
+
+/// The number of calls from which on an explanation is of so many first calls alone, if these have no order.
+const MOST_EXPLAINED: usize = 1_000_000;
+
+/// Describes a diagnosis in an explanation. `recorded` has the calls as they ended later.
+fn described(
+    alloc: Global,
+    recorded: &Recorded,
+    diagnosis: &Diagnosis,
+    used: usize,
+) -> Result<Explained, AllocError> {
+    let count = if used <= LEAST_USED {
+        count_in(alloc, recorded, diagnosis)?
+    } else {
+        None
+    };
+    let lines = if count.is_some() { COUNT_LINES } else { 0 };
+    let text = diagnosis_text(alloc, diagnosis, used.saturating_add(lines))?;
+    Ok(Explained { count, text })
+}
+
+/// Explains why no order explains the first calls of a recording that is longer. `None` if some order explains them.
+fn explain_first(
+    alloc: Global,
+    reader: &RunReader,
+    used: usize,
+) -> Result<Option<Explained>, AllocError> {
+    let Some(part) = reader.first_calls(MOST_EXPLAINED)? else {
+        return Ok(None);
+    };
+    let Some(mut diagnosis) = diagnose(alloc, &part)? else {
+        return Ok(None);
+    };
+    diagnosis.complete(&reader.recorded().calls);
+    Ok(Some(described(alloc, reader.recorded(), &diagnosis, used)?))
+}
+
+/// Reads a recording, and explains why no order explains it. The verdict above the explanation has `used` lines: two without a clash. If no
+/// order explains the first `MOST_EXPLAINED` calls, the explanation is of these, and the other lines are not read. Returns `None` if a read
+/// fails, if the text is no recording, or if some order explains it. Allocates; blocks as the input does.
+pub fn explain<R: Read>(
+    alloc: Global,
+    input: &mut R,
+    used: usize,
+) -> Result<Option<Explained>, AllocError> {
+    let mut reader = RunReader::new(alloc);
+    match reader.read_calls(input, MOST_EXPLAINED)? {
+        None => return Ok(None),
+        Some(true) => {}
+        Some(false) => {
+            let first = explain_first(alloc, &reader, used)?;
+            if first.is_some() || reader.read_calls(input, usize::MAX)?.is_none() {
+                return Ok(first);
+            }
+        }
+    }
+    let Some(recorded) = reader.finish() else {
+        return Ok(None);
+    };
+    match diagnose(alloc, &recorded)? {
+        None => Ok(None),
+        Some(diagnosis) => Ok(Some(described(alloc, &recorded, &diagnosis, used)?)),
+    }
+}
