@@ -55,7 +55,7 @@ ReadsIn None old new = ⊥
 abbrev pub HasReadHeld : Held → Held → Type 0
 HasReadHeld h h' = ReadsIn (set_in h) (seat_in h) (seat_in h')
 
--- A call c from a seat of C returned n. From an empty seat n is 255, and the seat is still empty.
+-- The call c from a seat of C returned n. For an empty seat, n is 255 and the seat stays empty.
 abbrev pub HasMade : Bool → Held → Call → ℕ → Bool → Held → Type 0
 HasMade true h c n true h' = (r : Option Reply) × (n ≡ code_of r) × HasCalledHeld h c r h'
 HasMade false h c n false h' = n ≡ 255

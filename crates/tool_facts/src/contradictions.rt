@@ -12,11 +12,11 @@ use std::alloc::{AllocError, Global};
 /// A contradiction between calls of one key.
 #[derive(Clone, Copy)]
 pub struct Clash {
-    /// The call that leaves the key in the state `was`. `None` if `stretch` leaves it so, or if `was` is the opening state.
+    /// The call that leaves the key in the state `was`. `None` if `stretch` does, or if `was` is the opening state.
     pub first: Option<Made>,
-    /// The call that needs the other state. `None` if the other state is the final state.
+    /// The call that needs the other state. `None` if that is the final state.
     pub second: Option<Made>,
-    /// Changes that overlap one another, and leave the key in the state `was` by their number.
+    /// Overlapping changes that leave the key in the state `was`, which follows from their number.
     pub stretch: Option<Stretch>,
     pub was: Presence,
     pub since: u64,
@@ -24,7 +24,7 @@ pub struct Clash {
 }
 
 impl Clash {
-    /// Returns whether the two calls overlap.
+    /// Returns `true` if the two calls overlap.
     pub fn overlaps(&self) -> bool {
         match (self.first, self.second) {
             (Some(first), Some(second)) => second.begun < first.ended,
@@ -32,7 +32,7 @@ impl Clash {
         }
     }
 
-    /// Returns the begin of the first call of the clash.
+    /// Returns the moment at which the first call of the contradiction began.
     pub fn begun(&self) -> u64 {
         match (self.stretch, self.first, self.second) {
             (Some(stretch), _, _) => stretch.read.map_or(stretch.begun, |read| read.begun),
@@ -83,7 +83,7 @@ fn clash_before(key: &KeyCalls, stretches: &[Stretch], need: Need) -> Option<Cla
     None
 }
 
-/// Returns the clash of a call with calls that had ended before it began.
+/// Finds earlier calls that had ended before `call` began and contradict it.
 pub fn clash_of(key: &KeyCalls, stretches: &[Stretch], call: Made) -> Option<Clash> {
     let need = Need {
         second: Some(call),
@@ -165,7 +165,7 @@ impl Apart {
     }
 }
 
-/// Returns clashes of a key that do not overlap one another in time, in the order of time. Allocates.
+/// Returns the contradictions of a key, without those that overlap others, ordered by time. Allocates.
 pub fn clashes_of(
     alloc: Global,
     key: &KeyCalls,

@@ -4,12 +4,13 @@ use std::alloc::{AllocError, Global};
 /// How many calls began while another call was running.
 #[derive(Drop)]
 pub struct Crossings {
-    /// For each call, in the order of their begins: how many of the calls up to it began while another call was running.
+    /// For each call, in the order in which calls began: how many calls, up to and including it, began while another
+    /// call was running.
     counts: Vec<u32>,
 }
 
 impl Crossings {
-    /// Returns the crossings of calls, given in the order of their begins. Allocates.
+    /// Computes the crossings of calls, which must be in the order in which they began. Allocates.
     pub fn of(alloc: Global, calls: &[Made]) -> Result<Crossings, AllocError> {
         let mut counts = Vec::new(alloc);
         let (mut count, mut latest) = (0u32, 0u64);
@@ -28,7 +29,7 @@ impl Crossings {
         self.counts.get(count.wrapping_sub(1)).copied().unwrap_or(0)
     }
 
-    /// Returns whether no two of the calls overlapped from `since` to `until`.
+    /// Returns `true` if no two of the calls overlapped between `since` and `until`.
     pub fn has_none(&self, calls: &[Made], since: u64, until: u64) -> bool {
         let first = calls.partition_point(|call| call.begun < since);
         let end = calls.partition_point(|call| call.begun <= until);

@@ -25,7 +25,7 @@ fn by_ends(alloc: Global, calls: &[Made]) -> Result<Vec<Made>, AllocError> {
 }
 
 impl Fullness {
-    /// Returns the numbers of a recording. Allocates.
+    /// Computes the numbers for a recording. Allocates.
     pub fn of(alloc: Global, runs: &Runs<'_>) -> Result<Fullness, AllocError> {
         let opening = &runs.recorded.opening;
         let mut present = Vec::from_elem(alloc, false, runs.places())?;
@@ -58,7 +58,7 @@ impl Fullness {
         Ok(full)
     }
 
-    /// Returns the number of keys that are shown present just before a moment.
+    /// Returns the number of keys that are known to be present just before a moment.
     pub fn before(&self, moment: u64) -> u64 {
         let at = self.ends.partition_point(|end| *end < moment);
         self.counts
@@ -67,7 +67,8 @@ impl Fullness {
             .unwrap_or(self.first)
     }
 
-    /// Returns at how many of 100 begins of calls, in a sample, between `least` and `most` keys are shown present.
+    /// Returns the percentage of calls, in a sample, at whose begin between `least` and `most` keys are known to be
+    /// present.
     pub fn share_between(&self, calls: &[Made], least: u64, most: u64) -> u64 {
         let step = calls.len().checked_div(SAMPLED).unwrap_or(0);
         let (mut count, mut tried, mut next) = (0u64, 0u64, 0usize);

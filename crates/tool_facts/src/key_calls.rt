@@ -86,7 +86,7 @@ pub struct KeyCalls {
 }
 
 impl KeyCalls {
-    /// Returns the calls of a key, given in the order of their begins, indexed for searches. Allocates.
+    /// Indexes the calls of a key for searches. The calls must be in the order in which they began. Allocates.
     pub fn new(
         alloc: Global,
         key: u32,
@@ -110,7 +110,8 @@ impl KeyCalls {
         })
     }
 
-    /// Returns whether a call that changed the key to a state, or can have done so, overlaps the time from `since` to `until`.
+    /// Returns `true` if a call that changed the key to this state, or can have done so, overlaps the time from `since`
+    /// to `until`.
     pub fn may_become(&self, state: Presence, since: u64, until: u64) -> bool {
         match state {
             Presence::Present => self.puts.overlap(since, until),
@@ -118,7 +119,7 @@ impl KeyCalls {
         }
     }
 
-    /// Returns the call that began last among those that had ended before a moment and left the key in a state.
+    /// Returns the last call to begin among those that had ended before a moment and left the key in this state.
     pub fn proof_before(&self, state: Presence, moment: u64) -> Option<Made> {
         match state {
             Presence::Present => self.present.before(moment),
@@ -126,7 +127,7 @@ impl KeyCalls {
         }
     }
 
-    /// Returns the number of calls that began by a moment.
+    /// Returns how many calls had begun by a moment.
     pub fn begun_by(&self, moment: u64) -> usize {
         self.calls.partition_point(|call| call.begun <= moment)
     }
@@ -136,8 +137,8 @@ impl KeyCalls {
         self.calls.get(self.begun_by(moment)..).unwrap_or(&[])
     }
 
-    /// Returns the calls of an operation that returned false and overlap the time from `since` to `until`. Looks at the `MOST_OLDER` calls
-    /// that began last before `since`.
+    /// Returns the calls of an operation that returned false and overlap the time from `since` to `until`. Of the calls
+    /// that began before `since`, considers only the last `MOST_OLDER`.
     pub fn refusals(
         &self,
         alloc: Global,
@@ -157,7 +158,7 @@ impl KeyCalls {
         Ok(found)
     }
 
-    /// Returns the completed change of the key to a state that began last by a moment.
+    /// Returns the last completed change of the key to this state that had begun by a moment.
     pub fn change_before(&self, state: Presence, moment: u64) -> Option<Made> {
         let end = self.begun_by(moment);
         let earlier = self.calls.get(..end).unwrap_or(&[]);

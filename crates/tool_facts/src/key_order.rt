@@ -26,7 +26,7 @@ impl Pending {
         })
     }
 
-    /// Adds a call if it is completed later.
+    /// Adds a call if it has an end.
     pub fn push(&mut self, call: Made) -> Result<(), AllocError> {
         if call.reply.is_some() {
             self.calls.push(call)?;
@@ -38,7 +38,7 @@ impl Pending {
         self.calls.len()
     }
 
-    /// Removes and returns the call that ends first, if it ends before a moment.
+    /// Removes and returns the call with the earliest end, if that is before a moment.
     pub fn next_before(&mut self, at: u64) -> Option<Made> {
         let mut least: Option<usize> = None;
         let mut end = at;
@@ -90,7 +90,7 @@ fn are_alike(some: &[u64], others: &[u64]) -> bool {
 }
 
 impl KeyState {
-    /// Returns the state of a key with no pending changes.
+    /// Creates the state of a key with no pending changes.
     pub fn new(alloc: Global, state: Presence) -> KeyState {
         KeyState {
             state,
@@ -110,7 +110,7 @@ impl KeyState {
         })
     }
 
-    /// Returns whether every continuation that is accepted from state `than` is accepted from this state.
+    /// Returns `true` if every continuation that is accepted after the state `than` is also accepted after this one.
     pub fn is_like(&self, than: &KeyState) -> bool {
         self.state == than.state
             && self.turned >= than.turned
@@ -126,7 +126,7 @@ impl KeyState {
         }
     }
 
-    /// Applies the pending change with the nearest end that can change the state. Returns whether there was one.
+    /// Applies the pending change with the nearest end that can change the state. Returns `true` if there was one.
     pub fn flip(&mut self, at: u64) -> bool {
         if !self.take_next() {
             return false;
@@ -136,7 +136,7 @@ impl KeyState {
         true
     }
 
-    /// Returns whether the call that ends has its reply explained.
+    /// Returns `true` if the reply of the ending call agrees with the state.
     pub fn satisfies(&self, call: Made) -> bool {
         match call.makes() {
             Some(Presence::Present) => !self.adds.contains(&call.ended),
@@ -148,7 +148,8 @@ impl KeyState {
         }
     }
 
-    /// Applies pending changes until the call that ends has its reply explained. Returns whether that is possible.
+    /// Applies pending changes until the reply of the ending call agrees with the state. Returns `true` if that is
+    /// possible.
     pub fn settle(&mut self, call: Made) -> bool {
         let most = self.adds.len().saturating_add(self.removes.len());
         for _ in 0..most {
@@ -172,7 +173,7 @@ impl KeyState {
         Ok(())
     }
 
-    /// Processes the ends before a moment. Returns the first end by which no order explains the calls.
+    /// Processes all ends before a moment. Returns the first end up to which the calls are not linearizable.
     pub fn end_before(&mut self, pending: &mut Pending, at: u64) -> Option<u64> {
         for _ in 0..pending.len() {
             let call = pending.next_before(at)?;
@@ -183,7 +184,7 @@ impl KeyState {
         None
     }
 
-    /// Returns whether `left` can be the final state of the key.
+    /// Returns `true` if `left` is a possible final state of the key.
     pub fn may_be_left(&self, left: Option<Presence>) -> bool {
         let turns = match self.state {
             Presence::Present => !self.removes.is_empty(),
@@ -193,8 +194,9 @@ impl KeyState {
     }
 }
 
-/// Returns the first moment by which no order explains the calls of a key, given in the order of their begins, from an opening state. `NEVER`
-/// if orders explain the calls, and none leaves the final state. `None` if an order explains the calls and leaves it. Allocates.
+/// Returns the first moment up to which a key's calls, in the order in which they began, are not linearizable. Returns
+/// `NEVER` if the calls are linearizable but no order leaves the final state, and `None` if nothing is wrong.
+/// Allocates.
 pub fn failing_moment(
     alloc: Global,
     calls: &[Made],
@@ -220,7 +222,8 @@ pub fn failing_moment(
     })
 }
 
-/// Returns whether some order explains the calls of a key from an opening state, and leaves the final state if one is given. Allocates.
+/// Returns `true` if some order explains a key's calls from an opening state and leaves the final state, if one is
+/// given. Allocates.
 pub fn has_order(
     alloc: Global,
     calls: &[Made],

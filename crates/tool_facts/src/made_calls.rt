@@ -24,7 +24,7 @@ impl Operation {
         }
     }
 
-    /// Returns the operation that changes a key to a state.
+    /// Returns the operation that brings a key into this state.
     pub fn that_makes(state: Presence) -> Operation {
         match state {
             Presence::Present => Operation::Add,
@@ -33,7 +33,7 @@ impl Operation {
     }
 }
 
-/// Returns the other state of a key.
+/// Returns the opposite state.
 pub fn other(state: Presence) -> Presence {
     match state {
         Presence::Present => Presence::Absent,
@@ -55,7 +55,7 @@ pub struct Made {
 }
 
 impl Made {
-    /// Returns a call of the judge's stream as a `Made`.
+    /// Converts a call from the judge's stream.
     pub fn of(call: StreamCall) -> Made {
         let operation = match call.call {
             Call::Add(_) => Operation::Add,
@@ -76,7 +76,7 @@ impl Made {
         }
     }
 
-    /// Returns the call for the judge's stream.
+    /// Converts the call for the judge's stream.
     pub fn to_stream(self) -> StreamCall {
         let key = Key(self.key);
         let call = match self.operation {
@@ -97,7 +97,7 @@ impl Made {
         }
     }
 
-    /// Returns the state that the key needs to have just before the call takes effect. `None` if the reply is not known.
+    /// Returns the state that the key must have just before the call takes effect; `None` if the reply is unknown.
     pub fn needs(self) -> Option<Presence> {
         let yes = self.reply?;
         let is_present = match self.operation {
@@ -111,12 +111,12 @@ impl Made {
         })
     }
 
-    /// Returns whether the call changed its key, or can have changed it.
+    /// Returns `true` if the call changed its key, or may have done so.
     pub fn changes(self) -> bool {
         self.operation != Operation::Contains && self.reply != Some(false)
     }
 
-    /// Returns the state to which the call changed its key, or can have changed it.
+    /// Returns the state into which the call brought its key, or may have brought it.
     pub fn makes(self) -> Option<Presence> {
         if !self.changes() {
             return None;
@@ -128,18 +128,18 @@ impl Made {
         }
     }
 
-    /// Returns the state in which a completed call leaves its key. `None` if the reply is not known.
+    /// Returns the state in which a completed call leaves its key; `None` if the reply is unknown.
     pub fn leaves(self) -> Option<Presence> {
         let needs = self.needs()?;
         Some(self.makes().unwrap_or(needs))
     }
 
-    /// Returns whether the call ended without a change of its key.
+    /// Returns `true` if the call ended without changing its key.
     pub fn reads(self) -> bool {
         self.reply.is_some() && !self.changes()
     }
 
-    /// Returns the call with the other reply.
+    /// Returns the call with the opposite reply.
     pub fn turned(self) -> Made {
         Made {
             reply: self.reply.map(|yes| !yes),
@@ -159,7 +159,7 @@ impl Made {
         }
     }
 
-    /// Returns whether the call overlaps the time from `since` to `until`.
+    /// Returns `true` if the call overlaps the time from `since` to `until`.
     pub fn overlaps(self, since: u64, until: u64) -> bool {
         self.begun <= until && self.ended >= since
     }

@@ -58,8 +58,8 @@ fn partner_of(
     Ok(None)
 }
 
-/// Returns two refused keys whose calls have an order as calls of one key. Of more than `MOST_PAIRED` refused keys, only pairs with the
-/// first one are tried. Allocates.
+/// Returns two refused keys whose calls are linearizable as calls of one key. If there are more than `MOST_PAIRED`
+/// refused keys, tries only pairs with the first one. Allocates.
 pub fn merged_keys(
     alloc: Global,
     runs: &Runs<'_>,

@@ -13,7 +13,7 @@ pub struct Neighbours {
 }
 
 impl Neighbours {
-    /// Returns the completed changes among calls in the order of their begins. Allocates.
+    /// Indexes the completed changes among these calls. Allocates.
     pub fn of(alloc: Global, calls: &[Made]) -> Result<Neighbours, AllocError> {
         let mut changes = Vec::new(alloc);
         let mut latest = Vec::new(alloc);
@@ -28,8 +28,8 @@ impl Neighbours {
         Ok(Neighbours { changes, latest })
     }
 
-    /// Returns at most `most` completed changes of other keys that overlap the time from `since` to `until`, the last to begin first.
-    /// Allocates.
+    /// Returns at most `most` completed changes of other keys that overlap the time from `since` to `until`, the latest
+    /// first. Allocates.
     pub fn around(
         &self,
         alloc: Global,
@@ -53,7 +53,8 @@ impl Neighbours {
         Ok(found)
     }
 
-    /// Returns whether a completed change of another key overlaps the time from `since` to `until`, by an operation if one is given.
+    /// Returns `true` if a completed change of another key overlaps the time from `since` to `until`. If an operation
+    /// is given, considers only its changes.
     pub fn overlap(&self, key: u32, since: u64, until: u64, operation: Option<Operation>) -> bool {
         let sought = match operation {
             None => Sought::OfOtherKey,
@@ -62,7 +63,7 @@ impl Neighbours {
         self.has(key, since, until, sought)
     }
 
-    /// Returns whether a completed remove of a smaller key overlaps the time from `since` to `until`.
+    /// Returns `true` if a completed remove of a smaller key overlaps the time from `since` to `until`.
     pub fn unlink_below(&self, key: u32, since: u64, until: u64) -> bool {
         self.has(key, since, until, Sought::RemoveOfSmallerKey)
     }
@@ -73,7 +74,7 @@ impl Neighbours {
         self.has(change.key, change.begun, change.ended, sought)
     }
 
-    /// Returns whether a completed change that is sought overlaps the time from `since` to `until`.
+    /// Returns `true` if a completed change of the sought kind overlaps the time from `since` to `until`.
     fn has(&self, key: u32, since: u64, until: u64, sought: Sought) -> bool {
         let end = self.changes.partition_point(|call| call.begun <= until);
         let changes = self.changes.get(..end).unwrap_or(&[]);

@@ -8,12 +8,12 @@ use lset_judge::{Judge, StreamFault, Verdict};
 use lset_words::{Presence, increases};
 use std::alloc::{AllocError, Global};
 
-/// Returns whether a call is an answer of an operation: it changes nothing.
+/// Returns `true` if a call is an answer of this operation, that is, changes nothing.
 pub fn is_answer(call: Made, operation: Operation) -> bool {
     call.operation == operation && call.reads()
 }
 
-/// Returns the calls of a key without the answers of an operation.
+/// Returns a key's calls without the answers of an operation.
 pub fn without(
     alloc: Global,
     calls: &[Made],
@@ -28,7 +28,7 @@ pub fn without(
     Ok(others)
 }
 
-/// Returns whether the calls of a key have an order without the answers of an operation. Allocates.
+/// Returns `true` if a key's calls are linearizable without the answers of an operation. Allocates.
 pub fn is_explained_without(
     alloc: Global,
     calls: &[Made],
@@ -40,7 +40,8 @@ pub fn is_explained_without(
     has_order(alloc, &others, opening, left)
 }
 
-/// Returns whether the judge accepts all calls without the answers of an operation, with any final keys if `is_cut`. Allocates.
+/// Returns `true` if the judge accepts all calls without the answers of an operation (with any final keys, if
+/// `is_cut`). Allocates.
 pub fn is_judged_without(
     alloc: Global,
     recorded: &Recorded,
@@ -77,7 +78,7 @@ const MOST_STEPS: u64 = 50_000_000;
 pub struct WrongAnswers {
     pub wrong: Vec<Made>,
     steps: u64,
-    /// Whether all answers were decided, and the calls without the wrong answers have an order.
+    /// Whether all answers were decided, and the calls without the wrong ones are linearizable.
     pub is_exact: bool,
 }
 
@@ -185,7 +186,7 @@ fn is_rest_explained(
 }
 
 impl WrongAnswers {
-    /// Returns no wrong answers.
+    /// Creates an empty collection.
     pub fn new(alloc: Global) -> WrongAnswers {
         WrongAnswers {
             wrong: Vec::new(alloc),
@@ -194,7 +195,7 @@ impl WrongAnswers {
         }
     }
 
-    /// Adds the wrong answers of a key whose other calls have an order. Allocates.
+    /// Adds the wrong answers for a key whose other calls are linearizable. Allocates.
     pub fn add_of_key(
         &mut self,
         alloc: Global,

@@ -28,11 +28,12 @@ struct Around {
 /// The possible repairs of a contradiction.
 #[derive(Drop)]
 pub struct Repairs {
-    /// Calls. If any one of them had the other reply, the calls around the clash would have an order.
+    /// If any one of these calls had the opposite reply, the calls around the contradiction would be linearizable.
     pub turned: Vec<Made>,
-    /// Adds and removes that returned false. If any one of them were missing, the calls around the clash would have an order.
+    /// If any one of these adds and removes, which returned false, were missing, the calls around the contradiction
+    /// would be linearizable.
     pub dropped: Vec<Made>,
-    /// Whether the calls around the clash would have an order with one more change between its two calls.
+    /// Whether one more change between the two contradicting calls would make the calls around them linearizable.
     pub change: bool,
 }
 
@@ -189,7 +190,7 @@ fn repairs_until(
     Ok(repairs)
 }
 
-/// Returns the repairs of a clash that give an order to the calls around it and to some calls after it. Allocates.
+/// Returns the repairs that make the calls around a contradiction and some later calls linearizable. Allocates.
 pub fn repairs_of(
     alloc: Global,
     key: &KeyCalls,
@@ -214,8 +215,8 @@ pub fn repairs_of(
     })
 }
 
-/// Returns whether the other reply of a call was expected: the calls that had begun when the call ended have no order, and have one with the
-/// other reply. Allocates.
+/// Returns `true` if the opposite reply of a call was expected: the calls that had begun by the end of this call are
+/// not linearizable, but would be with that reply. Allocates.
 pub fn is_expected(
     alloc: Global,
     key: &KeyCalls,

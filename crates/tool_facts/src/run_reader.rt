@@ -10,7 +10,7 @@ pub struct Recorded {
     pub opening: Vec<u32>,
     pub calls: Vec<Made>,
     pub left: Vec<u32>,
-    /// Whether the recording was cut off: then the final keys are not known.
+    /// Whether the recording was cut off, so that the final keys are unknown.
     pub is_cut: bool,
     /// Whether these are only the first calls of a longer recording.
     pub is_part: bool,
@@ -22,7 +22,7 @@ impl Recorded {
         presence_in(&self.opening, key)
     }
 
-    /// Returns the final state of a key. `None` if it is not known.
+    /// Returns a key's final state; `None` if it is unknown.
     pub fn leaves(&self, key: u32) -> Option<Presence> {
         if self.is_cut {
             None
@@ -123,13 +123,13 @@ impl RunReader {
         }
     }
 
-    /// Returns all that was read until now.
+    /// Returns everything read so far.
     pub fn recorded(&self) -> &Recorded {
         &self.recorded
     }
 
-    /// Reads to the end of the input, or until more than `most` calls are kept. Returns whether the input has ended, and `None` if a read
-    /// fails. Allocates; blocks as the input does.
+    /// Reads to the end of the input, or until more than `most` calls are kept. Returns `true` if the input has ended,
+    /// and `None` if a read fails. Allocates. Blocks while reading.
     pub fn read_calls<R: Read>(
         &mut self,
         input: &mut R,
@@ -151,8 +151,8 @@ impl RunReader {
         Ok(None)
     }
 
-    /// Returns the first `count` calls as a recording that is cut off just before the next call begins. `None` if fewer calls were read, or
-    /// if a line is wrong. Allocates.
+    /// Returns the first `count` calls as a recording that was cut off just before the next call began. Returns `None`
+    /// if fewer calls were read or a line is wrong. Allocates.
     pub fn first_calls(&self, count: usize) -> Result<Option<Recorded>, AllocError> {
         let Some(next) = self.recorded.calls.get(count) else {
             return Ok(None);

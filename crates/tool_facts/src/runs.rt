@@ -9,7 +9,7 @@ use std::alloc::{AllocError, Global};
 pub struct Runs<'a> {
     alloc: Global,
     pub recorded: &'a Recorded,
-    /// The keys of calls, in increasing order.
+    /// The keys that have calls, in increasing order.
     keys: Vec<u32>,
     /// For each key in `keys`, the index after its last call in `calls`.
     ends: Vec<usize>,
@@ -97,7 +97,7 @@ impl KeyTable {
 }
 
 impl<'a> Runs<'a> {
-    /// Groups the calls of a recording by their keys. Allocates.
+    /// Groups the calls of a recording by key. Allocates.
     pub fn of(alloc: Global, recorded: &'a Recorded) -> Result<Runs<'a>, AllocError> {
         let table = KeyTable::of(alloc, &recorded.calls)?;
         let mut counts = Vec::from_elem(alloc, 0usize, table.keys.len())?;
@@ -140,7 +140,7 @@ impl<'a> Runs<'a> {
         self.keys.len()
     }
 
-    /// Returns the index of a key among those that have calls. `usize::MAX` if the key has none.
+    /// Returns the index of a key among those that have calls; `usize::MAX` if the key has none.
     pub fn place(&self, key: u32) -> usize {
         let place = place_of(&self.keys, key);
         if self.keys.get(place) == Some(&key) {
@@ -150,7 +150,7 @@ impl<'a> Runs<'a> {
         }
     }
 
-    /// Returns the calls of a key, in the order of their begins.
+    /// Returns a key's calls in the order in which they began.
     pub fn made_of(&self, key: u32) -> &[Made] {
         let place = self.place(key);
         if place == usize::MAX {
@@ -161,14 +161,14 @@ impl<'a> Runs<'a> {
         self.calls.get(start..end).unwrap_or(&[])
     }
 
-    /// Returns the calls of a key, indexed for searches. Allocates.
+    /// Returns a key's calls, indexed for searches. Allocates.
     pub fn calls_of(&self, key: u32) -> Result<KeyCalls, AllocError> {
         let calls = Vec::from_slice(self.alloc, self.made_of(key))?;
         let (opening, left) = (self.recorded.opens(key), self.recorded.leaves(key));
         KeyCalls::new(self.alloc, key, calls, opening, left)
     }
 
-    /// Returns all keys of the recording in increasing order. Allocates.
+    /// Returns all keys in the recording in increasing order. Allocates.
     pub fn keys(&self) -> Result<Vec<u32>, AllocError> {
         let mut keys = Vec::from_slice(self.alloc, &self.keys)?;
         keys.extend_from_slice(&self.recorded.opening)?;
@@ -178,7 +178,7 @@ impl<'a> Runs<'a> {
         Ok(keys)
     }
 
-    /// Returns the keys whose calls have no order. Allocates.
+    /// Returns the keys whose calls are not linearizable. Allocates.
     pub fn refused(&self, keys: &[u32]) -> Result<Vec<Refused>, AllocError> {
         let mut refused = Vec::new(self.alloc);
         for key in keys {

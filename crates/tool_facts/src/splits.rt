@@ -101,7 +101,7 @@ impl Split {
     }
 }
 
-/// Returns the longest split of a key, by the number of its answers. Allocates.
+/// Returns the split of a key with the most answers. Allocates.
 pub fn longest_split(alloc: Global, key: &KeyCalls) -> Result<Option<Split>, AllocError> {
     let mut best: Option<Split> = None;
     let mut split = Split::since(key.key, 0);

@@ -11,9 +11,9 @@ use std::alloc::{AllocError, Global};
 pub struct Stretch {
     pub begun: u64,
     pub ended: u64,
-    /// The state of the key after the changes in every order, if it follows from their number and from `read`.
+    /// The key's state after these changes in every order, if it follows from their number and from `read`.
     pub leaves: Option<Presence>,
-    /// A call before the changes that shows the state of the key, if it is needed.
+    /// An earlier call that shows the key's state, if that is needed.
     pub read: Option<Made>,
 }
 
@@ -105,7 +105,7 @@ fn stretch_of(key: &KeyCalls, sum: Sum, last: Option<Stretch>) -> Stretch {
     }
 }
 
-/// Returns the stretches of a key in the order of time, up to the first pending change. Allocates.
+/// Returns the stretches of a key ordered by time, up to the first pending change. Allocates.
 pub fn stretches_of(alloc: Global, key: &KeyCalls) -> Result<Vec<Stretch>, AllocError> {
     let mut found: Vec<Stretch> = Vec::new(alloc);
     let mut sum: Option<Sum> = None;

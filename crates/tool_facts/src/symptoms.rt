@@ -33,13 +33,13 @@ pub struct Place {
     pub key: u32,
     pub clash: Clash,
     pub symptom: Symptom,
-    /// The call with the one wrong reply.
+    /// The call with the only wrong reply.
     pub wrong: Option<Made>,
-    /// An add or remove that returned false: with the other reply the calls around have an order.
+    /// An add or remove that returned false. If it had returned true, the surrounding calls would be linearizable.
     pub silent: Option<Made>,
-    /// Whether the calls around have an order with the other reply of one call.
+    /// Whether the surrounding calls are linearizable with the opposite reply of one call.
     pub is_turned: bool,
-    /// The number of calls of the key that begin by the end of the clash.
+    /// How many calls of the key had begun by the end of the contradiction.
     pub begun: usize,
 }
 
@@ -67,7 +67,7 @@ fn only_turned(
     Ok(only(&found))
 }
 
-/// Returns the symptom of a call with the one wrong reply.
+/// Returns the symptom of a call with the only wrong reply.
 pub fn symptom_of_reply(call: Made) -> Symptom {
     match call.needs() {
         Some(Presence::Present) => Symptom::Found(call.operation),
@@ -93,7 +93,7 @@ fn both_true(clash: &Clash) -> Option<Operation> {
     }
 }
 
-/// Returns the place of a clash, with its symptom. Allocates.
+/// Determines the symptom of a contradiction. Allocates.
 pub fn place_of(
     alloc: Global,
     key: &KeyCalls,
@@ -132,7 +132,8 @@ pub fn place_of(
     Ok(place)
 }
 
-/// Returns the places of a key that do not overlap one another in time, in the order of time. Allocates.
+/// Returns the contradictions of a key with their symptoms, without those that overlap others, ordered by time.
+/// Allocates.
 pub fn places_of(alloc: Global, key: &KeyCalls) -> Result<Vec<Place>, AllocError> {
     let stretches = stretches_of(alloc, key)?;
     let clashes = clashes_of(alloc, key, &stretches)?;
@@ -144,12 +145,12 @@ pub fn places_of(alloc: Global, key: &KeyCalls) -> Result<Vec<Place>, AllocError
 }
 
 impl Place {
-    /// Returns whether the key was lost or came back.
+    /// Returns `true` if the key was lost or came back.
     pub fn is_gone(&self) -> bool {
         matches!(self.symptom, Symptom::Lost | Symptom::CameBack)
     }
 
-    /// Returns the length of the place in time. A place that is less clear counts as longer.
+    /// Returns the duration of the contradiction. A less clear one counts as longer.
     pub fn length(&self) -> u64 {
         let length = self.clash.until.saturating_sub(self.clash.begun());
         let is_long = self.clash.stretch.is_some() || self.clash.second.is_none();

@@ -56,7 +56,7 @@ pub struct Tally {
     pub made: u64,
     /// Of `made`: a change of another key that can have read the set before the change, and written it afterwards, overlapped the change.
     pub fits: u64,
-    /// At how many of all contradictions no two calls of the run overlapped.
+    /// How many contradictions, of all kinds, have no two overlapping calls.
     pub apart: u64,
     /// The number of keys with contradictions.
     pub keys: u64,
@@ -145,7 +145,7 @@ impl Tally {
         }
     }
 
-    /// Counts a loss at whose time these changes of other keys ran.
+    /// Counts a loss during which these changes of other keys ran.
     fn add_beside(&mut self, changes: &[Made]) {
         if changes.is_empty() || changes.len() > MOST_BESIDE {
             return;
@@ -212,8 +212,8 @@ impl Tally {
         }
     }
 
-    /// Counts what ran at the times of contradictions. `calls` are all calls of the recording, and `losses` all
-    /// contradictions in which a key was lost, in the order of time.
+    /// Counts what else ran during each contradiction. `calls` are all calls of the recording. `losses` are all
+    /// contradictions in which a key was lost, ordered by time.
     pub fn add_times(
         &mut self,
         alloc: Global,
@@ -236,8 +236,8 @@ impl Tally {
 }
 
 impl Tally {
-    /// Compares the number of keys that are present at losses with the number at other moments. `calls` are all calls of the recording, and
-    /// `losses` contradictions in which a key was lost within a short time.
+    /// Compares the number of keys present at losses with the number at other moments. `calls` are all calls of the
+    /// recording. `losses` are the contradictions in which a key was lost within a short time.
     pub fn add_fullness(&mut self, calls: &[Made], losses: &[Place], full: &Fullness) {
         let mut least = u64::MAX;
         for loss in losses {

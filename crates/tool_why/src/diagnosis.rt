@@ -50,7 +50,8 @@ pub struct Diagnosis {
     pub beside_count: usize,
     /// All contradictions in the order of time, if they are few and no operation alone is wrong.
     pub few: Vec<Place>,
-    /// A later call that agrees with the contradicting call or, if one reply alone is wrong, with the other calls.
+    /// A later call that agrees with the contradicting call. If only one reply is wrong, it agrees with the other calls
+    /// instead.
     pub later: Option<Made>,
     pub evidence: Evidence,
     pub cause: Option<Cause>,
@@ -62,7 +63,7 @@ pub struct Diagnosis {
     pub until: u64,
 }
 
-/// Returns the most frequent symptom. `None` if there is no lost key, no key that came back, and no pair of changes.
+/// Returns the most frequent symptom; `None` if there is no lost key, no key that came back, and no pair of changes.
 fn main_symptom(tally: &Tally) -> Option<Symptom> {
     let counts = [
         (tally.lost, Symptom::Lost),
@@ -144,7 +145,7 @@ fn few_of(alloc: Global, found: &Found) -> Result<Vec<Place>, AllocError> {
     Ok(few)
 }
 
-/// Returns a diagnosis without a picture.
+/// Creates a diagnosis without a picture.
 fn begin(alloc: Global, first: Refused, was: Presence, evidence: Evidence) -> Diagnosis {
     Diagnosis {
         symptom: Symptom::Unclear,
@@ -195,7 +196,7 @@ pub fn diagnose(alloc: Global, recorded: &Recorded) -> Result<Option<Diagnosis>,
     Ok(Some(diagnosis))
 }
 
-/// Returns the calls of a key without the answers of the odd operation but one.
+/// Returns a key's calls with only one of the faulty operation's answers.
 fn with_one_answer(
     alloc: Global,
     key: KeyCalls,
@@ -224,7 +225,7 @@ const MOST_BESIDE: usize = 3;
 /// The maximum number of changes of other keys that are counted.
 const MOST_AROUND: usize = 1_000;
 
-/// Adds a call to the picture if it is not in it.
+/// Adds a call to the picture unless it is already there.
 fn add(shown: &mut Vec<Shown>, call: Made) -> Result<(), AllocError> {
     if shown.iter().all(|one| one.call != call) {
         shown.push(Shown {
@@ -380,7 +381,7 @@ impl Diagnosis {
         Ok(())
     }
 
-    /// Marks the calls of a place.
+    /// Marks the calls of a contradiction.
     fn show_marks(
         &mut self,
         alloc: Global,

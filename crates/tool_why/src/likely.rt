@@ -67,7 +67,7 @@ pub enum Cause {
     EndsEarly,
     /// `add` gives up although the key is absent.
     AddGivesUp,
-    /// A lock does not exclude calls of one key.
+    /// A lock does not exclude other calls of the same key.
     NoLock,
     /// A whole copy overwrites newer changes.
     OldCopy,
@@ -107,7 +107,8 @@ fn share_of_all(percent: u64, times: u64) -> u64 {
     share
 }
 
-/// Returns whether by chance, in fewer than one of four cases, a change of another key would run during all wrong answers.
+/// Returns `true` if it is unlikely (a chance of less than one in four) that all wrong answers overlapped changes of
+/// other keys by accident.
 fn is_no_chance(odd: &Odd) -> bool {
     share_of_all(odd.usual, odd.missed) < 250_000
 }
@@ -119,7 +120,7 @@ fn is_beside_others(odd: &Odd) -> bool {
         && share_of_all(odd.usually_active, odd.wrong) < 250_000
 }
 
-/// Returns whether at least three quarters of the wrong answers are some of them.
+/// Returns `true` if `some` are at least three quarters of the wrong answers.
 fn are_most(some: u64, odd: &Odd) -> bool {
     some.saturating_mul(4) >= odd.missed.saturating_mul(3)
 }
@@ -135,7 +136,7 @@ fn is_last(odd: &Odd) -> bool {
     is_each && odd.keys >= 2 && odd.usually_largest <= 75
 }
 
-/// Returns the likely cause if contains alone is wrong, and only misses keys.
+/// Returns the likely cause if only `contains` is wrong and it only misses keys.
 fn cause_of_misses(odd: &Odd) -> Option<Cause> {
     let is_removed_beside = odd.wrong < 3 && odd.removing == odd.missed && is_no_chance(odd);
     if is_size(odd) {
@@ -155,7 +156,7 @@ fn cause_of_misses(odd: &Odd) -> Option<Cause> {
     }
 }
 
-/// Returns whether contains mostly misses a key if no other key is present, and not by chance.
+/// Returns `true` if `contains` mostly misses a key when no other key is present, more often than by chance.
 fn is_size(odd: &Odd) -> bool {
     let more_often = odd.usually_lonely.saturating_add(35);
     odd.compared >= 3
@@ -163,12 +164,12 @@ fn is_size(odd: &Odd) -> bool {
         && share_of_all(odd.usually_lonely, odd.lonely) < 50_000
 }
 
-/// Returns whether each thread answers what it saw last itself.
+/// Returns `true` if each thread answers what it saw last itself.
 fn is_own(odd: &Odd) -> bool {
     odd.wrong >= 8 && odd.own == odd.wrong
 }
 
-/// Returns the likely cause if contains alone is wrong.
+/// Returns the likely cause if only `contains` is wrong.
 fn cause_of_contains(odd: &Odd) -> Option<Cause> {
     if is_own(odd) && odd.found > 0 && odd.running.saturating_mul(2) < odd.wrong {
         Some(Cause::ThreadCache)
@@ -185,7 +186,7 @@ fn cause_of_contains(odd: &Odd) -> Option<Cause> {
     }
 }
 
-/// Returns the likely cause if remove alone is wrong.
+/// Returns the likely cause if only `remove` is wrong.
 fn cause_of_remove(odd: &Odd) -> Cause {
     let is_beside = odd.beside == odd.missed && are_most(odd.adding, odd);
     if odd.missed >= 3 && is_beside && is_no_chance(odd) {
@@ -209,7 +210,7 @@ fn cause_of_add(odd: &Odd) -> Option<Cause> {
     }
 }
 
-/// Returns the likely cause if one operation alone is wrong.
+/// Returns the likely cause if only one operation is wrong.
 fn cause_of_odd(odd: &Odd) -> Option<Cause> {
     let is_often = odd.wrong >= odd.keys.saturating_mul(2);
     match odd.operation {
@@ -380,7 +381,7 @@ fn check_then_act(tally: &Tally) -> Cause {
     }
 }
 
-/// Returns the likely cause if changes that overlap go wrong.
+/// Returns the likely cause if overlapping changes go wrong.
 fn cause_of_races(evidence: &Evidence) -> Option<Cause> {
     let tally = &evidence.tally;
     if is_first_use(evidence) {
