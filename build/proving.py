@@ -18,7 +18,7 @@ import version_stamp
 SECONDS_BETWEEN = 60  # between two lines about the crates in progress
 MINUTES_OF_A_CRATE = 2  # on one processor, on average
 # Patterns for the output of rt: a crate is done, and something is not proved
-IS_DONE = re.compile(r"rt: (\w+) (?:proved|is kept: .*)")
+IS_DONE = re.compile(r"rt: (\w+) proved")
 IS_ERROR = re.compile(r"(^|: )error[:[]|it is not proved that|^rt: \w+ NOT PROVED|^rt: .*FAILED")
 
 
@@ -84,11 +84,10 @@ def prove_below(room, names, tell):
         lines.append(line)
         if found := IS_DONE.fullmatch(line):
             done.append(found[1])
-            how = "proved earlier" if "is kept" in line else "proved"
-            tell(f"{minutes_since(began)}: {found[1]} {how}, {len(done)} of {len(names)}")
+            tell(f"{minutes_since(began)}: {found[1]} proved, {len(done)} of {len(names)}")
 
     tell(f"proving {len(names)} crates by rt ci, about {max(1, round(MINUTES_OF_A_CRATE * len(names) / processors))} minutes if no other work needs the "
-         f"{processors} processors; Ctrl-C ends it and keeps what is proved")
+         f"{processors} processors; each run proves all of them anew, also after Ctrl-C")
     with telling_each_minute(room, tell, began):
         status = prove(room, names, tell_done)
     if status:

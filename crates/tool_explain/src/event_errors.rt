@@ -54,6 +54,9 @@ fn put_form(out: &mut String, lines: &Lines<'_>, place: Place<'_>) -> Result<(),
         (b"opening", 2) => out.push_str(
             "Opening keys come before the first event: move the line up, below line 4.\n",
         ),
+        (b"key", 2) => out.push_str(
+            "A key that the set has at the start is 'opening K', above the first event, and line 1 is 'listset-schedule 2'.\n",
+        ),
         _ => {
             put_quoted(out, field_or_empty(line, 0))?;
             out.push_str(

@@ -4,7 +4,8 @@ use crate::kinds::{Place, TextKind};
 use crate::lined::{Lines, count_fields, field_or_empty};
 use std::alloc::AllocError;
 
-/// Explains a text without bytes, in UTF-16, or with a byte order mark. Returns false, and writes nothing, of any other text.
+/// Explains a text that has no bytes, is in UTF-16, begins with a byte order mark, or is packed by gzip. Returns false, and
+/// writes nothing, for any other text.
 pub(crate) fn put_encoding(out: &mut String, file: &str, text: &[u8]) -> Result<bool, AllocError> {
     match text {
         [] => writeln!(
@@ -18,6 +19,10 @@ pub(crate) fn put_encoding(out: &mut String, file: &str, text: &[u8]) -> Result<
         [0xef, 0xbb, 0xbf, ..] => writeln!(
             out,
             "{file} begins with the bytes \\xef\\xbb\\xbf.\nA byte order mark is before line 1. To remove it: sed -i '1s/^\\xef\\xbb\\xbf//' {file}"
+        )?,
+        [0x1f, 0x8b, ..] => writeln!(
+            out,
+            "{file} is packed by gzip.\nThe text is packed. To unpack it: gzip -dc {file} > NEW"
         )?,
         _ => return Ok(false),
     }
