@@ -1,11 +1,12 @@
 //! Errors in the events of a schedule or of a draft.
 
 use crate::drafts::{put_lock, steps_out};
-use crate::kinds::{Place, TextKind};
-use crate::lined::{Lines, count_fields, field, field_or_empty, number_at, put_quoted};
-use crate::written::{put_no_call, put_number};
 use lset_text::Cause;
 use std::alloc::{AllocError, Global};
+use text_errors::{
+    Lines, Place, TextKind, count_fields, field, field_or_empty, number_at, put_no_call,
+    put_number, put_quoted,
+};
 
 const CALLS: &str = "add, remove, contains and, in version 2, ceiling";
 

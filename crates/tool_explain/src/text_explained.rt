@@ -1,13 +1,11 @@
 use crate::event_errors::put_event;
-use crate::keyed::{put_key_line, wrong_key};
-use crate::kinds::{Place, TextKind};
-use crate::lined::{Lines, put_visible, quoted_name};
-use crate::recorded::put_recording_line;
-use crate::reported::put_report_line;
-use crate::spoiled::{put_encoding, put_no_title, put_not_ended, put_spoiled};
-use crate::written::{put_header, put_opening};
 use lset_text::{Cause, cut};
 use std::alloc::{AllocError, Global};
+use text_errors::{
+    Lines, Place, TextKind, put_encoding, put_header, put_key_line, put_no_title, put_not_ended,
+    put_opening, put_recording_line, put_report_line, put_spoiled, put_visible, quoted_name,
+    wrong_key,
+};
 use tool_base::{Answer, LONGEST, Trouble, answer_text};
 use tool_judge::judge_bytes;
 use tool_replay::{Check, Expand, Replay};

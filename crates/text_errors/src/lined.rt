@@ -6,15 +6,15 @@ const MOST_PRINTED: usize = 100;
 
 /// The lines of a text, counted from 1.
 #[derive(Drop)]
-pub(crate) struct Lines<'a> {
+pub struct Lines<'a> {
     lines: Vec<&'a [u8]>,
     /// Whether the last line ends with a newline.
-    pub(crate) is_ended: bool,
+    pub is_ended: bool,
 }
 
 impl<'a> Lines<'a> {
     /// Splits a text into its lines.
-    pub(crate) fn of(alloc: Global, text: &'a [u8]) -> Result<Lines<'a>, AllocError> {
+    pub fn of(alloc: Global, text: &'a [u8]) -> Result<Lines<'a>, AllocError> {
         let mut lines = Vec::new(alloc);
         let mut rest = text;
         for _ in 0..text.len() {
@@ -34,12 +34,12 @@ impl<'a> Lines<'a> {
     }
 
     /// Returns the number of the lines.
-    pub(crate) fn count(&self) -> usize {
+    pub fn count(&self) -> usize {
         self.lines.len()
     }
 
     /// Returns line `number` without its newline, or no bytes if there is no such line.
-    pub(crate) fn line(&self, number: usize) -> &'a [u8] {
+    pub fn line(&self, number: usize) -> &'a [u8] {
         match self.lines.get(number.saturating_sub(1)) {
             Some(line) => *line,
             None => b"",
@@ -47,7 +47,7 @@ impl<'a> Lines<'a> {
     }
 
     /// Returns the number of the last line before line `number` for which `is_meant` holds.
-    pub(crate) fn last_before<F: Fn(&[u8]) -> bool + Drop>(
+    pub fn last_before<F: Fn(&[u8]) -> bool + Drop>(
         &self,
         number: usize,
         is_meant: F,
@@ -66,7 +66,7 @@ impl<'a> Lines<'a> {
 }
 
 /// Returns field `index` (from 0) of a line. Fields are separated by one space. `None` if the line has no such field.
-pub(crate) fn field(line: &[u8], index: usize) -> Option<&[u8]> {
+pub fn field(line: &[u8], index: usize) -> Option<&[u8]> {
     let mut rest = line;
     for _ in 0..index {
         let (_, after) = cut(rest, b' ')?;
@@ -79,12 +79,12 @@ pub(crate) fn field(line: &[u8], index: usize) -> Option<&[u8]> {
 }
 
 /// Returns field `index` (from 0) of a line, or no bytes if the line has no such field.
-pub(crate) fn field_or_empty(line: &[u8], index: usize) -> &[u8] {
+pub fn field_or_empty(line: &[u8], index: usize) -> &[u8] {
     field(line, index).unwrap_or(b"")
 }
 
 /// Returns the number of fields of a line.
-pub(crate) fn count_fields(line: &[u8]) -> usize {
+pub fn count_fields(line: &[u8]) -> usize {
     line.iter()
         .filter(|byte| **byte == b' ')
         .count()
@@ -92,17 +92,17 @@ pub(crate) fn count_fields(line: &[u8]) -> usize {
 }
 
 /// Returns the number in field `index`, if it is in the range of threads, keys and calls.
-pub(crate) fn number_at(line: &[u8], index: usize) -> Option<u32> {
+pub fn number_at(line: &[u8], index: usize) -> Option<u32> {
     number(field(line, index)?, 0, u32::MAX)
 }
 
 /// Returns the number in field `index`, if it is a moment.
-pub(crate) fn moment_at(line: &[u8], index: usize) -> Option<u64> {
+pub fn moment_at(line: &[u8], index: usize) -> Option<u64> {
     long_number(field(line, index)?, 1, u64::MAX)
 }
 
 /// Appends at most 100 bytes of a text in visible characters: a tab becomes `\t`, and a byte that is not ASCII `\xHH`.
-pub(crate) fn put_visible(out: &mut String, bytes: &[u8]) -> Result<(), AllocError> {
+pub fn put_visible(out: &mut String, bytes: &[u8]) -> Result<(), AllocError> {
     for byte in bytes.iter().take(MOST_PRINTED) {
         match *byte {
             b'\t' => out.push_str("\\t")?,
@@ -118,7 +118,7 @@ pub(crate) fn put_visible(out: &mut String, bytes: &[u8]) -> Result<(), AllocErr
 }
 
 /// Appends bytes in visible characters, between apostrophes.
-pub(crate) fn put_quoted(out: &mut String, bytes: &[u8]) -> Result<(), AllocError> {
+pub fn put_quoted(out: &mut String, bytes: &[u8]) -> Result<(), AllocError> {
     out.push_str("'")?;
     put_visible(out, bytes)?;
     out.push_str("'")
@@ -135,7 +135,7 @@ fn is_plain(byte: u8) -> bool {
 
 /// Returns a file's name as a command line has it: between apostrophes if it has a space or another byte that a shell does
 /// not take as it is, and after `./` if it begins with a hyphen.
-pub(crate) fn quoted_name(alloc: Global, file: &str) -> Result<String, AllocError> {
+pub fn quoted_name(alloc: Global, file: &str) -> Result<String, AllocError> {
     let mut name = String::new(alloc);
     let is_quoted = file.is_empty() || !file.as_bytes().iter().all(|byte| is_plain(*byte));
     if is_quoted {

@@ -17,7 +17,7 @@ const OF_RECORDING: CallFields = CallFields {
 };
 
 /// Explains a line of a recording below the title.
-pub(crate) fn put_recording_line(
+pub fn put_recording_line(
     out: &mut String,
     lines: &Lines<'_>,
     place: Place<'_>,

@@ -21,7 +21,7 @@ const OF_REPORT: CallFields = CallFields {
 };
 
 /// Explains a line of a report below the header.
-pub(crate) fn put_report_line(
+pub fn put_report_line(
     out: &mut String,
     lines: &Lines<'_>,
     place: Place<'_>,

@@ -42,7 +42,7 @@ fn in_range(name: &'static str, index: usize, low: u64, high: u64) -> NumberFiel
 }
 
 /// Explains a line with a number that is wrong, by the numbers that a line of its kind has.
-pub(crate) fn put_number(out: &mut String, place: Place<'_>) -> Result<(), AllocError> {
+pub fn put_number(out: &mut String, place: Place<'_>) -> Result<(), AllocError> {
     let is_stop = matches!(field_or_empty(place.line, 2), b"out" | b"to");
     let thread = plain("THREAD", 1);
     match (place.kind, field_or_empty(place.line, 0)) {
@@ -112,7 +112,7 @@ fn advice_on(name: &str) -> &'static str {
 }
 
 /// Explains a word that is no call, in field `index` of a line. Returns false, and writes nothing, if the word is a call.
-pub(crate) fn put_no_call(
+pub fn put_no_call(
     out: &mut String,
     place: Place<'_>,
     index: usize,
@@ -128,7 +128,7 @@ pub(crate) fn put_no_call(
 }
 
 /// Explains a header line that is wrong.
-pub(crate) fn put_header(out: &mut String, number: usize) -> Result<(), AllocError> {
+pub fn put_header(out: &mut String, number: usize) -> Result<(), AllocError> {
     let text = match number {
         1 => {
             "Line 1 must be a title: listset-schedule 1 (or 2), listset-draft 2, listset-report 1 (or 2), listset-calls 1.\n"
@@ -143,11 +143,7 @@ pub(crate) fn put_header(out: &mut String, number: usize) -> Result<(), AllocErr
 }
 
 /// Explains a key that is not above the key before.
-pub(crate) fn put_opening(
-    out: &mut String,
-    place: Place<'_>,
-    above: &[u8],
-) -> Result<(), AllocError> {
+pub fn put_opening(out: &mut String, place: Place<'_>, above: &[u8]) -> Result<(), AllocError> {
     let file = place.file;
     put_quoted(out, place.line)?;
     out.push_str(" comes after ")?;

@@ -7,7 +7,7 @@ use lset_text::Cause;
 use std::alloc::AllocError;
 
 /// Returns the number of the first line that `serve` refuses, and the cause.
-pub(crate) fn wrong_key(lines: &Lines<'_>) -> Option<(usize, Cause)> {
+pub fn wrong_key(lines: &Lines<'_>) -> Option<(usize, Cause)> {
     let mut before: Option<u32> = None;
     for number in 1..lines.count().saturating_add(1) {
         let line = lines.line(number);
@@ -36,7 +36,7 @@ pub(crate) fn wrong_key(lines: &Lines<'_>) -> Option<(usize, Cause)> {
 }
 
 /// Explains a line that is wrong in the keys for `serve`.
-pub(crate) fn put_key_line(
+pub fn put_key_line(
     out: &mut String,
     lines: &Lines<'_>,
     place: Place<'_>,

@@ -6,7 +6,7 @@ use std::alloc::AllocError;
 
 /// Explains a text that has no bytes, is in UTF-16, begins with a byte order mark, or is packed by gzip. Returns false, and
 /// writes nothing, for any other text.
-pub(crate) fn put_encoding(out: &mut String, file: &str, text: &[u8]) -> Result<bool, AllocError> {
+pub fn put_encoding(out: &mut String, file: &str, text: &[u8]) -> Result<bool, AllocError> {
     match text {
         [] => writeln!(
             out,
@@ -54,7 +54,7 @@ fn has_spoiled_title(lines: &Lines<'_>) -> bool {
 }
 
 /// Explains a first line that is no title. Advises an edit only if the text is one of listset but for its first line.
-pub(crate) fn put_no_title(
+pub fn put_no_title(
     out: &mut String,
     lines: &Lines<'_>,
     place: Place<'_>,
@@ -89,7 +89,7 @@ pub(crate) fn put_no_title(
 }
 
 /// Explains a line that is wrong in every kind of text. Returns false, and writes nothing, of any other line.
-pub(crate) fn put_spoiled(out: &mut String, place: Place<'_>) -> Result<bool, AllocError> {
+pub fn put_spoiled(out: &mut String, place: Place<'_>) -> Result<bool, AllocError> {
     let (file, number) = (place.file, place.number);
     match place.line {
         [.., b'\r'] => put_cr(out, file)?,
@@ -135,11 +135,7 @@ fn has_two_spaces(line: &[u8]) -> bool {
 }
 
 /// Explains a last line without a newline (`is_line`), or a last line that is missing.
-pub(crate) fn put_not_ended(
-    out: &mut String,
-    place: Place<'_>,
-    is_line: bool,
-) -> Result<(), AllocError> {
+pub fn put_not_ended(out: &mut String, place: Place<'_>, is_line: bool) -> Result<(), AllocError> {
     let (file, last) = (place.file, place.number.saturating_sub(1));
     if is_line {
         return writeln!(
