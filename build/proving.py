@@ -22,6 +22,23 @@ IS_DONE = re.compile(r"rt: (\w+) proved")
 IS_ERROR = re.compile(r"(^|: )error[:[]|it is not proved that|^rt: \w+ NOT PROVED|^rt: .*FAILED")
 
 
+def note_of(room, name):
+    """Returns the file that exists once a crate is proved in a folder."""
+    return room / ".git" / "proved" / name
+
+
+def end_of(room):
+    """Returns the file that exists once build/prove --in has ended."""
+    return room / ".git" / "ended"
+
+
+def wait_for(room, names):
+    """Waits until build/prove --in has proved these crates in a folder, or has ended. Returns whether the crates are proved."""
+    while not (has_ended := end_of(room).exists()) and not all(note_of(room, it).exists() for it in names):
+        time.sleep(2)
+    return not has_ended or all(note_of(room, it).exists() for it in names)
+
+
 def prove(room, names, tell, is_whole=False):
     """Proves these crates in the folder `room` and returns the status of rt ci. `tell` receives each line of
     output, with the folder of this repository in place of the copy's. The libraries remain in `room`. With
