@@ -27,7 +27,7 @@ ROWS = {
     "byte order mark": ("replay", "\ufeff" + RIGHT, "line 1: Header", [r"\xef\xbb\xbf", r"sed -i '1s/^\xef\xbb\xbf//' FILE"]),
     "byte order mark of a recording": ("judge", "\ufeff" + RIGHT_CALLS, "line 1: Header", [r"sed -i '1s/^\xef\xbb\xbf//' FILE"]),
     "UTF-16": ("replay", RIGHT.encode("utf-16"), "line 1: Header", ["UTF-16", "iconv -f UTF-16 -t UTF-8"]),
-    "packed by gzip": ("judge", b"\x1f\x8b\x08\x00", "line 1: Header", ["packed by gzip", "gzip -dc FILE"]),
+    "packed by gzip": ("judge", b"\x1f\x8b\x08\x00\n", "line 1: Header", ["packed by gzip", "gzip -dc FILE"]),
     "a recording for replay": ("replay", RIGHT_CALLS, "line 1: Header", ["recorded calls", "listset judge FILE"]),
     "a report for replay": ("replay", RIGHT_REPORT, "line 1: Header", ["a report", "listset show FILE"]),
     "a schedule for judge": ("judge", RIGHT, "line 1: Header", ["a schedule", "listset replay FILE"]),

@@ -166,6 +166,7 @@ print(*gate.not_run(sys.executable), sep="\\n")
 """
 
 
+@pytest.mark.needs("gcc")
 def test_tests_without_their_tool_are_listed_and_do_not_pass(room):
     how = {"cwd": TOP, "env": {**os.environ, "TMPDIR": str(room), "PATH": str(bare_path(room / "path", "git", "gcc"))}}
     listed = well(sys.executable, "-c", NOT_RUN, **how)
