@@ -82,17 +82,32 @@ read_by() {
   esac
 }
 
-# Prints what is wrong in a file, and how to correct it, which is the last line that the command explain prints. If the
-# cause $3 is Header and command $1 does not read this kind of file, prints both kinds and the commands that read the file.
+# Prints the first line of what a command reads.
+title_of() {
+  case "$1" in
+    replay | trace) echo "'listset-schedule 1' (or 2)" ;;
+    check) echo "'listset-report 1' (or 2)" ;;
+    draft) echo "'listset-draft 2'" ;;
+    judge) echo "'listset-calls 1'" ;;
+    *) echo "'listset-schedule 1' or 'listset-report 1' (or 2)" ;;
+  esac
+}
+
+# Prints what is wrong in a file, and what to do: the last line of what the command explain prints. If the cause $3 is
+# Header and the file is of another kind than command $1 reads, prints both kinds and the commands that read the file.
+# If such a file is of no kind, prints the first line of what the command reads.
 explain_in_a_line() {
-  local command=$1 file=$2 said first use
+  local command=$1 file=$2 said first last use
   said=$(explain_file "$file")
   first=${said%%$'\n'*}
+  last=$(tail -n 1 <<<"$said")
   use=$(print_use "$file" "$first")
   if [ "${3-}" = Header ] && [ -n "$use" ]; then
     echo "${first%%, and *}, and $command reads $(read_by "$command"). $use"
+  elif [ "${3-}" = Header ] && [[ "$last" == "Line 1 must be one of"* ]]; then
+    echo "$(quoted "$file") is no text of listset. $command reads $(read_by "$command"): line 1 must be $(title_of "$command"), and docs/TEXTS.md has the lines below it"
   else
-    tail -n 1 <<<"$said"
+    echo "$last"
   fi
 }
 
@@ -141,6 +156,8 @@ explain_unread() {
   file=$(print_file "$1")
   if [ -n "$file" ]; then
     explain_in_a_line "$1" "$file"
+  elif [ "$1" != serve ] && [ "${values[0]-none}" = "" ]; then
+    echo "The name of the file is empty. Perhaps a variable of the shell has no value"
   elif [ -n "$is_input_closed" ]; then
     echo "Standard input is closed. Name a file: listset $1 FILE"
   else
@@ -185,9 +202,9 @@ explain_value() {
   usage=$(sed -n 's/^Usage: //p' <<<"$help")
   read -ra words <<<"$usage"
   case "$command $name" in
-    "example NAME") echo "listset example lists the names" && return ;;
-    "faults CAUSE") echo "listset faults lists all causes" && return ;;
-    "judge KEY") echo "KEY is a number from 0 to 4294967295, and the recording has a call of it" && return ;;
+    "example NAME") echo "There is no example '${values[0]-}'. listset example lists the names" && return ;;
+    "faults CAUSE") echo "There is no cause '${values[0]-}'. listset faults lists all causes" && return ;;
+    "judge KEY") echo "KEY '${texts[only]-}' is wrong. It is a number from 0 to 4294967295, and the recording has a call of this key" && return ;;
     *\ FROM | *\ TO | *\ WIDTH) explain_option "$name" "$(sed -n "s/^ *--${name,,} <[MN]> *//p" <<<"$help")" && return ;;
   esac
   range=$(sed -n "s/^ *\[$name\] *//p" <<<"$help")
@@ -230,18 +247,29 @@ explain_word() {
     --lacks) echo "--lacks is an option of replay, show and trace" ;;
     -v | --v | --ver) echo "listset --version prints the version" ;;
     -*)
+      for name in svg from to width brief only chain broken lacks; do
+        for file in "${given[@]}"; do
+          case "$file" in "-$name" | "-$name="*) echo "An option has two hyphens: --$name" && return ;; esac
+        done
+      done
+      case "$word" in -o | --output | --out) echo "The result goes to standard output. To write it to a file: listset $command .. > FILE" && return ;; esac
       for file in "${given[@]}"; do
         [[ "$file" != "$word"* ]] || [ ! -e "./$file" ] || { echo "If you mean the file: listset $command $(quoted "$file")" && return; }
       done
       if "${engine[@]}" help "${word#--}" >/dev/null 2>&1; then
         echo "A command has no hyphens: listset ${word#--}"
+      elif [[ "$command" == -* ]]; then
+        echo "listset --help lists the commands"
       else
         echo "listset help $command lists its arguments and options"
       fi ;;
     *)
-      if [ -f "$word" ]; then
-        echo "$command reads one file. Run the command once for each"
-      fi ;;
+      case "$command" in
+        gen | run | serve) ;;
+        example) echo "example prints one schedule. Run the command once for each" ;;
+        faults) echo "faults explains one cause, the last word of an error line. Run the command once for each" ;;
+        *) echo "$command reads one file. Run the command once for each" ;;
+      esac ;;
   esac
 }
 
@@ -253,6 +281,10 @@ explain_command() {
     use=$(print_use "$1" "$first")
     [ -n "$use" ] || use="listset explain $(quoted "$1") says what it has"
     echo "If you mean the file: ${first%%, and *}. $use"
+  elif [ "$1" = version ]; then
+    echo "listset --version prints the version"
+  elif [ "$1" = prove ] || [ "$1" = unproved ]; then
+    echo "If you mean the option of the script: ./listset --$1"
   else
     echo "listset --help lists the commands"
   fi

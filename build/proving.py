@@ -16,10 +16,27 @@ import toolchain
 import version_stamp
 
 SECONDS_BETWEEN = 60  # between two lines about the crates in progress
-MINUTES_OF_A_CRATE = 2  # on one processor, on average
-# Patterns for the output of rt: a crate is done, and something is not proved.
-IS_DONE = re.compile(r"rt: (\w+) (?:proved|is kept: .*)")
+MINUTES_OF_A_CRATE = 3  # on one processor, on average
+# Patterns for the output of rt: a crate is done, and something is not proved
+IS_DONE = re.compile(r"rt: (\w+) proved")
 IS_ERROR = re.compile(r"(^|: )error[:[]|it is not proved that|^rt: \w+ NOT PROVED|^rt: .*FAILED")
+
+
+def note_of(room, name):
+    """Returns the file that exists once a crate is proved in a folder."""
+    return room / ".git" / "proved" / name
+
+
+def end_of(room):
+    """Returns the file that exists once build/prove --in has ended."""
+    return room / ".git" / "ended"
+
+
+def wait_for(room, names):
+    """Waits until build/prove --in has proved these crates in a folder, or has ended. Returns whether the crates are proved."""
+    while not (has_ended := end_of(room).exists()) and not all(note_of(room, it).exists() for it in names):
+        time.sleep(2)
+    return not has_ended or all(note_of(room, it).exists() for it in names)
 
 
 def prove(room, names, tell, is_whole=False):
@@ -86,11 +103,10 @@ def prove_below(room, names, tell):
         lines.append(line)
         if found := IS_DONE.fullmatch(line):
             done.append(found[1])
-            how = "proved earlier" if "is kept" in line else "proved"
-            tell(f"{minutes_since(began)}: {found[1]} {how}, {len(done)} of {len(names)}")
+            tell(f"{minutes_since(began)}: {found[1]} proved, {len(done)} of {len(names)}")
 
-    tell(f"proving {len(names)} crates with rt ci, about {max(1, round(MINUTES_OF_A_CRATE * len(names) / processors))} minutes if no other work needs the "
-         f"{processors} processors; Ctrl-C ends it and keeps what is proved")
+    tell(f"proving {len(names)} crates by rt ci, about {max(1, round(MINUTES_OF_A_CRATE * len(names) / processors))} minutes if no other work needs the "
+         f"{processors} processors; each run proves all of them anew, also after Ctrl-C")
     with telling_each_minute(room, tell, began):
         status = prove(room, names, tell_done)
     if status:

@@ -4,7 +4,8 @@
     pytest-3 tests/serve_clients.py   runs the tests of a file, or of a page in tests/transcripts; -k WORD selects tests by name
     pytest-3 --program=PROGRAM        tests this program; by default the proved or the unproved one, whichever has younger sources
     pytest-3 --few                    draws a tenth of the random inputs
-    pytest-3 --show PAGE              prints what the commands of a page in tests/transcripts print now, in the page's format
+    pytest-3 --show PAGE              prints what the commands of a page of tests/transcripts print now, in the page's form
+    pytest-3 --tools                  also fails a test that runs a command of build/needs.txt without a mark `needs` for the command
 
 A test that needs a missing tool or program is skipped with a message. If it was selected by -k or as FILE::NAME, it
 fails.
@@ -13,6 +14,7 @@ fails.
 import collections
 import fcntl
 import os
+import pathlib
 import pickle
 import re
 import shutil
@@ -28,7 +30,8 @@ def pytest_addoption(parser):
     group.addoption("--program", type=os.path.realpath, help="the program that is tested")
     group.addoption("--few", action="store_true", help="draws only a tenth of the random inputs")
     group.addoption("--missing", action="store_true", help="with --collect-only: prints the commands that are not installed, and how many tests need each")
-    group.addoption("--show", action="store_true", help="prints the current output of the commands on a page")
+    group.addoption("--tools", action="store_true", help="fails a test that runs a command of build/needs.txt without a mark for it")
+    group.addoption("--show", action="store_true", help="prints what the commands of a page print now")
 
 
 @pytest.hookimpl(tryfirst=True)
@@ -97,6 +100,39 @@ def has_what_it_needs(request, lacking):
             lacking(why)
 
 
+# Commands that every machine with the tests has
+ALWAYS_HERE = {"rt", "python3", "pytest", "git", "bash", "setpriv"}
+NOTES = '#!/bin/sh\necho "{name}" >>"${{TOOLS_USED:-/dev/null}}"\nexec "{place}" "$@"\n'
+
+
+@pytest.fixture(scope="session")
+def noting(pytestconfig, tmp_path_factory):
+    """With --tools, returns a folder for PATH: for each optional command of build/needs.txt a script that writes the command's name to
+    the file TOOLS_USED, and then runs the command. Otherwise returns None."""
+    if not pytestconfig.option.tools:
+        return None
+    folder = tmp_path_factory.mktemp("noting")
+    for name in filter(shutil.which, NEEDS.keys() - ALWAYS_HERE):
+        (folder / name).write_text(NOTES.format(name=name, place=shutil.which(name)))
+        (folder / name).chmod(0o755)
+    return folder
+
+
+@pytest.fixture(autouse=True)
+def uses_what_it_needs(request, noting, has_what_it_needs, tmp_path_factory, monkeypatch):
+    """With --tools, fails a test that runs a command without a mark for it. The test would fail on a machine without this command."""
+    if not noting:
+        yield
+        return
+    used = pathlib.Path(tmp_path_factory.mktemp("used"), "names")
+    used.touch()
+    monkeypatch.setenv("PATH", f"{noting}:{os.environ['PATH']}")
+    monkeypatch.setenv("TOOLS_USED", str(used))
+    yield
+    unmarked = {*used.read_text().split()} - {it for mark in request.node.iter_markers("needs") for it in mark.args}
+    assert not unmarked, f"the test has no mark for {', '.join(sorted(unmarked))}"
+
+
 @pytest.fixture(scope="session")
 def program(pytestconfig, lacking):
     """Returns the program under test."""
@@ -115,6 +151,20 @@ def room(tmp_path):
     clear(tmp_path)
 
 
+def made_with_tools(make, *words):
+    """Returns the result of a function, and with --tools the names of the commands that the function ran."""
+    of_test = os.environ.get("TOOLS_USED")
+    if not of_test:
+        return make(*words), ""
+    os.environ["TOOLS_USED"] = f"{of_test}.once"
+    try:
+        result = make(*words)
+    finally:
+        os.environ["TOOLS_USED"] = of_test
+    used = pathlib.Path(f"{of_test}.once")
+    return result, used.read_text() if used.exists() else ""
+
+
 @pytest.fixture(scope="session")
 def once(tmp_path_factory, worker_id):
     """Returns a function that calls another function with a new folder and caches the result for all tests of the run,
@@ -130,8 +180,13 @@ def once(tmp_path_factory, worker_id):
             if not kept.exists():
                 shutil.rmtree(folder, ignore_errors=True)  # (left by a failed call, which the next test repeats)
                 folder.mkdir()
-                kept.write_bytes(pickle.dumps(make(folder, *further)))
-            return pickle.loads(kept.read_bytes())
+                kept.write_bytes(pickle.dumps(made_with_tools(make, folder, *further)))
+            result, used = pickle.loads(kept.read_bytes())
+        # (with --tools, a test that takes the result has used the commands that made it)
+        if used:
+            with open(os.environ["TOOLS_USED"], "a") as names:
+                names.write(used)
+        return result
 
     return made
 

@@ -18,6 +18,8 @@ AT_TERMINAL = {
     "replay a.schedule": ["listset: line 6: Idle\n", "Write 'go 0 11'"],
     "replay --lacks mark a.schedule": ["listset: line 2: Kind\n", "mark is a check of another list"],
     "check a.schedule": ["listset: line 1: Header\n", "a.schedule is a schedule, and check reads a report. For its report: ./listset replay a.schedule; for its picture: ./listset show a.schedule\n"],
+    "judge my.csv": ["listset: line 1: Header\n", "my.csv is no text of listset. judge reads recorded calls: line 1 must be 'listset-calls 1', and docs/TEXTS.md"],
+    "show my.csv": ["listset: line 1: Header\n", "line 1 must be 'listset-schedule 1' or 'listset-report 1' (or 2)"],
     "judge b.schedule": ["listset: line 1: Header\n", "b.schedule is a schedule, and judge reads recorded calls. For its report: ./listset replay b.schedule"],
     "replay -- -x.calls": ["listset: line 1: Header\n", "./-x.calls has recorded calls, and replay reads a schedule. For the verdict: ./listset judge ./-x.calls\n"],
     "judge it's_unsorted": ["listset: line 3: History\n", r"grep '^call' 'it'\''s_unsorted' | sort -n -k 5,5;", "| ./listset judge\n"],
@@ -33,11 +35,17 @@ AT_TERMINAL = {
     "show --from 700 long.schedule": ["listset: bad FROM\n", "; of this file, 1 to 600\n"],
     "show --from 5 --to 3 b.schedule": ["listset: bad TO\n", "TO '3' is wrong.", "; here, 5 or a later one\n"],
     "show --width 0 b.schedule": ["listset: bad WIDTH\n", "WIDTH '0' is wrong.", "1 to 4294967295"],
-    "example nosuch": ["listset: bad NAME\n", "listset example lists the names"],
+    "example nosuch": ["listset: bad NAME\n", "There is no example 'nosuch'. ./listset example lists the names"],
     "example --broken full": ["listset: bad NAME: this example has no broken report\n", "These examples have one: ", "snip"],
-    "judge --only x b.schedule": ["listset: bad KEY\n", "KEY is a number from 0 to 4294967295"],
+    "judge --only x b.schedule": ["listset: bad KEY\n", "KEY 'x' is wrong. It is a number from 0 to 4294967295"],
+    "judge -only 5 b.schedule": ["unexpected argument '-o' found\n", "An option has two hyphens: --only"],
+    "replay b.schedule -o out": ["unexpected argument '-o' found\n", "To write it to a file: ./listset replay .. > FILE"],
+    "example snip full": ["unexpected argument 'full' found\n", "example prints one schedule"],
+    "faults Idle Busy": ["unexpected argument 'Busy' found\n", "faults explains one cause"],
+    "--prov": ["unexpected argument '--prov' found\n", "./listset --help lists the commands"],
+    "version": ["unrecognized subcommand 'version'\n", "./listset --version prints the version"],
     "show --brief b.schedule": ["unexpected argument '--brief' found\n", "--brief is an option of judge"],
-    "faults nosuch": ["listset: bad CAUSE\n", "lists all causes"],
+    "faults nosuch": ["listset: bad CAUSE\n", "There is no cause 'nosuch'. ./listset faults lists all causes"],
     "b.schedule": ["unrecognized subcommand 'b.schedule'\n", "If you mean the file: b.schedule is a schedule. For its report: ./listset replay b.schedule; "],
     "judge -x.calls": ["unexpected argument '-x' found\n", "If you mean the file: ./listset judge ./-x.calls"],
     "serve lazy 1 4 0 0 b.schedule": ["listset: line 1: Line\n", "b.schedule is a schedule, and serve reads lines 'key K'."],
@@ -85,6 +93,7 @@ def script(program, room):
     (tree / "b.schedule").write_text(RIGHT)
     (tree / "long.schedule").write_text(SCHEDULE + "begin 0 contains 5\ngo 0 2\n" * 200)
     (tree / "-x.calls").write_text(RIGHT_CALLS)
+    (tree / "my.csv").write_text("thread,call,key\n0,add,5\n")
     (tree / "it's_unsorted").write_text(CALLS + "call 0 add 5 5 6 true\ncall 1 add 7 1 2 true\nend\n")
     return tree
 

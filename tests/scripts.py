@@ -9,9 +9,11 @@ import shutil
 import signal
 import subprocess
 import sys
+import threading
 import time
 
 import crates_txt
+import proving
 import pytest
 from harness.programs import LONG, SECONDS, TOP, comes, is_running, ran, wants, well
 
@@ -165,6 +167,7 @@ print(*gate.not_run(sys.executable), sep="\\n")
 """
 
 
+@pytest.mark.needs("gcc")
 def test_tests_without_their_tool_are_listed_and_do_not_pass(room):
     how = {"cwd": TOP, "env": {**os.environ, "TMPDIR": str(room), "PATH": str(bare_path(room / "path", "git", "gcc"))}}
     listed = well(sys.executable, "-c", NOT_RUN, **how)
@@ -185,7 +188,38 @@ def test_a_mark_of_an_unknown_tool_is_refused(room):
     assert done.returncode and "needs no-such-tool, which build/needs.txt does not list" in done.stdout + done.stderr, done
 
 
-# A script in which two threads run four commands, two at a time.
+# A test with and one without a mark for the command that it runs, and two tests that take one result
+TOOLS = """import subprocess
+import pytest
+
+def made(folder):
+    return subprocess.run(["gcc", "--version"]).returncode
+
+@pytest.mark.needs("gcc")
+def test_marked():
+    assert made(None) == 0
+
+def test_unmarked():
+    assert made(None) == 0
+
+@pytest.mark.needs("gcc")
+def test_first(once):
+    assert once(made) == 0
+
+def test_second(once):
+    assert once(made) == 0
+"""
+
+
+@pytest.mark.needs("gcc")
+def test_a_test_that_runs_a_tool_without_a_mark_fails(room):
+    (room / "tools.py").write_text(TOOLS)
+    words = [sys.executable, "-m", "pytest", "-q", "--tools", "-c", TOP / "pytest.ini", "-p", "conftest", "-p", "no:cacheprovider", "--rootdir", room, room / "tools.py"]
+    said = ran(*words, cwd=room, env={**os.environ, "PYTHONPATH": f"{TOP / 'tests'}:{TOP / 'build'}"}).stdout
+    assert re.findall("^ERROR .*::(\\w+) - .*no mark for gcc", said, re.M) == ["test_unmarked", "test_second"], said
+
+
+# A script whose two threads run four commands, two at a time
 FOUR = """import sys, time
 sys.path.insert(0, {build!r})
 import processes
@@ -239,7 +273,7 @@ def test_an_interrupted_proof_leaves_no_process_and_no_file(room, words):
     running.send_signal(signal.SIGINT)
     said, _ = running.communicate(timeout=SECONDS)
     assert (running.returncode, "Traceback" in said) == (130, False), said
-    assert "listset" not in words or re.search(r"proving \d+ crates with rt ci, about \d+ minutes .* \d+ processors; Ctrl-C ends it and keeps what is proved\n", said), said
+    assert "listset" not in words or re.search(r"proving \d+ crates by rt ci, about \d+ minutes .* \d+ processors; each run proves all of them anew, also after Ctrl-C\n", said), said
     comes(lambda: not is_running(int((room / "started").read_text())), "the end of what was started")
     assert [*(room / "temporary").iterdir()] == []
 
@@ -306,6 +340,17 @@ try_edits = importlib.util.module_from_spec(importlib.util.spec_from_loader("try
 loader.exec_module(try_edits)
 print(*(it.name for _, it in try_edits.Edit(pathlib.Path("crates/lset_words/must-fail/it.edit").resolve()).functions))
 """
+
+
+def test_edits_wait_until_the_libraries_below_are_proved_or_the_proofs_have_ended(room):
+    proving.note_of(room, "low").parent.mkdir(parents=True)
+    proving.note_of(room, "low").touch()
+    assert proving.wait_for(room, ["low"]) and proving.wait_for(room, [])
+    later = threading.Timer(1, proving.note_of(room, "high").touch)
+    later.start()
+    assert proving.wait_for(room, ["low", "high"])
+    proving.end_of(room).touch()
+    assert proving.wait_for(room, ["high"]) and not proving.wait_for(room, ["low", "not_proved"])
 
 
 def test_take_copies_crates_and_replaces_them(room):

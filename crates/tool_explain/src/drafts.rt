@@ -1,9 +1,8 @@
 //! Computes the next steps of a thread by running drafts and traces of the lines before an error.
 
 use crate::event_errors::thread_text;
-use crate::kinds::Place;
-use crate::lined::{Lines, field_or_empty, number_at};
 use std::alloc::{AllocError, Global};
+use text_errors::{Lines, Place, field_or_empty, number_at};
 use tool_base::{Tool, answer_text};
 use tool_replay::{Expand, Trace};
 

@@ -1,11 +1,12 @@
 //! Explains errors in the events of a schedule or draft.
 
 use crate::drafts::{put_lock, steps_out};
-use crate::kinds::{Place, TextKind};
-use crate::lined::{Lines, count_fields, field, field_or_empty, number_at, put_quoted};
-use crate::written::{put_no_call, put_number};
 use lset_text::Cause;
 use std::alloc::{AllocError, Global};
+use text_errors::{
+    Lines, Place, TextKind, count_fields, field, field_or_empty, number_at, put_no_call,
+    put_number, put_quoted,
+};
 
 const CALLS: &str = "add, remove, contains and, in version 2, ceiling";
 
@@ -53,6 +54,9 @@ fn put_form(out: &mut String, lines: &Lines<'_>, place: Place<'_>) -> Result<(),
         }
         (b"opening", 2) => out.push_str(
             "Opening keys come before the first event: move the line up, below line 4.\n",
+        ),
+        (b"key", 2) => out.push_str(
+            "A key that the set has at the start is 'opening K', above the first event, and line 1 is 'listset-schedule 2'.\n",
         ),
         _ => {
             put_quoted(out, field_or_empty(line, 0))?;

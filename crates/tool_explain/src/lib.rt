@@ -5,14 +5,7 @@
 mod drafts;
 mod event_errors;
 mod files;
-mod keyed;
-mod kinds;
-mod lined;
-mod recorded;
-mod reported;
-mod spoiled;
 mod text_explained;
-mod written;
 
 pub use files::{explain_input, explain_unopened};
 pub use text_explained::explain_text;

@@ -1,13 +1,11 @@
 use crate::event_errors::put_event;
-use crate::keyed::{put_key_line, wrong_key};
-use crate::kinds::{Place, TextKind};
-use crate::lined::{Lines, put_visible, quoted_name};
-use crate::recorded::put_recording_line;
-use crate::reported::put_report_line;
-use crate::spoiled::{put_encoding, put_no_title, put_not_ended, put_spoiled};
-use crate::written::{put_header, put_opening};
 use lset_text::{Cause, cut};
 use std::alloc::{AllocError, Global};
+use text_errors::{
+    Lines, Place, TextKind, put_encoding, put_header, put_key_line, put_no_title, put_not_ended,
+    put_opening, put_recording_line, put_report_line, put_spoiled, put_visible, quoted_name,
+    wrong_key,
+};
 use tool_base::{Answer, LONGEST, Trouble, answer_text};
 use tool_judge::judge_bytes;
 use tool_replay::{Check, Expand, Replay};
@@ -60,7 +58,7 @@ fn put_text(alloc: Global, out: &mut String, file: &str, text: &[u8]) -> Result<
         TextKind::Unknown => Err(Trouble::Line(1, Cause::Header)),
     };
     match said {
-        Ok(answer) => put_right(out, file, kind, &answer)?,
+        Ok(answer) => put_right(out, &lines, file, kind, &answer)?,
         Err(Trouble::Line(number, cause)) => {
             let number = usize::try_from(number).unwrap_or(usize::MAX);
             let place = Place {
@@ -94,6 +92,7 @@ fn said_of_keys(alloc: Global, lines: &Lines<'_>) -> Result<Answer, Trouble> {
 /// Explains a text without errors.
 fn put_right(
     out: &mut String,
+    lines: &Lines<'_>,
     file: &str,
     kind: TextKind,
     answer: &Answer,
@@ -108,11 +107,32 @@ fn put_right(
         put_visible(out, first)?;
         out.push_str("\n")?;
     }
-    put_use(out, file, kind, answer.status != 0)
+    if answer.status != 0 && kind == TextKind::Recording {
+        put_refused_recording(out, lines, file)
+    } else {
+        put_use(out, file, kind, answer.status != 0)
+    }
 }
 
-/// Prints the commands that read a text without errors. `is_refused` says whether its order, or every order, is
-/// refused.
+/// Prints what to do with recorded calls that no order explains.
+fn put_refused_recording(
+    out: &mut String,
+    lines: &Lines<'_>,
+    file: &str,
+) -> Result<(), AllocError> {
+    if lines.line(lines.count()) == b"cut".as_slice() {
+        return writeln!(
+            out,
+            "No order explains the calls. What is wrong: listset judge {file}"
+        );
+    }
+    writeln!(
+        out,
+        "No order explains the calls and leaves the keys of the 'key K' lines. What is wrong: listset judge {file}; if the final keys are not known, write 'cut' instead of the 'key' lines and 'end'"
+    )
+}
+
+/// Prints the commands that read a text without an error. `is_refused` is whether the order of a report is refused.
 fn put_use(
     out: &mut String,
     file: &str,
@@ -132,10 +152,6 @@ fn put_use(
         TextKind::Report => writeln!(
             out,
             "Its order is right. For its picture: listset show {file}"
-        ),
-        TextKind::Recording if is_refused => writeln!(
-            out,
-            "No order explains the calls and leaves the keys of the 'key K' lines. What is wrong: listset judge {file}; if the final keys are not known, write 'cut' instead of the 'key' lines and 'end'"
         ),
         TextKind::Recording => writeln!(
             out,

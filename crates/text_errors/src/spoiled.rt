@@ -4,9 +4,9 @@ use crate::kinds::{Place, TextKind};
 use crate::lined::{Lines, count_fields, field_or_empty};
 use std::alloc::AllocError;
 
-/// Explains a text that is empty, in UTF-16, or has a byte order mark. For any other text, writes nothing and returns
-/// `false`.
-pub(crate) fn put_encoding(out: &mut String, file: &str, text: &[u8]) -> Result<bool, AllocError> {
+/// Explains a text that has no bytes, is in UTF-16, begins with a byte order mark, or is packed by gzip. Returns false, and
+/// writes nothing, for any other text.
+pub fn put_encoding(out: &mut String, file: &str, text: &[u8]) -> Result<bool, AllocError> {
     match text {
         [] => writeln!(
             out,
@@ -19,6 +19,10 @@ pub(crate) fn put_encoding(out: &mut String, file: &str, text: &[u8]) -> Result<
         [0xef, 0xbb, 0xbf, ..] => writeln!(
             out,
             "{file} begins with the bytes \\xef\\xbb\\xbf.\nA byte order mark is before line 1. To remove it: sed -i '1s/^\\xef\\xbb\\xbf//' {file}"
+        )?,
+        [0x1f, 0x8b, ..] => writeln!(
+            out,
+            "{file} is packed by gzip.\nThe text is packed. To unpack it: gzip -dc {file} > NEW"
         )?,
         _ => return Ok(false),
     }
@@ -49,8 +53,8 @@ fn has_spoiled_title(lines: &Lines<'_>) -> bool {
     first.starts_with(b"listset-") || second.starts_with(b"listset-")
 }
 
-/// Explains a first line that is not a title. Suggests an edit only if the rest of the text is in a listset format.
-pub(crate) fn put_no_title(
+/// Explains a first line that is no title. Advises an edit only if the text is one of listset but for its first line.
+pub fn put_no_title(
     out: &mut String,
     lines: &Lines<'_>,
     place: Place<'_>,
@@ -84,8 +88,8 @@ pub(crate) fn put_no_title(
     }
 }
 
-/// Explains a line that is wrong in every kind of text. For any other line, writes nothing and returns `false`.
-pub(crate) fn put_spoiled(out: &mut String, place: Place<'_>) -> Result<bool, AllocError> {
+/// Explains a line that is wrong in every kind of text. Returns false, and writes nothing, of any other line.
+pub fn put_spoiled(out: &mut String, place: Place<'_>) -> Result<bool, AllocError> {
     let (file, number) = (place.file, place.number);
     match place.line {
         [.., b'\r'] => put_cr(out, file)?,
@@ -130,12 +134,8 @@ fn has_two_spaces(line: &[u8]) -> bool {
     false
 }
 
-/// Explains a last line that has no newline (`is_line`) or is missing.
-pub(crate) fn put_not_ended(
-    out: &mut String,
-    place: Place<'_>,
-    is_line: bool,
-) -> Result<(), AllocError> {
+/// Explains a last line without a newline (`is_line`), or a last line that is missing.
+pub fn put_not_ended(out: &mut String, place: Place<'_>, is_line: bool) -> Result<(), AllocError> {
     let (file, last) = (place.file, place.number.saturating_sub(1));
     if is_line {
         return writeln!(

@@ -6,8 +6,8 @@ use crate::written::{put_number, put_opening};
 use lset_text::Cause;
 use std::alloc::AllocError;
 
-/// Returns the first line that `serve` refuses: its number and the cause.
-pub(crate) fn wrong_key(lines: &Lines<'_>) -> Option<(usize, Cause)> {
+/// Returns the number of the first line that `serve` refuses, and the cause.
+pub fn wrong_key(lines: &Lines<'_>) -> Option<(usize, Cause)> {
     let mut before: Option<u32> = None;
     for number in 1..lines.count().saturating_add(1) {
         let line = lines.line(number);
@@ -35,8 +35,8 @@ pub(crate) fn wrong_key(lines: &Lines<'_>) -> Option<(usize, Cause)> {
     None
 }
 
-/// Explains a wrong line in the opening keys for `serve`.
-pub(crate) fn put_key_line(
+/// Explains a line that is wrong in the keys for `serve`.
+pub fn put_key_line(
     out: &mut String,
     lines: &Lines<'_>,
     place: Place<'_>,

@@ -41,8 +41,8 @@ fn in_range(name: &'static str, index: usize, low: u64, high: u64) -> NumberFiel
     }
 }
 
-/// Explains a line with a wrong number: checks the number fields that a line of this kind has.
-pub(crate) fn put_number(out: &mut String, place: Place<'_>) -> Result<(), AllocError> {
+/// Explains a line with a number that is wrong, by the numbers that a line of its kind has.
+pub fn put_number(out: &mut String, place: Place<'_>) -> Result<(), AllocError> {
     let is_stop = matches!(field_or_empty(place.line, 2), b"out" | b"to");
     let thread = plain("THREAD", 1);
     match (place.kind, field_or_empty(place.line, 0)) {
@@ -111,8 +111,8 @@ fn advice_on(name: &str) -> &'static str {
     }
 }
 
-/// Explains field `index` of a line if it is not an operation. If it is one, writes nothing and returns `false`.
-pub(crate) fn put_no_call(
+/// Explains a word that is no call, in field `index` of a line. Returns false, and writes nothing, if the word is a call.
+pub fn put_no_call(
     out: &mut String,
     place: Place<'_>,
     index: usize,
@@ -127,8 +127,8 @@ pub(crate) fn put_no_call(
     Ok(true)
 }
 
-/// Explains a wrong header line.
-pub(crate) fn put_header(out: &mut String, number: usize) -> Result<(), AllocError> {
+/// Explains a header line that is wrong.
+pub fn put_header(out: &mut String, number: usize) -> Result<(), AllocError> {
     let text = match number {
         1 => {
             "Line 1 must be a title: listset-schedule 1 (or 2), listset-draft 2, listset-report 1 (or 2), listset-calls 1.\n"
@@ -142,12 +142,8 @@ pub(crate) fn put_header(out: &mut String, number: usize) -> Result<(), AllocErr
     out.push_str(text)
 }
 
-/// Explains a key that is not greater than the previous key.
-pub(crate) fn put_opening(
-    out: &mut String,
-    place: Place<'_>,
-    above: &[u8],
-) -> Result<(), AllocError> {
+/// Explains a key that is not above the key before.
+pub fn put_opening(out: &mut String, place: Place<'_>, above: &[u8]) -> Result<(), AllocError> {
     let file = place.file;
     put_quoted(out, place.line)?;
     out.push_str(" comes after ")?;

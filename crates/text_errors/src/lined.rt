@@ -6,15 +6,15 @@ const MOST_PRINTED: usize = 100;
 
 /// A text split into lines, which are counted from 1.
 #[derive(Drop)]
-pub(crate) struct Lines<'a> {
+pub struct Lines<'a> {
     lines: Vec<&'a [u8]>,
     /// Whether the last line ends with a newline.
-    pub(crate) is_ended: bool,
+    pub is_ended: bool,
 }
 
 impl<'a> Lines<'a> {
     /// Splits a text into its lines.
-    pub(crate) fn of(alloc: Global, text: &'a [u8]) -> Result<Lines<'a>, AllocError> {
+    pub fn of(alloc: Global, text: &'a [u8]) -> Result<Lines<'a>, AllocError> {
         let mut lines = Vec::new(alloc);
         let mut rest = text;
         for _ in 0..text.len() {
@@ -33,21 +33,21 @@ impl<'a> Lines<'a> {
         Ok(Lines { lines, is_ended })
     }
 
-    /// Returns the number of lines.
-    pub(crate) fn count(&self) -> usize {
+    /// Returns the number of the lines.
+    pub fn count(&self) -> usize {
         self.lines.len()
     }
 
-    /// Returns line `number` without its newline. Returns no bytes if there is no such line.
-    pub(crate) fn line(&self, number: usize) -> &'a [u8] {
+    /// Returns line `number` without its newline, or no bytes if there is no such line.
+    pub fn line(&self, number: usize) -> &'a [u8] {
         match self.lines.get(number.saturating_sub(1)) {
             Some(line) => *line,
             None => b"",
         }
     }
 
-    /// Returns the number of the last line before line `number` for which `is_meant` returns true.
-    pub(crate) fn last_before<F: Fn(&[u8]) -> bool + Drop>(
+    /// Returns the number of the last line before line `number` for which `is_meant` holds.
+    pub fn last_before<F: Fn(&[u8]) -> bool + Drop>(
         &self,
         number: usize,
         is_meant: F,
@@ -65,8 +65,8 @@ impl<'a> Lines<'a> {
     }
 }
 
-/// Returns field `index` (from 0) of a line, `None` if it has fewer fields. Fields are separated by single spaces.
-pub(crate) fn field(line: &[u8], index: usize) -> Option<&[u8]> {
+/// Returns field `index` (from 0) of a line. Fields are separated by one space. `None` if the line has no such field.
+pub fn field(line: &[u8], index: usize) -> Option<&[u8]> {
     let mut rest = line;
     for _ in 0..index {
         let (_, after) = cut(rest, b' ')?;
@@ -78,32 +78,31 @@ pub(crate) fn field(line: &[u8], index: usize) -> Option<&[u8]> {
     }
 }
 
-/// Returns field `index` (from 0) of a line. Returns no bytes if the line has fewer fields.
-pub(crate) fn field_or_empty(line: &[u8], index: usize) -> &[u8] {
+/// Returns field `index` (from 0) of a line, or no bytes if the line has no such field.
+pub fn field_or_empty(line: &[u8], index: usize) -> &[u8] {
     field(line, index).unwrap_or(b"")
 }
 
-/// Returns the number of fields in a line.
-pub(crate) fn count_fields(line: &[u8]) -> usize {
+/// Returns the number of fields of a line.
+pub fn count_fields(line: &[u8]) -> usize {
     line.iter()
         .filter(|byte| **byte == b' ')
         .count()
         .saturating_add(1)
 }
 
-/// Returns the number in field `index` if it is in the range of threads, keys and calls.
-pub(crate) fn number_at(line: &[u8], index: usize) -> Option<u32> {
+/// Returns the number in field `index`, if it is in the range of threads, keys and calls.
+pub fn number_at(line: &[u8], index: usize) -> Option<u32> {
     number(field(line, index)?, 0, u32::MAX)
 }
 
-/// Returns the number in field `index` if it is a moment.
-pub(crate) fn moment_at(line: &[u8], index: usize) -> Option<u64> {
+/// Returns the number in field `index`, if it is a moment.
+pub fn moment_at(line: &[u8], index: usize) -> Option<u64> {
     long_number(field(line, index)?, 1, u64::MAX)
 }
 
-/// Appends at most 100 bytes of a text in visible characters: a tab is written as `\t`, and a byte that is not ASCII as
-/// `\xHH`.
-pub(crate) fn put_visible(out: &mut String, bytes: &[u8]) -> Result<(), AllocError> {
+/// Appends at most 100 bytes of a text in visible characters: a tab becomes `\t`, and a byte that is not ASCII `\xHH`.
+pub fn put_visible(out: &mut String, bytes: &[u8]) -> Result<(), AllocError> {
     for byte in bytes.iter().take(MOST_PRINTED) {
         match *byte {
             b'\t' => out.push_str("\\t")?,
@@ -118,8 +117,8 @@ pub(crate) fn put_visible(out: &mut String, bytes: &[u8]) -> Result<(), AllocErr
     Ok(())
 }
 
-/// Appends bytes in visible characters, enclosed in single quotes.
-pub(crate) fn put_quoted(out: &mut String, bytes: &[u8]) -> Result<(), AllocError> {
+/// Appends bytes in visible characters, between apostrophes.
+pub fn put_quoted(out: &mut String, bytes: &[u8]) -> Result<(), AllocError> {
     out.push_str("'")?;
     put_visible(out, bytes)?;
     out.push_str("'")
@@ -134,9 +133,9 @@ fn is_plain(byte: u8) -> bool {
     byte.is_ascii_alphanumeric() || !byte.is_ascii() || is_sign
 }
 
-/// Returns a file name as it should be typed on a command line. It is quoted if it contains a space or another byte
-/// that a shell does not read literally, and it gets the prefix `./` if it begins with a hyphen.
-pub(crate) fn quoted_name(alloc: Global, file: &str) -> Result<String, AllocError> {
+/// Returns a file's name as a command line has it: between apostrophes if it has a space or another byte that a shell does
+/// not take as it is, and after `./` if it begins with a hyphen.
+pub fn quoted_name(alloc: Global, file: &str) -> Result<String, AllocError> {
     let mut name = String::new(alloc);
     let is_quoted = file.is_empty() || !file.as_bytes().iter().all(|byte| is_plain(*byte));
     if is_quoted {

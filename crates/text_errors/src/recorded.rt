@@ -7,14 +7,17 @@ use crate::written::{put_no_call, put_number};
 use lset_text::Cause;
 use std::alloc::AllocError;
 
+const HALF_PENDING: &str =
+    "A pending call has '-' for END and for REPLY. This one has '-' for one of them only.\n";
+
 const OF_RECORDING: CallFields = CallFields {
     thread: 1,
     begin: 4,
     end: 5,
 };
 
-/// Explains a wrong line of a recording after the title.
-pub(crate) fn put_recording_line(
+/// Explains a line of a recording below the title.
+pub fn put_recording_line(
     out: &mut String,
     lines: &Lines<'_>,
     place: Place<'_>,
@@ -22,12 +25,19 @@ pub(crate) fn put_recording_line(
 ) -> Result<(), AllocError> {
     match cause {
         Cause::Line => put_recording_form(out, lines, place),
+        Cause::Number if is_half_pending(place.line) => out.push_str(HALF_PENDING),
         Cause::Number => put_number(out, place),
         _ => put_moments(out, lines, place, OF_RECORDING),
     }
 }
 
-/// Explains a line that does not have a form allowed at this point of a recording.
+/// Returns whether only one of the fields END and REPLY of a call is `-`.
+fn is_half_pending(line: &[u8]) -> bool {
+    let (end, reply) = (field_or_empty(line, 5), field_or_empty(line, 6));
+    (end == b"-".as_slice()) != (reply == b"-".as_slice())
+}
+
+/// Explains a line of a recording that does not have the form of a line there.
 fn put_recording_form(
     out: &mut String,
     lines: &Lines<'_>,
@@ -68,14 +78,13 @@ fn put_call_words(out: &mut String, place: Place<'_>) -> Result<(), AllocError> 
     if put_no_call(out, place, 2, "add, remove and contains")? {
         return Ok(());
     }
-    let is_pending = field(line, 5) == Some(b"-".as_slice());
-    if is_pending || reply == b"-".as_slice() {
-        return out.push_str(
-            "A pending call has '-' for END and for REPLY. This one has '-' for one of them only.\n",
-        );
+    if is_half_pending(line) {
+        return out.push_str(HALF_PENDING);
     }
-    if matches!(reply, b"true" | b"false") {
-        return out.push_str("Lines of calls come before lines of keys: move this line up.\n");
+    if matches!(reply, b"true" | b"false" | b"-") {
+        return out.push_str(
+            "Lines of calls come before lines 'key K': move this line up. A key that the set has at the start is 'opening K', before all calls.\n",
+        );
     }
     put_quoted(out, reply)?;
     out.push_str(" is no reply. A reply is true or false, in lower case.\n")

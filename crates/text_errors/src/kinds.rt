@@ -2,7 +2,7 @@ use crate::lined::field_or_empty;
 
 /// The kind of a text, which its first line determines.
 #[derive(Clone, Copy, PartialEq, Eq)]
-pub(crate) enum TextKind {
+pub enum TextKind {
     Schedule,
     Draft,
     Report,
@@ -17,7 +17,7 @@ pub(crate) enum TextKind {
 
 impl TextKind {
     /// Returns the kind of a text with this first line.
-    pub(crate) fn of(first: &[u8]) -> TextKind {
+    pub fn of(first: &[u8]) -> TextKind {
         match first {
             b"listset-schedule 1" | b"listset-schedule 2" => TextKind::Schedule,
             b"listset-draft 2" => TextKind::Draft,
@@ -32,8 +32,8 @@ impl TextKind {
         }
     }
 
-    /// Returns a predicate that says what a file of this kind is or contains.
-    pub(crate) fn predicate(self) -> &'static str {
+    /// Returns what a file with a text of this kind is or has, as the predicate of a sentence.
+    pub fn predicate(self) -> &'static str {
         match self {
             TextKind::Schedule => "is a schedule",
             TextKind::Draft => "is a draft",
@@ -49,12 +49,12 @@ impl TextKind {
 
 /// Where the first error of a text is: its line, and the kind of the text.
 #[derive(Clone, Copy)]
-pub(crate) struct Place<'a> {
-    /// The file's name as used in commands.
-    pub(crate) file: &'a str,
-    pub(crate) kind: TextKind,
-    /// The line number, counted from 1.
-    pub(crate) number: usize,
+pub struct Place<'a> {
+    /// The file's name in commands about the file.
+    pub file: &'a str,
+    pub kind: TextKind,
+    /// The number of the line, counted from 1.
+    pub number: usize,
     /// The line without its newline.
-    pub(crate) line: &'a [u8],
+    pub line: &'a [u8],
 }

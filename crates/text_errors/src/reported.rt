@@ -20,8 +20,8 @@ const OF_REPORT: CallFields = CallFields {
     end: 6,
 };
 
-/// Explains a wrong line of a report after the header.
-pub(crate) fn put_report_line(
+/// Explains a line of a report below the header.
+pub fn put_report_line(
     out: &mut String,
     lines: &Lines<'_>,
     place: Place<'_>,

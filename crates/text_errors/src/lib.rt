@@ -1,0 +1,21 @@
+//! What is wrong with a line of a text, and what to do: for the command `explain`. Lines of events are in `tool_explain`, since
+//! their explanations replay the lines above.
+#![tactic(auto)]
+
+mod keyed;
+mod kinds;
+mod lined;
+mod recorded;
+mod reported;
+mod spoiled;
+mod written;
+
+pub use keyed::{put_key_line, wrong_key};
+pub use kinds::{Place, TextKind};
+pub use lined::{
+    Lines, count_fields, field, field_or_empty, number_at, put_quoted, put_visible, quoted_name,
+};
+pub use recorded::put_recording_line;
+pub use reported::put_report_line;
+pub use spoiled::{put_encoding, put_no_title, put_not_ended, put_spoiled};
+pub use written::{put_header, put_no_call, put_number, put_opening};
