@@ -59,7 +59,7 @@ MakesWithArg old arg new = (a : App) (r : Rule) → Makes old a → rule_of arg 
 abbrev pub MakesWithArgs : Result clap.Command AllocError → List Rule → Result clap.Command AllocError → Type 0
 MakesWithArgs old rules new = (a : App) → Makes old a → Makes new (fold with_rule a rules)
 
--- one more subcommand, if both were made
+-- Adds a subcommand, if both commands were created.
 abbrev pub MakesWithSubcommand : Result clap.Command AllocError → Result clap.Command AllocError → Result clap.Command AllocError →
     Type 0
 MakesWithSubcommand old sub new = (a b : App) → Makes old a → Makes sub b → Makes new (with_subcommand a b.top)

@@ -14,7 +14,7 @@ use std::alloc::{AllocError, Global};
 /// The text of `--version` after the program's name: the version, then a line with the kit and the logic of the proof.
 pub const VERSION: &str = "0.1.0\nRattle kit 13, logic dac8208d650f15bf";
 
-/// Texts of the help that other crates provide.
+/// Help texts that other crates provide.
 #[derive(Clone, Copy)]
 pub struct Helps<'a> {
     /// The help for the command `faults`.

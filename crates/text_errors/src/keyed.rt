@@ -6,7 +6,7 @@ use crate::written::{put_number, put_opening};
 use lset_text::Cause;
 use std::alloc::AllocError;
 
-/// Returns the number of the first line that `serve` refuses, and the cause.
+/// Returns the first line that `serve` refuses: its number and the cause.
 pub fn wrong_key(lines: &Lines<'_>) -> Option<(usize, Cause)> {
     let mut before: Option<u32> = None;
     for number in 1..lines.count().saturating_add(1) {
@@ -35,7 +35,7 @@ pub fn wrong_key(lines: &Lines<'_>) -> Option<(usize, Cause)> {
     None
 }
 
-/// Explains a line that is wrong in the keys for `serve`.
+/// Explains a wrong line in the opening keys for `serve`.
 pub fn put_key_line(
     out: &mut String,
     lines: &Lines<'_>,

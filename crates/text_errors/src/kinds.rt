@@ -32,7 +32,7 @@ impl TextKind {
         }
     }
 
-    /// Returns what a file with a text of this kind is or has, as the predicate of a sentence.
+    /// Returns a predicate that says what a file of this kind is or contains.
     pub fn predicate(self) -> &'static str {
         match self {
             TextKind::Schedule => "is a schedule",
@@ -50,10 +50,10 @@ impl TextKind {
 /// Where the first error of a text is: its line, and the kind of the text.
 #[derive(Clone, Copy)]
 pub struct Place<'a> {
-    /// The file's name in commands about the file.
+    /// The file's name as used in commands.
     pub file: &'a str,
     pub kind: TextKind,
-    /// The number of the line, counted from 1.
+    /// The line number, counted from 1.
     pub number: usize,
     /// The line without its newline.
     pub line: &'a [u8],

@@ -33,12 +33,12 @@ impl<'a> Lines<'a> {
         Ok(Lines { lines, is_ended })
     }
 
-    /// Returns the number of the lines.
+    /// Returns the number of lines.
     pub fn count(&self) -> usize {
         self.lines.len()
     }
 
-    /// Returns line `number` without its newline, or no bytes if there is no such line.
+    /// Returns line `number` without its newline. Returns no bytes if there is no such line.
     pub fn line(&self, number: usize) -> &'a [u8] {
         match self.lines.get(number.saturating_sub(1)) {
             Some(line) => *line,
@@ -46,7 +46,7 @@ impl<'a> Lines<'a> {
         }
     }
 
-    /// Returns the number of the last line before line `number` for which `is_meant` holds.
+    /// Returns the number of the last line before line `number` for which `is_meant` returns true.
     pub fn last_before<F: Fn(&[u8]) -> bool + Drop>(
         &self,
         number: usize,
@@ -65,7 +65,7 @@ impl<'a> Lines<'a> {
     }
 }
 
-/// Returns field `index` (from 0) of a line. Fields are separated by one space. `None` if the line has no such field.
+/// Returns field `index` (from 0) of a line, `None` if it has fewer fields. Fields are separated by single spaces.
 pub fn field(line: &[u8], index: usize) -> Option<&[u8]> {
     let mut rest = line;
     for _ in 0..index {
@@ -78,12 +78,12 @@ pub fn field(line: &[u8], index: usize) -> Option<&[u8]> {
     }
 }
 
-/// Returns field `index` (from 0) of a line, or no bytes if the line has no such field.
+/// Returns field `index` (from 0) of a line. Returns no bytes if the line has fewer fields.
 pub fn field_or_empty(line: &[u8], index: usize) -> &[u8] {
     field(line, index).unwrap_or(b"")
 }
 
-/// Returns the number of fields of a line.
+/// Returns the number of fields in a line.
 pub fn count_fields(line: &[u8]) -> usize {
     line.iter()
         .filter(|byte| **byte == b' ')
@@ -91,17 +91,18 @@ pub fn count_fields(line: &[u8]) -> usize {
         .saturating_add(1)
 }
 
-/// Returns the number in field `index`, if it is in the range of threads, keys and calls.
+/// Returns the number in field `index` if it is in the range of threads, keys and calls.
 pub fn number_at(line: &[u8], index: usize) -> Option<u32> {
     number(field(line, index)?, 0, u32::MAX)
 }
 
-/// Returns the number in field `index`, if it is a moment.
+/// Returns the number in field `index` if it is a moment.
 pub fn moment_at(line: &[u8], index: usize) -> Option<u64> {
     long_number(field(line, index)?, 1, u64::MAX)
 }
 
-/// Appends at most 100 bytes of a text in visible characters: a tab becomes `\t`, and a byte that is not ASCII `\xHH`.
+/// Appends at most 100 bytes of a text in visible characters: a tab is written as `\t`, and a byte that is not ASCII as
+/// `\xHH`.
 pub fn put_visible(out: &mut String, bytes: &[u8]) -> Result<(), AllocError> {
     for byte in bytes.iter().take(MOST_PRINTED) {
         match *byte {
@@ -117,7 +118,7 @@ pub fn put_visible(out: &mut String, bytes: &[u8]) -> Result<(), AllocError> {
     Ok(())
 }
 
-/// Appends bytes in visible characters, between apostrophes.
+/// Appends bytes in visible characters, enclosed in single quotes.
 pub fn put_quoted(out: &mut String, bytes: &[u8]) -> Result<(), AllocError> {
     out.push_str("'")?;
     put_visible(out, bytes)?;
@@ -133,8 +134,8 @@ fn is_plain(byte: u8) -> bool {
     byte.is_ascii_alphanumeric() || !byte.is_ascii() || is_sign
 }
 
-/// Returns a file's name as a command line has it: between apostrophes if it has a space or another byte that a shell does
-/// not take as it is, and after `./` if it begins with a hyphen.
+/// Returns a file name as it should be typed on a command line. It is quoted if it contains a space or another byte
+/// that a shell does not read literally, and it gets the prefix `./` if it begins with a hyphen.
 pub fn quoted_name(alloc: Global, file: &str) -> Result<String, AllocError> {
     let mut name = String::new(alloc);
     let is_quoted = file.is_empty() || !file.as_bytes().iter().all(|byte| is_plain(*byte));

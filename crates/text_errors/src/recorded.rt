@@ -16,7 +16,7 @@ const OF_RECORDING: CallFields = CallFields {
     end: 5,
 };
 
-/// Explains a line of a recording below the title.
+/// Explains a wrong line of a recording after the title.
 pub fn put_recording_line(
     out: &mut String,
     lines: &Lines<'_>,

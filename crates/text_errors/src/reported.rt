@@ -20,7 +20,7 @@ const OF_REPORT: CallFields = CallFields {
     end: 6,
 };
 
-/// Explains a line of a report below the header.
+/// Explains a wrong line of a report after the header.
 pub fn put_report_line(
     out: &mut String,
     lines: &Lines<'_>,

@@ -53,7 +53,7 @@ fn has_spoiled_title(lines: &Lines<'_>) -> bool {
     first.starts_with(b"listset-") || second.starts_with(b"listset-")
 }
 
-/// Explains a first line that is no title. Advises an edit only if the text is one of listset but for its first line.
+/// Explains a first line that is not a title. Suggests an edit only if the rest of the text is in a listset format.
 pub fn put_no_title(
     out: &mut String,
     lines: &Lines<'_>,
@@ -88,7 +88,7 @@ pub fn put_no_title(
     }
 }
 
-/// Explains a line that is wrong in every kind of text. Returns false, and writes nothing, of any other line.
+/// Explains a line that is wrong in every kind of text. For any other line, writes nothing and returns `false`.
 pub fn put_spoiled(out: &mut String, place: Place<'_>) -> Result<bool, AllocError> {
     let (file, number) = (place.file, place.number);
     match place.line {
@@ -134,7 +134,7 @@ fn has_two_spaces(line: &[u8]) -> bool {
     false
 }
 
-/// Explains a last line without a newline (`is_line`), or a last line that is missing.
+/// Explains a last line that has no newline (`is_line`) or is missing.
 pub fn put_not_ended(out: &mut String, place: Place<'_>, is_line: bool) -> Result<(), AllocError> {
     let (file, last) = (place.file, place.number.saturating_sub(1));
     if is_line {

@@ -41,7 +41,7 @@ fn in_range(name: &'static str, index: usize, low: u64, high: u64) -> NumberFiel
     }
 }
 
-/// Explains a line with a number that is wrong, by the numbers that a line of its kind has.
+/// Explains a line with a wrong number: checks the number fields that a line of this kind has.
 pub fn put_number(out: &mut String, place: Place<'_>) -> Result<(), AllocError> {
     let is_stop = matches!(field_or_empty(place.line, 2), b"out" | b"to");
     let thread = plain("THREAD", 1);
@@ -111,7 +111,7 @@ fn advice_on(name: &str) -> &'static str {
     }
 }
 
-/// Explains a word that is no call, in field `index` of a line. Returns false, and writes nothing, if the word is a call.
+/// Explains field `index` of a line if it is not an operation. If it is one, writes nothing and returns `false`.
 pub fn put_no_call(
     out: &mut String,
     place: Place<'_>,
@@ -127,7 +127,7 @@ pub fn put_no_call(
     Ok(true)
 }
 
-/// Explains a header line that is wrong.
+/// Explains a wrong header line.
 pub fn put_header(out: &mut String, number: usize) -> Result<(), AllocError> {
     let text = match number {
         1 => {
@@ -142,7 +142,7 @@ pub fn put_header(out: &mut String, number: usize) -> Result<(), AllocError> {
     out.push_str(text)
 }
 
-/// Explains a key that is not above the key before.
+/// Explains a key that is not greater than the previous key.
 pub fn put_opening(out: &mut String, place: Place<'_>, above: &[u8]) -> Result<(), AllocError> {
     let file = place.file;
     put_quoted(out, place.line)?;
