@@ -1,4 +1,4 @@
--- The words of a closed set have the facts `HasLaws`. The seat that closed it held all seats.
+-- Proof: the words of a closed set satisfy `HasLaws`, because the seat that closed the set held all seats.
 use Rattle.std.proofs.Common.{◌≡◌, inl, ℕ, zero, suc, ◌+◌, ◌/◌, ◌<◌, false, List, [], ◌∷◌, map, length, None, refl, sym, ap, ◌∙◌}
 use Rattle.std.proofs.Common.{subst, arith}
 use mathlib.Core.Option.{some, some-injective, some-ne-none}
@@ -34,7 +34,6 @@ use Rattle.lset_live.proofs.OrderKeepsRecord.{calls_by_is}
 use Rattle.lset_live.proofs.PastCalls.{none_in}
 use Rattle.lset_live.proofs.SeenExplained.{own, order, explains, turns, kept}
 
--- THE KEYS OF SOME WORDS
 -- The chain and its keys depend only on the key words and the link words.
 module _ (sz : Sizes) (ws : List ℕ) (used other : ℕ → ℕ) where
   same_segment : (i : ℕ) (ns : List ℕ) (j : ℕ) → Segment (view sz ws used) i ns j → Segment (view sz ws other) i ns j
@@ -59,7 +58,7 @@ one_segment v i (n ∷ ns) (m ∷ ms) s t = λ j. (s.0 ∙ sym t.0) j ∷ one_se
 pub one_content : (v : ChainView) (keys others : List ℕ) → IsContent v keys → IsContent v others → keys ≡ others
 one_content v keys others c d = c.0.2 ∙ (ap (keys_in v) (one_segment v 0 c.0.0 d.0.0 c.0.1 d.0.1) ∙ sym d.0.2)
 
--- THE SEAT WITH ALL THREADS
+-- ---- The seat that has all threads knows the whole run
 module _ (T : Table) (law : Lawful T) (v : View) (st : Stands T v) (idle : v.under ≡ None) (linear : RunsAreLinearizable T)
     (full : length v.others + 1 ≡ v.shape.threads) where
   abbrev k : Opening
@@ -68,7 +67,7 @@ module _ (T : Table) (law : Lawful T) (v : View) (st : Stands T v) (idle : v.und
   abbrev H : List CallRecord
   H = history_of T v.shape v.seen
 
-  -- each call belongs to a thread
+  -- Each call belongs to a thread of the set.
   of_threads : (ps : List Placed) → AllByRecursion (λ (p : Placed). p.call < length H) ps →
       AllByRecursion (λ (a : Answered). a.thread < k.threads) (map (answered H) ps)
   of_threads [] a = tt
@@ -109,7 +108,7 @@ module _ (T : Table) (law : Lawful T) (v : View) (st : Stands T v) (idle : v.und
     is = refl;
   }
 
--- The facts of a table's words when the table is closed
+-- The facts about a table's words at the moment at which the table is closed.
 module _ (T : Table) (law : Lawful T) (v : View) (st : Stands T v) (sp : v.spent ≡ false) (idle : v.under ≡ None) (k : Opening)
     (shape : v.shape ≡ k)
     (full : length v.others + 1 ≡ k.threads) (id : ℕ) (ws : List ℕ) (xs : List (Unit {0})) (final : Final (Seen (Holds T k) id v) ws xs) where
@@ -122,7 +121,7 @@ module _ (T : Table) (law : Lawful T) (v : View) (st : Stands T v) (sp : v.spent
       IsOneOrderInTime T z v.seen (record_of v.past ∷ []) keys) shape
       (closed_in_time T law v st idle linear (full ∙ sym (ap (λ (z : Opening). z.threads) shape)) ws last)
 
--- THE LAST WORDS
+-- The last words of a set satisfy `HasLaws`.
 pub laws_of : (c : LastWords) → IsLast c → HasLaws c
 laws_of c l =
     let s : State = end_of l.machine l.opening l.events in

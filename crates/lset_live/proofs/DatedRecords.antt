@@ -1,4 +1,4 @@
--- A record with the numbers of its calls, and the record without the numbers.
+-- Records with the numbers of their calls, and records without these numbers.
 use Rattle.std.proofs.Common.{◌≡◌, ℕ, inl, inr, List, [], ◌∷◌, ◌++◌, map, refl, sym, ap, ◌∙◌, subst}
 use Rattle.std.proofs.lemmas.List.{map-append}
 use Rattle.lset_words.specs.SequentialSet.{Answered}
@@ -10,7 +10,7 @@ use Rattle.lset_rule.proofs.RecordsOfRuns as dated
 use Rattle.lset_words.specs.Records.{HasOwnCalls, Names, NamesGathered, thread_of, own_calls, calls_by, placed_by}
 use Rattle.lset_live.specs.Dated.{call_of, record_of}
 
--- An own call of a thread, as an element of an order
+-- Converts an own call of a thread to an element of an order.
 abbrev pub said_by : ℕ → OwnCall → Answered
 said_by u c = placed_by u (call_of c)
 

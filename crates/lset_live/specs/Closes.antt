@@ -9,7 +9,7 @@ use Rattle.lset_steps.specs.Steps.{Table}
 use Rattle.lset_steps.specs.Laws.{Lawful}
 use Rattle.lset_rule.specs.Runs.{end_of, IsRunOf}
 
--- The words after a run
+-- The words of a list after a run.
 pub record LastWords : Type 0 where
   pub sizes : Sizes
   pub words : List ℕ
@@ -24,15 +24,15 @@ pub record IsLast (c : LastWords) : Type 0 where
   pub run : IsRunOf machine opening events
   pub words : c.words ≡ (end_of machine opening events).words
 
--- [Content] of the words: the keys of the unmarked nodes of the chain, in increasing order
+-- [Content] of the words: states that these are the keys of the unmarked nodes of the chain, in increasing order.
 abbrev pub HasKeys : LastWords → List ℕ → Type 0
 HasKeys c keys = IsContent (view c.sizes c.words (λ t. 0)) keys
 
--- The maximum number of keys of a set: one for each slot, and the opening keys
+-- Returns the maximum number of keys that a set can have: one for each slot, and the opening keys.
 abbrev pub most_keys : Sizes → ℕ
 most_keys s = s.threads * s.quota + s.opening
 
--- The facts that the walk along the chain uses
+-- The facts that the walk along the chain needs.
 pub record HasLaws (c : LastWords) : Type 0 where
   pub few : length c.words ≤ MOST_WORDS
   pub count : length c.words ≡ word_count c.sizes

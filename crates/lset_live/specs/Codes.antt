@@ -1,4 +1,4 @@
--- A record as a list of marks. Proofs use the marks to distinguish records.
+-- Encodes a record as a list of marks, so that proofs can tell records apart.
 use Rattle.std.proofs.Common.{◌≡◌, ℕ, List, [], ◌∷◌, ◌++◌, refl, ap, ◌∙◌, append_assoc}
 use Rattle.std.specs.Coded.{Coded, code_by, codes}
 use Rattle.lset_words.specs.Records.{CallMade, Record, fresh, called, gathered}

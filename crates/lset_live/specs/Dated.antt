@@ -1,4 +1,4 @@
--- The record of a view without the numbers of its calls.
+-- Removes the numbers of the calls from a view's record.
 use Rattle.lset_rule.specs.declared.view.OwnCall.{OwnCall}
 use Rattle.lset_rule.specs.declared.view.Past.{Past, Fresh, Called', Gathered'}
 use Rattle.lset_words.specs.Records.{CallMade, Record, fresh, called, gathered}

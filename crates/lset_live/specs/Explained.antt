@@ -1,4 +1,4 @@
--- Definitions for the contracts of the calls of a running set, and of closing it.
+-- Definitions for the contracts of calls of a running set, and of closing the set.
 use Rattle.std.specs.Prelude.{◌≡◌, ℕ, ◌+◌, ◌<◌, ◌≤◌, ◌⊎◌, List, [], ◌∷◌, ◌++◌, All, Some, length, map}
 use mathlib.Core.Option.{some}
 use lib.ListN.{get_elem?}
@@ -16,8 +16,8 @@ use Rattle.lset_words.specs.Records.{Record, Names, Keeps, called, calls_by, thr
 use Rattle.lset_live.specs.Seats.{SeatValue, SetValue}
 use Rattle.lset_words.specs.Words.{Opening}
 
--- The call c of thread t has ended with the reply r. It began after the events that were seen before it, and its last step is the
--- last of the events that are seen now.
+-- Call c of thread t has ended with reply r. It began after all events seen before, and its last step is the last event
+-- seen now.
 pub record IsAnswered (T : Table) (k : Opening) (t : ℕ) (c : Call) (r : Reply) (before after : List Event) : Type 0 where
   pub others : List Event
   pub since : List Event
@@ -30,17 +30,17 @@ pub record IsAnswered (T : Table) (k : Opening) (t : ℕ) (c : Call) (r : Reply)
     ended = Some (length after, r);
   })
 
--- The events that a seat has seen are a run of the machine. An order of the run's calls linearizes their history, from the opening
--- set, and keeps the record. The run need not have the calls of seats that were not gathered.
+-- The events that a seat has seen are a run of the machine. Some order of the run's calls linearizes their history from
+-- the opening set, and keeps the record. The run need not contain the calls of seats that were not gathered.
 pub record SeenIsLinearizable (T : Table) (k : Opening) (events : List Event) (r : Record) : Type 0 where
   pub run : IsRunOf T k events
   pub order : List Placed
   pub linearizes : Linearizes k.quota (opening_set k) (history_of T k events) order
   pub keeps : Keeps (map (answered (history_of T k events)) order) r
 
--- A call of the set was made from the seat `old`, returned r, and left the seat as `new`. The new seat belongs to the set and holds
--- as many seats as before. Its record has grown by exactly this call, which began after all that the seat had seen. The events that
--- it has now seen are a run with a linearization that keeps its record.
+-- A call of the set was made from the seat `old`, returned r, and changed the seat to `new`. The new seat belongs to
+-- the set and holds as many seats as before. Its record has grown by exactly this call, which began after everything
+-- that the seat had seen. The events that the seat has seen now are a run with a linearization that keeps its record.
 pub record HasAnswered (T : Table) (set : SetValue) (old : SeatValue) (c : Call) (r : Reply) (new : SeatValue) : Type 0 where
   pub of_set : new.set ≡ set
   pub held : new.held ≡ old.held
@@ -48,17 +48,19 @@ pub record HasAnswered (T : Table) (set : SetValue) (old : SeatValue) (c : Call)
   pub answered : IsAnswered T set.shape (thread_of old.past) c r old.events new.events
   pub explained : SeenIsLinearizable T set.shape new.events new.past
 
--- [Steps of the last call]: in these events, thread t has made at most `most` steps since it began its last call.
+-- [Steps of the last call]: states that in these events, thread t has made at most `most` steps since it began its last
+-- call.
 abbrev pub HasMadeAtMost : ℕ → ℕ → List Event → Type 0
 HasMadeAtMost most t events = steps_since (event_at events) t (length events) ≤ most
 
--- Some record of the list names the thread.
+-- States that some record of the list names the thread.
 abbrev pub NamedIn : ℕ → List Record → Type 0
 NamedIn u [] = ⊥
 NamedIn u (r ∷ rs) = Names u r ⊎ NamedIn u rs
 
--- ONE LEGAL ORDER of exactly the calls of the records. It keeps each record, so each seat's order and the order of gathering, and
--- leaves the keys. It does not require real-time order between seats: this is sequential consistency.
+-- There is one legal order of exactly the calls in the records. The order keeps each record, so it keeps the order of
+-- each seat's calls and the order of gathering, and it leaves these keys. It need not keep real-time order between
+-- seats: this is sequential consistency.
 pub record IsOneLegalOrder (k : Opening) (records : List Record) (keys : List ℕ) : Type 0 where
   pub order : List Answered
   pub legal : IsLegal k.quota (opening_set k) order
@@ -67,9 +69,9 @@ pub record IsOneLegalOrder (k : Opening) (records : List Record) (keys : List �
   pub no_other : (u : ℕ) → u < k.threads → ¬ (NamedIn u records) → calls_by u order ≡ []
   pub leaves : (set_left (opening_set k) order).keys ≡ keys
 
--- ONE LEGAL ORDER IN TIME of exactly the calls of the records, from a seat that has seen these events. The order linearizes their
--- history too, so a call that ended before another one began comes before it. The events begin with what the seats had seen, so the
--- order keeps receipts as it keeps gathering.
+-- There is one legal order in time of exactly the calls in the records, for a seat that has seen these events. The
+-- order also linearizes the history of the events, so a call that ended before another one began comes before it. The
+-- events begin with what the seats had seen, so the order respects receipts in the same way as gathering.
 pub record IsOneOrderInTime (T : Table) (k : Opening) (events : List Event) (records : List Record) (keys : List ℕ) : Type 0 where
   pub run : IsRunOf T k events
   pub placed : List Placed
@@ -77,15 +79,15 @@ pub record IsOneOrderInTime (T : Table) (k : Opening) (events : List Event) (rec
   pub one : IsOneLegalOrder k records keys
   pub is : one.order ≡ map (answered (history_of T k events)) placed
 
--- The call a is in the order, and the call b after it.
+-- Call a is in the order, and call b comes after it.
 pub record StandsBefore (order : List Answered) (a b : Answered) : Type 0 where
   pub first : List Answered
   pub between : List Answered
   pub last : List Answered
   pub is : order ≡ first ++ a ∷ (between ++ b ∷ last)
 
--- THE ORDER THAT RECEIPTS KEEP: if the call c had ended when a receipt was made, and a seat that had taken the receipt made the call
--- d, then c comes before d in each order that linearizes what is seen after d or later.
+-- The law of receipts: if call c had ended when a receipt was made, and a seat that has taken the receipt makes call d,
+-- then c comes before d in each order that linearizes the events seen after d or later.
 abbrev pub ReceiptsKeepOrder : Type 0
 ReceiptsKeepOrder = (T : Table) (k : Opening) (t u : ℕ) (c d : Call) (r a : Reply) (old given taken after events : List Event)
     → IsAnswered T k t c r old given → StartsWith taken given → IsAnswered T k u d a taken after → StartsWith events after

@@ -1,4 +1,4 @@
--- The replies that typed results stand for, and the replies that a call can have.
+-- The replies that typed results stand for, and the replies that each kind of call can have.
 use Rattle.std.specs.Prelude.{Option, Some, None}
 use Rattle.lset_words.specs.declared.Key.{Key}
 use Rattle.lset_words.specs.declared.Reply.{Reply}
@@ -6,18 +6,18 @@ use Rattle.lset_words.specs.declared.Reply.TheVariants as reply
 use Rattle.lset_live.specs.declared.typed_calls.Added.{Added}
 use Rattle.lset_live.specs.declared.typed_calls.Added.TheVariants as added
 
--- The reply that a result of `Seat::add` stands for
+-- Returns the reply that a result of `Seat::add` stands for.
 abbrev pub reply_of_add : Added → Reply
 reply_of_add added.New = reply.True
 reply_of_add added.Already = reply.False
 reply_of_add added.Full = reply.Full
 
--- The reply that a result of `Seat::ceiling` stands for
+-- Returns the reply that a result of `Seat::ceiling` stands for.
 abbrev pub reply_of_ceiling : Option Key → Reply
 reply_of_ceiling None = reply.Nothing
 reply_of_ceiling (Some k) = reply.At k
 
--- A reply that an `add` can have
+-- States that an `add` can have this reply.
 abbrev pub IsAddReply : Reply → Type 0
 IsAddReply reply.True = Unit {0}
 IsAddReply reply.False = Unit {0}
@@ -25,7 +25,7 @@ IsAddReply reply.Full = Unit {0}
 IsAddReply (reply.At k) = ⊥
 IsAddReply reply.Nothing = ⊥
 
--- A reply that a `remove` or a `contains` can have
+-- States that a `remove` or a `contains` can have this reply.
 abbrev pub IsTruth : Reply → Type 0
 IsTruth reply.True = Unit {0}
 IsTruth reply.False = Unit {0}
@@ -33,7 +33,7 @@ IsTruth reply.Full = ⊥
 IsTruth (reply.At k) = ⊥
 IsTruth reply.Nothing = ⊥
 
--- A reply that a `ceiling` can have
+-- States that a `ceiling` can have this reply.
 abbrev pub IsCeilingReply : Reply → Type 0
 IsCeilingReply reply.True = ⊥
 IsCeilingReply reply.False = ⊥

@@ -1,4 +1,4 @@
-//! Running sets: the words of a list in a table that threads share, with a seat for each thread.
+//! Running sets: the words of a list, in a table that threads share, with one seat for each thread.
 #![tactic(auto)]
 
 mod bounded;

@@ -61,8 +61,9 @@ fn open_on<M: Machine>(
 }
 
 /// Opens a set with 1 to `MOST_THREADS` seats, seat `t` for thread `t`, and a quota of 0 to `MOST_QUOTA` for each.
-/// Allocates all memory of the set; only `Closed::keys` allocates later. Returns `OpenFault::Seats` if the number of seats is
-/// outside its limits, else `OpenFault::Quota` if the quota is, and `OpenFault::Memory` if an allocation fails.
+/// Allocates all memory of the set; only `Closed::keys` allocates later. Returns `OpenFault::Seats` if the number of
+/// seats is outside its limits, else `OpenFault::Quota` if the quota is. Returns `OpenFault::Memory` if an allocation
+/// fails.
 pub fn open<M: Machine>(
     alloc: Global,
     seats: u32,
@@ -83,12 +84,12 @@ pub fn open<M: Machine>(
     }
 }
 
-/// Opens a set with 0 to `MOST_OPENING` opening keys, in strictly increasing order, with 1 to `MOST_THREADS` seats and a quota
-/// of 0 to `MOST_QUOTA` for each. The opening keys use no quota and are nobody's adds. Each seat can remove them. The final
-/// keys of a closed set can open another set, of any list. (The lists in the literature open empty.)
-/// Returns `OpenFault::Seats` if the number of seats is outside its limits, else `OpenFault::Quota` if the quota is, else
-/// `OpenFault::Opening` if there are too many keys or a key is not above the key before it, and `OpenFault::Memory` if an
-/// allocation fails.
+/// Opens a set that contains 0 to `MOST_OPENING` opening keys, with 1 to `MOST_THREADS` seats and a quota of 0 to
+/// `MOST_QUOTA` for each. The keys must be in strictly increasing order. They use no quota and count as nobody's adds,
+/// and each seat can remove them. The final keys of a closed set can open another set, of any list. (The lists in the
+/// literature open empty.) Returns `OpenFault::Seats` if the number of seats is outside its limits, else
+/// `OpenFault::Quota` if the quota is, else `OpenFault::Opening` if there are too many keys or a key is not above the
+/// key before it. Returns `OpenFault::Memory` if an allocation fails.
 pub fn open_with<M: Machine>(
     alloc: Global,
     seats: u32,

@@ -1,4 +1,4 @@
-//! Receipts. A receipt states which events a seat has seen. It can be sent from one thread to another.
+//! Receipts. A receipt records which events a seat has seen. It can be sent from one thread to another.
 ghost use Rattle.std.specs.Prelude.{◌≡◌};
 ghost use Rattle.lset_live.specs.Explained.{ReceiptsKeepOrder};
 ghost use Rattle.lset_rule.specs.Runs.{StartsWith};
@@ -9,10 +9,10 @@ use lset_rule::{GiveReceipt, Learn, TableSeat, TakeReceipt};
 use lset_steps::Machine;
 use std::marker::{Model, PhantomData};
 
-/// A receipt of a seat of a running set: the events that the seat had seen when it returned the receipt. A receipt makes no
-/// calls. A thread sends it to another thread with a message of any kind. The calls that the receiver makes after
-/// `LiveSet::after` come after all events of the receipt. A receipt has no bytes, can go to any thread, and can be dropped.
-/// Contracts see its set and its events.
+/// A receipt of a running set's seat: the events that the seat had seen when it made the receipt. A receipt makes no
+/// calls. A thread sends it to another thread, in any way it likes. After the receiver passes it to `LiveSet::after`,
+/// the receiver's calls come after all events of the receipt. A receipt is zero-sized, can be sent to any thread, and
+/// can be dropped. Contracts see its set and its events.
 #[derive(Drop)]
 pub struct Receipt<M: Machine> {
     pub(crate) place: TableSeat,
@@ -81,8 +81,8 @@ impl<M: Machine> LiveSet<M> {
     }
 }
 
-/// The law of receipts: a call that has ended in the events of a receipt comes before each call that a seat makes after it has
-/// taken the receipt, in each order of calls that linearizes what is seen then or later.
+/// The law of receipts: if a call has ended in the events of a receipt, and a seat takes the receipt, then the call
+/// comes before each later call of the seat, in each order of calls that linearizes what is seen then or later.
 pub fn receipts_keep_order()
     ensures { ReceiptsKeepOrder }
 {}

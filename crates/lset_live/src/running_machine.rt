@@ -1,4 +1,4 @@
-//! Calls that can wait, on a table, a seat and a pause; and a `contains` that does not block.
+//! Calls that can wait, made with a table, a seat and a pause; and a `contains` that does not block.
 ghost use Rattle.lset_words.specs.declared.Call.TheVariants.{Contains};
 ghost use Rattle.lset_rule.specs.Seats.{HasCalled, MayCall};
 
@@ -17,8 +17,8 @@ use std::sync::Wait;
 ///
 /// A list that is `Bounded` implements this trait without a body: `impl Running for MyList {}`.
 pub trait Running: Bounded {
-    /// Makes a call of any kind, with as many rounds as it needs. `rt` is the runtime by which it waits. The other arguments, the
-    /// precondition and the postcondition are those of `Bounded::make_within`.
+    /// Makes a call of any kind, with as many rounds as it needs. `rt` is the runtime with which it waits. The other
+    /// arguments, the precondition and the postcondition are those of `Bounded::make_within`.
     fn make_on<R: Wait, P: Pause>(
         rt: &R,
         table: &Words<Self>,
@@ -50,7 +50,7 @@ impl Running for LockFreeList {}
 /// A list with bounded reads (`OpenReads`) implements this trait without a body. It then uses the interpreter
 /// (`lset_rule::interpret_read`).
 pub trait OpenContains: Bounded + OpenReads {
-    /// Makes a `contains` without a runtime, so it cannot block, in at most `OpenReads::bound` steps.
+    /// Makes a `contains` in at most `OpenReads::bound` steps. It takes no runtime, so it cannot block.
     fn contains_now_on(
         table: &Words<Self>,
         place: &mut TableSeat,

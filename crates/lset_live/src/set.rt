@@ -32,8 +32,8 @@ use std::marker::{Model, PhantomData};
 use std::sync::Wait;
 use thiserror::Error;
 
-/// A running set of the list `M` (Herlihy and Shavit's `Set`, with a quota). Threads share it by `&`. Each thread calls from
-/// a seat of its own. Contracts see its table, its threads and its quota.
+/// A running set of the list `M` (Herlihy and Shavit's `Set`, with a quota). Threads share it by `&`, and each thread
+/// calls from a seat of its own. Contracts see the set's table, threads and quota.
 #[derive(Drop)]
 pub struct LiveSet<M: Machine> {
     pub(crate) table: Table<(), View, Opened, Follows<M>, Global>,
@@ -54,7 +54,7 @@ impl<M: Machine> Model for LiveSet<M> {
     ghost view = { λ s. record { table = s.table.shared.table_id; shape = s.table.shared.key } };
 }
 
-/// The error of `close`: the seat does not hold all seats. Has the set and the seat, unchanged.
+/// The error of `close` if the seat does not hold all seats. Contains the set and the seat, both unchanged.
 #[derive(Drop, Error)]
 #[error("the seat does not hold all seats of the set")]
 pub struct SeatsOut<M: Machine> {
@@ -72,7 +72,7 @@ impl<M: Machine> fmt::Debug for SeatsOut<M> {
 }
 
 impl<M: Machine> LiveSet<M> {
-    /// Returns the number of seats of the set at its opening.
+    /// Returns the number of seats with which the set was opened.
     pub fn seats(&self) -> u32
         ensures seats { result ≡ self.now.shape.threads }
         ensures range { (0 < result) × (result ≤ MOST_THREADS) }
@@ -88,7 +88,8 @@ impl<M: Machine> LiveSet<M> {
         self.quota
     }
 
-    /// Returns the maximum number of keys of the set: one for each slot of each thread, and the opening keys.
+    /// Returns the maximum number of keys that the set can have: one for each slot of each thread, and the opening
+    /// keys.
     pub fn most_keys(&self) -> usize
         ensures { result ≡ most_keys (sizes self.now.shape) }
     {
@@ -97,12 +98,13 @@ impl<M: Machine> LiveSet<M> {
 }
 
 impl<M: Running> LiveSet<M> {
-    /// Makes the call from the seat, which must belong to this set. Calls `pause` after each step of the call but the last.
+    /// Makes the call from the seat, which must belong to this set. Calls `pause` after each step of the call except
+    /// the last.
     ///
-    /// Appends the call with its reply to the seat's record. The call begins after all that the seat had seen, and its last step
-    /// is the last event that the seat has seen afterwards. There is an order of the calls of these events that linearizes their
-    /// history and keeps the record (Herlihy and Wing). Can block while another thread holds a lock that the call needs. Does
-    /// not allocate.
+    /// Appends the call with its reply to the seat's record. The call begins after everything that the seat had seen,
+    /// and its last step is the last event that the seat has seen afterwards. There is an order of the calls of these
+    /// events that linearizes their history and keeps the record (Herlihy and Wing). Can block while another thread
+    /// holds a lock that the call needs. Does not allocate.
     pub fn call<R: Wait, P: Pause>(
         &self,
         rt: &R,
@@ -126,8 +128,8 @@ impl<M: Running> LiveSet<M> {
         reply
     }
 
-    /// Adds the key. Returns `True` if the key was absent and is added, `False` if it is present already, and `Full` if it is
-    /// absent and the thread has used its quota. Otherwise like `call` with `Spin`.
+    /// Adds the key. Returns `True` if the key was absent and has been added, `False` if it was already present, and
+    /// `Full` if it was absent and the thread has used up its quota. Otherwise like `call` with `Spin`.
     pub fn add<R: Wait>(&self, rt: &R, seat: &mut Seat<M>, key: Key) -> Reply
         requires { seat.old.set ≡ self.now }
         ensures { HasAnswered M.table self.now seat.old (Add key) result seat.new }
@@ -161,12 +163,13 @@ impl<M: Running> LiveSet<M> {
 }
 
 impl<M: Bounded> LiveSet<M> {
-    /// Makes the call from the seat, which must belong to this set, without a runtime: each loop of the call makes at most
-    /// `N::MOST` rounds. (The walk of a `contains` of LazyList and LockFreeList does not block and makes as many rounds as it
-    /// needs.) Returns the seat and the reply; they meet the postcondition of `call`.
+    /// Makes the call from the seat, which must belong to this set, without a runtime: each loop of the call makes at
+    /// most `N::MOST` rounds. (The walk of a `contains` of LazyList and LockFreeList does not block and makes as many
+    /// rounds as it needs.) Returns the seat and the reply, which satisfy the postcondition of `call`.
     ///
-    /// Returns `None` if a loop has made all its rounds, for example at a held lock. The call is then still pending and holds its
-    /// locks. The seat is consumed, so the set can never be closed. With [`Countless`] rounds no run reaches this case.
+    /// Returns `None` if a loop has made all its rounds, for example while it waits for a lock. The call is then still
+    /// pending and holds its locks. The seat is consumed, so the set can never be closed. With [`Countless`] rounds, no
+    /// run reaches this case.
     pub fn call_within<P: Pause, N: Rounds>(
         &self,
         seat: Seat<M>,
@@ -201,7 +204,7 @@ impl<M: Bounded> LiveSet<M> {
 }
 
 impl<M: Machine> LiveSet<M> {
-    /// Merges seat `from` into seat `into`: the record of `from`, the seats that it holds, and the events that it has seen. In
+    /// Merges seat `from` into seat `into`: its record, the seats that it holds, and the events that it has seen. In
     /// each order that keeps the record of `into`, the gathered calls come before the later calls of `into`.
     pub fn gather(&self, into: &mut Seat<M>, from: Seat<M>)
         requires into { into.old.set ≡ self.now }
@@ -224,8 +227,8 @@ impl<M: Machine> LiveSet<M> {
         into.held += held;
     }
 
-    /// Closes the set if the seat holds all seats; else returns both unchanged in `SeatsOut`. There is a legal order of calls that
-    /// keeps the seat's record, has no other call, and leaves exactly the final keys.
+    /// Closes the set if the seat holds all seats; otherwise returns both unchanged in `SeatsOut`. There is a legal
+    /// order of calls that keeps the seat's record, has no other call, and leaves exactly the final keys.
     pub fn close(self, seat: Seat<M>) -> Result<Closed, SeatsOut<M>>
         requires { seat.set ≡ self }
         ensures all { IfOk result (λ c. seat.held ≡ self.shape.threads) }
@@ -275,8 +278,8 @@ impl<M: Machine> LiveSet<M> {
         closed.keys()
     }
 
-    /// Closes the set and returns its final keys, in increasing order, in `room`, which must be empty with a capacity of at least
-    /// `most_keys`. `seat` must hold all seats. Does not allocate and does not fail.
+    /// Closes the set and returns its final keys, in increasing order, in the vector `room`, which must be empty with a
+    /// capacity of at least `most_keys`. `seat` must hold all seats. Does not allocate and does not fail.
     pub fn keys_left_in(self, seat: Seat<M>, room: Vec<u32>) -> Vec<u32>
         requires seat { seat.set ≡ self }
         requires all { seat.held ≡ self.shape.threads }
@@ -325,8 +328,9 @@ impl<M: OpenContains> LiveSet<M> {
 }
 
 impl<M: RunningReads> LiveSet<M> {
-    /// Returns whether the key is in the set, without blocking or allocating. The call is wait-free: whatever other threads do,
-    /// it makes at most `bound` steps, each a load (`lset_steps::OpenReads`). In the seat's record the reply is `True` or `False`.
+    /// Returns whether the key is in the set, without blocking or allocating. The call is wait-free: whatever other
+    /// threads do, it makes at most `bound` steps, each of them a load (`lset_steps::OpenReads`). In the seat's record,
+    /// the reply is `True` or `False`.
     pub fn contains_now(&self, seat: &mut Seat<M>, key: Key) -> bool
         requires { seat.old.set ≡ self.now }
         ensures answered { HasAnswered M.table self.now seat.old (Contains key) (reply_of result) seat.new }

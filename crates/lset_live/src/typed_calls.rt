@@ -1,4 +1,4 @@
-//! Calls from a seat, each with a result type of its own. `LiveSet` has these calls with a `Reply`.
+//! Calls made from a seat, each with its own result type. `LiveSet` has the same calls, which return a `Reply`.
 ghost use Rattle.std.specs.Prelude.{◌≡◌};
 ghost use Rattle.lset_words.specs.declared.Call.TheVariants.{Add, Remove, Contains, Ceiling};
 ghost use Rattle.lset_live.specs.Explained.{HasAnswered};
@@ -15,20 +15,20 @@ use std::sync::Wait;
 #[derive(Clone, Copy, Debug, PartialEq, Eq)]
 #[must_use]
 pub enum Added {
-    /// The key was absent and was added. It takes one slot of the seat's thread. The reply is `True`.
+    /// The key was absent and has been added. It uses one slot of the seat's thread. The reply is `True`.
     New,
-    /// The key was present already. Nothing changed. The reply is `False`.
+    /// The key was already present. Nothing changed. The reply is `False`.
     Already,
-    /// The key is absent, and the seat's thread has used up its quota. Nothing changed. The reply is `Full`.
+    /// The key was absent, but the seat's thread has used up its quota. Nothing changed. The reply is `Full`.
     Full,
 }
 
 impl<M: Running> Seat<M> {
-    /// Adds `key` to `set`. Returns whether the key was added, was present already, or exceeds the quota. This seat must belong to
-    /// `set`.
+    /// Adds `key` to `set`. Returns whether the key was added, was already present, or exceeds the quota. This seat
+    /// must belong to `set`.
     ///
-    /// Appends the call with its reply to the seat's record, as `LiveSet::add` does. Removing a key frees no slot. Can block while
-    /// another thread holds a lock that the call needs. Does not allocate.
+    /// Appends the call with its reply to the seat's record, as `LiveSet::add` does. Removing a key frees no slot. Can
+    /// block while another thread holds a lock that the call needs. Does not allocate.
     ///
     /// For example:
     ///
@@ -100,7 +100,7 @@ impl<M: Running> Seat<M> {
     }
 }
 
-/// Returns the result of an `add` with this reply.
+/// Returns the result of an `add` that has this reply.
 fn added_of(reply: Reply) -> Added
     requires { IsAddReply reply }
     ensures { reply_of_add result ≡ reply }
@@ -113,7 +113,7 @@ fn added_of(reply: Reply) -> Added
     }
 }
 
-/// Returns the result of a `remove` or a `contains` with this reply.
+/// Returns the result of a `remove` or a `contains` that has this reply.
 pub(crate) fn truth_of(reply: Reply) -> bool
     requires { IsTruth reply }
     ensures { reply_of result ≡ reply }
@@ -125,7 +125,7 @@ pub(crate) fn truth_of(reply: Reply) -> bool
     }
 }
 
-/// Returns the result of a `ceiling` with this reply.
+/// Returns the result of a `ceiling` that has this reply.
 fn key_of(reply: Reply) -> Option<Key>
     requires { IsCeilingReply reply }
     ensures { reply_of_ceiling result ≡ reply }

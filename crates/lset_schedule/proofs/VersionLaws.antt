@@ -1,4 +1,4 @@
--- The schedules that can be written: all schedules that can be read.
+-- Every schedule that can be read can be written.
 use Rattle.std.proofs.Common.{List, [], ◌∷◌}
 use Rattle.std.specs.List.{AllByRecursion}
 use Rattle.lset_text.specs.declared.words.Version.{Version}

@@ -1,4 +1,4 @@
--- Calls drawn from a generator of numbers, and the programs that a seed determines.
+-- The calls drawn from a stream of random numbers, and the programs that a seed determines.
 use Rattle.std.specs.Prelude.{ℕ, zero, suc, ◌+◌, ◌%◌, ◌^◌, ◌==◌, List, [], ◌∷◌, map, if◌then◌else◌}
 use Rattle.std.specs.List.{range_with_len}
 use Rattle.rand_core.specs.Pcg32Seed.{pcg32_seed}
@@ -9,26 +9,26 @@ use Rattle.lset_words.specs.declared.Key.{Key}
 use Rattle.lset_words.specs.declared.Call.{Call}
 use Rattle.lset_words.specs.declared.Call.TheVariants.{Add, Remove, Contains}
 
--- The numbers that `Pcg32` returns if it is made from a seed.
+-- Returns the numbers that `Pcg32` produces with this seed.
 abbrev pub seeded : ℕ → Stream
 seeded seed = stream_of (steps_u32 pcg32) (pcg32_of_seed (pcg32_seed 16 seed))
 
--- The call of a key that a number chooses.
+-- Returns the call of a key, of the kind that a number selects.
 abbrev pub call_by : ℕ → Key → Call
 call_by choice key = if choice % 3 == 0 then Add key else (if choice % 3 == 1 then Remove key else Contains key)
 
--- The call that two numbers choose, with a key below `keys`.
+-- Returns the call that two numbers select. Its key is below `keys`.
 unfoldable pub chosen : ℕ → ℕ → ℕ → Call
 chosen keys a b = call_by a (record { 0 = b % keys })
 
--- The next call, and the remaining stream.
+-- Draws the next call, and returns it with the remaining stream.
 unfoldable pub drawn_call : ℕ → Stream → Call × Stream
 drawn_call keys s =
     let a = next_u32 s in
     let b = next_u32 a.1 in
     (chosen keys a.0 b.0, b.1)
 
--- The next n calls, and the remaining stream.
+-- Draws the next n calls, and returns them with the remaining stream.
 unfoldable pub drawn_calls : ℕ → ℕ → Stream → List Call × Stream
 drawn_calls keys zero s = ([], s)
 drawn_calls keys (suc n) s =
@@ -36,10 +36,11 @@ drawn_calls keys (suc n) s =
     let others = drawn_calls keys n first.1 in
     (first.0 ∷ others.0, others.1)
 
--- The program of a thread. Its generator is made from the wrapping sum of the seed and the thread's number.
+-- Returns the program of a thread. Its random numbers are seeded with the wrapping sum of the seed and the thread's
+-- number.
 unfoldable pub program_of : ℕ → ℕ → ℕ → ℕ → List Call
 program_of calls keys seed thread = (drawn_calls keys calls (seeded ((seed + thread) % 2 ^ 64))).0
 
--- A program for each thread.
+-- Returns the programs of all threads.
 abbrev pub programs_of : ℕ → ℕ → ℕ → ℕ → List (List Call)
 programs_of threads calls keys seed = map (program_of calls keys seed) (range_with_len 0 threads)

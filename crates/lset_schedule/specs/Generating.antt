@@ -1,4 +1,4 @@
--- The properties of a generated schedule, and the arguments that the generator refuses.
+-- The properties of a generated schedule, and the arguments that the generator rejects.
 use Rattle.std.specs.Prelude.{◌≡◌, ℕ, ◌<◌, ◌≤◌, ◌⊎◌, Bool, true, false, List, [], ◌∷◌, length, count_by, flat_map, replicate}
 use Rattle.std.specs.List.{AllByRecursion}
 use Rattle.lset_text.specs.Spellings.{HasCall}
@@ -14,7 +14,8 @@ use Rattle.lset_schedule.specs.declared.value.Line.TheVariants as line
 use Rattle.lset_schedule.specs.declared.gen_fault.GenFault.{GenFault}
 use Rattle.lset_schedule.specs.declared.gen_fault.GenFault.TheVariants.{Threads, Quota, Keys, Memory}
 
--- The events of a line, and of a list of lines. Each step of a `go` line is an event.
+-- Returns the events of a line. `events_of_lines` returns those of a list of lines. Each step of a `go` line is an
+-- event.
 abbrev pub events_of_line : Line → List Event
 events_of_line (line.Begin t call) = event.Begin t call ∷ []
 events_of_line (line.Go t steps) = replicate steps (event.Go t)
@@ -26,7 +27,8 @@ abbrev pub is_begin : Line → Bool
 is_begin (line.Begin t call) = true
 is_begin (line.Go t steps) = false
 
--- One event of one of the threads. Its key is below `keys`, and its call is one of version 1.
+-- States that the line is one event of one of the threads, that its key is below `keys`, and that version 1 has its
+-- call.
 abbrev pub IsGeneratedLine : ℕ → ℕ → Line → Type 0
 IsGeneratedLine threads keys (line.Begin t call) = (t < threads) × ((key_of call).0 < keys) × HasCall One call
 IsGeneratedLine threads keys (line.Go t steps) = (t < threads) × (steps ≡ 1)
@@ -35,28 +37,28 @@ abbrev pub StartsWithBegin : List Line → Type 0
 StartsWithBegin [] = ⊥
 StartsWithBegin (l ∷ ls) = is_begin l ≡ true
 
--- Thread t has no pending call after these events.
+-- States that thread t has no pending call after these events.
 abbrev pub NoneOpenAfter : Table → ℕ → ℕ → List Event → ℕ → Type 0
 NoneOpenAfter T threads quota es t = (local_of (state_at T (empty threads quota) (event_at es) (length es)) t).pc ≡ 0
 
--- The lines of a generated schedule of this size, with at most `calls` calls.
+-- The properties of the lines of a generated schedule of this size, with at most `calls` calls.
 pub record IsGenerated (T : Table) (threads quota calls keys : ℕ) (lines : List Line) : Type 0 where
-  -- Each line is one event.
+  -- Each line is a single event.
   pub each : AllByRecursion (IsGeneratedLine threads keys) lines
-  -- Each event is enabled in its run.
+  -- Each event is enabled when it is made.
   pub run : Run T (empty threads quota) (event_at (events_of_lines lines)) (length (events_of_lines lines))
   pub first : 0 < calls → StartsWithBegin lines
   pub few : count_by is_begin lines ≤ calls
-  -- With one thread, all calls were begun and have ended, or there are as many events as a generated schedule can have.
+  -- If there is only one thread, all calls were begun and have ended, unless the maximum number of events was reached.
   pub alone : threads ≡ 1
       → (length lines ≡ MOST_GENERATED)
       ⊎ ((count_by is_begin lines ≡ calls) × NoneOpenAfter T threads quota (events_of_lines lines) 0)
 
--- No check of the arguments fails.
+-- States that every check of the arguments passes.
 abbrev pub IsAccepted : ℕ → ℕ → ℕ → Type 0
 IsAccepted threads quota keys = IsWithin (record { threads = threads; quota = quota; opening = 0 }) × (0 < keys)
 
--- The error is the first check that fails, or Memory if none fails.
+-- States that this is the error of the first check that fails. It is `Memory` if no check fails.
 abbrev pub Refuses : ℕ → ℕ → ℕ → GenFault → Type 0
 Refuses threads quota keys Threads = (threads ≡ 0) ⊎ (MOST_THREADS < threads)
 Refuses threads quota keys Quota = (0 < threads) × (threads ≤ MOST_THREADS) × (MOST_QUOTA < quota)

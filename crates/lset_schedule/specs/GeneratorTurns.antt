@@ -1,4 +1,4 @@
--- One turn of the generator: its thread, and its event.
+-- One turn of the generator: its thread and its event.
 use Rattle.std.specs.Prelude.{◌≡◌, ◌≢◌, ℕ, ◌<◌}
 use Rattle.lset_words.specs.Words.{key_of}
 use Rattle.lset_text.specs.Spellings.{HasCall}
@@ -10,11 +10,11 @@ use Rattle.lset_steps.specs.Steps.{State, local_of}
 abbrev pub HasOpenCall : State → ℕ → Type 0
 HasOpenCall s t = (local_of s t).pc ≢ 0
 
--- The turn of thread t makes no event.
+-- States that thread t's turn makes no event.
 abbrev pub IsIdle : State → ℕ → ℕ → Type 0
 IsIdle s t left = ((local_of s t).pc ≡ 0) × (left ≡ 0)
 
--- The event of the turn of thread t.
+-- States that this is the event of thread t's turn.
 abbrev pub IsNextEvent : State → ℕ → ℕ → ℕ → Event → Type 0
 IsNextEvent s t left keys (event.Begin u call) = (u ≡ t) × ((local_of s t).pc ≡ 0) × (0 < left) × ((key_of call).0 < keys)
     × HasCall One call

@@ -26,7 +26,7 @@ pub record Plan : Type 0 where
   pub opening : List ℕ
   pub lines : List Line
 
--- The schedule of a version, a header, opening keys and lines.
+-- Returns the schedule with this version, header, opening keys and lines.
 abbrev pub planned : Version → Header → List ℕ → List Line → Plan
 planned v h keys lines = record {
   version = v;
@@ -43,11 +43,11 @@ view s = planned s.version (record { kind = s.kind; threads = s.threads; quota =
 abbrev pub header_in : Plan → Header
 header_in p = record { kind = p.kind; threads = p.threads; quota = p.quota }
 
--- The opening of its set.
+-- Returns the opening of the schedule's set.
 abbrev pub opening_in : Plan → Opening
 opening_in p = record { threads = p.threads; quota = p.quota; keys = p.opening }
 
--- ---- its text
+-- ---- The text of a schedule
 
 abbrev pub pieces_of : Line → List (List ℕ)
 pieces_of (Begin thread call) = codes "begin" ∷ decimal thread ∷ call_text call ∷ decimal ((key_of call).0) ∷ []
@@ -66,13 +66,13 @@ schedule_lines p = header_lines (title p.version) (header_in p) ++ (opening_line
 abbrev pub schedule_text : Plan → List ℕ
 schedule_text p = text_of (schedule_lines p)
 
--- The line number of the first event, counted from 1. The lines of the header and of the opening keys come before it.
+-- Returns the line number of the first event, counted from 1. The header and the opening keys come before it.
 abbrev pub first_event_line : Plan → ℕ
 first_event_line p = first_line + length p.opening
 
--- ---- its limits
+-- ---- The limits of a schedule
 
--- The number of events that a line counts as.
+-- Returns the number of events that a line counts as.
 abbrev pub event_count : Line → ℕ
 event_count (Begin thread call) = 1
 event_count (Go thread steps) = steps
@@ -81,23 +81,24 @@ abbrev pub IsLine : Version → Line → Type 0
 IsLine version (Begin thread call) = (thread < 2 ^ 32) × ((key_of call).0 < 2 ^ 32) × HasCall version call
 IsLine version (Go thread steps) = (thread < 2 ^ 32) × (1 ≤ steps) × (steps ≤ MOST_STEPS)
 
--- The schedule has a text that can be read.
+-- The limits within which a schedule's text can be read.
 pub record IsSchedule (p : Plan) : Type 0 where
   pub opens : Opens (opening_in p)
   pub opening : HasOpening p.version p.opening
   pub lines : AllByRecursion (IsLine p.version) p.lines
   pub few : sum_by event_count p.lines ≤ MOST_EVENTS
 
--- ---- the calls of its version
+-- ---- The calls that a schedule's version has
 
 abbrev pub HasCallOfLine : Version → Line → Type 0
 HasCallOfLine version (Begin thread call) = HasCall version call
 HasCallOfLine version (Go thread steps) = Unit {0}
 
--- Each call that the schedule begins has a name in the schedule's version.
+-- States that the schedule's version has each call that the schedule begins.
 abbrev pub HasCallsOfVersion : Plan → Type 0
 HasCallsOfVersion p = AllByRecursion (HasCallOfLine p.version) p.lines
 
--- The schedule can be written as a text of its version. `IsSchedule` implies it (proofs/VersionLaws.antt).
+-- States that the schedule can be written as a text of its version. `IsSchedule` implies this (see
+-- proofs/VersionLaws.antt).
 abbrev pub HasWordsOfVersion : Plan → Type 0
 HasWordsOfVersion p = HasOpening p.version p.opening × HasCallsOfVersion p

@@ -1,4 +1,5 @@
--- Reading a schedule: its value, or its first error. Lines are read in order, and each line is checked in a fixed order.
+-- Reading a schedule: its value, or the first error. Lines are read from the first to the last, and the checks of a
+-- line have a fixed order.
 use Rattle.std.specs.Prelude.{◌≡◌, ◌≢◌, ℕ, ◌+◌, ◌<◌, ◌≤◌, nat_lt, List, [], ◌∷◌, ◌++◌, length, map, codes, Result, Ok, Err}
 use Rattle.std.specs.Prelude.{if◌then◌else◌, ◌⊎◌}
 use Rattle.std.specs.List.{sum_by}
@@ -25,9 +26,9 @@ use Rattle.lset_schedule.specs.declared.value.Line.TheVariants.{Begin, Go}
 use Rattle.lset_schedule.specs.declared.body.Body.{Body as TextBody}
 use Rattle.lset_schedule.specs.Plan.{Plan, planned, IsSchedule, title, schedule_text, event_count}
 
--- ---- the lines after a header: opening keys, then lines of events
+-- ---- Reading the lines after a header: opening keys, then event lines
 
--- The kinds of lines of events in a text, and the number of events that each line counts as.
+-- The kinds of event lines in a file, and the number of events that each line counts as.
 pub record EventLines (L : Type 0) : Type 0 where
   pub kinds : List (LineKind L)
   pub count : L → ℕ
@@ -49,14 +50,15 @@ pub data Item (L : Type 0) : Type 0 where
 abbrev pub opening_kind : {L : Type 0} → LineKind (Item L)
 opening_kind = (opening_form, λ t. opens t.1.0)
 
--- The kinds of lines that can come next. An opening key can come only in version 2, before all lines of events.
+-- Returns the kinds of lines that are allowed next. An opening key is allowed only in version 2 and before all event
+-- lines.
 abbrev pub kinds_after : {L : Type 0} → EventLines L → Version → List L → List (LineKind (Item L))
 kinds_after text One ls = map (kind_as event) text.kinds
 kinds_after text Two [] = opening_kind ∷ map (kind_as event) text.kinds
 kinds_after text Two (l ∷ ls) = map (kind_as event) text.kinds
 
--- The contents with one more line. An opening key must be above the one before it, and neither keys nor events can exceed their
--- limit.
+-- Returns the contents with one more line. Each opening key must be above the one before it, and the limits of keys and
+-- events must not be exceeded.
 abbrev pub with_item : {L : Type 0} → EventLines L → BodyValue L → Item L → Result (BodyValue L) Cause
 with_item text s (opens k) =
     if nat_lt (length s.keys) MOST_OPENING then (if is_above s.keys k then Ok (record s { keys = s.keys ++ k ∷ [] }) else Err Opening)
@@ -71,11 +73,11 @@ with_line text version s line = line_in version Event (kinds_after text version 
 abbrev pub grammar : {L : Type 0} → EventLines L → Version → Grammar (BodyValue L)
 grammar text version = record { step = with_line text version; ends = Ok }
 
--- The grammar of the files of a version with this title.
+-- Returns the grammar of files with this version and title.
 abbrev pub texts : {L : Type 0} → EventLines L → Version → List ℕ → TextGrammar (BodyValue L)
 texts text version title = record { title = title; start = no_lines; lines = grammar text version }
 
--- ---- a schedule
+-- ---- Reading a schedule
 
 abbrev pub begin_kind : LineKind Line
 begin_kind = (word (codes "begin") ∷ any ∷ call ∷ any ∷ [], λ t. Begin t.1.0 (with_key t.1.1.0 (record { 0 = t.1.1.1.0 })))
@@ -89,12 +91,12 @@ events = record { kinds = begin_kind ∷ go_kind ∷ []; count = event_count }
 abbrev pub schedules : Version → TextGrammar (BodyValue Line)
 schedules version = texts events version (title version)
 
--- The schedule of a text's parts, read as a text of this version.
+-- Reads the parts of a text as a schedule of this version.
 abbrev pub plan_in : Version → List (List ℕ) → Result Plan LineFault
 plan_in version parts = text_from (schedules version) parts >>= λ told. Ok (planned version told.header told.keys told.lines)
 
--- The first line alone decides the version: version 2 if the line is the title of version 2, else version 1. A text that is this
--- title without a newline has version 2; the line is refused as it would be in version 1.
+-- Returns the version of a text, which depends only on its first line: version 2 if the line is version 2's title, else
+-- version 1. If this title has no newline, the version is 2, and the line is rejected as it would be in version 1.
 abbrev pub version_told : List (List ℕ) → Version
 version_told parts = version_in (title Two) parts
 
@@ -104,35 +106,35 @@ plan_of parts = plan_in (version_told parts) parts
 abbrev pub reading : List ℕ → Result Plan LineFault
 reading bytes = plan_of (cut_at 10 bytes)
 
--- Each text that is read is the text of its schedule, and the text of each schedule is read.
+-- States that each text that is read is the text of its schedule, and that the text of each schedule can be read.
 abbrev pub SchedulesReadBack : Type 0
 SchedulesReadBack = (p : Plan) (bytes : List ℕ)
     → (IsSchedule p → reading (schedule_text p) ≡ Ok p)
     × (reading bytes ≡ Ok p → IsSchedule p × (bytes ≡ schedule_text p))
 
--- The function returned the value of reading, mapped by `view`, unless an allocation failed.
+-- States that a function returned the result of reading, mapped by `view`, or failed to allocate.
 abbrev pub Gives : {X Y : Type 0} → (X → Y) → Result X LineFault → Result Y LineFault → Type 0
 Gives view (Ok x) read = read ≡ Ok (view x)
 Gives view (Err e) read = e.cause ≢ Memory → read ≡ Err e
 
--- A whole line after the header, without an error in it or above it, of a text with this result.
+-- States that this is a whole line after the header, and that neither this line nor any line above it has an error.
 abbrev pub IsGoodAfterHeader : {X : Type 0} → List ℕ → Result X LineFault → ℕ → Type 0
 IsGoodAfterHeader bytes read line = (last_of_header < line) × lines.IsGoodLine 1 (cut_at 10 bytes) read line
 
 abbrev pub IsGoodLine : List ℕ → ℕ → Type 0
 IsGoodLine bytes line = IsGoodAfterHeader bytes (reading bytes) line
 
--- ---- the state of a reader
+-- ---- The state of a reader
 
 abbrev pub told : {L : Type 0} → TextBody L → BodyValue L
 told t = record { header = t.header; keys = t.opening.items; lines = t.lines.items }
 
--- The reader knows how many events its lines count as.
+-- States that the reader has counted the events of its lines correctly.
 abbrev pub Counts : {L : Type 0} → EventLines L → TextBody L → Type 0
 Counts text t = (t.total ≡ sum_by text.count t.lines.items) × (t.total ≤ MOST_EVENTS)
 
--- The reader made the change for this line that the grammar states, or returned the grammar's error, or an allocation for a good
--- line failed.
+-- States what a reader did with a line: it changed its state as the grammar says, or returned the grammar's error, or
+-- failed to allocate at a line without errors.
 abbrev pub Takes : {L X : Type 0} → Result (BodyValue L) Cause → BodyValue L → Result X Cause → Type 0
 Takes next now (Ok x) = next ≡ Ok now
 Takes {L = L} next now (Err cause) = (next ≡ Err cause) ⊎ ((cause ≡ Memory) × (s : BodyValue L) × (next ≡ Ok s))

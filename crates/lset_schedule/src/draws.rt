@@ -11,7 +11,7 @@ use rand_core::{Rng, SeedableRng};
 use rand_pcg::Pcg32;
 use std::alloc::{AllocError, Global};
 
-/// Returns the call that two draws choose: `a` its kind, `b` its key, below `keys`.
+/// Returns the call that two random numbers select: `a` selects the kind of call, `b` the key, which is below `keys`.
 #[tactic(auto, unfolding(crate::specs::Draws::chosen))]
 fn chosen(keys: u32, a: u32, b: u32) -> Call
     requires { 0 < keys }
@@ -72,8 +72,8 @@ fn program(
     draw_calls(alloc, calls, keys, &mut rng)
 }
 
-/// Returns the layout of a set that opens empty, for calls with keys below `keys`. Fails with the error that `generate` and
-/// `programs` return for these arguments.
+/// Returns the layout of a set that opens empty, for calls with keys below `keys`. Fails with the error that `generate`
+/// and `programs` return for the same arguments.
 pub(crate) fn layout_to_draw(threads: u32, quota: u32, keys: u32) -> Result<Layout, GenFault>
     ensures sizes { IfOk result (λ l. l ≡ record { threads = threads; quota = quota; opening = 0 }) }
     ensures accepted { IfOk result (λ _. IsAccepted threads quota keys) }
@@ -88,14 +88,14 @@ pub(crate) fn layout_to_draw(threads: u32, quota: u32, keys: u32) -> Result<Layo
     }
 }
 
-/// Draws a program of `calls` calls for each of `threads` threads, 1 to 64. The same arguments give the same programs. Each
-/// thread has its own generator, seeded by the wrapping sum of `seed` and the thread's number. Two draws choose each call: its
-/// kind, and its key below `keys`. Allocates.
+/// Draws a program of `calls` calls for each of `threads` threads, 1 to 64. The same arguments give the same programs.
+/// Each thread has its own generator, seeded with the wrapping sum of `seed` and the thread's number. Two random
+/// numbers select each call: one its kind, one its key below `keys`. Allocates.
 ///
 /// # Errors
 ///
-/// Returns the first error that applies: `Threads` if `threads` is out of range, `Keys` if `keys` is 0, `Memory` if an allocation
-/// fails. Never returns `Quota`.
+/// Returns the first error that applies: `Threads` if `threads` is out of range, `Keys` if `keys` is 0, `Memory` if an
+/// allocation fails. Never returns `Quota`.
 pub fn programs(
     alloc: Global,
     threads: u32,

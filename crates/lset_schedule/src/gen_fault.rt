@@ -5,16 +5,16 @@ use lset_words::{MOST_QUOTA, MOST_THREADS};
 use std::alloc::{AllocError, AllocFailed};
 use thiserror::Error;
 
-/// The error of `generate` or `programs`: the first of these that applies.
+/// The error of `generate` or `programs`. If several apply, the first in this order is returned.
 #[derive(Clone, Copy, Debug, PartialEq, Eq, Error)]
 pub enum GenFault {
-    /// There are no threads, or more than 64.
+    /// The number of threads is 0 or above 64.
     #[error("the number of threads is outside 1 to {MOST_THREADS}")]
     Threads,
     /// The quota is above 16,384.
     #[error("the quota is above {MOST_QUOTA}")]
     Quota,
-    /// There are no keys to choose from.
+    /// `keys` is 0, so no key can be drawn.
     #[error("there are no keys to choose from")]
     Keys,
     /// An allocation failed.

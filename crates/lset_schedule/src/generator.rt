@@ -16,7 +16,7 @@ use rand_core::{Rng, SeedableRng};
 use rand_pcg::Pcg32;
 use std::alloc::{AllocError, Global};
 
-/// Returns the line of one event.
+/// Returns the schedule line for one event.
 fn line_of(event: Event) -> Line
     ensures { result ≡ line_of_event event }
 {
@@ -49,7 +49,7 @@ fn has_open_call<M: Machine>(world: &World<M>, threads: u32) -> bool
     false
 }
 
-/// Returns whether the turns have ended after this many events, with `left` calls remaining.
+/// Returns whether the generator has finished, after this many events and with `left` calls remaining.
 fn is_over<M: Machine>(world: &World<M>, threads: u32, events: usize, left: u32) -> bool
     requires threads { world.now.sizes.threads ≡ threads }
     requires locals { length world.now.state.locals ≡ threads }
@@ -61,7 +61,7 @@ fn is_over<M: Machine>(world: &World<M>, threads: u32, events: usize, left: u32)
     left == 0 && !has_open_call(world, threads)
 }
 
-/// Returns the event of a thread's turn, if `left` calls remain to begin. `None` if the turn makes no event.
+/// Returns the event of a thread's turn, if `left` calls remain to begin. Returns `None` if the turn makes no event.
 fn next_event<M: Machine, R: Rng>(
     world: &World<M>,
     thread: u32,
@@ -83,7 +83,7 @@ fn next_event<M: Machine, R: Rng>(
     Some(Event::Begin(thread, draw_call(keys, rng)))
 }
 
-/// Makes an event that is enabled.
+/// Executes an event, which must be enabled.
 fn make<M: Machine>(world: &mut World<M>, event: Event)
     requires enabled { Enabled world.old.state event }
     requires threads { length world.old.state.locals ≡ world.old.sizes.threads }
@@ -92,7 +92,7 @@ fn make<M: Machine>(world: &mut World<M>, event: Event)
     let _told = world.step(event).unwrap();
 }
 
-/// Returns the lines of at most 100,000 turns.
+/// Draws the lines of at most 100,000 turns.
 fn generated_lines<M: Machine, R: Rng>(
     alloc: Global,
     layout: Layout,
@@ -125,18 +125,19 @@ fn generated_lines<M: Machine, R: Rng>(
     Ok(lines)
 }
 
-/// Draws a random schedule of at most 10,000 events, one on each line. The same arguments give the same schedule. It has the
-/// machine's kind and version 1, and `replay` accepts each of its events.
+/// Draws a random schedule of at most 10,000 events, one on each line. The same arguments give the same schedule. Its
+/// kind is the machine's, its version is 1, and `replay` accepts each of its events.
 ///
-/// `threads` must be 1 to 64, `quota` 0 to 16,384, and `keys` at least 1. All draws come from one generator, seeded by `seed`.
-/// There are at most 100,000 turns. In each turn a draw chooses a thread. If the thread has a pending call, it makes a step.
-/// Otherwise, if fewer than `calls` calls have begun, two draws choose the kind of its next call and its key, below `keys`. The
-/// turns end when no call is pending and none remains to begin. Allocates.
+/// `threads` must be 1 to 64, `quota` 0 to 16,384, and `keys` at least 1. All random numbers come from one generator,
+/// seeded with `seed`. There are at most 100,000 turns. Each turn draws a thread. If the thread has a pending call, it
+/// makes a step. Otherwise, if fewer than `calls` calls have begun, the thread begins a call, and two more numbers
+/// select its kind and its key below `keys`. The generator stops when no call is pending and none remains to begin.
+/// Allocates.
 ///
 /// # Errors
 ///
-/// Returns the first error that applies: `Threads` or `Quota` if that argument is out of range, `Keys` if `keys` is 0, `Memory`
-/// if an allocation fails.
+/// Returns the first error that applies: `Threads` or `Quota` if that argument is out of range, `Keys` if `keys` is 0,
+/// `Memory` if an allocation fails.
 pub fn generate<M: Machine>(
     alloc: Global,
     threads: u32,

@@ -1,4 +1,4 @@
-//! Schedules. A schedule states, event by event, which thread begins which call and which thread makes a step. This crate
+//! Schedules. A schedule says, event by event, which thread begins which call and which thread makes a step. This crate
 //! reads and writes the text of schedules, and draws schedules at random.
 #![tactic(auto)]
 
@@ -25,17 +25,17 @@ const TITLE_ONE: &str = "listset-schedule 1";
 /// The first line of a schedule of version 2, which also has opening keys and the call `ceiling`.
 const TITLE_TWO: &str = "listset-schedule 2";
 
-/// The number of the first line after the header of a schedule, counted from 1.
+/// The number of the first line after a schedule's header, counted from 1.
 pub const FIRST_LINE: u64 = 5;
 
-/// The maximum number of events of a schedule, with the steps of a `go` line counted one by one.
+/// The maximum number of events in a schedule. Each step of a `go` line counts as one event.
 pub const MOST_EVENTS: u32 = 1_000_000;
 
-/// The maximum number of steps of one `go` line.
+/// The maximum number of steps in one `go` line.
 pub const MOST_STEPS: u32 = 10_000;
 
-/// The maximum number of events of a schedule that `generate` draws.
+/// The maximum number of events in a schedule that `generate` draws.
 pub const MOST_GENERATED: u32 = 10_000;
 
-/// The maximum number of turns of `generate`.
+/// The maximum number of turns that `generate` takes.
 pub const MOST_TURNS: u32 = 100_000;

@@ -77,7 +77,7 @@ impl EventLine for Line {
     }
 }
 
-/// Returns the version that line 1 states.
+/// Returns the version that line 1 indicates.
 fn told_version(bytes: &[u8]) -> Version
     ensures { result ≡ version_told (cut_at 10 bytes.now) }
 {
@@ -95,7 +95,7 @@ fn schedule(alloc: Global, bytes: &[u8]) -> Result<Schedule, ScheduleFault>
 
 /// Reads a schedule of either version from its bytes. Allocates.
 ///
-/// Line 1 decides the version. A schedule of version 1 has no `ceiling` and no opening keys.
+/// Line 1 determines the version. A schedule of version 1 has no `ceiling` and no opening keys.
 ///
 /// As in `crates/first_program`:
 ///
@@ -104,27 +104,29 @@ fn schedule(alloc: Global, bytes: &[u8]) -> Result<Schedule, ScheduleFault>
 ///
 /// # Errors
 ///
-/// Returns the first wrong line with its error. A line that has bytes and no newline has the cause `NotEnded`; otherwise the
-/// first cause in the order of `Cause` applies. A missing header line has the cause of that line. Lines that only version 2 has
-/// are `Event` in version 1, and so is an opening key below an event in either version. `Number` if a thread or a key is not a
-/// number up to 4294967295, or the steps are not from 1 to 10000. `TooMany` if there are more than 1,000,000 events or 1,048,576
-/// opening keys. `Memory` if an allocation fails; the line then has no other error.
+/// Returns the first line with an error, and the error. A line that has bytes but no newline has the cause `NotEnded`.
+/// For other lines, the first cause in the order of `Cause` applies. A missing header line has the cause of that line.
+/// A line that only version 2 has is `Event` in version 1. An opening key below an event is `Event` in either version.
+/// `Number` if a thread or a key is not a number up to 4294967295, or the number of steps is not from 1 to 10000.
+/// `TooMany` if there are more than 1,000,000 events or 1,048,576 opening keys. `Memory` if an allocation fails; the
+/// line then has no other error.
 #[tactic(auto, using(crate::proofs::ScheduleTextLaws::found_in, crate::proofs::ScheduleTextLaws::only_in))]
 pub fn read_schedule(alloc: Global, bytes: &[u8]) -> Result<Schedule, ScheduleFault>
-    // The value that is returned is a schedule, and the bytes are its text.
+    // A returned value is a schedule, and the bytes are its text.
     ensures found { IfOk result (λ s. IsSchedule (view s) × (bytes.now ≡ schedule_text (view s))) }
-    // The text of a schedule is read, unless an allocation fails.
+    // The text of each schedule is read, unless an allocation fails.
     ensures only { (p : Plan) → IsSchedule p → bytes.now ≡ schedule_text p
         → MatchResult result (λ s. view s ≡ p) (λ e. e.cause ≡ Cause.Memory) }
-    // Exactly which value or error is returned.
+    // Determines the returned value or error exactly.
     ensures exact { Gives view result (reading bytes.now) }
-    // `Memory` is returned with a line after the header. Neither this line nor a line above it has another error.
+    // `Memory` is returned only with a line after the header, and neither this line nor a line above it has another
+    // error.
     ensures memory { IfErr result (λ e. e.cause ≡ Cause.Memory → IsGoodLine bytes.now e.line) }
 {
     schedule(alloc, bytes)
 }
 
-/// Lemma: a file is read as the one schedule whose text it is, and the text of every schedule is read.
+/// Lemma: a file is read only as the schedule whose text it is, and the text of every schedule can be read.
 pub fn schedules_read_back()
     ensures { SchedulesReadBack }
 {}

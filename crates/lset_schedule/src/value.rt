@@ -5,8 +5,8 @@ use crate::{FIRST_LINE, TITLE_ONE, TITLE_TWO};
 use lset_text::{Header, Version};
 use lset_words::{Call, Kind};
 
-/// A line of a schedule. `Begin(thread, call)`: the thread begins the call. `Go(thread, steps)`: the thread makes this many
-/// steps, 1 to 10,000. Any call is allowed here; `write_schedule` requires that the schedule's version has it.
+/// A line of a schedule. `Begin(thread, call)`: the thread begins the call. `Go(thread, steps)`: the thread makes this
+/// many steps, 1 to 10,000. Any call is allowed here, but `write_schedule` requires that the schedule's version has it.
 #[derive(Clone, Copy, Debug, PartialEq, Eq)]
 pub enum Line {
     Begin(u32, Call),
@@ -35,10 +35,10 @@ pub(crate) fn title(version: Version) -> &'static str
     }
 }
 
-/// A schedule of at most 1,000,000 events: the version of its format; the kind of list; the number of threads, 1 to 64; the quota
-/// of each thread, 0 to 16,384; the opening keys, at most 1,048,576 and in strictly increasing order; and its lines. The thread
-/// of a line can be any `u32`. To be written, a schedule of version 1 must have no opening keys and begin no `ceiling`: that
-/// version has no lines for them.
+/// A schedule of at most 1,000,000 events: the version of its format; the kind of list; the number of threads, 1 to 64;
+/// the quota of each thread, 0 to 16,384; the opening keys, at most 1,048,576 and in strictly increasing order; and its
+/// lines. A line's thread can be any `u32`. A schedule of version 1 can be written only if it has no opening keys and
+/// begins no `ceiling`, since that version has no lines for them.
 #[derive(Debug, Drop)]
 pub struct Schedule {
     pub version: Version,
@@ -50,7 +50,7 @@ pub struct Schedule {
 }
 
 impl Schedule {
-    /// Returns the schedule of this version with this header, these opening keys and these lines.
+    /// Returns the schedule with this version, header, opening keys and lines.
     pub(crate) fn of_header(
         version: Version,
         header: Header,
@@ -69,8 +69,8 @@ impl Schedule {
         }
     }
 
-    /// Returns the line number of the first event in the schedule's text, counted from 1. The lines of the header and of the
-    /// opening keys come before it. Without events, returns the number that the line of a first event would have.
+    /// Returns the line number of the first event in the schedule's text, counted from 1. The header and the opening
+    /// keys come before it. If there are no events, returns the line number that a first event would have.
     pub fn first_event_line(&self) -> u64
         ensures { result ≡ first_event_line (view self.now) }
     {
