@@ -174,7 +174,7 @@ This is no line of a solution.
     'line 1: the text is incomplete: the final line "end" is missing',
     "The one lock: the address of a schedule is missing, from # on",
     "Two at once: missing: B has an add that answers true.",
-    "Two at once: Line 9 of the schedule is refused: the thread makes a step while it has no call pending.",
+    "Two at once: Line 9 of the schedule is refused: the thread has no pending call.",
     "The lost predecessor: the address is not that of a schedule",
     "The changed link: The list, the number of threads, the quota and the opening keys are to be those of the lesson.",
     "Marked, and still in the chain: there is more behind the address",
@@ -211,7 +211,7 @@ goal
   const bad = said(folder, own.replace("go 0 11", "go 0 12"));
   check(
     `its answer is refused: ${bad.lines}`,
-    bad.status === 1 && bad.lines[0].includes('line 12: first: its answer is refused at "go 0 12": the thread makes a step while it has no call pending'),
+    bad.status === 1 && bad.lines[0].includes('line 12: first: its answer is refused at "go 0 12": the thread has no pending call'),
   );
   const handed = "listset-lessons 2\ncourse Mine\nstudent Ada\nfirst #list=lazy&threads=2&quota=4&s=b0.add.5,g0.11&event=12\nend\n";
   const both = said(folder, own, handed);

@@ -96,7 +96,7 @@ function checkReasons(ask, [lesson]) {
     [answer.replace("quota 4", "quota 5"), "The list, the number of threads"],
     [answer.replace("list coarse", "list fine"), "The list, the number of threads"],
     [answer.replace("schedule 1", "schedule 2").replace("quota 4\n", "quota 4\nopening 1\n"), "The list, the number of threads"],
-    [`${answer}go 0 1\n`, "Line 15 of the schedule is refused: the thread makes a step while it has no call pending."],
+    [`${answer}go 0 1\n`, "Line 15 of the schedule is refused: the thread has no pending call."],
     [`${answer}begin 0 add 05\n`, "The schedule is refused: listset: line 15: Number."],
     [`${answer}begin 0 contains 9\ngo 0 999\n`, "A solution has at most 1000 events."],
   ];
@@ -161,7 +161,7 @@ function checkDrafts(ask, { lessons }) {
   const [plain, own] = [lessons, course.lessons].map((all) => all.find(({ name }) => name === "marked-in-chain"));
   check(`a draft is its schedule: ${JSON.stringify(course.faults)}`, drafted !== TEXT && own.solution === plain.solution);
   const [{ fault }] = triedCourse(ask, TEXT.replace("  go 1 7\n", "  go 1 to 99\n")).faults;
-  const refused = 'marked-in-chain: its answer is refused at "go 1 to 99": the thread makes a step while it has no call pending';
+  const refused = 'marked-in-chain: its answer is refused at "go 1 to 99": the thread has no pending call';
   check(`one that is refused: ${fault}`, fault.startsWith(refused));
 }
 
@@ -169,7 +169,7 @@ function checkDrafts(ask, { lessons }) {
 function checkTrials(ask) {
   const trials = [
     ["  begin 0 add 5\n", "  begin 0 ad 5\n", "one-lock: its start is refused at \"begin 0 ad 5\": expected "],
-    ["  go 0 7\n", "  go 0 70\n", "one-lock: its answer is refused at \"go 0 70\": the thread makes a step while it has no call pending"],
+    ["  go 0 7\n", "  go 0 70\n", "one-lock: its answer is refused at \"go 0 70\": the thread has no pending call"],
     ["  go 2 1\n  go 0 1\n", "  go 2 1\n", "one-lock: its answer does not solve it: missing: Thread 0 tries to lock the list"],
     ["begin 1 remove 5\nquestion", "begin 1 remove 5\n  go 1 7\n  begin 0 contains 5\n  go 0 3\nquestion",
       "marked-in-chain: its start meets the goal already"],

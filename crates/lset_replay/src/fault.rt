@@ -11,10 +11,10 @@ pub enum ReplayFault {
     /// There is no such thread.
     #[error("line {0}: NoThread")]
     NoThread(u64),
-    /// The thread begins a call while it has one pending.
+    /// The thread already has a pending call.
     #[error("line {0}: Busy")]
     Busy(u64),
-    /// The thread makes a step while it has no call pending.
+    /// The thread has no pending call.
     #[error("line {0}: Idle")]
     Idle(u64),
     /// An allocation failed.

@@ -132,8 +132,8 @@ impl Task for Replaying<'_> {
 ///
 /// For the first event that is not enabled, with the number of its line:
 /// - `NoThread`: there is no such thread;
-/// - `Busy`: the thread begins a call while it has one pending;
-/// - `Idle`: the thread makes a step while it has no call pending.
+/// - `Busy`: the thread already has a pending call;
+/// - `Idle`: the thread has no pending call.
 ///
 /// `Memory`: an allocation failed. Does not block.
 pub fn replay(alloc: Global, schedule: &Schedule) -> Result<Report, ReplayFault>

@@ -19,8 +19,8 @@ listset: line L: CAUSE, in a schedule; exit status 1
   Opening   Opening keys must increase; this one is not above the one before.
   NotEnded  The line does not end with a newline.
   NoThread  There is no such thread. Threads are numbered from 0 to the number of threads less 1.
-  Busy      The thread begins a call while it has one pending.
-  Idle      The thread makes a step while it has no call pending.
+  Busy      The thread already has a pending call.
+  Idle      The thread has no pending call.
   Lost      The broken list's step would access a word outside its table.
 
 listset: line L: CAUSE, in a draft; exit status 1
