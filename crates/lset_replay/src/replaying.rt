@@ -130,8 +130,8 @@ impl Task for Replaying<'_> {
 ///
 /// # Errors
 ///
-/// Fails at the first event that is not enabled, and returns the number of its line:
-/// - `NoThread`: the schedule has no such thread;
+/// For the first event that is not enabled, with the number of its line:
+/// - `NoThread`: there is no such thread;
 /// - `Busy`: the thread already has a pending call;
 /// - `Idle`: the thread has no pending call.
 ///
