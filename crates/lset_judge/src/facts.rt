@@ -1,11 +1,11 @@
 //! Facts about the calls of a key, from which a clash is found.
 
-ghost use Rattle.std.specs.Prelude.{◌≡◌, ◌≢◌, ◌⊎◌, IfSome, IsTrue, MatchOption, Some};
+ghost use Rattle.std.specs.Prelude.{◌≡◌, IfSome, IsTrue, Some};
 ghost use Rattle.lset_words.specs.Effects.{effect_of};
 ghost use Rattle.lset_words.specs.Words.{key_of};
 ghost use Rattle.lset_judge.specs.Clash.{left_so};
 ghost use Rattle.lset_judge.specs.Code.{state_of, event_as};
-ghost use Rattle.lset_judge.specs.Facts.{begun_by, facts_of, first_of, is_call, reply_kept, until_of, word_kept, ComesAfter, EndsBy, IsClashing, IsEnded, IsFound, IsFoundLeft, IsStanding};
+ghost use Rattle.lset_judge.specs.Facts.{begun_by, facts_of, first_of, is_call, reply_kept, until_of, word_kept, ComesAfter, EndsBy, IsEnded, IsFound, IsFoundLeft, IsStanding};
 
 use crate::clash::{Clash, leaves, needs, other};
 use crate::event::Event;
