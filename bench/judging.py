@@ -6,7 +6,7 @@ import random
 import tempfile
 
 from build_benches import by_rustc
-from measuring import built, heading, least, memory_of, row, seconds_of
+from measuring import built, heading, instructions_of, least, memory_of, row, seconds_of
 
 MILLION = 1_000_000
 THREADS, KEYS = 16, 64
@@ -34,16 +34,35 @@ RECORDINGS = {
 
 
 def judge():
-    """Prints the table of recordings. Each time is the minimum of several alternating runs, in seconds."""
-    heading("Recording", "`judge`, s", "KB", "by hand, s", "KB", "ratio")
+    """Prints the table of recordings: the minimum of the seconds of several alternating runs, the peak memory, and the
+    instructions of a call in a recording with a tenth of the calls."""
+    heading("Recording", "`judge`, s", "KB", "by hand, s", "KB", "ratio of s", "of KB", "instructions a call", "by hand", "ratio")
     with tempfile.TemporaryDirectory(prefix="bench-") as room:
         programs = [built("listset"), "judge"], [by_rustc("peer_judge.rs", room)]
         for name, asked in RECORDINGS.items():
-            with open(f"{room}/recording", "w", encoding="ascii") as file:
-                file.writelines(lines_of(*asked))
-            ours, hand = least([seconds_of(words, file.name, os.devnull, 0) for words in programs] for _ in range(RUNS))
-            kb, hand_kb = (memory_of(words, file.name) or 0 for words in programs)
-            row(name, f"{ours:.2f}", f"{kb:,}", f"{hand:.2f}", f"{hand_kb:,}", f"{ours / hand:.2f}")
+            file = write(f"{room}/recording", *asked)
+            ours, hand = least([seconds_of(words, file, os.devnull, 0) for words in programs] for _ in range(RUNS))
+            kb, hand_kb = (memory_of(words, file) or 0 for words in programs)
+            cells = [name, f"{ours:.2f}", f"{kb:,}", f"{hand:.2f}", f"{hand_kb:,}", f"{ours / hand:.2f}", ratio(kb, hand_kb)]
+            row(*cells, *instructions(programs, room, *asked))
+
+
+def write(file, *asked):
+    """Writes a recording to a file and returns the file."""
+    with open(file, "w", encoding="ascii") as it:
+        it.writelines(lines_of(*asked))
+    return file
+
+
+def ratio(ours, hand):
+    return f"{ours / hand:.2f}" if ours and hand else "-"
+
+
+def instructions(programs, room, calls, *asked):
+    """Returns the cells for the instructions of a call, in a recording with a tenth of the calls."""
+    file = write(f"{room}/tenth", calls // 10, *asked)
+    ours, hand = (10 * (instructions_of(words, file) or 0) // calls for words in programs)
+    return f"{ours:,}", f"{hand:,}", ratio(ours, hand)
 
 
 def lines_of(calls, threads, keys, has_spanning):

@@ -1,10 +1,10 @@
-"""Functions that the modules of bench/run share: they find programs, measure processor time and peak memory of runs, and
-print rows of tables.
-"""
+"""Common functions of bench/run: they find programs, measure processor seconds, instructions and peak memory of runs, and print
+rows of tables."""
 
 import datetime
 import os
 import re
+import shutil
 import subprocess
 import sys
 import tempfile
@@ -69,6 +69,18 @@ def memory_of(words, given):
         quiet = {"stdout": subprocess.DEVNULL, "stderr": subprocess.DEVNULL}
         subprocess.run([TIME, "-q", "-f", "%M", "-o", told.name, *words], stdin=source, **quiet)
         return int(told.read())
+
+
+def instructions_of(words, given):
+    """Runs a command under valgrind's callgrind and returns its number of instructions, which the load of the machine does
+    not change; None if valgrind is not installed."""
+    if not shutil.which("valgrind"):
+        return None
+    counted = ["valgrind", "--tool=callgrind", "--callgrind-out-file=/dev/null", *words]
+    with open(given) as source:
+        run = subprocess.run(counted, stdin=source, stdout=subprocess.DEVNULL, stderr=subprocess.PIPE, text=True)
+    found = re.search(r"Collected : (\d+)", run.stderr)
+    return int(found[1]) if found else None
 
 
 def heading(*columns):

@@ -203,6 +203,11 @@ module _ (threads : ℕ) (opening : List ℕ) (calls : List CallRecord) (s : Str
     so.0,
     same_after (event_at behind_all f.key.0 more) (event_at behind_all f.key.0 calls) (has_key f.key.0 opening) f.moment
         (λ j l. event_before behind_all f.key.0 j calls x (let b = may.begins in let u = so.0 in omega (arith, l, u, b)) may.ends) ∙ so.1,
+    (λ k m fails. elim (below_or_not m f.moment) [
+      | inr late ↦ late
+      | inl early ↦ so.2 k m (sym (same_after (event_at behind_all k more) (event_at behind_all k calls) (has_key k opening) m
+          (λ j l. event_before behind_all k j calls x (let b = may.begins in let u = so.0 in omega (arith, l, early, u, b)) may.ends)) ∙ fails)
+    ]),
   )
 
   pub call_begun : x.thread < threads → (t : Stream) → IsPermutation (pending_of x ∷ s.pending) t.pending → t.moment ≡ x.begun

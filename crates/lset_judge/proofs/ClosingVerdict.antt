@@ -1,5 +1,5 @@
 -- The verdict on a stream after all events of its calls.
-use Rattle.std.proofs.Common.{◌≡◌, ◌≢◌, ℕ, ◌<◌, ◌≤◌, Bool, false, List, [], ◌∷◌, sym, ap, ◌∙◌, arith, inl, inr, zero, suc, true, refl, subst, length, get_or}
+use Rattle.std.proofs.Common.{◌≡◌, ◌≢◌, ℕ, ◌-◌, ◌<◌, ◌≤◌, Bool, false, List, [], ◌∷◌, sym, ap, ◌∙◌, arith, inl, inr, zero, suc, true, refl, subst, length, get_or}
 use Rattle.std.specs.Prelude.{◌==◌, ◌&&◌, nat_le, None, IfSome, ◌||◌, Option, Some, is_some, MatchOption, All}
 use Rattle.std.specs.List.{AllByRecursion}
 use Rattle.std.specs.List.Sorted.{IsStrictlyIncreasing}
@@ -20,16 +20,16 @@ use Rattle.lset_judge.specs.Rule.{Event, state_after, may_leave, State, leaves, 
 use Rattle.lset_judge.specs.Rule.{stepped}
 use Rattle.lset_judge.specs.Events.{event_at, rule_explains}
 use Rattle.lset_judge.specs.Verdict.{IsUnexplained, with_quota, calls_by, of_key, IsExplained, IsJudged, IsRefusedBy, may_add}
-use Rattle.lset_judge.proofs.StatesAfter.{failed_by, left_alike, same_after, stays_after}
+use Rattle.lset_judge.proofs.StatesAfter.{failed_by, left_alike, quiet_until, same_after, stays_after, stays_failed}
 use Rattle.lset_judge.proofs.RuleDecides.{unexplained, explained, explained_so}
 use Rattle.lset_judge.proofs.EventLemmas.{IsSilent, ends_not, event_filter, event_idle, for_some, if_some, latest_filter, opens_so}
 use Rattle.lset_judge.specs.declared.stream.Failed.{Failed}
 use Rattle.lset_judge.specs.declared.stream.Pending.{Pending}
 use Rattle.lset_judge.specs.declared.stream.Stream.{Stream}
 use Rattle.lset_judge.specs.Leaving.{has_any, may_be_left}
-use Rattle.lset_judge.specs.Stream.{stream_history, behind_all, state_for, pending_of, verdict_of_key, IsStreamOf, IsStreamVerdict}
+use Rattle.lset_judge.specs.Stream.{stream_history, behind_all, state_for, pending_of, verdict_of_key, FailsFirst, HasFailed, IsStreamOf, IsStreamVerdict}
 use Rattle.lset_judge.proofs.PlacedCalls.{same_flips}
-use Rattle.lset_judge.proofs.RuleLeads.{at_once, settled_none}
+use Rattle.lset_judge.proofs.RuleLeads.{at_once, no_state, settled_none}
 use Rattle.lset_judge.proofs.StreamSteps.{same_some, until_end}
 
 -- ---- the rule judges the calls of one key that begin by a moment as it judges the key
@@ -190,12 +190,20 @@ module _ (threads : ℕ) (opening : List ℕ) (calls : List CallRecord) (s : Str
         → IsExplained h keys
     stream_explained keys increase may = explained behind_all h keys behind is.history is.opens is_judged increase (λ k. left_judged (has_key k keys) k ∙ may k)
 
+    never_fails : (k m : ℕ) → HasFailed h k m → ⊥
+    never_fails k m fails = no_state (state_for s.states k) (sym (elim (below_or_not s.moment m) [
+      | inr early ↦ stays_failed (event_at behind_all k calls) (has_key k opening) (s.moment - m) m s.moment (omega (arith, early)) fails
+      | inl late ↦ sym (quiet_until (event_at behind_all k calls) (has_key k opening) (m - s.moment) s.moment m (omega (arith, late))
+          (λ j l low. event_idle k j behind_all calls (let a = latest in omega (arith, a, l)))) ∙ fails
+    ]) ∙ judged k) ⊥
+
     stream_left : (keys : List ℕ) (k : ℕ) → may_be_left (has_key k keys) (state_for s.states k) ≡ false
-        → ((quota : ℕ) → IsUnexplained (with_quota quota h) keys) × IsRefusedBy h keys k None
+        → ((quota : ℕ) → IsUnexplained (with_quota quota h) keys) × IsRefusedBy h keys k None × FailsFirst h k None
     stream_left keys k wrong =
         let fails : rule_explains behind_all h keys k ≡ false = left_judged (has_key k keys) k ∙ wrong in (
           (λ quota. unexplained behind_all (with_quota quota h) keys behind is.history k fails),
           refused_left behind_all h is.history behind k (latest_moment calls) keys refl fails,
+          never_fails,
         )
 
     pub stream_closed : (keys : List ℕ) → IsStrictlyIncreasing keys → (found : Option ℕ)
@@ -211,9 +219,12 @@ module _ (threads : ℕ) (opening : List ℕ) (calls : List CallRecord) (s : Str
         (λ k. left_judged (state_for s.states k).there k ∙ as_it_is (state_for s.states k)) in (so.0, so.1)
 
   pub stream_refused : (f : Failed) → state_after (event_at behind_all f.key.0 calls) (has_key f.key.0 opening) f.moment ≡ None
+      → ((k m : ℕ) → HasFailed h k m → f.moment ≤ m)
       → (keys : List ℕ) → ((quota : ℕ) → IsUnexplained (with_quota quota h) keys) × IsRefusedBy h keys f.key.0 (Some f.moment)
-  stream_refused f none keys = (
+      × FailsFirst h f.key.0 (Some f.moment)
+  stream_refused f none first keys = (
     (λ quota. unexplained behind_all (with_quota quota h) keys behind is.history f.key.0
         (failed_by calls behind_all behind f.key.0 (has_key f.key.0 opening) (has_key f.key.0 keys) f.moment none)),
     (λ quota left. refused_by behind_all h is.history behind f.key.0 f.moment none quota left),
+    (none, first),
   )

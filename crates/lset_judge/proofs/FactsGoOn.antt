@@ -19,7 +19,6 @@ use Rattle.lset_words.specs.Words.{key_of}
 use Rattle.lset_words.specs.History.{call_numbered, no_call}
 use Rattle.lset_words.proofs.Numbers.{same_or_not}
 use Rattle.lset_judge.specs.declared.clash.Clash.{Clash}
-use Rattle.lset_judge.specs.declared.facts.Facts.{Facts}
 use Rattle.lset_judge.specs.declared.stream.StreamCall.{StreamCall}
 use Rattle.lset_judge.specs.declared.stream.Pending.{Pending}
 use Rattle.lset_judge.specs.declared.stream.Failed.{Failed}
@@ -31,8 +30,8 @@ use Rattle.lset_judge.specs.Events.{Kind, changes, sees, nothing, kind_if, until
 use Rattle.lset_judge.specs.Rest.{has_ended, turns_to}
 use Rattle.lset_judge.specs.Clash.{record_if, other, leaves_if, needs_if, IsOf, WasSo, since_of, is_before, is_before_end, NothingTurns, Clashes, InOrder, IsClash}
 use Rattle.lset_judge.specs.Stream.{behind_all, record_of, pending_of, key_in, event_of, state_for, IsBefore, IsMetBy, IsToldBy, IsStreamOf, failed_verdict}
-use Rattle.lset_judge.specs.Facts.{kept_of, until_of, facts_opened, facts_for, begun_by, IsEnded, AreOverBy, AreFacts, IsClashBy, AreKnownBy, IsStreamKept, IsFirst}
-use Rattle.lset_judge.specs.Facts.{IsStanding, EndsBy, ClashTurned, ComesAfter, IsFound, IsFoundLeft, BeginIsKnown, EndIsKept, EndIsKnown, ClashesStream, clash_met}
+use Rattle.lset_judge.specs.Facts.{Facts, first_of, until_of, facts_opened, facts_for, begun_by, IsEnded, IsKept, AreOverBy, AreFacts, IsClashBy, AreKnownBy, IsStreamKept}
+use Rattle.lset_judge.specs.Facts.{IsStanding, EndsBy, ClashTurned, ComesAfter, IsClashing, IsFound, IsFoundLeft, BeginIsKnown, EndIsKept, EndIsKnown, ClashesStream, clash_met}
 use Rattle.lset_judge.specs.Judge.{ClashesIn}
 use Rattle.lset_judge.specs.Pending.{IsNext}
 use Rattle.lset_judge.proofs.RuleLeads.{at_once}
@@ -41,15 +40,9 @@ use Rattle.lset_judge.proofs.RuleLeads.{at_once}
 
 pub first_facts : (opening : List ℕ) (k : ℕ) (f : Facts) → f ≡ facts_opened (presence (has_key k opening)) → AreFacts opening [] k f
 first_facts opening k f e = subst (AreFacts opening [] k) (sym e) (record {
-  opened = refl;
-  kept = none;
+  was = refl;
   over = λ there i d low. absurd (omega (arith, low));
 })
-  where
-    none : (was : Presence) → IfSome (kept_of was (facts_opened (presence (has_key k opening))))
-        (λ (x : StreamCall). WasSo [] k (presence (has_key k opening)) was (Some (record_of x)))
-    none Present = tt
-    none Absent = tt
 
 -- ---- what the facts show is a clash
 
@@ -80,13 +73,9 @@ module _ (opening : List ℕ) (calls : List CallRecord) (key : ℕ) (f : Facts) 
   begins_before : (x : CallRecord) → IsOf calls key x → x.begun < behind_all
   begins_before x is = (All-contains IsBefore calls x before is.known).0
 
-  was_so : (was : Presence) (first : Option StreamCall) → IsFirst f was first → WasSo calls key there was (record_if first)
-  was_so was None is = sym facts.opened ∙ is
-  was_so was (Some x) is = subst (λ (o : Option StreamCall). IfSome o (λ (y : StreamCall). WasSo calls key f.opened was (Some (record_of y)))) is (facts.kept was)
-
-  since_before : (was : Presence) (first : Option StreamCall) → IsFirst f was first → since_of (record_if first) < behind_all
-  since_before was None is = omega arith
-  since_before was (Some x) is = begins_before (record_of x) (was_so was (Some x) is).0
+  since_before : (was : Presence) (first : Option StreamCall) → WasSo calls key there was (record_if first) → since_of (record_if first) < behind_all
+  since_before was None so = omega arith
+  since_before was (Some x) so = begins_before (record_of x) so.0
 
   over : (turns : Presence) (since : ℕ) → until_of turns f ≤ since → since < behind_all → (i : ℕ) (d : CallRecord) → i < length calls
       → (key_of (get_or calls i d).call).0 ≡ key → turns_to turns (kind_if (get_or calls i d).call (get_or calls i d).ended) ≡ true
@@ -112,12 +101,13 @@ module _ (opening : List ℕ) (calls : List CallRecord) (key : ℕ) (f : Facts) 
     abbrev more : List CallRecord
     more = calls ++ later
 
-    first_clashes : (was : Presence) (first : Option StreamCall) → IsStanding f was first → needs_if call.call call.ended ≡ Some (other was)
+    first_clashes : (was : Presence) (first : Option StreamCall) → WasSo calls key there was (record_if first)
+        → until_of (other was) f ≤ since_of (record_if first) → needs_if call.call call.ended ≡ Some (other was)
         → Clashes more key there None was (record_if first) (Some (record_of call))
-    first_clashes was first s needs = record {
-      was_so = was_more calls later key there was (record_if first) (was_so was first s.is);
+    first_clashes was first so since needs = record {
+      was_so = was_more calls later key there was (record_if first) so;
       needed = (is_of_more calls later key (record_of call) is, needs);
-      nothing = nothing_by moment later after (other was) (since_of (record_if first)) s.since (since_before was first s.is) (record_of call) e ended by;
+      nothing = nothing_by moment later after (other was) (since_of (record_if first)) since (since_before was first so) (record_of call) e ended by;
     }
 
     ends_so : (x : StreamCall) → EndsBy x.ended call.ended → (d : ℕ × Reply) × (x.ended ≡ Some d) × (d.0 ≤ moment)
@@ -126,62 +116,64 @@ module _ (opening : List ℕ) (calls : List CallRecord) (key : ℕ) (f : Facts) 
         let low = subst (λ (o : Option (ℕ × Reply)). IsSomeAnd o (λ (g : ℕ × Reply). d.0.0 ≤ g.0)) ended d.2 in
         (d.0, d.1, omega (arith, low, by))
 
-    turned : (was : Presence) (x : StreamCall) → IsStanding f was (Some x) → (t : ClashTurned f x call)
+    turned : (x : StreamCall) → IsOf calls key (record_of x) → (t : ClashTurned f x call)
         → Clashes more key there None t.left (Some (record_of call)) (Some (record_of x))
-    turned was x s t =
-        let own = (was_so was (Some x) s.is).0 in
+    turned x own t =
         let d = ends_so x t.ends in record {
           was_so = (is_of_more calls later key (record_of call) is, t.leaves);
           needed = (is_of_more calls later key (record_of x) own, t.needs);
           nothing = nothing_by moment later after (other t.left) call.begun t.since (begins_before (record_of call) is) (record_of x) d.0 d.1 d.2;
         }
 
-    is_clash : (was : Presence) (first : Option StreamCall) → IsStanding f was first → needs_if call.call call.ended ≡ Some (other was)
+    is_clash : (was : Presence) (first : Option StreamCall) → WasSo calls key there was (record_if first)
+        → until_of (other was) f ≤ since_of (record_if first) → needs_if call.call call.ended ≡ Some (other was)
         → ComesAfter f first call → IsClash more key there None was (record_if first) (Some (record_of call))
-    is_clash was None s needs order = (first_clashes was None s needs, tt)
-    is_clash was (Some x) s needs (inl p) = (first_clashes was (Some x) s needs, inl p)
-    is_clash was (Some x) s needs (inr t) = (first_clashes was (Some x) s needs, inr (t.apart, (t.left, turned was x s t)))
+    is_clash was None so since needs order = (first_clashes was None so since needs, tt)
+    is_clash was (Some x) so since needs (inl p) = (first_clashes was (Some x) so since needs, inl p)
+    is_clash was (Some x) so since needs (inr t) = (first_clashes was (Some x) so since needs, inr (t.apart, (t.left, turned x so.0 t)))
 
-  clash_found : (moment : ℕ) (call : StreamCall) (c : Clash) → IsFound f call c → IsOf calls key (record_of call)
-      → ((e : ℕ × Reply) → call.ended ≡ Some e → e.0 ≤ moment) → IsClashBy opening calls moment key c
-  clash_found moment call c s is by_then = λ later after.
-      let e = need_ends call.call call.ended (other c.was) s.needs in
-      subst (λ (o : Option StreamCall). IsClash (calls ++ later) key there None c.was (record_if c.first) (record_if o)) (sym s.second)
-      (is_clash moment call is e.0 e.1 (by_then e.0 e.1) later after c.was c.first s.standing s.needs s.order)
-
-  clash_is_left : (left : Presence) (c : Clash) → IsFoundLeft f left c → IsClash calls key there (Some left) c.was (record_if c.first) (record_if c.second)
-  clash_is_left left c s = subst (λ (o : Option StreamCall). IsClash calls key there (Some left) c.was (record_if c.first) (record_if o)) (sym s.second) (
+  clash_is_left : (left : Presence) (c : Clash) → IsFoundLeft key f left c → IsClash calls key there (Some left) c.was (record_if c.first) (record_if c.second)
+  clash_is_left left c s = subst (λ (q : Clash). IsClash calls key there (Some left) q.was (record_if q.first) (record_if q.second)) (sym s.is) (
     record {
-      was_so = was_so c.was c.first s.standing.is;
+      was_so = facts.was;
       needed = ap Some s.is_other;
-      nothing = λ i d inside own is b. over (other c.was) (since_of (record_if c.first)) s.standing.since (since_before c.was c.first s.standing.is) i d inside own is;
+      nothing = λ i d inside own is b. over (other f.was) (since_of (record_if (first_of key f))) s.standing (since_before f.was (first_of key f) facts.was) i d inside own is;
     },
-    in_order c.first,
+    in_order (first_of key f),
   )
     where
       in_order : (first : Option StreamCall) → InOrder calls key there (Some left) (record_if first) None
       in_order None = tt
       in_order (Some x) = tt
 
+-- the key of the call
+abbrev own_key : StreamCall → ℕ
+own_key call = (key_of call.call).0
+
+clash_found : (opening : List ℕ) (calls : List CallRecord) (f : Facts) (call : StreamCall) → AreFacts opening calls (own_key call) f
+    → All IsBefore calls → (moment : ℕ) (c : Clash) → IsFound f call c → IsOf calls (own_key call) (record_of call)
+    → ((e : ℕ × Reply) → call.ended ≡ Some e → e.0 ≤ moment) → IsClashBy opening calls moment (own_key call) c
+clash_found opening calls f call facts before moment c s is by_then = λ later after.
+    let k = own_key call in
+    let e = need_ends call.call call.ended (other f.was) s.clashing.needs in
+    subst (λ (q : Clash). IsClash (calls ++ later) k (presence (has_key k opening)) None q.was (record_if q.first) (record_if q.second)) (sym s.is)
+    (is_clash opening calls k f facts before moment call is e.0 e.1 (by_then e.0 e.1) later after f.was (first_of k f) facts.was
+    s.clashing.standing s.clashing.needs s.clashing.order)
+
 -- ---- a call ends
 
-pub ended_facts : (opening : List ℕ) (calls : List CallRecord) (key : ℕ) (call : StreamCall) (old new : Facts) → AreFacts opening calls key old
-    → IsEnded call old new → IsOf calls key (record_of call) → AreFacts opening calls key new
-ended_facts opening calls key call old new facts ended is = record { opened = ended.opened ∙ facts.opened; kept = kept; over = over }
+pub ended_facts : (opening : List ℕ) (calls : List CallRecord) (call : StreamCall) (old new : Facts) → AreFacts opening calls (own_key call) old
+    → IsEnded call old new → IsOf calls (own_key call) (record_of call) → AreFacts opening calls (own_key call) new
+ended_facts opening calls call old new facts (inl same) is = subst (AreFacts opening calls (own_key call)) (sym same) facts
+ended_facts opening calls call old new facts (inr kept) is = record {
+  was = subst (λ (o : Option StreamCall). WasSo calls (own_key call) (presence (has_key (own_key call) opening)) new.was (record_if o)) (sym kept.first)
+      (is, kept.leaves);
+  over = over;
+}
   where
-    from : (was : Presence) (o n : Option StreamCall) → (n ≡ o) ⊎ ((n ≡ Some call) × (leaves_if call.call call.ended ≡ Some was))
-        → IfSome o (λ (x : StreamCall). WasSo calls key old.opened was (Some (record_of x)))
-        → IfSome n (λ (x : StreamCall). WasSo calls key new.opened was (Some (record_of x)))
-    from was o n (inl e) h = subst (λ (q : Option StreamCall). IfSome q (λ (x : StreamCall). WasSo calls key new.opened was (Some (record_of x)))) (sym e) h
-    from was o n (inr e) h = subst (λ (q : Option StreamCall). IfSome q (λ (x : StreamCall). WasSo calls key new.opened was (Some (record_of x)))) (sym e.0) (is, e.1)
-
-    kept : (was : Presence) → IfSome (kept_of was new) (λ (x : StreamCall). WasSo calls key new.opened was (Some (record_of x)))
-    kept Present = from Present old.present new.present ended.present (facts.kept Present)
-    kept Absent = from Absent old.absent new.absent ended.absent (facts.kept Absent)
-
-    over : (there : Presence) → AreOverBy calls key there (until_of there new)
-    over Present = subst (AreOverBy calls key Present) (sym ended.until.0) (facts.over Present)
-    over Absent = subst (AreOverBy calls key Absent) (sym ended.until.1) (facts.over Absent)
+    over : (there : Presence) → AreOverBy calls (own_key call) there (until_of there new)
+    over Present = subst (AreOverBy calls (own_key call) Present) (sym kept.puts) (facts.over Present)
+    over Absent = subst (AreOverBy calls (own_key call) Absent) (sym kept.takes) (facts.over Absent)
 
 -- an end changes no moment of the facts
 pub end_begins_nothing : (k : Kind) (begun : ℕ) (f : Facts) → begun_by (end_event k begun) f ≡ f
@@ -220,9 +212,9 @@ module _ (threads : ℕ) (opening : List ℕ) (calls : List CallRecord) (s t : S
   kept_clash : (clash : Option Clash) (f : Failed) → f.key.0 ≡ key → EndIsKept s.states p.call t.states clash → AreFacts opening calls key (facts_for s.states key)
       → AreKnownBy opening calls t.moment t.states (Some f) clash
   kept_clash None f same kept facts = subst (λ k. AreFacts opening calls k (facts_for t.states k)) (sym same)
-      (ended_facts opening calls key p.call (facts_for s.states key) (facts_for t.states key) facts kept.facts is_own)
+      (ended_facts opening calls p.call (facts_for s.states key) (facts_for t.states key) facts kept.facts is_own)
   kept_clash (Some c) f same kept facts = subst (λ k. IsClashBy opening calls t.moment k c) (sym same)
-      (clash_found opening calls key (facts_for s.states key) facts is.before t.moment p.call c kept.found is_own ends_at)
+      (clash_found opening calls (facts_for s.states key) p.call facts is.before t.moment c kept.found is_own ends_at)
 
   failed_at : (was failed : Option Failed) (clash : Option Clash) → IsMetBy s.states key p.end (event_of p) t.states was failed
       → EndIsKnown s.states p.call t.states was s.clash clash → AreKnownBy opening calls s.moment s.states was s.clash
@@ -230,7 +222,7 @@ module _ (threads : ℕ) (opening : List ℕ) (calls : List CallRecord) (s t : S
   failed_at None None clash met kept known = λ k. elim (same_or_not k key) [
     | inr ne ↦ subst (AreFacts opening calls k) (sym (kept.1 k ne)) (known k)
     | inl e ↦ subst (λ j. AreFacts opening calls j (facts_for t.states j)) (sym e)
-        (ended_facts opening calls key p.call (facts_for s.states key) (facts_for t.states key) (known key) kept.0.facts is_own)
+        (ended_facts opening calls p.call (facts_for s.states key) (facts_for t.states key) (known key) kept.0.facts is_own)
   ]
   failed_at None (Some f) clash met kept known = kept_clash clash f met.0 kept.0 (known key)
   failed_at (Some f) failed clash met kept known = subst (λ o. AreKnownBy opening calls t.moment t.states o clash) (sym met) (still s.clash kept known)
@@ -247,20 +239,19 @@ module _ (threads : ℕ) (opening : List ℕ) (calls : List CallRecord) (s t : S
 
 -- ---- a call begins
 
-kept_still : (v : Event) (was : Presence) (f : Facts) → kept_of was (begun_by v f) ≡ kept_of was f
-kept_still (begins w u) Present f = refl
-kept_still (begins w u) Absent f = refl
-kept_still (ends w) was f = refl
-kept_still (looks w n) was f = refl
-kept_still (leaves w) was f = refl
-kept_still idle was f = refl
+first_still : (v : Event) (k : ℕ) (f : Facts) → first_of k (begun_by v f) ≡ first_of k f
+first_still (begins w u) k f = refl
+first_still (ends w) k f = refl
+first_still (looks w n) k f = refl
+first_still (leaves w) k f = refl
+first_still idle k f = refl
 
-opened_still : (v : Event) (f : Facts) → (begun_by v f).opened ≡ f.opened
-opened_still (begins w u) f = refl
-opened_still (ends w) f = refl
-opened_still (looks w n) f = refl
-opened_still (leaves w) f = refl
-opened_still idle f = refl
+was_still : (v : Event) (f : Facts) → (begun_by v f).was ≡ f.was
+was_still (begins w u) f = refl
+was_still (ends w) f = refl
+was_still (looks w n) f = refl
+was_still (leaves w) f = refl
+was_still idle f = refl
 
 until_grows : (v : Event) (there : Presence) (f : Facts) → until_of there f ≤ until_of there (begun_by v f)
 until_grows (begins true u) Present f = le-max_left f.puts_until u
@@ -294,32 +285,27 @@ module _ (opening : List ℕ) (calls : List CallRecord) (x : CallRecord) where
   abbrev event : Event
   event = begin_event (kind_if x.call x.ended) (until_if behind_all x.begun x.ended)
 
-  facts_more : (k : ℕ) (f g : Facts) → AreFacts opening calls k f → g.opened ≡ f.opened → ((was : Presence) → kept_of was g ≡ kept_of was f)
+  facts_more : (k : ℕ) (f g : Facts) → AreFacts opening calls k f → g.was ≡ f.was → first_of k g ≡ first_of k f
       → ((there : Presence) → until_of there f ≤ until_of there g)
       → ((there : Presence) → (key_of x.call).0 ≡ k → turns_to there (kind_if x.call x.ended) ≡ true → until_if behind_all x.begun x.ended ≤ until_of there g)
       → AreFacts opening with_x k g
-  facts_more k f g facts o kept grows own = record {
-    opened = o ∙ facts.opened;
-    kept = λ was. subst (λ (q : Option StreamCall). IfSome q (λ (y : StreamCall). WasSo with_x k g.opened was (Some (record_of y)))) (sym (kept was))
-        (lifted was (kept_of was f) (facts.kept was));
+  facts_more k f g facts was first grows own = record {
+    was = subst (λ (p : Presence). WasSo with_x k (presence (has_key k opening)) p (record_if (first_of k g))) (sym was)
+        (subst (λ (o : Option StreamCall). WasSo with_x k (presence (has_key k opening)) f.was (record_if o)) (sym first)
+        (was_more calls (x ∷ []) k (presence (has_key k opening)) f.was (record_if (first_of k f)) facts.was));
     over = λ there. All-push (λ (y : CallRecord). (key_of y.call).0 ≡ k → turns_to there (kind_if y.call y.ended) ≡ true
         → until_if behind_all y.begun y.ended ≤ until_of there g) calls x
         (λ i d low mine is. let l = facts.over there i d low mine is in let up = grows there in omega (arith, l, up)) (own there);
   }
-    where
-      lifted : (was : Presence) (o : Option StreamCall) → IfSome o (λ (y : StreamCall). WasSo calls k f.opened was (Some (record_of y)))
-          → IfSome o (λ (y : StreamCall). WasSo with_x k g.opened was (Some (record_of y)))
-      lifted was None h = tt
-      lifted was (Some y) h = (is_of_more calls (x ∷ []) k (record_of y) h.0, h.1)
 
   begun_facts : (k : ℕ) (f g : Facts) → AreFacts opening calls k f → g ≡ begun_by event f → AreFacts opening with_x k g
   begun_facts k f g facts e = subst (AreFacts opening with_x k) (sym e)
-      (facts_more k f (begun_by event f) facts (opened_still event f) (λ was. kept_still event was f) (λ there. until_grows event there f)
+      (facts_more k f (begun_by event f) facts (was_still event f) (first_still event k f) (λ there. until_grows event there f)
       (λ there own t. until_own (kind_if x.call x.ended) (until_if behind_all x.begun x.ended) there f t))
 
   same_facts : (k : ℕ) (f g : Facts) → k ≢ (key_of x.call).0 → AreFacts opening calls k f → g ≡ f → AreFacts opening with_x k g
   same_facts k f g ne facts e = subst (AreFacts opening with_x k) (sym e)
-      (facts_more k f f facts refl (λ was. refl) (λ there. omega arith) (λ there own t. absurd (ne (sym own))))
+      (facts_more k f f facts refl refl (λ there. omega arith) (λ there own t. absurd (ne (sym own))))
 
   module _ (s t : Stream) (begun : s.moment < x.begun) (moment : t.moment ≡ x.begun) where
     begin_at : (was failed : Option Failed) → IsMetBy s.states (key_of x.call).0 x.begun event t.states was failed
@@ -370,7 +356,7 @@ clash_of_met s refusal told (Some c) e = λ opening threads calls kept. by openi
         (append-nil calls) (known [] (λ i e low. absurd (omega (arith, low))))))
 
 pub clash_of_left : (s : Stream) (refusal : Refusal) (left : Presence) (clash : Option Clash)
-    → IfSome clash (λ (c : Clash). (s.failed ≡ None) × IsFoundLeft (facts_for s.states refusal.key.0) left c)
+    → IfSome clash (λ (c : Clash). (s.failed ≡ None) × IsFoundLeft refusal.key.0 (facts_for s.states refusal.key.0) left c)
     → IfSome clash (λ (c : Clash). (opening : List ℕ) → ClashesStream opening refusal (Some left) s c)
 clash_of_left s refusal left None h = tt
 clash_of_left s refusal left (Some c) h = λ opening threads calls kept.

@@ -22,6 +22,12 @@ module _ (ev : ℕ → Event) (b : Bool) where
       ap (λ (v : Event). stepped n v (state_after ev b n)) (q (suc n) (omega (arith, e)) (omega arith)) ∙ idle_step n (state_after ev b n)
       ∙ quiet_until d m n (omega (arith, e)) (λ j l h. q j l (omega (arith, h)))
 
+  -- after the rule has failed, it stays failed
+  pub stays_failed : (d m n : ℕ) → n ≡ m + d → state_after ev b m ≡ None → state_after ev b n ≡ None
+  stays_failed zero m n e none = let f : n ≡ m = omega (arith, e) in ap (state_after ev b) f ∙ none
+  stays_failed (suc d) m zero e none = absurd (omega (arith, e))
+  stays_failed (suc d) m (suc n) e none = ap (stepped n (ev (suc n))) (stays_failed d m n (omega (arith, e)) none)
+
 pub same_after : (ev other : ℕ → Event) (b : Bool) (m : ℕ) → ((j : ℕ) → j ≤ m → ev j ≡ other j) → state_after ev b m ≡ state_after other b m
 same_after ev other b zero same = refl
 same_after ev other b (suc m) same =
@@ -54,14 +60,8 @@ module _ (calls : List CallRecord) (T : ℕ) (behind : latest_moment calls ≤ T
   pub stays_after : (G : ℕ) → latest_moment calls ≤ G → G ≤ T → state_after event opens T ≡ state_after event opens G
   stays_after G low high = quiet_until event opens (T - G) G T (omega (arith, high)) (λ j l m. event_idle k j T calls (omega (arith, low, l)))
 
-  -- after the rule has failed, it stays failed
   pub failed_by : (left : Bool) (m : ℕ) → state_after event opens m ≡ None → may_leave event opens left T ≡ false
   failed_by left m none = ap (λ (o : Option State). is_some (stepped T (leaves left) o)) (elim (below_or_not T m) [
-    | inr low ↦ still (T - m) T (omega (arith, low))
+    | inr low ↦ stays_failed event opens (T - m) m T (omega (arith, low)) none
     | inl high ↦ sym (quiet_until event opens (m - T) T m (omega (arith, high)) (λ j l n. event_idle k j T calls (omega (arith, behind, l)))) ∙ none
   ])
-    where
-      still : (d n : ℕ) → n ≡ m + d → state_after event opens n ≡ None
-      still zero n e = let f : n ≡ m = omega (arith, e) in ap (state_after event opens) f ∙ none
-      still (suc d) zero e = absurd (omega (arith, e))
-      still (suc d) (suc n) e = ap (stepped n (event (suc n))) (still d n (omega (arith, e)))

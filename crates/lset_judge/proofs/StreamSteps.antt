@@ -22,7 +22,8 @@ use Rattle.lset_judge.specs.Rule.{Event, State, idle, found, entered, stepped, s
 use Rattle.lset_judge.specs.Events.{kind_if, until_if, begin_event, event_at}
 use Rattle.lset_judge.specs.Stream.{States, behind_all, state_for, pending_of, key_in, event_of, no_pending, IsBefore, ArePending, IsJudgedTo}
 use Rattle.lset_judge.specs.Stream.{IsMetBy, MayCome}
-use Rattle.lset_judge.proofs.StatesAfter.{idle_step, quiet_until}
+use Rattle.lset_judge.proofs.StatesAfter.{idle_step, quiet_until, stays_failed}
+use Rattle.lset_judge.proofs.RuleLeads.{no_state}
 use Rattle.lset_judge.proofs.EventLemmas.{Told, of_nothing, of_begin, of_end, told, ends_there, if_some, for_some, none_or_some, ends_not, one_before, passed_over}
 
 -- ---- ends
@@ -71,6 +72,15 @@ module _ (opening : List ℕ) (calls : List CallRecord) where
         ap (λ (u : Event). stepped n u (state_after (event k) (has_key k opening) n)) is
         ∙ ap (stepped n w) (quiet_until (event k) (has_key k opening) (n - m) m n (omega (arith, up)) (λ j l h. quiet j l h k) ∙ so)
 
+    -- a key that has a state after `m` has one after `n`
+    not_yet : (k i : ℕ) (s : State) → state_after (event k) (has_key k opening) m ≡ Some s → state_after (event k) (has_key k opening) i ≡ None
+        → suc n ≤ i
+    not_yet k i s so fails = elim (below_or_not i (suc n)) [
+      | inr late ↦ late
+      | inl early ↦ no_state s (sym (stays_failed (event k) (has_key k opening) (n - i) i n (omega (arith, early)) fails)
+          ∙ quiet_until (event k) (has_key k opening) (n - m) m n (omega (arith, up)) (λ j l h. quiet j l h k) ∙ so) (suc n ≤ i)
+    ]
+
     own : (k : ℕ) → key ≡ k → event k (suc n) ≡ v
     own k e = at_it k ∙ rw (equal_test key k e) refl
 
@@ -80,7 +90,7 @@ module _ (opening : List ℕ) (calls : List CallRecord) where
     goes : (before after : States) (was failed : Option Failed) → IsMetBy before key (suc n) v after was failed
         → IsJudgedTo opening calls m before was → IsJudgedTo opening calls (suc n) after failed
     goes before after (Some f) failed met so =
-        subst (IsJudgedTo opening calls (suc n) after) (sym met) (let l = so.0 in (omega (arith, l, up), so.1))
+        subst (IsJudgedTo opening calls (suc n) after) (sym met) (let l = so.0 in (omega (arith, l, up), so.1, so.2))
     goes before after None None met so = λ k. elim (same_or_not key k) [
       | inl e ↦ subst (λ j. state_after (event j) (has_key j opening) (suc n) ≡ Some (state_for after j)) e
           (step_to key (state_for before key) v (so key) (own key refl) ∙ ap (λ (i : ℕ). entered v (found i v (state_for before key))) (let z : n ≡ suc n - 1 = omega arith in z)
@@ -96,6 +106,7 @@ module _ (opening : List ℕ) (calls : List CallRecord) where
           omega (arith, l),
           ap (λ (i : ℕ). state_after (event f.key.0) (has_key f.key.0 opening) i) l
               ∙ ap (λ (i : ℕ). state_after (event i) (has_key i opening) (suc n)) met.0 ∙ last,
+          (λ k i fails. let late = not_yet k i (state_for before k) (so k) fails in omega (arith, l, late)),
         )
 
     pub goes_to : (j : ℕ) → j ≡ suc n → (before after : States) (was failed : Option Failed) → IsMetBy before key j v after was failed

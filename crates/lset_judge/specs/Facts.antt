@@ -1,8 +1,12 @@
 -- The facts about the calls of a key from which a clash is found.
-use Rattle.std.specs.Prelude.{◌≡◌, ◌≢◌, ℕ, ◌<◌, ◌≤◌, ◌⊎◌, max, if◌then◌else◌, true, List, ◌++◌, All, Option, Some, None, IfSome, IsSomeAnd}
+use Rattle.std.specs.Prelude.{◌≡◌, ◌≢◌, ℕ, ◌<◌, ◌≤◌, ◌⊎◌, max, if◌then◌else◌, Bool, true, false, List, ◌++◌, All, Option, Some, None, IfSome, IsSomeAnd}
 use Rattle.std.specs.Bool.{nat_eq}
 use Rattle.std.specs.HashMap.{get}
+use Rattle.lset_words.specs.declared.Call.{Call}
+use Rattle.lset_words.specs.declared.Call.TheVariants.{Add, Remove, Contains}
+use Rattle.lset_words.specs.declared.Key.{Key}
 use Rattle.lset_words.specs.declared.Reply.{Reply}
+use Rattle.lset_words.specs.declared.Reply.TheVariants.{True, False}
 use Rattle.lset_words.specs.declared.history.CallRecord.{CallRecord}
 use Rattle.lset_words.specs.declared.effect.Presence.{Presence}
 use Rattle.lset_words.specs.declared.effect.Presence.TheVariants.{Present, Absent}
@@ -15,7 +19,8 @@ use Rattle.lset_judge.specs.declared.stream.Failed.{Failed}
 use Rattle.lset_judge.specs.declared.stream.Refusal.{Refusal}
 use Rattle.lset_judge.specs.declared.stream.Stream.{Stream}
 use Rattle.lset_judge.specs.declared.rule.KeyState.{KeyState}
-use Rattle.lset_judge.specs.declared.facts.Facts.{Facts}
+use Rattle.lset_judge.specs.declared.rule.Kept.{Kept}
+use Rattle.lset_judge.specs.declared.rule.Kept.TheVariants.{Opening, Change, Refused, Look}
 use Rattle.lset_judge.specs.declared.clash.Clash.{Clash}
 use Rattle.lset_judge.specs.Rule.{Event, begins, ends, looks, leaves, idle}
 use Rattle.lset_judge.specs.Events.{kind_if, until_if}
@@ -23,10 +28,57 @@ use Rattle.lset_judge.specs.Rest.{turns_to}
 use Rattle.lset_judge.specs.Stream.{States, behind_all, record_of, IsStreamOf}
 use Rattle.lset_judge.specs.Clash.{record_if, other, leaves_if, needs_if, since_of, WasSo, IsClash}
 
--- the stored call that leaves the key in a state
-abbrev pub kept_of : Presence → Facts → Option StreamCall
-kept_of Present f = f.present
-kept_of Absent f = f.absent
+-- The facts about the calls of a key. The key was in the state `was`: at first, or because a call leaves it in this state. The facts have the
+-- thread, the begin and the end of this call. All changes of the key to present have ended by `puts_until`, those to absent by `takes_until`.
+pub record Facts : Type 0 where
+  pub was : Presence
+  pub kept : Kept
+  pub thread : ℕ
+  pub begun : ℕ
+  pub ended : ℕ
+  pub puts_until : ℕ
+  pub takes_until : ℕ
+
+abbrev pub facts_of : KeyState → Facts
+facts_of s = record {
+  was = s.was;
+  kept = s.kept;
+  thread = s.thread;
+  begun = s.begun;
+  ended = s.ended;
+  puts_until = s.changes.puts_until;
+  takes_until = s.changes.takes_until;
+}
+
+-- the call of a kind that leaves its key in a state, and its reply
+abbrev pub word_kept : Kept → Presence → Key → Call
+word_kept Look was key = Contains key
+word_kept kept Present key = Add key
+word_kept kept Absent key = Remove key
+
+abbrev pub reply_kept : Kept → Presence → Reply
+reply_kept Change was = True
+reply_kept Refused was = False
+reply_kept kept Present = True
+reply_kept kept Absent = False
+
+abbrev pub call_kept : ℕ → Facts → StreamCall
+call_kept key f = record {
+  thread = f.thread;
+  call = word_kept f.kept f.was (record { 0 = key });
+  begun = f.begun;
+  ended = Some (f.ended, reply_kept f.kept f.was);
+}
+
+abbrev pub is_call : Kept → Bool
+is_call Opening = false
+is_call Change = true
+is_call Refused = true
+is_call Look = true
+
+-- the call that leaves the key in the state `was`; None if the key had this state at first
+abbrev pub first_of : ℕ → Facts → Option StreamCall
+first_of key f = if is_call f.kept then Some (call_kept key f) else None
 
 -- the moment by which all changes of the key to a state have ended
 abbrev pub until_of : Presence → Facts → ℕ
@@ -34,21 +86,18 @@ until_of Present f = f.puts_until
 until_of Absent f = f.takes_until
 
 abbrev pub facts_opened : Presence → Facts
-facts_opened there = record { opened = there; present = None; absent = None; puts_until = 0; takes_until = 0 }
+facts_opened there = record { was = there; kept = Opening; thread = 0; begun = 0; ended = 0; puts_until = 0; takes_until = 0 }
 
 abbrev pub facts_or : Option KeyState → Facts
 facts_or None = facts_opened Absent
-facts_or (Some s) = s.facts
+facts_or (Some s) = facts_of s
 
 abbrev pub facts_for : States → ℕ → Facts
 facts_for states k = facts_or (get nat_eq states k)
 
 -- the facts after an event of the key
 abbrev pub begun_by : Event → Facts → Facts
-begun_by (begins w end) f = record {
-  opened = f.opened;
-  present = f.present;
-  absent = f.absent;
+begun_by (begins w end) f = record f {
   puts_until = if w then max f.puts_until end else f.puts_until;
   takes_until = if w then f.takes_until else max f.takes_until end;
 }
@@ -57,12 +106,16 @@ begun_by (looks w since) f = f
 begun_by (leaves w) f = f
 begun_by idle f = f
 
--- the facts change from `old` to `new` when a call of the key ends
-pub record IsEnded (call : StreamCall) (old new : Facts) : Type 0 where
-  pub opened : new.opened ≡ old.opened
-  pub present : (new.present ≡ old.present) ⊎ ((new.present ≡ Some call) × (leaves_if call.call call.ended ≡ Some Present))
-  pub absent : (new.absent ≡ old.absent) ⊎ ((new.absent ≡ Some call) × (leaves_if call.call call.ended ≡ Some Absent))
-  pub until : (new.puts_until ≡ old.puts_until) × (new.takes_until ≡ old.takes_until)
+-- the facts change from `old` to `new`, which have this call
+pub record IsKept (call : StreamCall) (old new : Facts) : Type 0 where
+  pub first : first_of (key_of call.call).0 new ≡ Some call
+  pub leaves : leaves_if call.call call.ended ≡ Some new.was
+  pub puts : new.puts_until ≡ old.puts_until
+  pub takes : new.takes_until ≡ old.takes_until
+
+-- the facts stay, or have this call, which ends
+abbrev pub IsEnded : StreamCall → Facts → Facts → Type 0
+IsEnded call old new = (new ≡ old) ⊎ IsKept call old new
 
 -- ---- the meaning of the facts
 
@@ -71,10 +124,9 @@ abbrev pub AreOverBy : List CallRecord → ℕ → Presence → ℕ → Type 0
 AreOverBy calls key there moment = All (λ (x : CallRecord). (key_of x.call).0 ≡ key → turns_to there (kind_if x.call x.ended) ≡ true
     → until_if behind_all x.begun x.ended ≤ moment) calls
 
--- THE FACTS ARE RIGHT for the calls of a key: its state at first, a call that leaves it in each state, and when its changes have ended
+-- THE FACTS ARE RIGHT for the calls of a key: a state in which the key was, and when its changes have ended
 pub record AreFacts (opening : List ℕ) (calls : List CallRecord) (key : ℕ) (f : Facts) : Type 0 where
-  pub opened : f.opened ≡ presence (has_key key opening)
-  pub kept : (was : Presence) → IfSome (kept_of was f) (λ (x : StreamCall). WasSo calls key f.opened was (Some (record_of x)))
+  pub was : WasSo calls key (presence (has_key key opening)) f.was (record_if (first_of key f))
   pub over : (there : Presence) → AreOverBy calls key there (until_of there f)
 
 -- a clash of the calls of a key, whichever calls begin after a moment
@@ -96,15 +148,9 @@ pub record IsStreamKept (threads : ℕ) (opening : List ℕ) (calls : List CallR
 
 -- ---- words of single contracts
 
--- the stored call leaves the key in the state `was`; without a call, the key has this state at first
-abbrev pub IsFirst : Facts → Presence → Option StreamCall → Type 0
-IsFirst f was None = f.opened ≡ was
-IsFirst f was (Some x) = kept_of was f ≡ Some x
-
--- no call that can change the key to the other state has been pending since the begin of this call
-pub record IsStanding (f : Facts) (was : Presence) (first : Option StreamCall) : Type 0 where
-  pub is : IsFirst f was first
-  pub since : until_of (other was) f ≤ since_of (record_if first)
+-- no call that can change the key to the other state has been pending since the begin of the call
+abbrev pub IsStanding : ℕ → Facts → Type 0
+IsStanding key f = until_of (other f.was) f ≤ since_of (record_if (first_of key f))
 
 -- both calls have ended, the first no later than the second
 abbrev pub EndsBy : Option (ℕ × Reply) → Option (ℕ × Reply) → Type 0
@@ -123,18 +169,25 @@ abbrev pub ComesAfter : Facts → Option StreamCall → StreamCall → Type 0
 ComesAfter f None second = Unit {0}
 ComesAfter f (Some x) second = Precedes (record_of x) (record_of second) ⊎ ClashTurned f x second
 
+-- the facts show that this call clashes
+pub record IsClashing (f : Facts) (call : StreamCall) : Type 0 where
+  pub needs : needs_if call.call call.ended ≡ Some (other f.was)
+  pub standing : IsStanding (key_of call.call).0 f
+  pub order : ComesAfter f (first_of (key_of call.call).0 f) call
+
+abbrev pub clash_with : ℕ → Facts → Option StreamCall → Clash
+clash_with key f second = record { was = f.was; first = first_of key f; second = second }
+
 -- a clash whose second call is `call`
 pub record IsFound (f : Facts) (call : StreamCall) (c : Clash) : Type 0 where
-  pub second : c.second ≡ Some call
-  pub needs : needs_if call.call call.ended ≡ Some (other c.was)
-  pub standing : IsStanding f c.was c.first
-  pub order : ComesAfter f c.first call
+  pub is : c ≡ clash_with (key_of call.call).0 f (Some call)
+  pub clashing : IsClashing f call
 
 -- a clash with the final state of the key
-pub record IsFoundLeft (f : Facts) (left : Presence) (c : Clash) : Type 0 where
-  pub second : c.second ≡ None
-  pub is_other : left ≡ other c.was
-  pub standing : IsStanding f c.was c.first
+pub record IsFoundLeft (key : ℕ) (f : Facts) (left : Presence) (c : Clash) : Type 0 where
+  pub is : c ≡ clash_with key f None
+  pub is_other : left ≡ other f.was
+  pub standing : IsStanding key f
 
 -- the facts after the begin of a call
 abbrev pub BeginIsKnown : States → ℕ → Event → States → Option Failed → Option Clash → Type 0

@@ -86,12 +86,13 @@ pub record ArePending (calls : List CallRecord) (moment : ℕ) (pending : List P
   pub apart : AllPairs (λ (p q : Pending). p.end ≢ q.end) pending
   pub later : All (λ (p : Pending). moment < p.end) pending
 
--- the states of the keys after a moment are those of the rule; if the rule has failed, it has failed on the key at the moment of `f`
+-- the states of the keys after a moment are those of the rule; if the rule has failed, it failed first on the key of `f`, at its moment
 abbrev pub IsJudgedTo : List ℕ → List CallRecord → ℕ → States → Option Failed → Type 0
 IsJudgedTo opening calls moment states None =
     (k : ℕ) → state_after (event_at behind_all k calls) (has_key k opening) moment ≡ Some (state_for states k)
 IsJudgedTo opening calls moment states (Some f) = (f.moment ≤ moment)
     × (state_after (event_at behind_all f.key.0 calls) (has_key f.key.0 opening) f.moment ≡ None)
+    × ((k m : ℕ) → state_after (event_at behind_all k calls) (has_key k opening) m ≡ None → f.moment ≤ m)
 
 -- THE STREAM HAS JUDGED these calls, of a set that opens with these keys. Its moment is at or after the begin of each call.
 pub record IsStreamOf (threads : ℕ) (opening : List ℕ) (calls : List CallRecord) (s : Stream) : Type 0 where
@@ -125,12 +126,23 @@ pub record MayCome (pending : List Pending) (moment : ℕ) (x : CallRecord) : Ty
 
 -- ---- the verdict
 
+-- the rule has failed on a key by a moment
+abbrev pub HasFailed : HistoryValue → ℕ → ℕ → Type 0
+HasFailed h k moment = state_after (event_at behind_all k h.calls) (has_key k h.opening.keys) moment ≡ None
+
+-- THE RULE FAILS FIRST on this key and at this moment: by no earlier moment has it failed on any key. Without a moment, the rule has failed on
+-- no key by any moment, and only the final state of the key is wrong.
+abbrev pub FailsFirst : HistoryValue → ℕ → Option ℕ → Type 0
+FailsFirst h key None = (k m : ℕ) → HasFailed h k m → ⊥
+FailsFirst h key (Some moment) = HasFailed h key moment × ((k m : ℕ) → HasFailed h k m → moment ≤ m)
+
 -- Linearizable: some order explains the calls and leaves the keys. NotLinearizable: no order does, under any quota, because no order explains
--- the calls of the refusal's key.
+-- the calls of the refusal's key; and the rule fails first on this key, at the refusal's moment.
 abbrev pub IsStreamVerdict : HistoryValue → List ℕ → StreamVerdict → Type 0
 IsStreamVerdict h keys Linearizable = IsExplained h keys
 IsStreamVerdict h keys (NotLinearizable refusal) =
     ((quota : ℕ) → IsUnexplained (with_quota quota h) keys) × IsRefusedBy h keys refusal.key.0 refusal.moment
+    × FailsFirst h refusal.key.0 refusal.moment
 
 -- the verdict on a recording that was cut off: for some final keys, or for all
 abbrev pub IsStreamVerdictCutOff : HistoryValue → StreamVerdict → Type 0

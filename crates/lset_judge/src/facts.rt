@@ -1,30 +1,17 @@
 //! Facts about the calls of a key, from which a clash is found.
 
-ghost use Rattle.std.specs.Prelude.{◌≡◌, ◌⊎◌, IfSome, IsTrue, Some};
-ghost use Rattle.lset_words.specs.declared.effect.Presence.TheVariants.{Present, Absent};
-ghost use Rattle.lset_judge.specs.Clash.{leaves_if};
-ghost use Rattle.lset_judge.specs.Code.{event_as};
-ghost use Rattle.lset_judge.specs.Facts.{begun_by, facts_opened, kept_of, until_of, ComesAfter, EndsBy, IsFound, IsFoundLeft, IsStanding};
+ghost use Rattle.std.specs.Prelude.{◌≡◌, IfSome, IsTrue, Some};
+ghost use Rattle.lset_words.specs.Effects.{effect_of};
+ghost use Rattle.lset_words.specs.Words.{key_of};
+ghost use Rattle.lset_judge.specs.Clash.{left_so};
+ghost use Rattle.lset_judge.specs.Code.{state_of, event_as};
+ghost use Rattle.lset_judge.specs.Facts.{begun_by, facts_of, first_of, is_call, reply_kept, until_of, word_kept, ComesAfter, EndsBy, IsEnded, IsFound, IsFoundLeft, IsStanding};
 
 use crate::clash::{Clash, leaves, needs, other};
 use crate::event::Event;
+use crate::rule::{Kept, KeyState};
 use crate::stream::StreamCall;
-use lset_words::Presence;
-
-/// Facts about the calls of a key so far.
-#[derive(Clone, Copy)]
-pub(crate) struct Facts {
-    /// The presence of the key at first.
-    opened: Presence,
-    /// A call that has ended and leaves the key present.
-    present: Option<StreamCall>,
-    /// A call that has ended and leaves the key absent.
-    absent: Option<StreamCall>,
-    /// A moment by which each `add` that has begun and can put the key in has ended.
-    puts_until: u64,
-    /// A moment by which each `remove` that has begun and can take the key out has ended.
-    takes_until: u64,
-}
+use lset_words::{Call, Key, Presence, Reply};
 
 /// Whether both calls have ended, the first no later than the second.
 fn ends_by(first: StreamCall, second: StreamCall) -> bool
@@ -36,69 +23,96 @@ fn ends_by(first: StreamCall, second: StreamCall) -> bool
     }
 }
 
-impl Facts {
-    /// Returns the facts about no calls. `there` is the presence of the key at first.
-    pub(crate) fn opened(there: Presence) -> Facts
-        ensures { result ≡ facts_opened there }
-    {
-        Facts {
-            opened: there,
-            present: None,
-            absent: None,
-            puts_until: 0,
-            takes_until: 0,
-        }
+/// Returns the state in which a call leaves its key, and the kind of the call. `None` if nothing is known of the key.
+fn kept_as(call: Call, reply: Reply) -> Option<(Presence, Kept)>
+    ensures { IfSome result (λ p. (left_so (effect_of call reply) ≡ Some p.0) × (word_kept p.1 p.0 (key_of call) ≡ call)
+        × (reply_kept p.1 p.0 ≡ reply) × IsTrue (is_call p.1)) }
+{
+    match (call, reply) {
+        (Call::Add(_), Reply::True) => Some((Presence::Present, Kept::Change)),
+        (Call::Add(_), Reply::False) => Some((Presence::Present, Kept::Refused)),
+        (Call::Remove(_), Reply::True) => Some((Presence::Absent, Kept::Change)),
+        (Call::Remove(_), Reply::False) => Some((Presence::Absent, Kept::Refused)),
+        (Call::Contains(_), Reply::True) => Some((Presence::Present, Kept::Look)),
+        (Call::Contains(_), Reply::False) => Some((Presence::Absent, Kept::Look)),
+        _ => None,
     }
+}
 
-    fn kept(self, was: Presence) -> Option<StreamCall>
-        ensures { result ≡ kept_of was self }
-    {
-        match was {
-            Presence::Present => self.present,
-            Presence::Absent => self.absent,
-        }
+/// Returns the word and the key of a kept call.
+fn word_kept(kept: Kept, was: Presence, key: Key) -> Call
+    ensures { result ≡ word_kept kept was key }
+{
+    match (kept, was) {
+        (Kept::Look, _) => Call::Contains(key),
+        (_, Presence::Present) => Call::Add(key),
+        (_, Presence::Absent) => Call::Remove(key),
     }
+}
 
-    fn until(self, there: Presence) -> u64
-        ensures { result ≡ until_of there self }
+/// Returns the reply of a kept call.
+fn reply_kept(kept: Kept, was: Presence) -> Reply
+    ensures { result ≡ reply_kept kept was }
+{
+    match (kept, was) {
+        (Kept::Change, _) => Reply::True,
+        (Kept::Refused, _) => Reply::False,
+        (_, Presence::Present) => Reply::True,
+        (_, Presence::Absent) => Reply::False,
+    }
+}
+
+impl KeyState {
+    fn until(&self, there: Presence) -> u64
+        ensures { result ≡ until_of there (facts_of self.now) }
     {
         match there {
-            Presence::Present => self.puts_until,
-            Presence::Absent => self.takes_until,
+            Presence::Present => self.changes.puts_until,
+            Presence::Absent => self.changes.takes_until,
         }
     }
 
-    /// Records the begin of a call, if it can change the key.
-    pub(crate) fn begin(&mut self, event: Event)
-        ensures { self.new ≡ begun_by (event_as event) self.old }
+    /// Returns the kept call of a key with this state. `None` if the key had its state at first.
+    fn first(&self, key: Key) -> Option<StreamCall>
+        ensures { result ≡ first_of key.0 (facts_of self.now) }
+    {
+        if matches!(self.kept, Kept::Opening) {
+            return None;
+        }
+        Some(StreamCall {
+            thread: self.thread,
+            call: word_kept(self.kept, self.was, key),
+            begun: self.begun,
+            ended: Some((self.ended, reply_kept(self.kept, self.was))),
+        })
+    }
+
+    /// Records the begin of a call, if it can change the key. (The rule has failed, so the pending changes are not recorded.)
+    pub(crate) fn note_begin(&mut self, event: Event)
+        ensures { facts_of self.new ≡ begun_by (event_as event) (facts_of self.old) }
     {
         match event {
-            Event::Begins(Presence::Present, end) => self.puts_until = self.puts_until.max(end),
-            Event::Begins(Presence::Absent, end) => self.takes_until = self.takes_until.max(end),
+            Event::Begins(Presence::Present, end) => self.changes.raise_puts(end),
+            Event::Begins(Presence::Absent, end) => self.changes.raise_takes(end),
             Event::Ends(_) | Event::Looks(_, _) | Event::Idle => {}
         }
     }
 
-    /// Returns a call that leaves the key in a state, if no call that can change the state has been pending since its begin. `Some(None)` if
-    /// the key had the state at first, and no such call has begun.
-    fn standing(self, was: Presence) -> Option<Option<StreamCall>>
-        ensures { IfSome result (IsStanding self was) }
+    /// Whether no call that can change the key to the other state has been pending since the begin of the kept call.
+    fn is_standing(&self, first: Option<StreamCall>, key: Key) -> bool
+        requires { first ≡ first_of key.0 (facts_of self.now) }
+        ensures { IsTrue result → IsStanding key.0 (facts_of self.now) }
     {
-        let until = self.until(other(was));
-        if until == 0 && self.opened == was {
-            return Some(None);
-        }
-        let call = self.kept(was)?;
-        if until <= call.begun {
-            Some(Some(call))
-        } else {
-            None
+        let until = self.until(other(self.was));
+        match first {
+            Some(call) => until <= call.begun,
+            None => until == 0,
         }
     }
 
     /// Whether the second call comes after the first in each order, or clashes with it in the other order too.
-    fn comes_after(self, first: Option<StreamCall>, second: StreamCall) -> bool
-        ensures { IsTrue result → ComesAfter self first second }
+    fn comes_after(&self, first: Option<StreamCall>, second: StreamCall) -> bool
+        ensures { IsTrue result → ComesAfter (facts_of self.now) first second }
     {
         let Some(first) = first else {
             return true;
@@ -118,64 +132,70 @@ impl Facts {
     }
 
     /// Returns the clash of a call that ends, if the facts show one.
-    pub(crate) fn clash_of(self, second: StreamCall) -> Option<Clash>
-        ensures { IfSome result (IsFound self second) }
+    pub(crate) fn clash_of(&self, second: StreamCall) -> Option<Clash>
+        ensures { IfSome result (IsFound (facts_of self.now) second) }
     {
-        let need = needs(second)?;
-        let was = other(need);
-        let first = self.standing(was)?;
-        if self.comes_after(first, second) {
-            Some(Clash {
-                was,
-                first,
-                second: Some(second),
-            })
-        } else {
-            None
+        if needs(second) != Some(other(self.was)) {
+            return None;
         }
+        let key = second.call.key();
+        let first = self.first(key);
+        if !self.is_standing(first, key) || !self.comes_after(first, second) {
+            return None;
+        }
+        Some(Clash {
+            was: self.was,
+            first,
+            second: Some(second),
+        })
     }
 
     /// Stores the clash of a call that ends, if the facts show one. (A function of its own, so that other ends need no room for a clash.)
     pub(crate) fn store_clash(&self, second: StreamCall, clash: &mut Option<Clash>)
-        ensures { IfSome clash.new (IsFound self.now second) }
+        ensures { IfSome clash.new (IsFound (facts_of self.now) second) }
     {
         *clash = self.clash_of(second);
     }
 
     /// Returns the clash of a final state of the key, if the facts show one.
-    pub(crate) fn clash_left(self, left: Presence) -> Option<Clash>
-        ensures { IfSome result (IsFoundLeft self left) }
+    pub(crate) fn clash_left(&self, key: Key, left: Presence) -> Option<Clash>
+        ensures { IfSome result (IsFoundLeft key.0 (facts_of self.now) left) }
     {
-        let was = other(left);
-        let first = self.standing(was)?;
+        let first = self.first(key);
+        if left != other(self.was) || !self.is_standing(first, key) {
+            return None;
+        }
         Some(Clash {
-            was,
+            was: self.was,
             first,
             second: None,
         })
     }
 
-    /// Whether a call that leaves the key in a state replaces the call kept for the state.
-    fn is_to_be_kept(self, call: StreamCall, was: Presence) -> bool {
-        self.until(other(was)) <= call.begun && self.standing(was).is_none()
+    /// Whether a call that begins at `begun` and leaves the key in the state `was` replaces the kept call.
+    fn is_to_be_kept(&self, begun: u64, was: Presence) -> bool {
+        let until = self.until(other(was));
+        until <= begun && !(self.was == was && until <= self.begun)
     }
 
     /// Records the end of a call.
-    pub(crate) fn end(&mut self, call: StreamCall)
-        ensures opened { self.new.opened ≡ self.old.opened }
-        ensures present { (self.new.present ≡ self.old.present) ⊎ ((self.new.present ≡ Some call) × (leaves_if call.call call.ended ≡ Some Present)) }
-        ensures absent { (self.new.absent ≡ self.old.absent) ⊎ ((self.new.absent ≡ Some call) × (leaves_if call.call call.ended ≡ Some Absent)) }
-        ensures until { (self.new.puts_until ≡ self.old.puts_until) × (self.new.takes_until ≡ self.old.takes_until) }
+    pub(crate) fn keep(&mut self, call: StreamCall)
+        ensures state { state_of self.new ≡ state_of self.old }
+        ensures ended { IsEnded call (facts_of self.old) (facts_of self.new) }
     {
-        let Some(was) = leaves(call) else {
+        let Some((end, reply)) = call.ended else {
             return;
         };
-        if !self.is_to_be_kept(call, was) {
+        let Some((was, kept)) = kept_as(call.call, reply) else {
+            return;
+        };
+        if !self.is_to_be_kept(call.begun, was) {
             return;
         }
-        match was {
-            Presence::Present => self.present = Some(call),
-            Presence::Absent => self.absent = Some(call),
-        }
+        self.was = was;
+        self.kept = kept;
+        self.thread = call.thread;
+        self.begun = call.begun;
+        self.ended = end;
     }
 }

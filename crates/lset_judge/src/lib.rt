@@ -17,6 +17,7 @@ mod event;
 mod facts;
 mod judged;
 mod judged_history;
+mod key_changes;
 mod keys;
 mod many;
 mod overlaps;

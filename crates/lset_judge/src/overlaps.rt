@@ -10,11 +10,19 @@ pub(crate) struct Changes {
 }
 
 impl Changes {
-    /// Returns no changes.
-    pub(crate) fn none() -> Changes {
+    /// Returns one pending change. The last of the others ended at `last_end`, which is 0 if there is none.
+    pub(crate) fn one(last_end: u64) -> Changes {
+        Changes {
+            pending: 1,
+            last_end,
+        }
+    }
+
+    /// Returns changes that have all ended, the last of them at `last_end`, which is 0 if there is none.
+    pub(crate) fn ended(last_end: u64) -> Changes {
         Changes {
             pending: 0,
-            last_end: 0,
+            last_end,
         }
     }
 

@@ -105,12 +105,12 @@ fn end_of_few(few: &[Pending], next: usize) -> u64
     }
 }
 
-/// Whether a pending call overlaps a change of its key.
-fn overlaps(states: &HashMap<u32, KeyState>, call: StreamCall) -> bool {
+/// Whether a call that is pending after a moment overlaps a change of its key.
+fn overlaps(states: &HashMap<u32, KeyState>, moment: u64, call: StreamCall) -> bool {
     match states.get(&call.call.key().0) {
         Some(state) => {
             let is_change = call.ended.is_some() && matches!(call.effect(), Effect::Changes(_));
-            state.changes.overlap(is_change, call.begun)
+            state.changes.counts(moment).overlap(is_change, call.begun)
         }
         None => false,
     }
@@ -182,14 +182,14 @@ impl PendingCalls {
         self.many.insert(pending)
     }
 
-    /// Returns how many of the calls overlap a change of their key.
-    pub(crate) fn overlapping(&self, states: &HashMap<u32, KeyState>) -> u64 {
+    /// Returns how many of the calls overlap a change of their key, after a moment.
+    pub(crate) fn overlapping(&self, states: &HashMap<u32, KeyState>, moment: u64) -> u64 {
         let mut count: u64 = 0;
         for pending in &self.few {
-            count = count.saturating_add(u64::from(overlaps(states, pending.call)));
+            count = count.saturating_add(u64::from(overlaps(states, moment, pending.call)));
         }
         for call in self.many.calls().values() {
-            count = count.saturating_add(u64::from(overlaps(states, *call)));
+            count = count.saturating_add(u64::from(overlaps(states, moment, *call)));
         }
         count
     }

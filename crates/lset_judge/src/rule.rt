@@ -1,4 +1,4 @@
-//! The rule: which pending change of a key takes effect, and when it must.
+//! The state of a key. The rule: which pending change of the key takes effect, and when it must.
 
 ghost use Rattle.std.specs.Prelude.{◌≡◌, suc, true, IfOk, IfSome, OnOk, Some, None};
 ghost use Rattle.std.specs.Prelude.{if◌then◌else◌};
@@ -8,41 +8,60 @@ ghost use Rattle.lset_judge.specs.Code.{state_of, event_as};
 ghost use Rattle.lset_words.specs.Effects.{is_there};
 ghost use Rattle.lset_words.specs.declared.effect.Presence.{Presence};
 ghost use Rattle.lset_words.specs.declared.effect.Presence.TheVariants.{Present, Absent};
-ghost use Rattle.lset_judge.specs.Facts.{facts_opened, begun_by, IsEnded, IsFound};
+ghost use Rattle.lset_judge.specs.Facts.{facts_of, facts_opened, begun_by, IsEnded, IsFound};
 
 use crate::clash::Clash;
-use crate::ends::Ends;
 use crate::event::Event;
-use crate::facts::Facts;
-use crate::overlaps::Changes;
+use crate::key_changes::KeyChanges;
 use crate::stream::StreamCall;
 use lset_words::Presence;
 use std::alloc::{AllocError, Global};
 
-/// The state of a key: its presence, when it last changed, and the ends of the pending changes that have not taken effect.
+/// The kind of call that leaves a key in a state.
+#[derive(Clone, Copy)]
+pub(crate) enum Kept {
+    /// No call. The key had the state at first.
+    Opening,
+    /// An `add` or a `remove` that returned true.
+    Change,
+    /// An `add` or a `remove` that returned false.
+    Refused,
+    /// A `contains`.
+    Look,
+}
+
+/// The state of a key: its presence, when it last changed, its changes, and the call that left it in a state. (64 bytes.)
 #[derive(Drop)]
 pub(crate) struct KeyState {
-    there: Presence,
+    pub(crate) changes: KeyChanges,
     turned: u64,
-    puts: Ends,
-    takes: Ends,
-    pub(crate) changes: Changes,
-    pub(crate) facts: Facts,
+    /// The begin of the kept call.
+    pub(crate) begun: u64,
+    /// The end of the kept call.
+    pub(crate) ended: u64,
+    /// The thread of the kept call.
+    pub(crate) thread: u32,
+    pub(crate) kept: Kept,
+    /// The state in which the kept call leaves the key.
+    pub(crate) was: Presence,
+    there: Presence,
 }
 
 impl KeyState {
-    /// Returns the state of a key without calls. `there` is its presence at first.
-    pub(crate) fn opened(alloc: Global, there: Presence) -> KeyState
+    /// Returns the state of a key without calls. `there` is its presence at first. Does not allocate.
+    pub(crate) fn opened(there: Presence) -> KeyState
         ensures state { state_of result ≡ opened (is_there there) }
-        ensures facts { result.facts ≡ facts_opened there }
+        ensures facts { facts_of result ≡ facts_opened there }
     {
         KeyState {
-            there,
+            changes: KeyChanges::none(),
             turned: 0,
-            puts: Ends::new(alloc),
-            takes: Ends::new(alloc),
-            changes: Changes::none(),
-            facts: Facts::opened(there),
+            begun: 0,
+            ended: 0,
+            thread: 0,
+            kept: Kept::Opening,
+            was: there,
+            there,
         }
     }
 
@@ -51,8 +70,8 @@ impl KeyState {
         ensures { result ≡ may_be_left (is_there there) (state_of self.now) }
     {
         let turns = match self.there {
-            Presence::Present => !self.takes.is_empty(),
-            Presence::Absent => !self.puts.is_empty(),
+            Presence::Present => !self.changes.has_no_take(),
+            Presence::Absent => !self.changes.has_no_put(),
         };
         self.there == there || turns
     }
@@ -60,9 +79,9 @@ impl KeyState {
     fn put(&mut self, before: u64) -> bool
         requires { self.old.there ≡ Absent }
         ensures turned { turned_if before (state_of self.old) (options (state_of self.old)) ≡ (if result then Some (state_of self.new) else None) }
-        ensures facts { self.new.facts ≡ self.old.facts }
+        ensures facts { facts_of self.new ≡ facts_of self.old }
     {
-        match self.puts.pop() {
+        match self.changes.pop_put() {
             Some(_) => {
                 self.there = Presence::Present;
                 self.turned = before;
@@ -75,9 +94,9 @@ impl KeyState {
     fn take(&mut self, before: u64) -> bool
         requires { self.old.there ≡ Present }
         ensures turned { turned_if before (state_of self.old) (options (state_of self.old)) ≡ (if result then Some (state_of self.new) else None) }
-        ensures facts { self.new.facts ≡ self.old.facts }
+        ensures facts { facts_of self.new ≡ facts_of self.old }
     {
-        match self.takes.pop() {
+        match self.changes.pop_take() {
             Some(_) => {
                 self.there = Presence::Absent;
                 self.turned = before;
@@ -89,7 +108,7 @@ impl KeyState {
 
     fn flip(&mut self, before: u64) -> bool
         ensures turned { turned_if before (state_of self.old) (options (state_of self.old)) ≡ (if result then Some (state_of self.new) else None) }
-        ensures facts { self.new.facts ≡ self.old.facts }
+        ensures facts { facts_of self.new ≡ facts_of self.old }
     {
         match self.there {
             Presence::Present => self.take(before),
@@ -101,8 +120,8 @@ impl KeyState {
         ensures { result ≡ fits (suc before) (event_as event) (state_of self.now) }
     {
         match event {
-            Event::Ends(Presence::Present) => self.puts.none_due(before),
-            Event::Ends(Presence::Absent) => self.takes.none_due(before),
+            Event::Ends(Presence::Present) => self.changes.no_put_is_due(before),
+            Event::Ends(Presence::Absent) => self.changes.no_take_is_due(before),
             Event::Looks(seen, since) => self.there == seen || self.turned >= since,
             Event::Begins(_, _) | Event::Idle => true,
         }
@@ -112,7 +131,7 @@ impl KeyState {
     /// it does.
     pub(crate) fn settle(&mut self, before: u64, event: Event) -> bool
         ensures found { found before (event_as event) (state_of self.old) ≡ (if result then Some (state_of self.new) else None) }
-        ensures facts { self.new.facts ≡ self.old.facts }
+        ensures facts { facts_of self.new ≡ facts_of self.old }
     {
         while !self.fits(before, event) {
             if !self.flip(before) {
@@ -123,21 +142,22 @@ impl KeyState {
     }
 
     /// Meets the event of the moment after `before`. Returns whether the rule still holds.
-    pub(crate) fn meet(&mut self, before: u64, event: Event) -> Result<bool, AllocError>
+    pub(crate) fn meet(
+        &mut self,
+        alloc: Global,
+        before: u64,
+        event: Event,
+    ) -> Result<bool, AllocError>
         ensures met { IfOk result (λ goes_on. entered (event_as event) (found before (event_as event) (state_of self.old))
             ≡ (if goes_on then Some (state_of self.new) else None)) }
-        ensures facts { OnOk result (self.new.facts ≡ begun_by (event_as event) self.old.facts) }
+        ensures facts { OnOk result (facts_of self.new ≡ begun_by (event_as event) (facts_of self.old)) }
     {
-        self.facts.begin(event);
         if !self.settle(before, event) {
             return Ok(false);
         }
-        if let Event::Begins(_, end) = event {
-            self.changes.begin(end);
-        }
         match event {
-            Event::Begins(Presence::Present, end) => self.puts.push(end)?,
-            Event::Begins(Presence::Absent, end) => self.takes.push(end)?,
+            Event::Begins(Presence::Present, end) => self.changes.begin_put(alloc, before, end)?,
+            Event::Begins(Presence::Absent, end) => self.changes.begin_take(alloc, before, end)?,
             Event::Ends(_) | Event::Looks(_, _) | Event::Idle => {}
         }
         Ok(true)
@@ -146,6 +166,7 @@ impl KeyState {
     /// Ends a call at the moment after `before`. Returns whether the rule still holds. If the rule fails, looks for the clash of the call.
     pub(crate) fn meet_end(
         &mut self,
+        alloc: Global,
         before: u64,
         event: Event,
         call: StreamCall,
@@ -154,17 +175,17 @@ impl KeyState {
         requires { clash.old ≡ None }
         ensures met { IfOk result (λ goes_on. entered (event_as event) (found before (event_as event) (state_of self.old))
             ≡ (if goes_on then Some (state_of self.new) else None)) }
-        ensures ended { OnOk result (IsEnded call (begun_by (event_as event) self.old.facts) self.new.facts) }
-        ensures found { OnOk result (IfSome clash.new (IsFound (begun_by (event_as event) self.old.facts) call)) }
+        ensures ended { OnOk result (IsEnded call (begun_by (event_as event) (facts_of self.old)) (facts_of self.new)) }
+        ensures found { OnOk result (IfSome clash.new (IsFound (begun_by (event_as event) (facts_of self.old)) call)) }
     {
-        let goes_on = self.meet(before, event)?;
+        let goes_on = self.meet(alloc, before, event)?;
         if matches!(event, Event::Ends(_)) {
             self.changes.end(before.saturating_add(1));
         }
         if !goes_on {
-            self.facts.store_clash(call, clash);
+            self.store_clash(call, clash);
         }
-        self.facts.end(call);
+        self.keep(call);
         Ok(goes_on)
     }
 }

@@ -23,7 +23,7 @@ pub enum Verdict {
     NotLinearizable(Refusal, Option<Clash>),
 }
 
-/// Judges the calls of a set as they come. A judge keeps the state of each key, at most two calls of each key, and the pending calls, so
+/// Judges the calls of a set as they come. A judge keeps the state of each key, at most one call of each key, and the pending calls, so
 /// its memory does not grow with the number of calls.
 ///
 /// Calls must come in the order of their begins. `close` and `close_cut_off` return whether some order explains them.

@@ -20,7 +20,6 @@ ghost use Rattle.lset_judge.specs.declared.stream.StreamFault.TheVariants.{Memor
 
 use crate::clash::Clash;
 use crate::event::{Event, begin_event, end_event, open_effect};
-use crate::facts::Facts;
 use crate::judged::is_answer;
 use crate::keys::presence_in;
 use crate::pending::PendingCalls;
@@ -206,8 +205,8 @@ fn meet_new_key(
     ensures facts { OnOk result (facts_for states.new key ≡ begun_by (event_as event) (facts_for states.old key)) }
     ensures other_facts { OnOk result ((k : ℕ) → k ≢ key → facts_for states.new k ≡ facts_for states.old k) }
 {
-    let mut state = KeyState::opened(alloc, Presence::Absent);
-    let goes_on = state.meet(before, event)?;
+    let mut state = KeyState::opened(Presence::Absent);
+    let goes_on = state.meet(alloc, before, event)?;
     states.insert(key, state)?;
     Ok(goes_on)
 }
@@ -227,7 +226,7 @@ fn meet_key(
     ensures other_facts { OnOk result ((k : ℕ) → k ≢ key → facts_for states.new k ≡ facts_for states.old k) }
 {
     if let Some(state) = states.get_mut(&key) {
-        let goes_on = state.meet(before, event)?;
+        let goes_on = state.meet(alloc, before, event)?;
         return Ok(goes_on);
     }
     let goes_on = meet_new_key(states, alloc, key, before, event)?;
@@ -244,11 +243,11 @@ fn note_begin(
     ensures { OnOk result (facts_for states.new key ≡ begun_by (event_as event) (facts_for states.old key)) }
 {
     if let Some(state) = states.get_mut(&key) {
-        state.facts.begin(event);
+        state.note_begin(event);
         return Ok(());
     }
-    let mut state = KeyState::opened(alloc, Presence::Absent);
-    state.facts.begin(event);
+    let mut state = KeyState::opened(Presence::Absent);
+    state.note_begin(event);
     states.insert(key, state)?;
     Ok(())
 }
@@ -259,8 +258,8 @@ fn note_end(states: &mut HashMap<u32, KeyState>, call: StreamCall) -> Option<Cla
 {
     let key = call.call.key().0;
     if let Some(state) = states.get_mut(&key) {
-        let clash = state.facts.clash_of(call);
-        state.facts.end(call);
+        let clash = state.clash_of(call);
+        state.keep(call);
         return clash;
     }
     None
@@ -293,9 +292,16 @@ fn meet_new_key_end(
     ensures found { OnOk result (IfSome clash.new (IsFound (begun_by (event_as event) (facts_for states.old (key_of call.call).0)) call)) }
     ensures other_facts { OnOk result ((k : ℕ) → k ≢ (key_of call.call).0 → facts_for states.new k ≡ facts_for states.old k) }
 {
+    // (A key that was only seen absent needs no state.)
+    if matches!(event, Event::Looks(Presence::Absent, _)) {
+        return Ok(EndMet {
+            goes_on: true,
+            overlaps: false,
+        });
+    }
     let key = call.call.key().0;
-    let mut state = KeyState::opened(alloc, Presence::Absent);
-    let goes_on = state.meet_end(before, event, call, clash)?;
+    let mut state = KeyState::opened(Presence::Absent);
+    let goes_on = state.meet_end(alloc, before, event, call, clash)?;
     states.insert(key, state)?;
     Ok(EndMet {
         goes_on,
@@ -323,8 +329,8 @@ fn meet_key_end(
     let key = call.call.key().0;
     if let Some(state) = states.get_mut(&key) {
         let is_change = matches!(event, Event::Ends(_));
-        let overlaps = state.changes.overlap(is_change, call.begun);
-        let goes_on = state.meet_end(before, event, call, clash)?;
+        let overlaps = state.changes.counts(before).overlap(is_change, call.begun);
+        let goes_on = state.meet_end(alloc, before, event, call, clash)?;
         return Ok(EndMet { goes_on, overlaps });
     }
     let met = meet_new_key_end(states, alloc, before, event, call, clash)?;
@@ -338,7 +344,7 @@ fn opening_states(alloc: Global, opening: &[u32]) -> Result<HashMap<u32, KeyStat
 {
     let mut states = HashMap::new(alloc);
     for key in opening {
-        states.insert(*key, KeyState::opened(alloc, Presence::Present))?;
+        states.insert(*key, KeyState::opened(Presence::Present))?;
     }
     Ok(states)
 }
@@ -631,7 +637,7 @@ impl Stream {
     /// Returns how many calls overlap a change of their key that ends, other than themselves. The number is right if the rule has not failed.
     pub(crate) fn overlapped(&self) -> u64 {
         self.overlapped
-            .saturating_add(self.pending.overlapping(&self.states))
+            .saturating_add(self.pending.overlapping(&self.states, self.moment))
     }
 
     /// Ends all pending calls that have an end.
@@ -685,14 +691,14 @@ impl Stream {
 
     /// Returns the clash of the final state of a key, if one is found. `None` if the rule has failed.
     pub(crate) fn clash_left(&self, key: u32, left: Presence) -> Option<Clash>
-        ensures { IfSome result (λ c. (self.now.failed ≡ None) × IsFoundLeft (facts_for self.now.states key) left c) }
+        ensures { IfSome result (λ c. (self.now.failed ≡ None) × IsFoundLeft key (facts_for self.now.states key) left c) }
     {
         if self.failed.is_some() {
             return None;
         }
         match self.states.get(&key) {
-            Some(state) => state.facts.clash_left(left),
-            None => Facts::opened(Presence::Absent).clash_left(left),
+            Some(state) => state.clash_left(Key(key), left),
+            None => KeyState::opened(Presence::Absent).clash_left(Key(key), left),
         }
     }
 }

@@ -1,4 +1,4 @@
-//! Recordings of a set: the text `listset-calls 1`, read line by line and judged as it comes. At most two calls of each key and the pending
+//! Recordings of a set: the text `listset-calls 1`, read line by line and judged as it comes. At most one call of each key and the pending
 //! calls are stored, so memory does not grow with the length of the text. (This project's own format.)
 #![tactic(auto)]
 

@@ -1,13 +1,18 @@
-use Rattle.std.proofs.Common.{true, ap}
+use Rattle.std.proofs.Common.{◌∙◌, Some, List, ℕ, true, false, ap, sym}
 use Rattle.lset_words.specs.Effects.{is_there}
+use Rattle.lset_judge.specs.Code.{puts_in, takes_in}
 use Rattle.lset_judge.proofs.EndsInHeap.{take_turned, none_turned}
+use Rattle.lset_judge.proofs.RuleLeads.{at}
 use Rattle.lset_judge.proofs.rule.KeyState.take.Goals as goal
 
 pub returns-in-Some-clause-turned : goal.returns-in-Some-clause-turned
 returns-in-Some-clause-turned c =
-    let s = c.args.self.now in
-    take_turned c.args.before s.turned _ (is_there s.there) s.puts s.takes c.pop.new.self (ap is_there c.requires) c.in-Some.ensures.0 c.in-Some.ensures.1
+    let s = c.args.self.now in let t = c.pop_take.new.self in
+    take_turned c.args.before s.turned _ (is_there s.there) (puts_in s.changes) (takes_in s.changes) (takes_in t) (ap is_there c.requires)
+    c.in-Some.ensures.popped.0 c.in-Some.ensures.popped.1
+    ∙ ap (λ (ps : List ℕ). Some (at false c.args.before ps (takes_in t))) (sym c.pop_take.ensures.puts)
 
 pub returns-in-None-clause-turned : goal.returns-in-None-clause-turned
 returns-in-None-clause-turned c =
-    let s = c.args.self.now in none_turned c.args.before s.turned (is_there s.there) true s.puts s.takes (ap is_there c.requires) c.in-None.ensures
+    let s = c.args.self.now in
+    none_turned c.args.before s.turned (is_there s.there) true (puts_in s.changes) (takes_in s.changes) (ap is_there c.requires) c.in-None.ensures.popped

@@ -8,7 +8,7 @@ returns-in-Some-clause-said c = λ threads opening calls is.
     let s = c.args.self.now in
     let so = subst (IsJudgedTo opening calls s.moment s.states) c.in-Some.is is.judged in
     subst (IsStreamVerdict (stream_history threads opening calls) c.args.keys.now) (sym c.verdict.ensures)
-    (stream_refused threads opening calls s is c.requires.met c.in-Some.failed so.1 c.args.keys.now)
+    (stream_refused threads opening calls s is c.requires.met c.in-Some.failed so.1 so.2 c.args.keys.now)
 
 pub returns-in-None-clause-said : goal.returns-in-None-clause-said
 returns-in-None-clause-said c = λ threads opening calls is.

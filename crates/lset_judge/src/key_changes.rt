@@ -1,0 +1,307 @@
+//! The changes of a key that have begun.
+
+ghost use Rattle.std.specs.Prelude.{◌≡◌, ◌==◌, ◌≤◌, ◌∷◌, [], suc, length, max, true, false, IsTrue, MatchOption, OnOk};
+ghost use Rattle.lset_judge.specs.Code.{puts_in, takes_in, is_many, AreSame};
+ghost use Rattle.lset_judge.specs.Rule.{nearest, not_before, put_in};
+
+use crate::ends::Ends;
+use crate::overlaps::Changes;
+use crate::stream::BEHIND_ALL;
+use lset_words::Presence;
+use std::alloc::{AllocError, Global};
+
+/// Pending changes of a key of which two were pending at once.
+#[derive(Drop)]
+pub(crate) struct ManyChanges {
+    puts: Ends,
+    takes: Ends,
+    counts: Changes,
+}
+
+/// The pending changes of a key that have not taken effect. (A key of which no two changes were ever pending at once needs no allocation.)
+#[derive(Drop)]
+pub(crate) enum Held {
+    /// None.
+    Nothing,
+    /// An `add` alone. It ends at `puts_until`.
+    Put,
+    /// A `remove` alone. It ends at `takes_until`.
+    Take,
+    /// Any number of changes, in heaps.
+    Many(Box<ManyChanges>),
+}
+
+/// The changes of a key that have begun: when they end, and the ends of those that are pending and have not taken effect.
+#[derive(Drop)]
+pub(crate) struct KeyChanges {
+    /// A moment by which each `add` that has begun and can put the key in has ended.
+    pub(crate) puts_until: u64,
+    /// A moment by which each `remove` that has begun and can take the key out has ended.
+    pub(crate) takes_until: u64,
+    held: Held,
+}
+
+impl KeyChanges {
+    /// Returns no changes. Does not allocate.
+    pub(crate) fn none() -> KeyChanges
+        ensures puts { puts_in result ≡ [] }
+        ensures takes { takes_in result ≡ [] }
+        ensures puts_until { result.puts_until ≡ 0 }
+        ensures takes_until { result.takes_until ≡ 0 }
+    {
+        KeyChanges {
+            puts_until: 0,
+            takes_until: 0,
+            held: Held::Nothing,
+        }
+    }
+
+    /// Whether no `add` is pending that has not taken effect.
+    pub(crate) fn has_no_put(&self) -> bool
+        ensures { result ≡ (length (puts_in self.now) == 0) }
+    {
+        match &self.held {
+            Held::Nothing | Held::Take => true,
+            Held::Put => false,
+            Held::Many(many) => many.puts.is_empty(),
+        }
+    }
+
+    /// Whether no `remove` is pending that has not taken effect.
+    pub(crate) fn has_no_take(&self) -> bool
+        ensures { result ≡ (length (takes_in self.now) == 0) }
+    {
+        match &self.held {
+            Held::Nothing | Held::Put => true,
+            Held::Take => false,
+            Held::Many(many) => many.takes.is_empty(),
+        }
+    }
+
+    /// Whether no such `add` ends at the moment after `before` or earlier.
+    pub(crate) fn no_put_is_due(&self, before: u64) -> bool
+        ensures { result ≡ (not_before (suc (suc before)) (puts_in self.now) == length (puts_in self.now)) }
+    {
+        match &self.held {
+            Held::Nothing | Held::Take => true,
+            Held::Put => before < self.puts_until.saturating_sub(1),
+            Held::Many(many) => many.puts.none_due(before),
+        }
+    }
+
+    /// Whether no such `remove` ends at the moment after `before` or earlier.
+    pub(crate) fn no_take_is_due(&self, before: u64) -> bool
+        ensures { result ≡ (not_before (suc (suc before)) (takes_in self.now) == length (takes_in self.now)) }
+    {
+        match &self.held {
+            Held::Nothing | Held::Put => true,
+            Held::Take => before < self.takes_until.saturating_sub(1),
+            Held::Many(many) => many.takes.none_due(before),
+        }
+    }
+
+    /// Removes the pending `add` whose end is nearest, and returns its end.
+    pub(crate) fn pop_put(&mut self) -> Option<u64>
+        ensures popped { MatchOption result (puts_in self.old ≡ [])
+            (λ end. (puts_in self.old ≡ end ∷ puts_in self.new) × (nearest end (puts_in self.new) ≡ end)) }
+        ensures takes { takes_in self.new ≡ takes_in self.old }
+        ensures puts_until { self.new.puts_until ≡ self.old.puts_until }
+        ensures takes_until { self.new.takes_until ≡ self.old.takes_until }
+    {
+        match &mut self.held {
+            Held::Nothing | Held::Take => None,
+            Held::Put => {
+                self.held = Held::Nothing;
+                Some(self.puts_until)
+            }
+            Held::Many(many) => many.puts.pop(),
+        }
+    }
+
+    /// Removes the pending `remove` whose end is nearest, and returns its end.
+    pub(crate) fn pop_take(&mut self) -> Option<u64>
+        ensures popped { MatchOption result (takes_in self.old ≡ [])
+            (λ end. (takes_in self.old ≡ end ∷ takes_in self.new) × (nearest end (takes_in self.new) ≡ end)) }
+        ensures puts { puts_in self.new ≡ puts_in self.old }
+        ensures puts_until { self.new.puts_until ≡ self.old.puts_until }
+        ensures takes_until { self.new.takes_until ≡ self.old.takes_until }
+    {
+        match &mut self.held {
+            Held::Nothing | Held::Put => None,
+            Held::Take => {
+                self.held = Held::Nothing;
+                Some(self.takes_until)
+            }
+            Held::Many(many) => many.takes.pop(),
+        }
+    }
+
+    /// Returns the counts of the changes that end, after the moment `before`.
+    pub(crate) fn counts(&self, before: u64) -> Changes {
+        if let Held::Many(many) = &self.held {
+            return many.counts;
+        }
+        // Each change began after the end of the one before it, and ends later.
+        let last = self.puts_until.max(self.takes_until);
+        if before < last {
+            Changes::one(self.puts_until.min(self.takes_until))
+        } else {
+            Changes::ended(last)
+        }
+    }
+
+    /// Records the end of a change.
+    pub(crate) fn end(&mut self, moment: u64)
+        ensures { AreSame self.old self.new }
+    {
+        if let Held::Many(many) = &mut self.held {
+            many.counts.end(moment);
+        }
+    }
+
+    /// Whether a change that begins after the moment `before` is pending alone, so that heaps are not needed.
+    fn is_alone(&self, to: Presence, before: u64, end: u64) -> bool
+        ensures alone { IsTrue result → is_many self.now.held ≡ false }
+        ensures puts { IsTrue result → (puts_in self.now ≡ []) × (takes_in self.now ≡ []) }
+        ensures until { IsTrue result → (self.now.puts_until ≤ end) × (self.now.takes_until ≤ end) }
+    {
+        let (own, other) = match to {
+            Presence::Present => (self.puts_until, self.takes_until),
+            Presence::Absent => (self.takes_until, self.puts_until),
+        };
+        matches!(self.held, Held::Nothing)
+            && own <= other
+            && other <= before
+            && before < end
+            && end < BEHIND_ALL
+    }
+
+    /// Moves the changes into heaps.
+    fn spread(&mut self, alloc: Global, before: u64) -> Result<(), AllocError>
+        requires { is_many self.old.held ≡ false }
+        ensures same { OnOk result (AreSame self.old self.new) }
+        ensures many { OnOk result (is_many self.new.held ≡ true) }
+    {
+        let mut many = Box::new(
+            alloc,
+            ManyChanges {
+                puts: Ends::new(alloc),
+                takes: Ends::new(alloc),
+                counts: self.counts(before),
+            },
+        )?;
+        match self.held {
+            Held::Put => many.puts.push(self.puts_until)?,
+            Held::Take => many.takes.push(self.takes_until)?,
+            Held::Nothing | Held::Many(_) => {}
+        }
+        self.held = Held::Many(many);
+        Ok(())
+    }
+
+    /// Adds an `add` to the heaps.
+    fn push_put(&mut self, end: u64) -> Result<(), AllocError>
+        requires { is_many self.old.held ≡ true }
+        ensures puts { OnOk result (puts_in self.new ≡ put_in end (puts_in self.old)) }
+        ensures takes { OnOk result (takes_in self.new ≡ takes_in self.old) }
+        ensures puts_until { self.new.puts_until ≡ self.old.puts_until }
+        ensures takes_until { self.new.takes_until ≡ self.old.takes_until }
+        ensures many { OnOk result (is_many self.new.held ≡ true) }
+    {
+        match &mut self.held {
+            Held::Many(many) => {
+                many.counts.begin(end);
+                many.puts.push(end)
+            }
+            Held::Nothing | Held::Put | Held::Take => unreachable!(),
+        }
+    }
+
+    /// Adds a `remove` to the heaps.
+    fn push_take(&mut self, end: u64) -> Result<(), AllocError>
+        requires { is_many self.old.held ≡ true }
+        ensures puts { OnOk result (puts_in self.new ≡ puts_in self.old) }
+        ensures takes { OnOk result (takes_in self.new ≡ put_in end (takes_in self.old)) }
+        ensures puts_until { self.new.puts_until ≡ self.old.puts_until }
+        ensures takes_until { self.new.takes_until ≡ self.old.takes_until }
+        ensures many { OnOk result (is_many self.new.held ≡ true) }
+    {
+        match &mut self.held {
+            Held::Many(many) => {
+                many.counts.begin(end);
+                many.takes.push(end)
+            }
+            Held::Nothing | Held::Put | Held::Take => unreachable!(),
+        }
+    }
+
+    /// Raises the moment by which each `add` has ended.
+    pub(crate) fn raise_puts(&mut self, end: u64)
+        ensures puts { is_many self.old.held ≡ true → puts_in self.new ≡ puts_in self.old }
+        ensures takes { takes_in self.new ≡ takes_in self.old }
+        ensures puts_until { self.new.puts_until ≡ max self.old.puts_until end }
+        ensures takes_until { self.new.takes_until ≡ self.old.takes_until }
+    {
+        self.puts_until = self.puts_until.max(end);
+    }
+
+    /// Raises the moment by which each `remove` has ended.
+    pub(crate) fn raise_takes(&mut self, end: u64)
+        ensures puts { puts_in self.new ≡ puts_in self.old }
+        ensures takes { is_many self.old.held ≡ true → takes_in self.new ≡ takes_in self.old }
+        ensures puts_until { self.new.puts_until ≡ self.old.puts_until }
+        ensures takes_until { self.new.takes_until ≡ max self.old.takes_until end }
+    {
+        self.takes_until = self.takes_until.max(end);
+    }
+
+    /// Begins an `add` after the moment `before`. It takes effect by `end`.
+    pub(crate) fn begin_put(
+        &mut self,
+        alloc: Global,
+        before: u64,
+        end: u64,
+    ) -> Result<(), AllocError>
+        ensures puts { OnOk result (puts_in self.new ≡ put_in end (puts_in self.old)) }
+        ensures takes { OnOk result (takes_in self.new ≡ takes_in self.old) }
+        ensures puts_until { OnOk result (self.new.puts_until ≡ max self.old.puts_until end) }
+        ensures takes_until { OnOk result (self.new.takes_until ≡ self.old.takes_until) }
+    {
+        if !matches!(self.held, Held::Many(_)) {
+            if self.is_alone(Presence::Present, before, end) {
+                self.held = Held::Put;
+                self.puts_until = end;
+                return Ok(());
+            }
+            self.spread(alloc, before)?;
+        }
+        self.push_put(end)?;
+        self.raise_puts(end);
+        Ok(())
+    }
+
+    /// Begins a `remove` after the moment `before`. It takes effect by `end`.
+    pub(crate) fn begin_take(
+        &mut self,
+        alloc: Global,
+        before: u64,
+        end: u64,
+    ) -> Result<(), AllocError>
+        ensures puts { OnOk result (puts_in self.new ≡ puts_in self.old) }
+        ensures takes { OnOk result (takes_in self.new ≡ put_in end (takes_in self.old)) }
+        ensures puts_until { OnOk result (self.new.puts_until ≡ self.old.puts_until) }
+        ensures takes_until { OnOk result (self.new.takes_until ≡ max self.old.takes_until end) }
+    {
+        if !matches!(self.held, Held::Many(_)) {
+            if self.is_alone(Presence::Absent, before, end) {
+                self.held = Held::Take;
+                self.takes_until = end;
+                return Ok(());
+            }
+            self.spread(alloc, before)?;
+        }
+        self.push_take(end)?;
+        self.raise_takes(end);
+        Ok(())
+    }
+}
