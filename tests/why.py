@@ -82,7 +82,16 @@ def test_an_operation_that_alone_is_wrong_is_named_with_a_cause(program, path):
     said = ran(program, "judge", path).stdout
     assert "\ncontains(3) returned true, expected false\n" in said
     assert "only contains is wrong: 20 of its 20 answers (found an absent key, and never missed a present key)\n" in said
+    assert "\nanother add or remove of the key ran during 20 of them, only changes of other keys during 0, neither during 0\n" in said
     assert "\nlikely: contains does not look at what remove changes first" in said
+
+
+def test_a_few_contradictions_are_listed(program, path):
+    """Two keys, each added twice at the same time."""
+    calls = [Call(thread, "add", key, 10 * key + thread, 10 * key + 5 + thread, "true") for key in (3, 5) for thread in range(2)]
+    path.write_text(text_of(calls, [], [3, 5]))
+    said = ran(program, "judge", path).stdout
+    assert "\n2 contradictions: key 3 added twice from 30 to 36; key 5 added twice from 50 to 56\n" in said, said
 
 
 def test_few_calls_have_no_likely_cause(program, path):
