@@ -32,7 +32,7 @@ use Rattle.lset_judge.proofs.PlacedCalls.{same_flips}
 use Rattle.lset_judge.proofs.RuleLeads.{at_once, no_state, settled_none}
 use Rattle.lset_judge.proofs.StreamSteps.{same_some, until_end}
 
--- ---- the rule judges the calls of one key that begin by a moment as it judges the key
+-- ---- The rule decides about the calls of a key that begin by a moment as it does about all its calls
 
 abbrev EndsLater : CallRecord → Type 0
 EndsLater x = IfSome x.ended (λ (e : ℕ × Reply). x.begun < e.0)
@@ -40,7 +40,7 @@ EndsLater x = IfSome x.ended (λ (e : ℕ × Reply). x.begun < e.0)
 abbrev is_by : ℕ → ℕ → CallRecord → Bool
 is_by k M x = (key_of x.call).0 == k && nat_le x.begun M
 
--- up to the moment, no event of the key is missing
+-- Up to a moment, the calls that begin by this moment have all events of the key.
 event_by : (last k M m : ℕ) (xs : List CallRecord) → m ≤ M → AllByRecursion EndsLater xs → event_at last k (calls_by k M xs) m ≡ event_at last k xs m
 event_by last k M m xs low later = event_filter last k m (is_by k M) xs (silent xs later)
   where
@@ -95,7 +95,7 @@ module _ (last : ℕ) (h : HistoryValue) (told : IsHistory h.opening.threads h.c
       ])
       ∙ fails)
 
--- ---- the final states that a key can have
+-- ---- Lemmas about the final states that a key can have
 
 module _ (m : ℕ) (w : Bool) where
   one_turn : (n : ℕ) (s : State) (os : List ℕ) → same w s.there ≡ false → options s ≡ os → length os ≤ n
@@ -127,7 +127,7 @@ as_it_is s = of s.there (has_any (options s))
     of true b = refl
     of false b = refl
 
--- ---- no moment is later
+-- ---- No event is after the last moment
 
 pub latest_upto : (G : ℕ) (xs : List CallRecord) → All (λ (x : CallRecord). (x.begun ≤ G) × IfSome x.ended (λ (e : ℕ × Reply). e.0 ≤ G)) xs → latest_moment xs ≤ G
 latest_upto G [] a = omega arith
@@ -141,7 +141,7 @@ latest_upto G (x ∷ xs) a =
     upto None h = omega arith
     upto (Some e) h = h
 
--- ---- THE VERDICT
+-- ---- Proof that the verdict is correct
 
 module _ (threads : ℕ) (opening : List ℕ) (calls : List CallRecord) (s : Stream) (is : IsStreamOf threads opening calls s)
     (met : All (λ (p : Pending). behind_all ≤ p.end) s.pending) where

@@ -1,4 +1,5 @@
--- If a key must change back between calls more often than it can, no order explains the calls, whatever all other calls did.
+-- Proof: if a key must change back between calls more often than it can, no order explains the calls, whatever all
+-- other calls did.
 use Rattle.std.proofs.Common.{◌≡◌, ◌≢◌, ℕ, zero, suc, ◌+◌, ◌<◌, ◌≤◌, ◌⊎◌, List, [], ◌∷◌, Bool, true, false, inl, inr, refl, sym, ap, ◌∙◌, arith, subst, length}
 use Rattle.std.proofs.Common.{◌-◌, drop, get_or, map, take}
 use Rattle.std.proofs.lemmas.Grind.{common_steps}
@@ -40,7 +41,7 @@ use Rattle.lset_judge.proofs.TimelineOfKey.{In, one_of, NoTwice, has_head, has_s
 use Rattle.lset_judge.proofs.TimelineOfKey.{Act, act, suits, becomes, TakeTurns, Apart, IsAct}
 use Rattle.lset_judge.proofs.TimelineFromOrder.{does, begins_told, stands, untils_differ, ready}
 
--- ---- a list of numbers, and one of them taken out
+-- ---- Lemmas about removing a number from a list
 
 length_out : (e : ℕ) (xs : List ℕ) → has_key e xs ≡ true → length xs ≡ suc (length (take_out e xs))
 length_out e [] h = absurd (true≢false (sym h))
@@ -67,12 +68,12 @@ empty_or_not : (xs : List ℕ) → (xs ≡ []) ⊎ ((u : ℕ) × (has_key u xs �
 empty_or_not [] = inl refl
 empty_or_not (x ∷ xs) = inr (x, has_head x xs)
 
--- ---- acts of counted calls: the key must change back between each two of them
+-- ---- Lemmas about acts of counted calls: between any two of them, the key must change back
 
 abbrev Needs : Bool → Kind → Type 0
 Needs b k = (s : Bool) → suits s k → s ≡ not b
 
--- 1 if the key is in the other state
+-- Returns 1 if the key is in the other state, else 0.
 abbrev against : Bool → Bool → ℕ
 against b s = if same b s then 0 else 1
 
@@ -94,7 +95,7 @@ against_so true false e = absurd (true≢false (sym e))
 against_so false true e = absurd (true≢false e)
 against_so false false e = refl
 
--- an act changes the key back, or does not
+-- An act either changes the key back, or does not bring it closer to the other state.
 turns_or_not : (b s : Bool) (k : Kind) → suits s k → (k ≡ changes (not b)) ⊎ (against b (becomes s k) ≤ against b s)
 turns_or_not true s (changes true) h = inr (let a = against_so true true refl in omega (arith, a))
 turns_or_not true s (changes false) h = inl refl
@@ -103,8 +104,8 @@ turns_or_not false s (changes false) h = inr (let a = against_so false false ref
 turns_or_not b s (sees w) h = inr (omega arith)
 turns_or_not b s nothing h = inr (omega arith)
 
--- A counted act begins before the act ends, or the key was in the state at first. A counted act ends after the act begins, or the final state
--- is the other state.
+-- `Earlier` states that a counted act begins before this act ends, or that the key had the state at the opening.
+-- `Later` states that a counted act ends after this act begins, or that the final state is the other state.
 abbrev Earlier : Option ℕ → List ℕ → List Act → Act → Type 0
 Earlier o us ys t = ((a : Act) × In a ys × (has_key a.until us ≡ true) × (a.until ≢ t.until) × (a.begun < t.until)) ⊎ (o ≡ None)
 
@@ -117,11 +118,11 @@ record Due (b left : Bool) (o c : Option ℕ) (us zs : List ℕ) (ys : List Act)
   closes : c ≡ None → left ≡ not b
   leave : (a : Act) → In a ys → has_key a.until us ≡ true → Later c us ys a → Leaves b a.does
   need : (t : Act) → In t ys → has_key t.until us ≡ true → Earlier o us ys t → Needs b t.does
-  -- each change back between them is one of those
+  -- Each change back between two counted acts is in `zs`.
   back : (a : Act) → In a ys → a.does ≡ changes (not b) → Earlier o us ys a → Later c us ys a → has_key a.until zs ≡ true
 
 module _ (b left : Bool) (c : Option ℕ) where
-  -- after an act
+  -- These facts still hold after one act.
   due_on : (o p : Option ℕ) (us zs : List ℕ) (a : Act) (ys : List Act) → (p ≡ None → (has_key a.until us ≡ true) ⊎ (o ≡ None))
       → AllByRecursion (Apart a) ys → Due b left o c us zs (a ∷ ys) → Due b left p c (take_out a.until us) (take_out a.until zs) ys
   due_on o p us zs a ys from apart d = record {
@@ -150,7 +151,7 @@ module _ (b left : Bool) (c : Option ℕ) where
         | inr q ↦ inr q
       ]
 
-  -- a counted act comes later, or none does
+  -- Either a counted act comes later, or none does.
   later_or_last : (p : Option ℕ) (us vs : List ℕ) (a : Act) (ys : List Act) → AllByRecursion (Apart a) ys → Due b left p c (take_out a.until us) vs ys
       → Later c us (a ∷ ys) a ⊎ ((take_out a.until us ≡ []) × (also c ≡ 0))
   later_or_last p us vs a ys apart d = by c refl
@@ -163,7 +164,7 @@ module _ (b left : Bool) (c : Option ℕ) where
             inl (inl (i.0, inr i.1, left_in i.0.until a.until us (subst (λ v. has_key v (take_out a.until us) ≡ true) (sym i.2) u.1), r.other, r.in_time)))
       ]
 
-  -- the key was in the state at first, or a counted act came before
+  -- The number of counted acts is bounded if the key had the state at the opening or a counted act came before.
   count_on : (s : Bool) (o : Option ℕ) (us zs : List ℕ) (ys : List Act) → o ≡ None → TakeTurns left s ys → Pairs Apart ys → Due b left o c us zs ys
       → length us + also c ≤ length zs + against b s
   count_on s o (u ∷ us) zs [] none turns pairs d = absurd (d.stand u (has_head u us)).1
@@ -197,7 +198,7 @@ module _ (b left : Bool) (c : Option ℕ) where
         ])
       ]
 
-  -- from before the first
+  -- The number of counted acts is bounded, with one more allowed, if no counted act has come yet.
   count_from : (s : Bool) (o : Option ℕ) (us zs : List ℕ) (ys : List Act) → TakeTurns left s ys → Pairs Apart ys → Due b left o c us zs ys
       → length us + also c ≤ suc (length zs)
   count_from s o (u ∷ us) zs [] turns pairs d = absurd (d.stand u (has_head u us)).1
@@ -224,7 +225,7 @@ module _ (b left : Bool) (c : Option ℕ) where
             omega (arith, e, ih, short))
       ]
 
--- ---- lists
+-- ---- Lemmas about lists
 
 pairs_from : {X : Type 0} (R : X → X → Type 0) (xs : List X) → AllPairs R xs → Pairs R xs
 pairs_from R [] h = tt
@@ -277,7 +278,7 @@ module _ (f : CallRecord → ℕ) where
     no_twice_mapped xs p.1,
   )
 
--- ---- what the calls of a count are
+-- ---- Lemmas about the calls in a count
 
 until_is : (last : ℕ) (x : CallRecord) (e : ℕ × Reply) → x.ended ≡ Some e → until last x ≡ e.0
 until_is last x e is = rw is refl
@@ -308,7 +309,7 @@ other_not : (p : Presence) → is_there (other p) ≡ not (is_there p)
 other_not Present = refl
 other_not Absent = refl
 
--- ---- the acts of an order of the calls
+-- ---- Lemmas about the acts that an order of the calls determines
 
 module _ (threads : ℕ) (calls : List CallRecord) (history : IsHistory threads calls) (last : ℕ) (upto : latest_moment calls ≤ last) (k : ℕ)
     (there : Presence) (left : Option Presence) (finally : Bool) (leaves : IfSome left (λ (l : Presence). finally ≡ is_there l))
@@ -347,7 +348,7 @@ module _ (threads : ℕ) (calls : List CallRecord) (history : IsHistory threads 
       let t : x.begun ≡ y.begun = ap (λ (z : CallRecord). z.begun) s in let l = n.later in omega (arith, t, l))
       (ap (until last) (numbered x p) ∙ q ∙ sym (ap (until last) (numbered y r)))
 
-  -- the act of a call that is counted
+  -- The act of a counted call.
   record IsDue (a : Act) : Type 0 where
     x : CallRecord
     counts : In x counted
@@ -391,7 +392,7 @@ module _ (threads : ℕ) (calls : List CallRecord) (history : IsHistory threads 
     ]
   ]
 
-  -- a change back between two of them is one of those that overlap the stretch
+  -- A change back between two counted calls overlaps the stretch.
   overlaps : (a : Act) → In a ys → a.does ≡ changes (not b) → Earlier since us ys a → Later til us ys a → has_key a.until zs ≡ true
   overlaps a i d e l =
       let t = (one_of (IsAct (λ m. event_at last k calls m) last) a ys acts i).told (not b) d in
@@ -461,7 +462,7 @@ module _ (threads : ℕ) (calls : List CallRecord) (history : IsHistory threads 
           let from = count_from b finally til (is_there there) since us zs ys turns pairs due in
           let f = c.fewer in let zero_more : also since ≡ 0 = ap also e in let m = long in let s = short in omega (arith, from, f, zero_more, m, s)
 
--- A COUNT EXCLUDES EVERY ORDER of a history, under its quota and with these final keys
+-- A count rules out every order of a history with its quota and with these final keys.
 pub count_refutes : (h : HistoryValue) (keys : List ℕ) (k : ℕ) (there : Presence) (left : Option Presence) (was : Presence) (since til : Option ℕ)
     (counted : List CallRecord) → IsHistory h.opening.threads h.calls → has_key k h.opening.keys ≡ is_there there
     → IfSome left (λ (l : Presence). has_key k keys ≡ is_there l) → IsCountOf h.calls k there left was since til counted → IsUnexplained h keys
@@ -475,9 +476,9 @@ count_refutes h keys k there left was since til counted history opens leaves c o
     (subst (λ b. TakeTurns (has_key k keys) b acts) opens r.take_turns) r.pairs r.acts
     (stands h.opening.threads h.calls history last upto k h.opening.quota (opening_set h.opening) order ex.linearizes) was since til counted c
 
--- ---- the tests of the code
+-- ---- Lemmas about the tests in the code
 
--- one more item of a list
+-- If the items before an index and the item at it have the property, so do the items up to and including it.
 pub one_more : {X : Type 0} (P : X → Type 0) (xs : List X) (n : ℕ) (e : X) → ((i : ℕ) (d : X) → i < n → P (get_or xs i d)) → n < length xs
     → P (get_or xs n e) → (i : ℕ) (d : X) → i < n + 1 → P (get_or xs i d)
 one_more P xs n e before long here i d l = elim (below_or_not i n) [
@@ -485,7 +486,7 @@ one_more P xs n e before long here i d l = elim (below_or_not i n) [
   | inr high ↦ (let at : i ≡ n = omega arith in rw (at, get_or_default xs n d e long) here)
 ]
 
--- the first item and the others
+-- The part of a list after its first item has all other items.
 rest_is : {X : Type 0} (x : X) (xs : List X) → take (length (x ∷ xs) - 1) xs ≡ xs
 rest_is x xs = grind (arith, common_steps)
 
@@ -494,7 +495,7 @@ pub pairs_of_parts : {X : Type 0} (R : X → X → Type 0) (xs : List X) (d : X)
 pairs_of_parts R [] d l a p = absurd (omega arith)
 pairs_of_parts R (x ∷ xs) d l a p = AllPairs-cons R x xs (subst (All (R x)) (rest_is x xs) a) (subst (AllPairs R) (rest_is x xs) p)
 
--- calls of a stream as calls of a history
+-- Calls of a stream, read as calls of a history.
 pub pairs_as_records : (R : CallRecord → CallRecord → Type 0) (xs : List StreamCall) → AllPairs (λ (x y : StreamCall). R (record_of x) (record_of y)) xs
     → AllPairs R (records xs)
 pairs_as_records R xs p = pairs_std R (records xs) (pairs_map record_of R xs (pairs_from (λ (x y : StreamCall). R (record_of x) (record_of y)) xs p))
@@ -506,7 +507,7 @@ filter_as_records p (x ∷ xs) = let r = filter_as_records p xs in elim (cases_B
   | inr f ↦ rw f r
 ]
 
--- the result of the test
+-- If the code's test passes, the calls are a count.
 pub is_count_if : (calls : List StreamCall) (there : Presence) (left : Option Presence) (c : Count) (counted : List StreamCall) → counted ≡ c.calls.items
     → c.backs.items ≡ filter (λ (x : StreamCall). turns_in c.key.0 (other c.was) c.since c.until (record_of x)) calls
     → All (λ (x : StreamCall). IsOf (records calls) c.key.0 (record_of x)) counted
@@ -533,7 +534,7 @@ is_count_if calls there left c counted listed backs known begin until opens clos
       backs = same;
     }
 
--- a count of the calls of a key
+-- A count rules out every order of the calls of its key.
 pub count_has_none : (threads key : ℕ) (there : Presence) (left : Option Presence) (was : Presence) (since til : Option ℕ) (counted calls : List CallRecord)
     → IsHistory threads calls → IsCountOf calls key there left was since til counted → HaveNone threads key there left calls
 count_has_none threads key there left was since til counted calls history c quota keys leaves =

@@ -1,4 +1,5 @@
--- The rule judges a key in its part as in the whole history. So some order explains the history exactly if some order explains each part.
+-- Proof: the rule decides about a key in its part as it does in the whole history. So some order explains the history
+-- if and only if some order explains each part.
 use Rattle.std.proofs.Common.{◌≡◌, ℕ, true, false, List, sym, ap, ◌∙◌, ◌<◌, ◌≤◌, Bool, refl, arith, inl, inr}
 use Rattle.std.specs.Prelude.{◌==◌, ◌&&◌, cond, not, IfSome}
 use Rattle.std.specs.List.Sorted.{IsStrictlyIncreasing}
@@ -24,9 +25,9 @@ use Rattle.lset_judge.proofs.StatesAfter.{left_alike, idle_key}
 use Rattle.lset_judge.proofs.RuleDecides.{explained}
 use Rattle.lset_judge.proofs.TimelineFromOrder.{rule_refutes}
 
--- ---- the events of a key among the calls of some keys, and among all calls
+-- ---- The events of a key, among the calls of some keys and among all calls
 
--- whether a key is among the keys of a part
+-- A key is among the keys of a part if it is among all keys and belongs to the part.
 keys_by : (part : ℕ → ℕ) (i k : ℕ) (b : Bool) → ((j : ℕ) → (j == k) ≡ true → (part j == i) ≡ b) → (xs : List ℕ)
     → has_key k (keys_in part i xs) ≡ (b && has_key k xs)
 keys_by part i k b same xs = any_key k (keys_in part i xs) ∙ any-filter_same (λ j. j == k) (λ j. part j == i) b same xs
@@ -44,7 +45,7 @@ module _ (part : ℕ → ℕ) (i k : ℕ) (of_part : part k ≡ i) where
   pub key_in_part : (xs : List ℕ) → has_key k (keys_in part i xs) ≡ has_key k xs
   key_in_part xs = keys_by part i k true goes_there xs
 
--- a key of another part
+-- Lemmas about a key of another part.
 module _ (part : ℕ → ℕ) (i k : ℕ) (of_other : part k ≡ i → ⊥) where
   goes_elsewhere : (j : ℕ) → (j == k) ≡ true → (part j == i) ≡ false
   goes_elsewhere j t = unequal_test (part j) i (λ e. of_other (sym (ap part (same_number j k t)) ∙ e))
@@ -60,7 +61,7 @@ module _ (h : HistoryValue) (keys : List ℕ) (part : ℕ → ℕ) (i : ℕ) (to
   abbrev own : List CallRecord
   own = calls_in part i h.calls
 
-  -- ---- the part is a history
+  -- ---- Proof that each part is a history
 
   pub part_told : IsHistory h.opening.threads own
   part_told = record {
@@ -81,7 +82,7 @@ module _ (h : HistoryValue) (keys : List ℕ) (part : ℕ → ℕ) (i : ℕ) (to
         omega arith;
   }
 
-  -- ---- a key of the part
+  -- ---- Lemmas about a key of this part
 
   pub key_alike : (last k : ℕ) → part k ≡ i → rule_explains last h keys k ≡ rule_explains last (part_of part i h) (keys_in part i keys) k
   key_alike last k of_part =
@@ -90,7 +91,7 @@ module _ (h : HistoryValue) (keys : List ℕ) (part : ℕ → ℕ) (i : ℕ) (to
       ∙ ap (λ (b : Bool). may_leave ev b (has_key k keys) last) (sym (key_in_part part i k of_part h.opening.keys))
       ∙ ap (λ (b : Bool). may_leave ev (has_key k (keys_in part i h.opening.keys)) b last) (sym (key_in_part part i k of_part keys))
 
-  -- a key of another part
+  -- A key of another part does not affect this part.
   no_key_passes : (last k : ℕ) → (part k ≡ i → ⊥) → rule_explains last (part_of part i h) (keys_in part i keys) k ≡ true
   no_key_passes last k other =
       ap (λ (b : Bool). may_leave (event_at last k own) b (has_key k (keys_in part i keys)) last) (no_key part i k other h.opening.keys)

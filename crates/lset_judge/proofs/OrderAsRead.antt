@@ -1,4 +1,4 @@
--- An order that explains the calls explains the calls as read, with their replies as read.
+-- Proof: if an order explains the calls, it also explains the calls as read, with their replies as read.
 use Rattle.std.proofs.Common.{◌≡◌, ◌≢◌, ℕ, ◌<◌, ◌≤◌, true, List, [], ◌∷◌, ◌++◌, refl, sym, arith, subst, length, get_or, ap, ◌∙◌, map, take, drop}
 use Rattle.std.proofs.Common.{◌+◌, inl, inr, ◌⊎◌, Bool, false}
 use Rattle.std.specs.Prelude.{Option, Some, None, IfSome, IsSomeAnd, ◌==◌, nat_lt, if◌then◌else◌, All, Contains as Has}
@@ -28,9 +28,9 @@ use Rattle.lset_judge.specs.Verdict.{is_plain}
 use Rattle.lset_judge.proofs.EventLemmas.{if_some, for_some, none_or_some}
 use Rattle.lset_judge.specs.Reading.{call_as, reply_as, call_if, end_as, read_as}
 
--- ---- the next call of a history can come next in a stream of the calls before it
+-- ---- The next call of a history can come next in a stream of the earlier calls
 
--- the end of an earlier call, if there is one, is neither the begin nor the end of the call
+-- An earlier call, if it has ended, did not end at a moment at which this call begins or ends.
 apart_of : (y x : CallRecord) → IsBefore x → IfSome y.ended (λ (d : ℕ × Reply). d.0 ≢ x.begun) → (o : Option (ℕ × Reply)) → y.ended ≡ o
     → (until_if behind_all y.begun o ≢ x.begun)
 apart_of y x before alone None is q = let b = before.0 in omega (arith, b, q)
@@ -45,7 +45,7 @@ free_of : (y x : CallRecord) → (o : Option (ℕ × Reply)) → y.ended ≡ o �
 free_of y x None is h = absurd (subst (λ o. IsSomeAnd o (λ (e : ℕ × Reply). e.0 < x.begun)) is h)
 free_of y x (Some d) is h = let l : d.0 < x.begun = subst (λ o. IsSomeAnd o (λ (e : ℕ × Reply). e.0 < x.begun)) is h in omega (arith, l)
 
--- a call that can follow each earlier call, and begins after the moment of the stream
+-- If a call can follow each earlier call and begins after the stream's moment, it can come next.
 pub comes : (calls : List CallRecord) (moment : ℕ) (pending : List Pending) (x : CallRecord) → ArePending calls moment pending → moment < x.begun
     → IfSome x.ended (λ (e : ℕ × Reply). x.begun < e.0) → IsBefore x → IfSome x.ended (λ (e : ℕ × Reply). is_plain x.call e.1 ≡ true)
     → ((n : ℕ) → n < length calls → Follows (call_numbered calls n) x) → MayCome pending moment x
@@ -72,7 +72,7 @@ may_come threads opening calls s x is history begins before plain =
     let may = may_follow_at threads calls [] x history in
     comes calls s.moment s.pending x is.pending begins may.call.ends_later before plain (λ n low. may.follows n no_call low)
 
--- ---- the calls of a history as read are a history, and plain
+-- ---- The calls of a history, as read, are a plain history
 
 end_if : (P : ℕ → Type 0) (c : Call) (o : Option (ℕ × Reply)) → IfSome o (λ (e : ℕ × Reply). P e.0) → IfSome (end_as c o) (λ (e : ℕ × Reply). P e.0)
 end_if P c None h = tt
@@ -115,12 +115,12 @@ read_history threads calls history =
           (read_follows (get_or calls i no_call) (get_or calls j no_call) (history.pairs i j no_call low under)));
     }
 
--- the first calls of such a history are a history, and plain
+-- The first calls of a plain history are a plain history.
 pub history_upto : (threads n : ℕ) (calls : List CallRecord) → IsHistory threads calls → IsHistory threads (take n calls)
 history_upto threads n calls history =
     history_front threads (take n calls) (drop n calls) (subst (IsHistory threads) (sym (take-append-drop n calls)) history)
 
--- each call as read is plain
+-- A call that is read as a plain call is plain.
 plain_as : (c : Call) (r : Reply) → is_plain (call_as c r) (reply_as c r) ≡ true
 plain_as (Add k) Full = refl
 plain_as (Remove k) Full = refl
@@ -135,7 +135,7 @@ read_plain x = of x.call x.ended
     of c None = tt
     of c (Some e) = plain_as c e.1
 
--- ---- each call as read can come in turn
+-- ---- Each call, as read, can come in its turn
 
 pub next_may : (threads : ℕ) (opening : List ℕ) (xs : List CallRecord) (i : ℕ) (d : CallRecord) (s : Stream) (x : CallRecord) → IsHistory threads xs
     → i < length xs → x ≡ read_as (get_or xs i d) → IsStreamOf threads opening (map read_as (take i xs)) s
@@ -163,9 +163,9 @@ pub next_thread : (threads i : ℕ) (d x : CallRecord) (xs : List CallRecord) �
 next_thread threads i d x xs history low so =
     let a = (history.each i d low).of_a_thread in let e = ap (λ (y : CallRecord). y.thread) so in omega (arith, a, e)
 
--- ---- one call
+-- ---- Lemmas about a single call
 
--- ---- if no order explains the calls as read, none explains the calls
+-- ---- If no order explains the calls as read, none explains the calls themselves
 
 ceiling_found : (k : ℕ) (x : Key) (keys : List ℕ) → ceiling_in k keys ≡ At x → has_key x.0 keys ≡ true
 ceiling_found k x [] e = absurd (let f : Nothing ≡ At x = e in cc)
@@ -199,7 +199,7 @@ ceiling_other k (y ∷ ys) e = elim (cases_Bool (nat_lt y k)) [
 abbrev Fits : ℕ → SetState → ℕ → Call → Reply → Type 0
 Fits quota s t c r = (reply_to quota s t (call_as c r) ≡ reply_as c r) × (after_call s t (call_as c r) (reply_as c r) ≡ after_call s t c r)
 
--- the replies of the set, as read
+-- The set's replies to the calls as read.
 add_fits : (quota : ℕ) (s : SetState) (t : ℕ) (k : Key) (b c : Bool) → has_key k.0 s.keys ≡ b → (count_of s t == quota) ≡ c
     → Fits quota s t (Add k) (reply_to quota s t (Add k))
 add_fits quota s t k true c h f = rw h (rw h refl, refl)
@@ -364,7 +364,7 @@ read_explains o cs order keys e = record {
   increasing = e.increasing;
 }
 
--- ---- plain calls are read as they are
+-- ---- Plain calls are read unchanged
 
 plain_call : (c : Call) (r : Reply) → is_plain c r ≡ true → (call_as c r ≡ c) × (reply_as c r ≡ r)
 plain_call (Add k) True e = (refl, refl)

@@ -1,4 +1,4 @@
--- A CLASH: two calls of a key that no order explains, whatever all other calls did.
+-- Clashes: two calls of a key that rule out every order, whatever all other calls did.
 use Rattle.std.specs.Prelude.{◌≡◌, ◌≢◌, ℕ, ◌⊎◌, ◌||◌, not, nat_lt, Bool, true, List, Option, Some, None, map, All, IfSome, Contains as Has}
 use Rattle.lset_words.specs.declared.Call.{Call}
 use Rattle.lset_words.specs.declared.Reply.{Reply}
@@ -22,7 +22,8 @@ abbrev pub other : Presence → Presence
 other Present = Absent
 other Absent = Present
 
--- the state in which a call leaves its key, and the state that the call needs just before it takes effect
+-- Returns the state in which a call leaves its key. `needed_by` returns the state that a call needs just before it
+-- takes effect.
 abbrev pub left_so : Effect → Option Presence
 left_so (Changes p) = Some p
 left_so (Sees p) = Some p
@@ -33,7 +34,7 @@ needed_by (Changes p) = Some (other p)
 needed_by (Sees p) = Some p
 needed_by Other = None
 
--- both are unknown for a pending call
+-- Returns the state in which a call leaves its key. For a pending call, this state and the needed one are unknown.
 abbrev pub leaves_if : Call → Option (ℕ × Reply) → Option Presence
 leaves_if c None = None
 leaves_if c (Some e) = left_so (effect_of c e.1)
@@ -42,22 +43,23 @@ abbrev pub needs_if : Call → Option (ℕ × Reply) → Option Presence
 needs_if c None = None
 needs_if c (Some e) = needed_by (effect_of c e.1)
 
--- a call of the history whose key is `key`
+-- A call of the history whose key is `key`.
 pub record IsOf (calls : List CallRecord) (key : ℕ) (x : CallRecord) : Type 0 where
   pub known : Has calls x
   pub own : (key_of x.call).0 ≡ key
 
--- the key was in the state `was`: at first, or because a call leaves it in this state
+-- States that the key was in the state `was`, either at the opening or because a call leaves it in this state.
 abbrev pub WasSo : List CallRecord → ℕ → Presence → Presence → Option CallRecord → Type 0
 WasSo calls key there was None = there ≡ was
 WasSo calls key there was (Some x) = IsOf calls key x × (leaves_if x.call x.ended ≡ Some was)
 
--- the key must be in the state `need`: at the end, or for a call
+-- States that the key must be in the state `need`, either at the end or for a call.
 abbrev pub HasToBe : List CallRecord → ℕ → Option Presence → Presence → Option CallRecord → Type 0
 HasToBe calls key left need None = left ≡ Some need
 HasToBe calls key left need (Some y) = IsOf calls key y × (needs_if y.call y.ended ≡ Some need)
 
--- the time from the begin of the first call to the end of the second
+-- Returns the moment at which the first call begins. The time between two calls goes from this moment to the end of the
+-- second call.
 abbrev pub since_of : Option CallRecord → ℕ
 since_of None = 0
 since_of (Some x) = x.begun
@@ -70,35 +72,38 @@ abbrev pub is_before : ℕ → Option CallRecord → Bool
 is_before begun None = true
 is_before begun (Some y) = is_before_end begun y.ended
 
--- no change of the key to the state `there` overlaps the time from `since` to the end of the second call
+-- States that no change of the key to the state `there` overlaps the time from `since` to the end of the second call.
 abbrev pub NothingTurns : List CallRecord → ℕ → Presence → ℕ → Option CallRecord → Type 0
 NothingTurns calls key there since second = All (λ (x : CallRecord). (key_of x.call).0 ≡ key → turns_to there (kind_if x.call x.ended) ≡ true
     → is_before x.begun second ≡ true → has_ended since x.ended ≡ true) calls
 
--- whether a call cannot change its key to the state `there` within that time
+-- Returns whether a call cannot change its key to the state `there` between `since` and the end of the second call.
 abbrev pub is_apart : Presence → ℕ → Option CallRecord → CallRecord → Bool
 is_apart there since second x = not (turns_to there (kind_if x.call x.ended)) || (not (is_before x.begun second) || has_ended since x.ended)
 
--- The second call needs the state that the first does not leave, and no call could change the key between them. So the second call
--- cannot come after the first.
+-- The second call needs a state that the first call does not leave, and no call can change the key between them. So the
+-- second call cannot come after the first.
 pub record Clashes (calls : List CallRecord) (key : ℕ) (there : Presence) (left : Option Presence) (was : Presence) (first second : Option CallRecord) : Type 0 where
   pub was_so : WasSo calls key there was first
   pub needed : HasToBe calls key left (other was) second
   pub nothing : NothingTurns calls key (other was) (since_of first) second
 
--- the second call comes after the first, or the two calls also clash in the other order
+-- States that the second call comes after the first in real time, or that the two calls also clash in the opposite
+-- order.
 abbrev pub InOrder : List CallRecord → ℕ → Presence → Option Presence → Option CallRecord → Option CallRecord → Type 0
 InOrder calls key there left (Some x) (Some y) =
     Precedes x y ⊎ ((x.begun ≢ y.begun) × ((v : Presence) × Clashes calls key there left v (Some y) (Some x)))
 InOrder calls key there left None second = Unit {0}
 InOrder calls key there left (Some x) None = Unit {0}
 
--- A CLASH of two calls of a key. The opening state can stand in place of the first call, and the final state in place of the second.
+-- States that two calls of a key clash. The opening state can take the place of the first call, and the final state
+-- that of the second.
 abbrev pub IsClash : List CallRecord → ℕ → Presence → Option Presence → Presence → Option CallRecord → Option CallRecord → Type 0
 IsClash calls key there left was first second =
     Clashes calls key there left was first second × InOrder calls key there left first second
 
--- If two calls of a history clash, no order explains the history and leaves these keys, whatever all other calls did.
+-- States that if two calls of a history clash, no order explains the history and leaves these keys, whatever all other
+-- calls did.
 abbrev pub ClashesExcludeOrders : Type 0
 ClashesExcludeOrders = (h : HistoryValue) (keys : List ℕ) (key : ℕ) (there : Presence) (left : Option Presence) (was : Presence)
     (first second : Option CallRecord) → IsHistory h.opening.threads h.calls → has_key key h.opening.keys ≡ is_there there
@@ -107,8 +112,8 @@ ClashesExcludeOrders = (h : HistoryValue) (keys : List ℕ) (key : ℕ) (there :
 abbrev pub records : List StreamCall → List CallRecord
 records calls = map record_of calls
 
--- No order explains these calls of a key and leaves the key in the state `left`. If `left` is None, no order explains them at all.
--- `there` is the presence of the key at first.
+-- States that no order explains these calls of a key and leaves the key in the state `left`. If `left` is None, no
+-- order explains them at all. `there` is the presence of the key at the opening.
 abbrev pub HaveNone : ℕ → ℕ → Presence → Option Presence → List CallRecord → Type 0
 HaveNone threads key there left calls = (quota : ℕ) (keys : List ℕ) → IfSome left (λ (l : Presence). keys ≡ key_if (is_there l) key)
     → IsUnexplained (alone threads quota (is_there there) key calls) keys

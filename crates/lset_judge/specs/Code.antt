@@ -1,4 +1,4 @@
--- The code's key state and event, as the state and event of the rule.
+-- Converts the code's key state and event to the state and event of the rule.
 use Rattle.std.specs.Prelude.{◌≡◌, ℕ, Bool, true, false, List, [], ◌∷◌}
 use Rattle.lset_words.specs.Effects.{is_there}
 use Rattle.lset_judge.specs.declared.key_changes.Held.{Held}

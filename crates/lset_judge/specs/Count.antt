@@ -1,4 +1,4 @@
--- A COUNT: calls of a key between which the key must change back more often than it can.
+-- Counts: calls of a key between which the key would have to change back more often than it can.
 use Rattle.std.specs.Prelude.{◌≡◌, ℕ, ◌+◌, ◌-◌, ◌<◌, ◌≤◌, ◌==◌, ◌⊎◌, ◌&&◌, not, nat_lt, Bool, true, List, length, filter, Option, Some, None, All, AllPairs, IfSome}
 use Rattle.lset_words.specs.declared.Reply.{Reply}
 use Rattle.lset_words.specs.declared.history.CallRecord.{CallRecord}
@@ -14,9 +14,9 @@ use Rattle.lset_judge.specs.Events.{kind_if}
 use Rattle.lset_judge.specs.Rest.{has_ended, turns_to}
 use Rattle.lset_judge.specs.Clash.{records, other, leaves_if, needs_if, IsOf}
 
--- A count has a stretch of time. It begins at the moment `since`, or before all calls if `since` is None: then the key is in the state `was` at
--- first, which counts like a call. It ends at the moment `until`, or after all calls if `until` is None: then the final state is the other
--- state, which counts like a call.
+-- The stretch of time of a count. It begins at the moment `since`. If `since` is None, it begins before all calls: the
+-- key then has the state `was` at the opening, which counts like a call. It ends at the moment `until`. If `until` is
+-- None, it ends after all calls: the final state is then the other state, which counts like a call.
 abbrev pub also : Option ℕ → ℕ
 also None = 1
 also (Some moment) = 0
@@ -29,24 +29,28 @@ abbrev pub LeftOtherwise : Option Presence → Presence → Option ℕ → Type 
 LeftOtherwise left was None = left ≡ Some (other was)
 LeftOtherwise left was (Some until) = Unit {0}
 
--- the call begins in the stretch. If the stretch begins before all calls, the call needs the other state
+-- States that the call begins in the stretch. If the stretch begins before all calls, states that the call needs the
+-- other state.
 abbrev pub BeginsIn : Presence → Option ℕ → CallRecord → Type 0
 BeginsIn was None x = needs_if x.call x.ended ≡ Some (other was)
 BeginsIn was (Some since) x = since ≤ x.begun
 
--- the call has ended in the stretch. If the stretch ends after all calls, the call leaves the key in the state `was`
+-- States that the call has ended in the stretch. If the stretch ends after all calls, states that the call leaves the
+-- key in the state `was`.
 abbrev pub EndsIn : Presence → Option ℕ → CallRecord → Type 0
 EndsIn was None x = leaves_if x.call x.ended ≡ Some was
 EndsIn was (Some until) x = has_ended until x.ended ≡ true
 
--- The key must change back between two calls: the call that comes first leaves the key in the state `was`, and the other needs the other state.
+-- The key must change back between two calls, because the call that comes first leaves the key in the state `was` and
+-- the call that comes second needs the other state.
 pub record NeedTurn (was : Presence) (x y : CallRecord) : Type 0 where
   pub later : x.begun < y.begun
   pub leaves : leaves_if x.call x.ended ≡ Some was
   pub needs : needs_if y.call y.ended ≡ Some (other was)
   pub either : Precedes x y ⊎ ((leaves_if y.call y.ended ≡ Some was) × (needs_if x.call x.ended ≡ Some (other was)))
 
--- whether a call can change the key to the state `there` in the stretch: it returned true or is pending, and overlaps the stretch
+-- Returns whether the call begins before the end of the stretch. `turns_in` tests whether a call can change the key to
+-- the state `there` in the stretch: it returned true or is pending, and overlaps the stretch.
 abbrev pub begins_by : ℕ → Option ℕ → Bool
 begins_by begun None = true
 begins_by begun (Some until) = nat_lt begun until
@@ -62,12 +66,13 @@ turns_in key there since until x =
 abbrev pub turning_in : ℕ → Presence → Option ℕ → Option ℕ → List CallRecord → List CallRecord
 turning_in key there since until calls = filter (turns_in key there since until) calls
 
--- how often the key must change back
+-- Returns how often the key must change back.
 abbrev pub turns_of : ℕ → Option ℕ → Option ℕ → ℕ
 turns_of counted since until = counted + also since + also until - 1
 
--- A COUNT of calls of a key in a stretch. The key must change back between each two of them. Also before the first call if the stretch begins
--- before all calls, and after the last call if the stretch ends after all calls. Fewer calls can change it back in the stretch.
+-- These calls of a key are a count, in a stretch of time. Between any two of them, the key must change back. If the
+-- stretch begins before all calls, it must also do so before the first of them. If the stretch ends after all calls, it
+-- must also do so after the last. But the calls that can change it back in the stretch are fewer.
 pub record IsCountOf (calls : List CallRecord) (key : ℕ) (there : Presence) (left : Option Presence) (was : Presence) (since until : Option ℕ)
     (counted : List CallRecord) : Type 0 where
   pub known : All (IsOf calls key) counted
@@ -78,13 +83,14 @@ pub record IsCountOf (calls : List CallRecord) (key : ℕ) (there : Presence) (l
   pub turns : AllPairs (NeedTurn was) counted
   pub fewer : length (turning_in key (other was) since until calls) < turns_of (length counted) since until
 
--- If calls of a history are a count, no order explains the history and leaves these keys, whatever all other calls did.
+-- States that if calls of a history are a count, no order explains the history and leaves these keys, whatever all
+-- other calls did.
 abbrev pub CountsExcludeOrders : Type 0
 CountsExcludeOrders = (h : HistoryValue) (keys : List ℕ) (key : ℕ) (there : Presence) (left : Option Presence) (was : Presence)
     (since until : Option ℕ) (counted : List CallRecord) → IsHistory h.opening.threads h.calls → has_key key h.opening.keys ≡ is_there there
     → IfSome left (λ (l : Presence). has_key key keys ≡ is_there l) → IsCountOf h.calls key there left was since until counted → IsUnexplained h keys
 
--- A returned count is a count, and `backs` are all calls that can change the key back in the stretch.
+-- The returned count is a count, and `backs` has all calls that can change the key back in the stretch.
 pub record IsCount (calls : List CallRecord) (there : Presence) (left : Option Presence) (c : Count) : Type 0 where
   pub count : IsCountOf calls c.key.0 there left c.was c.since c.until (records c.calls.items)
   pub backs : records c.backs.items ≡ turning_in c.key.0 (other c.was) c.since c.until calls

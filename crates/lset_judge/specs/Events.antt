@@ -12,7 +12,8 @@ use Rattle.lset_words.specs.Words.{key_of}
 use Rattle.lset_history.specs.History.{HistoryValue}
 use Rattle.lset_judge.specs.Rule.{Event, begins, ends, looks, idle, may_leave}
 
--- THE KIND OF A CALL: it changes its key to present (`true`) or absent, it sees the key present or absent, or nothing is known of the key
+-- The kind of a call: it changes its key to present (`true`) or absent, it sees the key present or absent, or nothing
+-- is known about the key.
 pub data Kind : Type 0 where
   changes : Bool → Kind
   sees : Bool → Kind
@@ -26,7 +27,7 @@ kind_as Other = nothing
 abbrev pub kind_of : Call → Reply → Kind
 kind_of c r = kind_as (effect_of c r)
 
--- a pending call can change its key, and saw nothing
+-- Returns the kind of a pending call. It can change its key, but has not seen anything.
 abbrev pub open_kind : Call → Kind
 open_kind (Add k) = changes true
 open_kind (Remove k) = changes false
@@ -36,7 +37,8 @@ abbrev pub kind_if : Call → Option (ℕ × Reply) → Kind
 kind_if c None = open_kind c
 kind_if c (Some e) = kind_of c e.1
 
--- The moment before which a call changes its key: its end. A pending call gets a moment after all moments, a different one for each begin.
+-- Returns the moment before which a call takes effect: its end. A pending call gets a moment after all moments,
+-- different for each begin.
 abbrev pub until_if : ℕ → ℕ → Option (ℕ × Reply) → ℕ
 until_if last begun None = last + begun
 until_if last begun (Some e) = e.0
@@ -55,7 +57,7 @@ end_event (changes w) begun = ends w
 end_event (sees w) begun = looks w begun
 end_event nothing begun = idle
 
--- the event of a key at a moment
+-- Returns the event of a key at a moment.
 abbrev pub event_at : ℕ → ℕ → List CallRecord → ℕ → Event
 event_at last k [] m = idle
 event_at last k (x ∷ xs) m =
@@ -64,10 +66,10 @@ event_at last k (x ∷ xs) m =
     else (if ends_at m x.ended then end_event (kind_if x.call x.ended) x.begun else event_at last k xs m)
     ) else event_at last k xs m
 
--- THE RULE SUCCEEDS on a key of a history with its final state. `last` is the last moment
+-- Returns whether the rule succeeds for a key of a history and for its final state. `last` is the last moment.
 abbrev pub rule_explains : ℕ → HistoryValue → List ℕ → ℕ → Bool
 rule_explains last h keys k = may_leave (event_at last k h.calls) (has_key k h.opening.keys) (has_key k keys) last
 
--- THE RULE SUCCEEDS ON EACH KEY
+-- States that the rule succeeds for each key.
 abbrev pub RulePasses : ℕ → HistoryValue → List ℕ → Type 0
 RulePasses last h keys = (k : ℕ) → rule_explains last h keys k ≡ true

@@ -1,4 +1,4 @@
--- The facts about the calls of a key from which a clash is found.
+-- Facts about the calls of a key, from which clashes are found.
 use Rattle.std.specs.Prelude.{◌≡◌, ◌≢◌, ℕ, ◌<◌, ◌≤◌, ◌⊎◌, max, if◌then◌else◌, Bool, true, false, List, ◌++◌, All, Option, Some, None, IfSome, IsSomeAnd}
 use Rattle.std.specs.Bool.{nat_eq}
 use Rattle.std.specs.HashMap.{get}
@@ -80,7 +80,7 @@ is_call Look = true
 abbrev pub first_of : ℕ → Facts → Option StreamCall
 first_of key f = if is_call f.kept then Some (call_kept key f) else None
 
--- the moment by which all changes of the key to a state have ended
+-- Returns a moment by which all changes of the key to this state have ended.
 abbrev pub until_of : Presence → Facts → ℕ
 until_of Present f = f.puts_until
 until_of Absent f = f.takes_until
@@ -95,7 +95,7 @@ facts_or (Some s) = facts_of s
 abbrev pub facts_for : States → ℕ → Facts
 facts_for states k = facts_or (get nat_eq states k)
 
--- the facts after an event of the key
+-- Returns the facts after an event of the key.
 abbrev pub begun_by : Event → Facts → Facts
 begun_by (begins w end) f = record f {
   puts_until = if w then max f.puts_until end else f.puts_until;
@@ -117,9 +117,9 @@ pub record IsKept (call : StreamCall) (old new : Facts) : Type 0 where
 abbrev pub IsEnded : StreamCall → Facts → Facts → Type 0
 IsEnded call old new = (new ≡ old) ⊎ IsKept call old new
 
--- ---- the meaning of the facts
+-- ---- What the facts mean
 
--- each change of the key to a state has ended by a moment
+-- States that each change of the key to this state has ended by the moment.
 abbrev pub AreOverBy : List CallRecord → ℕ → Presence → ℕ → Type 0
 AreOverBy calls key there moment = All (λ (x : CallRecord). (key_of x.call).0 ≡ key → turns_to there (kind_if x.call x.ended) ≡ true
     → until_if behind_all x.begun x.ended ≤ moment) calls
@@ -129,34 +129,34 @@ pub record AreFacts (opening : List ℕ) (calls : List CallRecord) (key : ℕ) (
   pub was : WasSo calls key (presence (has_key key opening)) f.was (record_if (first_of key f))
   pub over : (there : Presence) → AreOverBy calls key there (until_of there f)
 
--- a clash of the calls of a key, whichever calls begin after a moment
+-- States that this is a clash of the key's calls, whichever calls begin after the moment.
 abbrev pub IsClashBy : List ℕ → List CallRecord → ℕ → ℕ → Clash → Type 0
 IsClashBy opening calls moment key c = (later : List CallRecord) → All (λ (z : CallRecord). moment < z.begun) later
     → IsClash (calls ++ later) key (presence (has_key key opening)) None c.was (record_if c.first) (record_if c.second)
 
--- The facts about each key are right. After the rule has failed on a key, only the facts about this key are right, until a clash is found.
--- Then the clash is one of this key.
+-- States that the facts about each key are correct. Once the rule has failed for a key, only this key's facts must be
+-- correct, until a clash is found. The clash is then one of this key.
 abbrev pub AreKnownBy : List ℕ → List CallRecord → ℕ → States → Option Failed → Option Clash → Type 0
 AreKnownBy opening calls moment states None clash = (k : ℕ) → AreFacts opening calls k (facts_for states k)
 AreKnownBy opening calls moment states (Some f) None = AreFacts opening calls f.key.0 (facts_for states f.key.0)
 AreKnownBy opening calls moment states (Some f) (Some c) = IsClashBy opening calls moment f.key.0 c
 
--- THE STREAM HAS JUDGED these calls, and its facts are right
+-- The stream has judged these calls, and its facts are correct.
 pub record IsStreamKept (threads : ℕ) (opening : List ℕ) (calls : List CallRecord) (s : Stream) : Type 0 where
   pub stream : IsStreamOf threads opening calls s
   pub known : AreKnownBy opening calls s.moment s.states s.failed s.clash
 
--- ---- words of single contracts
+-- ---- Definitions that only single contracts use
 
 -- no call that can change the key to the other state has been pending since the begin of the call
 abbrev pub IsStanding : ℕ → Facts → Type 0
 IsStanding key f = until_of (other f.was) f ≤ since_of (record_if (first_of key f))
 
--- both calls have ended, the first no later than the second
+-- States that both calls have ended, the first no later than the second.
 abbrev pub EndsBy : Option (ℕ × Reply) → Option (ℕ × Reply) → Type 0
 EndsBy first second = IsSomeAnd first (λ (d : ℕ × Reply). IsSomeAnd second (λ (e : ℕ × Reply). d.0 ≤ e.0))
 
--- two calls clash in the other order too
+-- The two calls also clash in the opposite order.
 pub record ClashTurned (f : Facts) (x y : StreamCall) : Type 0 where
   pub apart : x.begun ≢ y.begun
   pub left : Presence
@@ -178,18 +178,18 @@ pub record IsClashing (f : Facts) (call : StreamCall) : Type 0 where
 abbrev pub clash_with : ℕ → Facts → Option StreamCall → Clash
 clash_with key f second = record { was = f.was; first = first_of key f; second = second }
 
--- a clash whose second call is `call`
+-- A clash whose second call is `call`.
 pub record IsFound (f : Facts) (call : StreamCall) (c : Clash) : Type 0 where
   pub is : c ≡ clash_with (key_of call.call).0 f (Some call)
   pub clashing : IsClashing f call
 
--- a clash with the final state of the key
+-- A clash with the final state of the key.
 pub record IsFoundLeft (key : ℕ) (f : Facts) (left : Presence) (c : Clash) : Type 0 where
   pub is : c ≡ clash_with key f None
   pub is_other : left ≡ other f.was
   pub standing : IsStanding key f
 
--- the facts after the begin of a call
+-- States how the facts change when a call begins.
 abbrev pub BeginIsKnown : States → ℕ → Event → States → Option Failed → Option Clash → Type 0
 BeginIsKnown before key event after None clash = (facts_for after key ≡ begun_by event (facts_for before key))
     × ((k : ℕ) → k ≢ key → facts_for after k ≡ facts_for before k)
@@ -197,7 +197,7 @@ BeginIsKnown before key event after (Some f) None = (facts_for after f.key.0 ≡
     ⊎ ((facts_for after f.key.0 ≡ facts_for before f.key.0) × (f.key.0 ≢ key))
 BeginIsKnown before key event after (Some f) (Some c) = Unit {0}
 
--- the facts after the end of a call, and the clash of this call if one is found
+-- How the facts change when a call ends, and the call's clash if one is found.
 pub record EndIsKept (before : States) (call : StreamCall) (after : States) (clash : Option Clash) : Type 0 where
   pub facts : IsEnded call (facts_for before (key_of call.call).0) (facts_for after (key_of call.call).0)
   pub found : IfSome clash (IsFound (facts_for before (key_of call.call).0) call)
@@ -213,7 +213,7 @@ abbrev pub clash_met : Option Failed → Option Clash → Option Clash
 clash_met None clash = None
 clash_met (Some f) clash = clash
 
--- a clash of the stream's calls of the key of a refusal
+-- States that this is a clash of the stream's calls, for the key of the refusal.
 abbrev pub ClashesStream : List ℕ → Refusal → Option Presence → Stream → Clash → Type 0
 ClashesStream opening refusal left s c = (threads : ℕ) (calls : List CallRecord) → IsStreamKept threads opening calls s
     → IsClash calls refusal.key.0 (presence (has_key refusal.key.0 opening)) left c.was (record_if c.first) (record_if c.second)

@@ -9,6 +9,6 @@ abbrev pub increasing_of : List (Reverse ℕ) → List ℕ
 increasing_of [] = []
 increasing_of (x ∷ xs) = put_in x.0 (increasing_of xs)
 
--- the greatest item of the heap is the nearest end
+-- Compares two ends so that the greatest item of the heap is the earliest end.
 abbrev pub later_first : Reverse ℕ → Reverse ℕ → Ordering
 later_first x y = nat_cmp y.0 x.0

@@ -13,23 +13,24 @@ use Rattle.lset_judge.specs.declared.clash.Clash.{Clash}
 use Rattle.lset_judge.specs.Clash.{record_if, IsClash}
 use Rattle.lset_judge.specs.Facts.{IsStreamKept}
 
--- THE JUDGE HAS JUDGED these calls, of a set that opens with these keys
+-- States that the judge has judged these calls of a set that opens with these keys.
 abbrev pub IsJudgeOf : ℕ → List ℕ → List CallRecord → Judge → Type 0
 IsJudgeOf threads opening calls j = IsStreamKept threads opening calls j.stream
 
--- ---- the verdict
+-- ---- What a verdict means
 
--- the final presence of the key of a refusal, if the refusal is about the final keys
+-- Returns the final presence of a refusal's key if the refusal is about the final keys.
 abbrev pub left_by : List ℕ → ℕ → Option ℕ → Option Presence
 left_by keys key (Some moment) = None
 left_by keys key None = Some (presence (has_key key keys))
 
--- two calls of a key clash, or a call clashes with the opening or the final state of the key
+-- States that two calls of a key clash, or that a call clashes with the opening state or the final state of the key.
 abbrev pub ClashesIn : List ℕ → List CallRecord → ℕ → Option Presence → Clash → Type 0
 ClashesIn opening calls key left c =
     IsClash calls key (presence (has_key key opening)) left c.was (record_if c.first) (record_if c.second)
 
--- THE VERDICT is right. A clash is one of the refusal's key. It is about the final state of the key if the refusal is.
+-- States that the verdict is correct. A clash belongs to the refusal's key. It is about the key's final state if the
+-- refusal is.
 abbrev pub IsVerdict : ℕ → List ℕ → List CallRecord → List ℕ → Verdict → Type 0
 IsVerdict threads opening calls keys verdict.Linearizable = IsStreamVerdict (stream_history threads opening calls) keys Linearizable
 IsVerdict threads opening calls keys (verdict.NotLinearizable refusal clash) =

@@ -1,4 +1,4 @@
--- The parts of a recording: each key belongs to one part, and a part has the calls of its keys.
+-- The parts of a recording. Each key belongs to one part, and each part has the calls of its keys.
 use Rattle.std.specs.Prelude.{◌↔◌, ℕ, ◌<◌, ◌==◌, List, filter}
 use Rattle.std.specs.List.Sorted.{IsStrictlyIncreasing}
 use Rattle.lset_words.specs.declared.history.CallRecord.{CallRecord}
@@ -7,29 +7,30 @@ use Rattle.lset_words.specs.Words.{key_of}
 use Rattle.lset_history.specs.History.{HistoryValue}
 use Rattle.lset_judge.specs.Verdict.{IsExplained, IsJudged}
 
--- the keys of part `i`: `part` returns the number of a key's part
+-- Returns the keys of part `i`. `part` maps a key to the number of its part.
 abbrev pub keys_in : (ℕ → ℕ) → ℕ → List ℕ → List ℕ
 keys_in part i keys = filter (λ (k : ℕ). part k == i) keys
 
--- the calls of the keys of part `i`
+-- Returns the calls of the keys in part `i`.
 abbrev pub calls_in : (ℕ → ℕ) → ℕ → List CallRecord → List CallRecord
 calls_in part i calls = filter (λ (x : CallRecord). part (key_of x.call).0 == i) calls
 
--- part `i` of a history: its calls and its opening keys
+-- Returns part `i` of a history: its calls and its opening keys.
 abbrev pub part_of : (ℕ → ℕ) → ℕ → HistoryValue → HistoryValue
 part_of part i h = record {
   opening = record { threads = h.opening.threads; quota = h.opening.quota; keys = keys_in part i h.opening.keys };
   calls = calls_in part i h.calls;
 }
 
--- LOCALITY: some order explains a history and its final keys exactly if some order explains each part and its final keys.
+-- Locality: some order explains a history with its final keys if and only if, for each part, some order explains the
+-- part with its final keys.
 abbrev pub KeysAreApart : Type 0
 KeysAreApart = (h : HistoryValue) (keys : List ℕ) (part : ℕ → ℕ) (parts : ℕ)
     → IsHistory h.opening.threads h.calls → IsStrictlyIncreasing h.opening.keys → IsStrictlyIncreasing keys → IsJudged h
     → ((key : ℕ) → part key < parts)
     → IsExplained h keys ↔ ((i : ℕ) → i < parts → IsExplained (part_of part i h) (keys_in part i keys))
 
--- A JUDGED HISTORY NEEDS NO QUOTA: if some order explains it under another quota, some order explains it under its own.
+-- A judged history needs no quota: if some order explains it with another quota, some order explains it with its own.
 abbrev pub QuotasDoNotMatter : Type 0
 QuotasDoNotMatter = (h : HistoryValue) (keys : List ℕ) (quota : ℕ)
     → IsHistory h.opening.threads h.calls → IsStrictlyIncreasing h.opening.keys → IsStrictlyIncreasing keys → IsJudged h

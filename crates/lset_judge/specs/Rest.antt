@@ -1,4 +1,4 @@
--- The calls of one key: which of them can change it, and a history of these calls alone.
+-- The calls of a single key: which of them can change it, and a history of these calls alone.
 use Rattle.std.specs.Prelude.{ℕ, nat_le, if◌then◌else◌, Bool, false, List, [], ◌∷◌}
 use Rattle.std.specs.Prelude.{Option, Some, None}
 use Rattle.lset_words.specs.declared.Reply.{Reply}
@@ -9,7 +9,7 @@ use Rattle.lset_history.specs.History.{HistoryValue}
 use Rattle.lset_judge.specs.Events.{Kind, changes, sees, nothing}
 use Rattle.lset_judge.specs.Rule.{same}
 
--- whether a call changes its key to the state `there`
+-- Returns whether a call changes its key to the state `there`.
 abbrev pub turns_to : Presence → Kind → Bool
 turns_to there (changes w) = same w (is_there there)
 turns_to there (sees w) = false
@@ -19,11 +19,11 @@ abbrev pub has_ended : ℕ → Option (ℕ × Reply) → Bool
 has_ended moment None = false
 has_ended moment (Some e) = nat_le e.0 moment
 
--- the list of the key, if it is present
+-- Returns a list with the key if it is present, else an empty list.
 abbrev pub key_if : Bool → ℕ → List ℕ
 key_if there key = if there then key ∷ [] else []
 
--- the history of one key's calls; the set opens with the key if it is present at first
+-- Returns a history of one key's calls. The set opens with the key if the key is present at the opening.
 abbrev pub alone : ℕ → ℕ → Bool → ℕ → List CallRecord → HistoryValue
 alone threads quota there key calls = record {
   opening = record { threads = threads; quota = quota; keys = key_if there key };

@@ -1,9 +1,10 @@
--- The rule of the judge for the calls of one key: the event at each moment, and which pending change takes effect.
+-- The judge's rule for the calls of one key: the event at each moment, and which pending change takes effect.
 use Rattle.std.specs.Prelude.{ℕ, zero, suc, ◌+◌, ◌==◌, ◌||◌, min, nat_lt, Bool, true, false, not, if◌then◌else◌, List, [], ◌∷◌}
 use Rattle.std.specs.Prelude.{length, Option, Some, None, is_some}
 
--- THE EVENT OF A KEY AT A MOMENT. `true` means present. A change begins: the state to which it changes the key, and the moment at which it
--- ends. A change ends. A read ends: the state it saw, and when it began. The final state of the key. No event of the key.
+-- The event of a key at a moment. `true` means present. `begins`: a change to this state begins; its end is known.
+-- `ends`: a change to this state ends. `looks`: a read ends, with the state that it saw and the moment at which it
+-- began. `leaves`: this is the final state. `idle`: there is no event of the key.
 pub data Event : Type 0 where
   begins : Bool → ℕ → Event
   ends : Bool → Event
@@ -11,15 +12,15 @@ pub data Event : Type 0 where
   leaves : Bool → Event
   idle : Event
 
--- THE STATE of a key: whether it is present, the moment of its last change, and the ends of the pending changes that have not taken effect:
--- `puts` of those that add the key, `takes` of those that remove it
+-- The state of a key: whether it is present, the moment of its last change, and the ends of the pending changes that
+-- have not taken effect. `puts` has the ends of changes that add the key, `takes` of those that remove it.
 pub record State : Type 0 where
   pub there : Bool
   pub turned : ℕ
   pub puts : List ℕ
   pub takes : List ℕ
 
--- the state before all moments
+-- Returns the state before all moments.
 abbrev pub opened : Bool → State
 opened b = record { there = b; turned = 0; puts = []; takes = [] }
 
@@ -30,17 +31,18 @@ same false b = not b
 abbrev pub changes_to : Bool → State → List ℕ
 changes_to w s = if w then s.puts else s.takes
 
--- the ends of the changes that can take effect now
+-- Returns the ends of the changes that can take effect now.
 abbrev pub options : State → List ℕ
 options s = changes_to (not s.there) s
 
--- how many of these moments are at a moment or after it
+-- Returns how many of these moments are at or after a given moment.
 abbrev pub not_before : ℕ → List ℕ → ℕ
 not_before d [] = 0
 not_before d (x ∷ xs) = (if nat_lt x d then 0 else 1) + not_before d xs
 
--- Whether the state fits the event of a moment. If a change ends, each change of its kind that ends by now has taken effect. If a read
--- ends, the key has the state that was seen, or has changed since the read began, and so was in both states. The final state is the state.
+-- Returns whether the state fits the event of a moment. If a change ends, each change of its kind that ends by now must
+-- have taken effect. If a read ends, the key must have the state that was seen, or must have changed since the read
+-- began, so that it was in both states. A final state must be the current state.
 abbrev pub fits : ℕ → Event → State → Bool
 fits m (begins w end) s = true
 fits m (ends w) s = not_before (suc m) (changes_to w s) == length (changes_to w s)
@@ -48,12 +50,12 @@ fits m (looks w since) s = same w s.there || not (nat_lt s.turned since)
 fits m (leaves w) s = same w s.there
 fits m idle s = true
 
--- adds a moment to increasing moments
+-- Inserts a moment into increasing moments.
 abbrev pub put_in : ℕ → List ℕ → List ℕ
 put_in e [] = e ∷ []
 put_in e (x ∷ xs) = if nat_lt e x then e ∷ x ∷ xs else x ∷ put_in e xs
 
--- the pending changes to a state after an event
+-- Returns the pending changes to a state after an event.
 abbrev pub entering : Bool → Event → List ℕ → List ℕ
 entering w (begins v end) xs = if same w v then put_in end xs else xs
 entering w (ends v) xs = xs
@@ -68,7 +70,7 @@ abbrev pub take_out : ℕ → List ℕ → List ℕ
 take_out e [] = []
 take_out e (x ∷ xs) = if x == e then xs else x ∷ take_out e xs
 
--- the state after the change with the end `e` has taken effect, after the event of the moment `m`
+-- Returns the state after the change with the end `e` has taken effect, just after the event of the moment `m`.
 abbrev pub turned_by : ℕ → ℕ → State → State
 turned_by m e s = record {
   there = not s.there;
@@ -77,7 +79,8 @@ turned_by m e s = record {
   takes = if s.there then take_out e s.takes else s.takes;
 }
 
--- THE RULE: a change takes effect only when an event needs it. Then the change whose end is nearest takes effect.
+-- The rule: a change takes effect only when an event needs it. Of the changes that can, the one with the earliest end
+-- takes effect. `nearest` returns this end.
 abbrev pub nearest : ℕ → List ℕ → ℕ
 nearest x [] = x
 nearest x (y ∷ ys) = min x (nearest y ys)
@@ -86,7 +89,7 @@ abbrev pub turned_if : ℕ → State → List ℕ → Option State
 turned_if m s [] = None
 turned_if m s (x ∷ xs) = Some (turned_by m (nearest x xs) s)
 
--- the state that fits the event, after at most `n` changes
+-- Lets at most `n` changes take effect until the state fits the event, and returns this state.
 abbrev pub settled : ℕ → ℕ → Event → Option State → Option State
 settled n m v None = None
 settled zero m v (Some s) = if fits (suc m) v s then Some s else None
@@ -102,16 +105,16 @@ abbrev pub entered : Event → Option State → Option State
 entered v None = None
 entered v (Some t) = Some (enters v t)
 
--- the state after the event of the moment after `m`. None if the rule has failed
+-- Returns the state after the event of the moment after `m`, or None if the rule has failed.
 abbrev pub stepped : ℕ → Event → Option State → Option State
 stepped m v None = None
 stepped m v (Some s) = entered v (found m v s)
 
--- the state after a moment, None if the rule has failed by then
+-- Returns the state after a moment, or None if the rule has failed by then.
 abbrev pub state_after : (ℕ → Event) → Bool → ℕ → Option State
 state_after ev opening zero = Some (opened opening)
 state_after ev opening (suc m) = stepped m (ev (suc m)) (state_after ev opening m)
 
--- whether the key can have the final state `left` after a moment
+-- Returns whether the key can have the final state `left` after a moment.
 abbrev pub may_leave : (ℕ → Event) → Bool → Bool → ℕ → Bool
 may_leave ev opening left last = is_some (stepped last (leaves left) (state_after ev opening last))

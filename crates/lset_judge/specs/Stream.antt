@@ -1,4 +1,4 @@
--- A stream of calls, judged call by call: its state, and the meaning of its verdict.
+-- A stream of calls that is judged call by call: its state, and what its verdict means.
 use Rattle.std.specs.Prelude.{◌≡◌, ◌≢◌, ℕ, ◌<◌, ◌≤◌, ◌^◌, ◌⊎◌, true, false, List, length, Option, Some, None, All}
 use Rattle.std.specs.Prelude.{AllPairs, Contains, IfSome, ◌-◌}
 use Rattle.std.specs.List.Sorted.{IsStrictlyIncreasing}
@@ -24,32 +24,32 @@ use Rattle.lset_judge.specs.Code.{state_of}
 use Rattle.lset_judge.specs.Events.{kind_if, until_if, end_event, event_at}
 use Rattle.lset_judge.specs.Verdict.{IsPlain, IsExplained, IsUnexplained, IsRefusedBy, is_plain, with_quota}
 
--- a call of a stream as a call of a history
+-- Converts a call of a stream to a call of a history.
 abbrev pub record_of : StreamCall → CallRecord
 record_of x = record { thread = x.thread; call = x.call; begun = x.begun; ended = x.ended }
 
--- a call of a history as a call of a stream
+-- Converts a call of a history to a call of a stream.
 abbrev pub call_of : CallRecord → StreamCall
 call_of x = record { thread = x.thread; call = x.call; begun = x.begun; ended = x.ended }
 
--- the history of a stream's calls, of a set without a quota
+-- Returns the history of a stream's calls, for a set without a quota.
 abbrev pub stream_history : ℕ → List ℕ → List CallRecord → HistoryValue
 stream_history threads opening calls = record {
   opening = record { threads = threads; quota = length calls; keys = opening };
   calls = calls;
 }
 
--- ---- the state of a stream
+-- ---- The state of a stream
 
--- the first number after all moments
+-- The first number that is greater than every moment.
 abbrev pub behind_all : ℕ
 behind_all = 2 ^ 63
 
--- the states of the keys, by the keys
+-- The states of the keys, indexed by key.
 abbrev pub States : Type 0
 States = HashMap ℕ KeyState (BuildHasherDefault FoldHasher)
 
--- a key without a state is absent
+-- Returns the state of a key. A key without a stored state is absent.
 abbrev pub state_or : Option KeyState → State
 state_or None = opened false
 state_or (Some s) = state_of s
@@ -57,7 +57,7 @@ state_or (Some s) = state_of s
 abbrev pub state_for : States → ℕ → State
 state_for states k = state_or (get nat_eq states k)
 
--- the call as a pending call
+-- Returns the call as a pending call.
 abbrev pub pending_of : CallRecord → Pending
 pending_of x = record {
   end = until_if behind_all x.begun x.ended;
@@ -67,19 +67,20 @@ pending_of x = record {
 abbrev pub key_in : Pending → ℕ
 key_in p = (key_of p.call.call).0
 
--- the event of the call's end
+-- Returns the event at which the call ends.
 abbrev pub event_of : Pending → Event
 event_of p = end_event (kind_if p.call.call p.call.ended) p.call.begun
 
--- the call has ended by a moment
+-- States that the call has ended by the moment.
 abbrev pub IsOver : ℕ → CallRecord → Type 0
 IsOver moment x = (end : ℕ × Reply) × (x.ended ≡ Some end) × (end.0 ≤ moment)
 
--- the moments of the call are moments
+-- States that the call begins, and ends if it does, at moments of a stream.
 abbrev pub IsBefore : CallRecord → Type 0
 IsBefore x = (x.begun < behind_all) × IfSome x.ended (λ (end : ℕ × Reply). end.0 < behind_all)
 
--- THE PENDING CALLS after a moment are right: they are the calls that have not ended by then, and no two have the same end
+-- The pending calls after a moment are correct: they are the calls that have not ended by then, and no two have the
+-- same end.
 pub record ArePending (calls : List CallRecord) (moment : ℕ) (pending : List Pending) : Type 0 where
   pub known : All (λ (p : Pending). (n : ℕ) × (n < length calls) × (p ≡ pending_of (call_numbered calls n))) pending
   pub kept : (n : ℕ) → n < length calls → IsOver moment (call_numbered calls n) ⊎ Contains pending (pending_of (call_numbered calls n))
@@ -94,7 +95,7 @@ IsJudgedTo opening calls moment states (Some f) = (f.moment ≤ moment)
     × (state_after (event_at behind_all f.key.0 calls) (has_key f.key.0 opening) f.moment ≡ None)
     × ((k m : ℕ) → state_after (event_at behind_all k calls) (has_key k opening) m ≡ None → f.moment ≤ m)
 
--- THE STREAM HAS JUDGED these calls, of a set that opens with these keys. Its moment is at or after the begin of each call.
+-- The stream has judged these calls of a set that opens with these keys. No call begins after its moment.
 pub record IsStreamOf (threads : ℕ) (opening : List ℕ) (calls : List CallRecord) (s : Stream) : Type 0 where
   pub opens : IsStrictlyIncreasing opening
   pub history : IsHistory threads calls
@@ -105,26 +106,26 @@ pub record IsStreamOf (threads : ℕ) (opening : List ℕ) (calls : List CallRec
   pub pending : ArePending calls s.moment s.pending
   pub judged : IsJudgedTo opening calls s.moment s.states s.failed
 
--- fields of a stream, for the specs of other crates
+-- Fields of a stream, for the specs of other crates.
 abbrev pub moment_of : Stream → ℕ
 moment_of s = s.moment
 
 abbrev pub pending_in : Stream → List Pending
 pending_in s = s.pending
 
--- ---- a call can come next
+-- The conditions under which a call can be the next one.
 
 pub record MayCome (pending : List Pending) (moment : ℕ) (x : CallRecord) : Type 0 where
   pub begins : moment < x.begun
   pub ends : IfSome x.ended (λ (end : ℕ × Reply). x.begun < end.0)
   pub before : IsBefore x
   pub plain : IfSome x.ended (λ (end : ℕ × Reply). is_plain x.call end.1 ≡ true)
-  -- no pending call ends at the begin or the end of the call
+  -- No pending call ends when this call begins or ends.
   pub apart : All (λ (p : Pending). (p.end ≢ x.begun) × IfSome x.ended (λ (end : ℕ × Reply). p.end ≢ end.0)) pending
-  -- no call of its thread is pending at its begin
+  -- When this call begins, no other call of its thread is pending.
   pub free : All (λ (p : Pending). p.call.thread ≡ x.thread → p.end ≤ x.begun) pending
 
--- ---- the verdict
+-- ---- What a verdict means
 
 -- the rule has failed on a key by a moment
 abbrev pub HasFailed : HistoryValue → ℕ → ℕ → Type 0
@@ -144,17 +145,18 @@ IsStreamVerdict h keys (NotLinearizable refusal) =
     ((quota : ℕ) → IsUnexplained (with_quota quota h) keys) × IsRefusedBy h keys refusal.key.0 refusal.moment
     × FailsFirst h refusal.key.0 refusal.moment
 
--- the verdict on a recording that was cut off: for some final keys, or for all
+-- States that the verdict on a recording that was cut off is correct: Linearizable for some final keys, NotLinearizable
+-- for all.
 abbrev pub IsStreamVerdictCutOff : HistoryValue → StreamVerdict → Type 0
 IsStreamVerdictCutOff h Linearizable = (keys : List ℕ) × IsStreamVerdict h keys Linearizable
 IsStreamVerdictCutOff h (NotLinearizable refusal) = (keys : List ℕ) → IsStreamVerdict h keys (NotLinearizable refusal)
 
--- ---- words of single contracts
+-- ---- Definitions that only single contracts use
 
 abbrev pub no_pending : Pending
 no_pending = record { end = 0; call = call_of no_call }
 
--- the states after the event of a key at a moment
+-- States how the states change by the event of a key at a moment.
 abbrev pub IsMetBy : States → ℕ → ℕ → Event → States → Option Failed → Option Failed → Type 0
 IsMetBy before key moment event after (Some f) failed = failed ≡ Some f
 IsMetBy before key moment event after None None =
@@ -175,7 +177,7 @@ abbrev pub verdict_of_key : Option ℕ → StreamVerdict
 verdict_of_key None = Linearizable
 verdict_of_key (Some k) = NotLinearizable (record { key = record { 0 = k }; moment = None })
 
--- if the rule has failed, the verdict is its failure; otherwise a refusal has no moment
+-- States that the verdict is the rule's failure if the rule has failed. Otherwise, a refusal has no moment.
 abbrev pub IsToldBy : Option Failed → StreamVerdict → Type 0
 IsToldBy None Linearizable = Unit {0}
 IsToldBy None (NotLinearizable refusal) = refusal.moment ≡ None

@@ -6,19 +6,19 @@ ghost use Rattle.lset_judge.specs.Pending.{last_end};
 use std::alloc::{AllocError, Global};
 use std::collections::HashMap;
 
-/// The threads below this number are in a vector, the others in a table.
+/// Threads below this number are in a vector, all others in a table.
 const LOW: u32 = 65_536;
 
 /// For each thread, the end of its last call.
 #[derive(Drop)]
 pub(crate) struct Busy {
-    /// The ends of threads below `LOW`, by the thread. 0 if a thread has had no call.
+    /// The ends of threads below `LOW`, indexed by thread. 0 if a thread has had no call.
     pub(crate) low: Vec<u64>,
     /// The ends of the other threads that have had a call.
     pub(crate) high: HashMap<u32, u64>,
 }
 
-/// Appends zeros up to a length.
+/// Appends zeros until the vector has length `len`.
 fn lengthen(ends: &mut Vec<u64>, len: usize) -> Result<(), AllocError>
     ensures same { (i : ℕ) → slice_index_or ends.new.items i 0 ≡ slice_index_or ends.old.items i 0 }
     ensures long { OnOk result (len ≤ length ends.new.items) }
@@ -41,7 +41,7 @@ fn store(ends: &mut Vec<u64>, place: usize, end: u64) -> Result<(), AllocError>
 }
 
 impl Busy {
-    /// Returns threads without calls. Does not allocate.
+    /// Returns an empty `Busy`: no thread has had a call. Does not allocate.
     pub(crate) fn new(alloc: Global) -> Busy {
         Busy {
             low: Vec::new(alloc),
@@ -49,7 +49,7 @@ impl Busy {
         }
     }
 
-    /// Returns the end of the last call of a thread. 0 if the thread has had no call.
+    /// Returns the end of a thread's last call, or 0 if the thread has had no call.
     pub(crate) fn last_end(&self, thread: u32) -> u64
         ensures { result ≡ last_end self.now thread }
     {
@@ -66,7 +66,7 @@ impl Busy {
         }
     }
 
-    /// Stores the end of the last call of a thread.
+    /// Stores the end of a thread's last call.
     pub(crate) fn store(&mut self, thread: u32, end: u64) -> Result<(), AllocError>
         ensures stored { OnOk result ((t : ℕ) → last_end self.new t ≡ (if thread == t then end else last_end self.old t)) }
         ensures same { OnErr result ((t : ℕ) → last_end self.new t ≡ last_end self.old t) }

@@ -1,4 +1,4 @@
-//! Clashes: two calls of a key that no order explains, whatever all other calls did.
+//! Clashes: two calls of a key that rule out every order, whatever all other calls did.
 
 ghost use Rattle.std.specs.Prelude.{◌≡◌, ℕ, All, Contains, IfSome, IsTrue, true};
 ghost use Rattle.lset_words.specs.History.{IsHistory};
@@ -10,20 +10,20 @@ ghost use Rattle.lset_judge.specs.Rest.{has_ended, turns_to};
 use crate::stream::StreamCall;
 use lset_words::{Effect, Key, Presence};
 
-/// Two calls of a key that clash. The first leaves the key in a state, and the second needs the other state. No call that could change the
-/// state overlaps the time from the begin of the first to the end of the second. The two calls come in this order, or clash in the other
-/// order too.
+/// Two calls of a key that clash. The first leaves the key in one state, and the second needs the other state. Between
+/// the moment at which the first begins and the one at which the second ends, no call is pending that could change the
+/// state. The two calls come in this order, or also clash in the opposite order.
 #[derive(Clone, Copy, Debug, PartialEq, Eq)]
 pub struct Clash {
     /// The state in which the first call leaves the key.
     pub was: Presence,
-    /// The first call. `None` if the key had the state at first.
+    /// The first call. `None` if the key had the state at the opening.
     pub first: Option<StreamCall>,
-    /// The second call. `None` if the final state of the key is the other state.
+    /// The second call. `None` if the key's final state is the other state.
     pub second: Option<StreamCall>,
 }
 
-/// A key, its presence at first, and its final presence, if known.
+/// A key, its presence at the opening, and its final presence, if known.
 #[derive(Clone, Copy)]
 struct Asked {
     key: Key,
@@ -31,7 +31,8 @@ struct Asked {
     left: Option<Presence>,
 }
 
-/// A lemma: if two calls of a history clash, no order explains the history and leaves these keys. The body does nothing.
+/// Lemma: if two calls of a history clash, no order explains the history and leaves these keys. The function does
+/// nothing.
 pub fn clashes_exclude_orders()
     ensures { ClashesExcludeOrders }
 {}
@@ -70,7 +71,7 @@ pub(crate) fn needs(call: StreamCall) -> Option<Presence>
     }
 }
 
-/// Whether a call changes its key to a state, or is pending and can do so.
+/// Returns whether a call changes its key to a state, or is pending and can do so.
 pub(crate) fn turns_to(call: StreamCall, there: Presence) -> bool
     ensures { result ≡ turns_to there (kind_if call.call call.ended) }
 {
@@ -149,7 +150,7 @@ fn is_before(begun: u64, second: Option<StreamCall>) -> bool
     }
 }
 
-/// Whether a call cannot change the key to a state between a moment and the end of the second call.
+/// Returns whether a call cannot change the key to a state between a moment and the end of the second call.
 fn is_apart(call: StreamCall, there: Presence, since: u64, second: Option<StreamCall>) -> bool
     ensures { result ≡ is_apart there since (record_if second) (record_of call) }
 {
@@ -208,14 +209,14 @@ fn in_order(calls: &[StreamCall], asked: Asked, clash: Clash) -> bool
     first.begun != second.begun && clashes(calls, asked, turned)
 }
 
-/// Whether two calls clash.
+/// Returns whether two calls clash.
 fn is_clash(calls: &[StreamCall], asked: Asked, clash: Clash) -> bool
     ensures { IsTrue result → IsClash (records calls.now) asked.key.0 asked.there asked.left clash.was (record_if clash.first) (record_if clash.second) }
 {
     clashes(calls, asked, clash) && in_order(calls, asked, clash)
 }
 
-/// Returns the call that began last among those that ended by a moment and leave the key in a state.
+/// Of the calls that ended by a moment and leave the key in a state, returns the one that began last.
 fn last_before(calls: &[StreamCall], was: Presence, moment: u64) -> Option<StreamCall> {
     let mut last = None;
     for call in calls {
@@ -226,7 +227,8 @@ fn last_before(calls: &[StreamCall], was: Presence, moment: u64) -> Option<Strea
     last
 }
 
-/// Returns the first call with which a call clashes. `Some(None)` stands for the opening state.
+/// Returns a clash whose second call is `second`. The clash's first call is `None` if `second` clashes with the opening
+/// state.
 fn clash_with(calls: &[StreamCall], asked: Asked, second: StreamCall) -> Option<Clash>
     ensures { IfSome result (λ c. IsClash (records calls.now) asked.key.0 asked.there asked.left c.was (record_if c.first) (record_if c.second)) }
 {
@@ -253,7 +255,7 @@ fn clash_with(calls: &[StreamCall], asked: Asked, second: StreamCall) -> Option<
     None
 }
 
-/// Returns the clash with the last second call, if a clash is found.
+/// Returns the clash whose second call comes last, if a clash is found.
 fn last_clash(calls: &[StreamCall], asked: Asked) -> Option<Clash>
     ensures { IfSome result (λ c. IsClash (records calls.now) asked.key.0 asked.there asked.left c.was (record_if c.first) (record_if c.second)) }
 {
@@ -274,8 +276,9 @@ fn last_clash(calls: &[StreamCall], asked: Asked) -> Option<Clash>
     None
 }
 
-/// Returns a clash of the calls of a key, if one is found. `there` is the presence of the key at first, `left` its final presence, if known.
-/// If a clash is returned, no order explains these calls, whatever the calls other than the two did.
+/// Returns a clash of the calls of a key, if one is found. `there` is the key's presence at the opening, `left` its
+/// final presence, if known. If a clash is returned, no order explains these calls, whatever the calls other than these
+/// two did.
 pub fn find_clash(
     calls: &[StreamCall],
     key: Key,

@@ -1,4 +1,4 @@
-//! Counts: calls of a key between which the key must change back more often than it can.
+//! Counts: calls of a key between which the key would have to change back more often than it can.
 
 ghost use Rattle.std.specs.Prelude.{◌≡◌, ℕ, ◌<◌, All, AllPairs, IfOk, IfSome, IsTrue, length, filter, true};
 ghost use Rattle.lset_words.specs.History.{IsHistory, Precedes};
@@ -12,28 +12,31 @@ use crate::stretch::{Stretch, smallest_stretch};
 use lset_words::{Key, Presence};
 use std::alloc::{AllocError, Global};
 
-/// Calls of a key that no order explains, because there are too many of them. Whichever of two of them comes first leaves the key in the
-/// state `was`, and the other needs the other state. So the key must change back between any two of them, and fewer calls can change it
-/// back.
+/// Calls of a key that no order explains, because there are too many of them. Whichever of two of them comes first
+/// leaves the key in the state `was`, and the other needs the other state. So the key must change back between any two
+/// of them, but fewer calls can change it back.
 #[derive(Debug, Drop)]
 pub struct Count {
     /// The key.
     pub key: Key,
-    /// The state in which each of the calls but the last leaves the key. Each but the first needs the other state.
+    /// The state in which each of the calls except the last leaves the key. Each except the first needs the other
+    /// state.
     pub was: Presence,
-    /// The calls, sorted by their begins.
+    /// The calls, sorted by when they began.
     pub calls: Vec<StreamCall>,
-    /// All changes that can change the key back: those that answered true or are pending, and overlap the time from `since` to `until`.
+    /// All calls that can change the key back: they returned true or are pending, and overlap the time from `since` to
+    /// `until`.
     pub backs: Vec<StreamCall>,
-    /// A moment at or before which none of the calls begins. `None` if the key had the state `was` at first, which counts like a call before
-    /// them.
+    /// A moment before which none of the calls begins. `None` if the key had the state `was` at the opening, which
+    /// counts like a call before them.
     pub since: Option<u64>,
-    /// A moment by which all of the calls have ended. `None` if the final state of the key is not `was`, which counts like a call after them.
+    /// A moment by which all of the calls have ended. `None` if the key's final state is not `was`, which counts like a
+    /// call after them.
     pub until: Option<u64>,
 }
 
 impl Count {
-    /// Returns how often the key must change back. The number is greater than the number of `backs`.
+    /// Returns how often the key must change back. The number exceeds the number of `backs`.
     pub fn turns(&self) -> usize
         ensures { result ≡ turns_of (length self.now.calls.items) self.now.since self.now.until }
     {
@@ -41,12 +44,13 @@ impl Count {
     }
 }
 
-/// A lemma: if calls of a history are a count, no order explains the history and leaves these keys. The body does nothing.
+/// Lemma: if calls of a history are a count, no order explains the history and leaves these keys. The function does
+/// nothing.
 pub fn counts_exclude_orders()
     ensures { CountsExcludeOrders }
 {}
 
-/// Returns 1 if the stretch has no such bound, and otherwise 0.
+/// Returns 1 if the stretch is unbounded on this side, else 0.
 fn also(bound: Option<u64>) -> usize
     ensures { result ≡ also bound }
 {
@@ -56,7 +60,7 @@ fn also(bound: Option<u64>) -> usize
     }
 }
 
-// ---- whether some calls are a count
+// ---- Tests whether calls are a count
 
 fn begins_in(call: StreamCall, was: Presence, since: Option<u64>) -> bool
     ensures { IsTrue result → BeginsIn was since (record_of call) }
@@ -103,7 +107,7 @@ fn has_ended_before(first: StreamCall, second: StreamCall) -> bool
     }
 }
 
-/// Whether the key must change back between two calls, whichever comes first.
+/// Returns whether the key must change back between two calls, whichever comes first.
 fn need_turn(first: StreamCall, second: StreamCall, was: Presence) -> bool
     ensures { IsTrue result → NeedTurn was (record_of first) (record_of second) }
 {
@@ -158,7 +162,7 @@ fn all_end(counted: &[StreamCall], was: Presence, until: Option<u64>) -> bool
     counted.iter().all(|call| ends_in(*call, was, until))
 }
 
-/// Whether a call is a change that can lead to a state, and overlaps the stretch.
+/// Returns whether a call can change the key to a state and overlaps the stretch.
 fn turns_in(
     call: StreamCall,
     key: Key,
@@ -190,7 +194,7 @@ fn ends_from(call: StreamCall, since: Option<u64>) -> bool
     }
 }
 
-/// Returns all changes that can lead to a state in the stretch.
+/// Returns all calls that can change the key to a state in the stretch.
 fn turning_in(
     alloc: Global,
     calls: &[StreamCall],
@@ -208,7 +212,7 @@ fn turning_in(
         .collect(alloc)
 }
 
-/// Whether these calls are a count of the key's calls, where `backs` are all changes that can change the key back.
+/// Returns whether these calls are a count of the key's calls. `backs` must be all calls that can change the key back.
 fn is_count(calls: &[StreamCall], there: Presence, left: Option<Presence>, count: &Count) -> bool
     requires { count.now.backs.items ≡ filter (λ x. turns_in count.now.key.0 (other count.now.was) count.now.since count.now.until (record_of x)) calls.now }
     ensures { IsTrue result → IsCount (records calls.now) there left count.now }
@@ -233,7 +237,7 @@ fn is_count(calls: &[StreamCall], there: Presence, left: Option<Presence>, count
     need_turns(counted, was) && count.backs.len() < count.turns()
 }
 
-/// Returns the calls of the count of a stretch, sorted by their begins.
+/// Returns the calls of a stretch's count, sorted by when they began.
 fn counted_in(
     alloc: Global,
     calls: &[StreamCall],
@@ -254,7 +258,8 @@ fn counted_in(
     Ok(counted)
 }
 
-/// Moves the begin of the stretch to the first of the calls, if the stretch does not begin before all calls.
+/// Moves the start of the stretch to the moment at which the first of the calls begins, unless the stretch starts
+/// before all calls.
 fn since_first(counted: &[StreamCall], since: Option<u64>) -> Option<u64> {
     match (since, counted.first()) {
         (Some(_), Some(first)) => Some(first.begun),
@@ -262,9 +267,9 @@ fn since_first(counted: &[StreamCall], since: Option<u64>) -> Option<u64> {
     }
 }
 
-/// Returns the smallest count of the calls of a key, if one is found. The calls must be sorted by their begins. `there` is the presence of
-/// the key at first, `left` its final presence, if known. If a count is returned, no order explains these calls. The time grows with the
-/// square of the number of calls. Fails only if an allocation fails.
+/// Returns the smallest count of the calls of a key, if one is found. The calls must be sorted by when they began.
+/// `there` is the key's presence at the opening, `left` its final presence, if known. If a count is returned, no order
+/// explains these calls. The time grows with the square of the number of calls. Fails only if an allocation fails.
 pub fn find_count(
     alloc: Global,
     calls: &[StreamCall],

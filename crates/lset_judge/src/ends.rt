@@ -1,4 +1,4 @@
-//! A heap of ends. The nearest end is found at once. Each insertion and removal takes time logarithmic in their number.
+//! A heap of ends. Returns the earliest end in constant time. Insertion and removal take logarithmic time.
 
 ghost use Rattle.std.specs.Prelude.{◌≡◌, ◌==◌, ◌<◌, ◌≤◌, ◌∷◌, [], suc, length, slice_get, All, IsTrue, MatchOption, Some, OnOk, OnErr};
 ghost use Rattle.lset_judge.specs.Rule.{nearest, not_before, put_in};
@@ -8,7 +8,7 @@ use std::cmp::Reverse;
 use std::collections::BinaryHeap;
 use std::marker::Model;
 
-/// Ends of calls, seen by contracts in increasing order.
+/// Ends of calls. Contracts see them in increasing order.
 #[derive(Drop)]
 pub(crate) struct Ends {
     heap: BinaryHeap<Reverse<u64>>,
@@ -27,7 +27,7 @@ impl Model for Ends {
 }
 
 impl Ends {
-    /// Returns no ends. Does not allocate.
+    /// Returns an empty heap. Does not allocate.
     pub(crate) fn new(alloc: Global) -> Ends
         ensures { result ≡ [] }
     {
@@ -42,7 +42,7 @@ impl Ends {
         self.heap.is_empty()
     }
 
-    /// Whether no end is at the moment after `before` or earlier.
+    /// Returns whether no end is at the moment after `before` or earlier.
     pub(crate) fn none_due(&self, before: u64) -> bool
         ensures { result ≡ (not_before (suc (suc before)) self.now == length self.now) }
     {
@@ -52,7 +52,7 @@ impl Ends {
         }
     }
 
-    /// Returns the nearest end, if there is one.
+    /// Returns the earliest end, if any.
     fn first(&self) -> Option<u64>
         ensures { MatchOption result (self.now ≡ []) (λ end. (slice_get self.now 0 ≡ Some end) × All (λ other. end ≤ other) self.now) }
     {
@@ -62,7 +62,7 @@ impl Ends {
         }
     }
 
-    /// Whether all ends are after a moment.
+    /// Returns whether all ends are after a moment.
     pub(crate) fn are_after(&self, moment: u64) -> bool
         ensures { IsTrue result → All (λ end. moment < end) self.now }
     {
@@ -81,7 +81,7 @@ impl Ends {
         Ok(())
     }
 
-    /// Removes and returns the nearest end, if there is one.
+    /// Removes and returns the earliest end, if any.
     pub(crate) fn pop(&mut self) -> Option<u64>
         ensures { MatchOption result (self.old ≡ []) (λ end. (self.old ≡ end ∷ self.new) × (nearest end self.new ≡ end)) }
     {
@@ -91,7 +91,7 @@ impl Ends {
         Some(end.0)
     }
 
-    /// Removes and returns the nearest end, if it is before a moment.
+    /// Removes and returns the earliest end, if it is before a moment.
     pub(crate) fn pop_before(&mut self, moment: u64) -> Option<u64>
         ensures { MatchOption result ((self.new ≡ self.old) × All (λ end. moment ≤ end) self.old)
             (λ end. (self.old ≡ end ∷ self.new) × (end < moment) × All (λ other. end ≤ other) self.old) }

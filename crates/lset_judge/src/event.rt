@@ -1,4 +1,4 @@
-//! The event of a key at a moment.
+//! Events of a key.
 
 ghost use Rattle.std.specs.Prelude.{◌≡◌};
 ghost use Rattle.lset_judge.specs.Code.{event_as};
@@ -9,13 +9,13 @@ use lset_words::{Call, Effect, Presence};
 /// The event of a key at a moment.
 #[derive(Clone, Copy, Debug, PartialEq, Eq)]
 pub(crate) enum Event {
-    /// A change begins: the state to which it changes the key, and the moment before which it takes effect.
+    /// A change begins. The state to which it changes the key, and the moment before which it takes effect.
     Begins(Presence, u64),
-    /// A change ends: the state to which it changed the key.
+    /// A change ends. The state to which it changed the key.
     Ends(Presence),
-    /// A read ends: the presence it saw, and when the call began.
+    /// A read ends. The presence that it saw, and when the call began.
     Looks(Presence, u64),
-    /// No event that the rule looks at.
+    /// No event that matters to the rule.
     Idle,
 }
 
@@ -30,7 +30,7 @@ pub(crate) fn open_effect(call: Call) -> Effect
     }
 }
 
-/// Returns the event of a call's begin. `until` is the moment before which the call takes effect.
+/// Returns the event of a call that begins. `until` is the moment before which the call takes effect.
 pub(crate) fn begin_event(effect: Effect, until: u64) -> Event
     ensures { event_as result ≡ begin_event (kind_as effect) until }
 {
@@ -40,7 +40,7 @@ pub(crate) fn begin_event(effect: Effect, until: u64) -> Event
     }
 }
 
-/// Returns the event of a call's end. `begun` is when the call began.
+/// Returns the event of a call that ends. `begun` is when the call began.
 pub(crate) fn end_event(effect: Effect, begun: u64) -> Event
     ensures { event_as result ≡ end_event (kind_as effect) begun }
 {

@@ -1,4 +1,4 @@
-//! Facts about the calls of a key, from which a clash is found.
+//! Facts about the calls of a key, from which clashes are found.
 
 ghost use Rattle.std.specs.Prelude.{◌≡◌, IfSome, IsTrue, Some};
 ghost use Rattle.lset_words.specs.Effects.{effect_of};
@@ -13,7 +13,7 @@ use crate::rule::{Kept, KeyState};
 use crate::stream::StreamCall;
 use lset_words::{Call, Key, Presence, Reply};
 
-/// Whether both calls have ended, the first no later than the second.
+/// Returns whether both calls have ended, the first no later than the second.
 fn ends_by(first: StreamCall, second: StreamCall) -> bool
     ensures { IsTrue result → EndsBy first.ended second.ended }
 {
@@ -110,7 +110,8 @@ impl KeyState {
         }
     }
 
-    /// Whether the second call comes after the first in each order, or clashes with it in the other order too.
+    /// Returns whether the second call comes after the first in each order, or also clashes with it in the opposite
+    /// order.
     fn comes_after(&self, first: Option<StreamCall>, second: StreamCall) -> bool
         ensures { IsTrue result → ComesAfter (facts_of self.now) first second }
     {
@@ -150,14 +151,15 @@ impl KeyState {
         })
     }
 
-    /// Stores the clash of a call that ends, if the facts show one. (A function of its own, so that other ends need no room for a clash.)
+    /// Stores the clash of a call that ends, if the facts show one. This is a separate function so that other ends need
+    /// no stack space for a clash.
     pub(crate) fn store_clash(&self, second: StreamCall, clash: &mut Option<Clash>)
         ensures { IfSome clash.new (IsFound (facts_of self.now) second) }
     {
         *clash = self.clash_of(second);
     }
 
-    /// Returns the clash of a final state of the key, if the facts show one.
+    /// Returns the clash with a final state of the key, if the facts show one.
     pub(crate) fn clash_left(&self, key: Key, left: Presence) -> Option<Clash>
         ensures { IfSome result (IsFoundLeft key.0 (facts_of self.now) left) }
     {
@@ -178,7 +180,7 @@ impl KeyState {
         until <= begun && !(self.was == was && until <= self.begun)
     }
 
-    /// Records the end of a call.
+    /// Records that a call ends.
     pub(crate) fn keep(&mut self, call: StreamCall)
         ensures state { state_of self.new ≡ state_of self.old }
         ensures ended { IsEnded call (facts_of self.old) (facts_of self.new) }

@@ -41,7 +41,7 @@ fn all_plain(calls: &[CallRecord]) -> bool
     calls.iter().all(|call_record| ends_plain(call_record))
 }
 
-/// Returns how many `add`s of a thread put their keys in, or are pending and can do so.
+/// Returns how many `add`s of a thread added their keys, or are pending and can do so.
 fn adds_of(calls: &[CallRecord], thread: u32) -> usize
     ensures { result ≡ adds_of thread calls.now }
 {
@@ -51,7 +51,7 @@ fn adds_of(calls: &[CallRecord], thread: u32) -> usize
         .count()
 }
 
-/// Whether each thread has quota for its `add`s that put their keys in, and for a pending one.
+/// Returns whether each thread's quota covers its `add`s that added their keys or are pending.
 fn has_room(history: &History) -> bool
     ensures { IsTrue result ↔ ((thread : ℕ) → adds_of thread history.now.calls ≤ history.now.opening.quota) }
 {
@@ -65,16 +65,17 @@ fn has_room(history: &History) -> bool
     true
 }
 
-/// Whether each call of a history that ended answered true or false, and none of them is a `ceiling`. The judge decides such a history if
-/// each thread has quota for its `add`s. Does not allocate.
+/// Returns whether each call of a history that ended returned true or false, and none of them is a `ceiling`. The judge
+/// decides such a history if each thread's quota covers its `add`s. Does not allocate.
 pub fn is_plain(history: &History) -> bool
     ensures { IsTrue result ↔ IsPlain history.now.calls }
 {
     all_plain(history.calls())
 }
 
-/// Whether the judge decides a history, so that `judge` does not return `Undecided`. Each call that ended must have answered true or false,
-/// none of them may be a `ceiling`, and each thread must have quota for all its `add`s that answered true or are pending. Does not allocate.
+/// Returns whether the judge decides a history, so that `judge` does not return `Undecided`. Each call that ended must
+/// have returned true or false, none of them may be a `ceiling`, and each thread's quota must cover all its `add`s that
+/// returned true or are pending. Does not allocate.
 pub fn is_judged(history: &History) -> bool
     ensures { IsTrue result ↔ IsJudged history.now }
 {

@@ -18,11 +18,12 @@ use std::alloc::{AllocError, Global};
 /// The verdict of `judge` on a history.
 #[derive(Debug, Drop)]
 pub enum Judged {
-    /// Some order explains the calls, from the opening keys, and leaves the keys.
+    /// Some order explains the calls, from the opening keys, and leaves the final keys.
     Linearizable,
-    /// No order does: the reason, and a clash, if one is found.
+    /// No order explains the calls and leaves the final keys. Contains the reason, and a clash if one was found.
     NotLinearizable(Refusal, Option<Clash>),
-    /// Not known: a call is a `ceiling` that ended, or answered other than true or false, and nothing else refutes the history.
+    /// Not decided: a call that ended is a `ceiling`, or returned neither true nor false, and nothing else refutes the
+    /// history.
     Undecided,
 }
 
@@ -46,7 +47,7 @@ fn reply_as(call: Call, reply: Reply) -> Reply
     }
 }
 
-/// Returns the call that the judge is given for a call of a history.
+/// Returns the call that the judge gets in place of a call of a history.
 fn read_as(call: &CallRecord) -> StreamCall
     ensures is { record_of result ≡ read_as call.now }
     ensures before { IsBefore (record_of result) }
@@ -67,7 +68,7 @@ fn read_as(call: &CallRecord) -> StreamCall
     }
 }
 
-/// Adds a call that may come next. Fails only if an allocation fails.
+/// Adds a call that is allowed to come next. Fails only if an allocation fails.
 fn add_next(judge: &mut Judge, call: StreamCall) -> Result<(), AllocError>
     requires { MayCome (pending_in judge.old.stream) (moment_of judge.old.stream) (record_of call) }
     ensures added { OnOk result ((threads : ℕ) (opening : List ℕ) (calls : List RecordedCall) → call.thread < threads
@@ -90,9 +91,10 @@ fn add_next(judge: &mut Judge, call: StreamCall) -> Result<(), AllocError>
     }
 }
 
-/// Returns whether some order linearizes the calls of a history from its opening keys, and leaves `keys`, for a set without a quota. `keys`
-/// must increase. The answer is exact if each call that ended answered true or false, and none is a `ceiling`. For any other history the
-/// answer is `NotLinearizable` only if no order exists, and otherwise `Undecided`. Fails only if an allocation fails.
+/// Decides whether some order linearizes the calls of a history from its opening keys and leaves `keys`, for a set
+/// without a quota. `keys` must be in increasing order. The answer is exact if each call that ended returned true or
+/// false, and none of them is a `ceiling`. For any other history, the answer is `NotLinearizable` only if no order
+/// exists, and `Undecided` otherwise. Fails only if an allocation fails.
 pub fn judge(alloc: Global, history: &History, keys: &[u32]) -> Result<Judged, AllocError>
     requires { IsStrictlyIncreasing keys.now }
     ensures { IfOk result (IsJudged history.now keys.now) }

@@ -1,10 +1,11 @@
 //! The judge: decides from begins and ends alone whether any order explains recorded calls of a set.
 //!
-//! A set of keys has two states for each key, present and absent. So the judge looks at the calls of each key by themselves, in one walk
-//! over their moments. A change takes effect only if a call that ends needs it, and then the pending change whose end is nearest takes
-//! effect. If this rule fails on a key, no order explains the calls. If it fails on no key, some order does, in every history without
-//! `ceiling` and `full`. The judge does not search, and needs no points at which calls take effect. (Linearizability is Herlihy and Wing's;
-//! the rule is this project's own.)
+//! For a set, each key has only two states, present and absent. So the judge looks at the calls of each key separately,
+//! in one pass over their moments. A change takes effect only when a call that ends needs it. Of the pending changes,
+//! the one with the earliest end then takes effect. If this rule fails for a key, no order explains the calls. If it
+//! fails for no key, some order does, in every history without `ceiling` and `full`. The judge does not search, and
+//! need not be told at which points calls take effect. (Linearizability is Herlihy and Wing's; the rule is this
+//! project's own.)
 #![tactic(auto)]
 
 ghost use Rattle.lset_judge.specs.Locality.{KeysAreApart, QuotasDoNotMatter};
@@ -34,18 +35,19 @@ pub use judged_history::{Judged, judge};
 pub use set_judge::{Judge, Verdict};
 pub use stream::{LAST_MOMENT, Refusal, StreamCall, StreamFault};
 
-/// Locality, a lemma: put each key of a recording into one of several parts, and into each part the calls, the opening keys and the final
-/// keys of its keys. Some order explains the recording exactly if some order explains each part. So if `judge` finds each part
-/// linearizable, the recording is linearizable, and if it finds one part not linearizable, the recording is not.
+/// Lemma of locality. Put each key of a recording into one of several parts, and give each part the calls, the opening
+/// keys and the final keys of its keys. Then some order explains the recording if and only if some order explains each
+/// part. So if `judge` finds each part linearizable, the recording is linearizable, and if it finds one part not
+/// linearizable, the recording is not.
 ///
-/// It holds for the histories that the judge decides: a `ceiling` reads many keys, and a quota counts the `add`s of all keys. (Locality is
-/// Herlihy and Wing's: here each key is an object of its own.)
+/// The lemma holds for the histories that the judge decides: a `ceiling` reads many keys, and a quota counts the `add`s
+/// of all keys. (Locality is Herlihy and Wing's: here each key is an object of its own.)
 pub fn keys_are_apart()
     ensures { KeysAreApart }
 {}
 
-/// A lemma: if some order explains a history that the judge decides under another quota, some order does under its own. So the verdict on
-/// such a history holds for the set without a quota.
+/// Lemma: if some order explains a history that the judge decides with another quota, some order explains it with its
+/// own. So the verdict on such a history holds for the set without a quota.
 pub fn quotas_do_not_matter()
     ensures { QuotasDoNotMatter }
 {}

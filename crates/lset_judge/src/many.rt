@@ -1,5 +1,5 @@
-//! Many pending calls, in a table by their ends. The begin and the end of a call take a few look-ups, and time logarithmic in the number of
-//! calls.
+//! Many pending calls, stored in a table by their ends. The begin and the end of a call take a few look-ups, and time
+//! logarithmic in the number of calls.
 
 ghost use Rattle.std.specs.Prelude.{◌≡◌, ◌≢◌, ◌↔◌, ◌<◌, ◌≤◌, ◌∷◌, [], IsTrue, All, Contains, IfSome, MatchOption, OnOk, length};
 ghost use Rattle.std.specs.List.Sorted.{IsPermutation};
@@ -12,14 +12,14 @@ use std::alloc::{AllocError, Global};
 use std::collections::HashMap;
 use std::marker::Model;
 
-/// Pending calls.
+/// A table of pending calls.
 #[derive(Drop)]
 pub(crate) struct ManyCalls {
-    /// The calls by their ends.
+    /// The calls, indexed by their ends.
     calls: HashMap<u64, StreamCall>,
     /// The ends of the calls.
     ends: Ends,
-    /// For each thread, the end of its last call.
+    /// The end of each thread's last call.
     busy: Busy,
 }
 
@@ -35,7 +35,7 @@ impl Model for ManyCalls {
     ghost invariant = { λ c. AreHeld c.calls.entries c.ends c.busy };
 }
 
-/// Returns the end of a call. If the call has none, returns its begin.
+/// Returns the moment at which a call ends or, if it has no end, the moment at which it begins.
 pub(crate) fn end_or_begin(call: StreamCall) -> u64
     ensures { result ≡ end_or call.begun call.ended }
 {
@@ -45,7 +45,7 @@ pub(crate) fn end_or_begin(call: StreamCall) -> u64
     }
 }
 
-/// Removes and returns the call that ends next, if it ends before a moment.
+/// Removes and returns the first call to end, if it ends before a moment.
 fn pop_before(calls: &mut HashMap<u64, StreamCall>, ends: &mut Ends, moment: u64) -> Option<Pending>
     requires { All (λ e. Contains ends.old e.0) calls.old.entries }
     ensures held { All (λ e. Contains ends.new e.0) calls.new.entries }
@@ -53,7 +53,7 @@ fn pop_before(calls: &mut HashMap<u64, StreamCall>, ends: &mut Ends, moment: u64
         (λ p. (p.end < moment) × IsPermutation calls.old.entries ((p.end, p.call) ∷ calls.new.entries)
         × All (λ e. p.end ≤ e.0) calls.old.entries) }
 {
-    // (An end has no call if the allocation for its call failed.)
+    // An end has no call here if the allocation for its call failed.
     while let Some(end) = ends.pop_before(moment) {
         if let Some(call) = calls.remove(&end) {
             return Some(Pending { end, call });
@@ -63,7 +63,7 @@ fn pop_before(calls: &mut HashMap<u64, StreamCall>, ends: &mut Ends, moment: u64
 }
 
 impl ManyCalls {
-    /// Returns no calls. Does not allocate.
+    /// Returns an empty table. Does not allocate.
     pub(crate) fn new(alloc: Global) -> ManyCalls
         ensures { result ≡ [] }
     {
@@ -81,12 +81,12 @@ impl ManyCalls {
         self.calls.len()
     }
 
-    /// Returns the calls by their ends.
+    /// Returns the calls, indexed by their ends.
     pub(crate) fn calls(&self) -> &HashMap<u64, StreamCall> {
         &self.calls
     }
 
-    /// Whether no call ends at a moment.
+    /// Returns whether no call ends at a moment.
     fn none_ends_at(&self, moment: u64) -> bool
         ensures { IsTrue result ↔ All (λ p. p.end ≢ moment) self.now }
     {
@@ -96,7 +96,7 @@ impl ManyCalls {
         !self.calls.contains_key(&moment)
     }
 
-    /// Whether no call ends at the begin or the end of another call.
+    /// Returns whether no call in the table ends when `call` begins or ends.
     pub(crate) fn are_apart(&self, call: StreamCall) -> bool
         ensures { IsTrue result
             ↔ All (λ p. (p.end ≢ call.begun) × IfSome call.ended (λ end. p.end ≢ end.0)) self.now }
@@ -104,7 +104,7 @@ impl ManyCalls {
         self.none_ends_at(call.begun) && self.none_ends_at(end_or_begin(call))
     }
 
-    /// Whether no call of the thread of another call is pending at the other's begin.
+    /// Returns whether no call of the same thread is pending when `call` begins.
     pub(crate) fn are_free(&self, call: StreamCall) -> bool
         ensures { IsTrue result ↔ All (λ p. p.call.thread ≡ call.thread → p.end ≤ call.begun) self.now }
     {
@@ -121,7 +121,7 @@ impl ManyCalls {
         }
     }
 
-    /// Removes and returns the call that ends next, if it ends before a moment.
+    /// Removes and returns the first call to end, if it ends before a moment.
     pub(crate) fn next_before(&mut self, moment: u64) -> Option<Pending>
         ensures { MatchOption result ((self.new ≡ self.old) × All (λ p. moment ≤ p.end) self.old)
             (λ next. IsNext moment self.old next self.new) }
@@ -129,7 +129,7 @@ impl ManyCalls {
         pop_before(&mut self.calls, &mut self.ends, moment)
     }
 
-    /// Adds a call. Its thread and its end must differ from those of each call here.
+    /// Inserts a call. Its thread and its end must differ from those of each call in the table.
     pub(crate) fn insert(&mut self, pending: Pending) -> Result<(), AllocError>
         requires { All (λ p. p.call.thread ≢ pending.call.thread) self.old }
         ensures { OnOk result (All (λ p. p.end ≢ pending.end) self.old → IsPermutation (pending ∷ self.old) self.new) }

@@ -1,8 +1,9 @@
-//! Counts calls that overlap a change of their key, as they end. If few do, a verdict that some order explains the calls means little.
+//! Counts calls that overlap a change of their key, at the moment at which they end. If only few do, the verdict that
+//! some order explains the calls says little.
 
 use crate::stream::BEHIND_ALL;
 
-/// The changes of a key that end: how many are pending, and when the last of the others ended.
+/// The changes of a key that have an end: how many of them are pending, and when the last of the others ended.
 #[derive(Clone, Copy)]
 pub(crate) struct Changes {
     pending: u64,
@@ -26,20 +27,22 @@ impl Changes {
         }
     }
 
-    /// Records the begin of a change that takes effect before `until`. It never ends if `until` is at or after `BEHIND_ALL`.
+    /// Records that a change begins, which takes effect before `until`. If `until` is `BEHIND_ALL` or greater, the
+    /// change never ends, and is not counted.
     pub(crate) fn begin(&mut self, until: u64) {
         if until < BEHIND_ALL {
             self.pending = self.pending.saturating_add(1);
         }
     }
 
-    /// Records the end of a change.
+    /// Records that a change ends.
     pub(crate) fn end(&mut self, moment: u64) {
         self.pending = self.pending.saturating_sub(1);
         self.last_end = moment;
     }
 
-    /// Whether a pending call of the key overlaps a change other than itself. `is_change` is whether the call is a change that ends.
+    /// Returns whether a pending call of the key overlaps a change other than itself. `is_change` is whether the call
+    /// itself is a change that ends.
     pub(crate) fn overlap(self, is_change: bool, begun: u64) -> bool {
         self.pending > u64::from(is_change) || begun < self.last_end
     }

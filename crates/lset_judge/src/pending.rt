@@ -12,16 +12,17 @@ use std::alloc::{AllocError, Global};
 use std::collections::HashMap;
 use std::marker::Model;
 
-/// The largest number of pending calls that are looked at one by one.
+/// The maximum number of pending calls that are searched one by one.
 const FEW: usize = 32;
 
-/// Pending calls. A few are looked at one by one, which is fastest. With more, a call takes time logarithmic in their number.
+/// Pending calls. A few of them are searched one by one, which is fastest. If there are more, a call takes time
+/// logarithmic in their number.
 #[derive(Drop)]
 pub(crate) struct PendingCalls {
     few: Vec<Pending>,
-    /// The index in `few` of the call whose end is nearest.
+    /// The index in `few` of the call with the earliest end.
     next: usize,
-    /// The other calls.
+    /// The calls that are not in `few`.
     many: ManyCalls,
 }
 
@@ -37,7 +38,8 @@ impl Model for PendingCalls {
     ghost invariant = { λ c. IsFirst c.next c.few.items };
 }
 
-/// Returns why a call cannot begin beside these calls: one of them ends at its begin or its end, or is a pending call of its thread.
+/// Returns why a call cannot begin while these calls are pending, if it cannot: one of them ends when it begins or
+/// ends, or is a pending call of its thread.
 fn clash(few: &[Pending], call: StreamCall) -> Option<StreamFault>
     ensures { MatchOption result
         (All (λ p. (p.end ≢ call.begun) × IfSome call.ended (λ end. p.end ≢ end.0)) few.now
@@ -62,7 +64,7 @@ fn clash(few: &[Pending], call: StreamCall) -> Option<StreamFault>
     }
 }
 
-/// Returns the index of the call whose end is nearest.
+/// Returns the index of the call with the earliest end.
 fn nearest_place(few: &[Pending]) -> usize
     ensures { IsFirst result few.now }
 {
@@ -80,7 +82,7 @@ fn nearest_place(few: &[Pending]) -> usize
     place
 }
 
-/// Returns the index of the call whose end is nearest, once `pending` is appended.
+/// Returns the index of the call with the earliest end after `pending` is appended.
 fn next_with(few: &[Pending], next: usize, pending: Pending) -> usize
     requires { IsFirst next few.now }
     ensures { IsFirst result (few.now ++ pending ∷ []) }
@@ -92,7 +94,7 @@ fn next_with(few: &[Pending], next: usize, pending: Pending) -> usize
     }
 }
 
-/// Returns the nearest end. `u64::MAX` if there are no calls.
+/// Returns the earliest end, or `u64::MAX` if there are no calls.
 fn end_of_few(few: &[Pending], next: usize) -> u64
     requires { IsFirst next few.now }
     ensures smallest { All (λ p. result ≤ p.end) few.now }
@@ -117,7 +119,7 @@ fn overlaps(states: &HashMap<u32, KeyState>, moment: u64, call: StreamCall) -> b
 }
 
 impl PendingCalls {
-    /// Returns no calls. Does not allocate.
+    /// Returns an empty collection. Does not allocate.
     pub(crate) fn new(alloc: Global) -> PendingCalls
         ensures { result ≡ [] }
     {
@@ -128,7 +130,8 @@ impl PendingCalls {
         }
     }
 
-    /// Returns why a call cannot begin beside these calls: one of them ends at its begin or its end, or is a pending call of its thread.
+    /// Returns why a call cannot begin while these calls are pending, if it cannot: one of them ends when it begins or
+    /// ends, or is a pending call of its thread.
     pub(crate) fn clash(&self, call: StreamCall) -> Option<StreamFault>
         ensures { MatchOption result
             (All (λ p. (p.end ≢ call.begun) × IfSome call.ended (λ end. p.end ≢ end.0)) self.now
@@ -151,7 +154,7 @@ impl PendingCalls {
         }
     }
 
-    /// Removes and returns the call that ends next, if it ends before a moment.
+    /// Removes and returns the first call to end, if it ends before a moment.
     pub(crate) fn next_before(&mut self, moment: u64) -> Option<Pending>
         ensures { MatchOption result ((self.new ≡ self.old) × All (λ p. moment ≤ p.end) self.old)
             (λ next. IsNext moment self.old next self.new) }
@@ -168,7 +171,7 @@ impl PendingCalls {
         None
     }
 
-    /// Adds a call. Its thread and its end must differ from those of each call here.
+    /// Inserts a call. Its thread and its end must differ from those of each call here.
     pub(crate) fn insert(&mut self, pending: Pending) -> Result<(), AllocError>
         requires { All (λ p. p.call.thread ≢ pending.call.thread) self.old }
         ensures { OnOk result (All (λ p. p.end ≢ pending.end) self.old → IsPermutation (pending ∷ self.old) self.new) }

@@ -65,7 +65,8 @@ impl KeyState {
         }
     }
 
-    /// Whether `there` can be the final presence of the key: it is its presence now, or a pending change can lead to it.
+    /// Returns whether `there` can be the final presence of the key: it is its presence now, or a pending change can
+    /// lead to it.
     pub(crate) fn may_be_left(&self, there: Presence) -> bool
         ensures { result ≡ may_be_left (is_there there) (state_of self.now) }
     {
@@ -127,8 +128,8 @@ impl KeyState {
         }
     }
 
-    /// Lets changes take effect after the moment `before` until the event of the next moment finds the state that it needs. Returns whether
-    /// it does.
+    /// Lets changes take effect, just after the moment `before`, until the state fits the event of the next moment.
+    /// Returns whether it finally does.
     pub(crate) fn settle(&mut self, before: u64, event: Event) -> bool
         ensures found { found before (event_as event) (state_of self.old) ≡ (if result then Some (state_of self.new) else None) }
         ensures facts { facts_of self.new ≡ facts_of self.old }
@@ -141,7 +142,7 @@ impl KeyState {
         true
     }
 
-    /// Meets the event of the moment after `before`. Returns whether the rule still holds.
+    /// Processes the event of the moment after `before`. Returns whether the rule still holds.
     pub(crate) fn meet(
         &mut self,
         alloc: Global,
@@ -163,7 +164,8 @@ impl KeyState {
         Ok(true)
     }
 
-    /// Ends a call at the moment after `before`. Returns whether the rule still holds. If the rule fails, looks for the clash of the call.
+    /// Ends a call at the moment after `before`. Returns whether the rule still holds. If it fails, searches for the
+    /// call's clash.
     pub(crate) fn meet_end(
         &mut self,
         alloc: Global,

@@ -1,4 +1,4 @@
-//! The judge of a stream of calls, with the reason of a refusal.
+//! The judge of a stream of calls. It gives a reason for a refusal.
 
 ghost use Rattle.std.specs.Prelude.{◌≡◌, ◌<◌, ◌++◌, ◌∷◌, ◌≢◌, [], ℕ, IfErr, IfOk, IfSome, List, OnOk};
 ghost use Rattle.std.specs.List.Sorted.{IsStrictlyIncreasing};
@@ -17,9 +17,9 @@ use std::alloc::{AllocError, Global};
 /// The verdict of a judge.
 #[derive(Debug, Drop)]
 pub enum Verdict {
-    /// Some order explains the calls, from the opening keys, and leaves the keys.
+    /// Some order explains the calls, from the opening keys, and leaves the final keys.
     Linearizable,
-    /// No order does: the reason, and a clash, if one is found.
+    /// No order explains the calls and leaves the final keys. Contains the reason, and a clash if one was found.
     NotLinearizable(Refusal, Option<Clash>),
 }
 
@@ -32,7 +32,7 @@ pub struct Judge {
     stream: Stream,
 }
 
-/// Returns the final presence of the key of a refusal, if the refusal is about the final keys.
+/// Returns the final presence of the refusal's key, if the refusal is about the final keys.
 fn left_as(keys: &[u32], refusal: Refusal) -> Option<Presence>
     requires { IsStrictlyIncreasing keys.now }
     ensures { result ≡ left_by keys.now refusal.key.0 refusal.moment }
@@ -55,7 +55,7 @@ fn clash_for(stream: &Stream, refusal: Refusal, left: Option<Presence>) -> Optio
 }
 
 impl Judge {
-    /// Returns a judge without calls, for a set that opens with `opening`. The keys must increase.
+    /// Returns a judge without calls, for a set that opens with `opening`, which must be in increasing order.
     pub fn new(alloc: Global, opening: &[u32]) -> Result<Judge, AllocError>
         requires { IsStrictlyIncreasing opening.now }
         ensures opened { IfOk result (λ j. (threads : ℕ) → IsJudgeOf threads opening.now [] j) }
@@ -65,14 +65,14 @@ impl Judge {
         Ok(Judge { stream })
     }
 
-    /// Adds a call, which must begin after all calls before it.
+    /// Adds a call, which must begin after all calls added before.
     ///
-    /// An error other than `Memory` is the reason why the call cannot come next, and changes nothing. After `Memory` the judge is of no
-    /// more use.
+    /// An error other than `Memory` is the reason why the call cannot come next, and changes nothing. After `Memory`,
+    /// the judge can no longer be used.
     pub fn add(&mut self, call: StreamCall) -> Result<(), StreamFault>
         ensures added { OnOk result ((threads : ℕ) (opening : List ℕ) (calls : List RecordedCall) → call.thread < threads
             → IsJudgeOf threads opening calls self.old → IsJudgeOf threads opening (calls ++ record_of call ∷ []) self.new) }
-        // The judge has reached the begin of the call.
+        // The judge has advanced to the moment at which the call begins.
         ensures moment { OnOk result (moment_of self.new.stream ≡ call.begun) }
         ensures refused { IfErr result (λ fault. fault ≢ StreamFault.Memory
             → (MayCome (pending_in self.old.stream) (moment_of self.old.stream) (record_of call) → ⊥) × (self.new ≡ self.old)) }
@@ -80,16 +80,16 @@ impl Judge {
         self.stream.add(call)
     }
 
-    /// Returns how many of the calls overlap an `add` or a `remove` of their key that answered true, other than themselves. The number is
-    /// right if some order explains the calls.
+    /// Returns how many of the calls overlap another call of the same key that is an `add` or a `remove` and returned
+    /// true. The number is correct only if some order explains the calls.
     pub fn overlapped(&self) -> u64 {
         self.stream.overlapped()
     }
 
-    /// Returns whether some order linearizes all calls, from the opening keys, and leaves `keys`: `Linearizable` exactly if one does, and
-    /// `NotLinearizable` exactly if none does. The set has no quota.
+    /// Decides whether some order linearizes all calls, from the opening keys, and leaves `keys`: returns
+    /// `Linearizable` if one does and `NotLinearizable` if none does. The set has no quota.
     ///
-    /// `keys` are the final keys. They must increase. Fails only if an allocation fails.
+    /// `keys` are the final keys, in increasing order. Fails only if an allocation fails.
     pub fn close(self, keys: &[u32]) -> Result<Verdict, AllocError>
         requires { IsStrictlyIncreasing keys.now }
         ensures { IfOk result (λ verdict. (threads : ℕ) (opening : List ℕ) (calls : List RecordedCall) → IsJudgeOf threads opening calls self
@@ -107,8 +107,8 @@ impl Judge {
         }
     }
 
-    /// Returns whether some order linearizes all calls, from the opening keys, whichever keys it leaves. It is for a recording that was cut
-    /// off, so that its final keys are unknown. Fails only if an allocation fails.
+    /// Decides whether some order linearizes all calls, from the opening keys, whatever keys it leaves. For a recording
+    /// that was cut off, so that its final keys are unknown. Fails only if an allocation fails.
     pub fn close_cut_off(self) -> Result<Verdict, AllocError>
         ensures { IfOk result (λ verdict. (threads : ℕ) (opening : List ℕ) (calls : List RecordedCall) → IsJudgeOf threads opening calls self
             → IsVerdictCutOff threads opening calls verdict) }

@@ -1,4 +1,4 @@
-//! A stream of calls, judged call by call. It stores the state of each key and the pending calls.
+//! A stream of calls that is judged call by call. It stores the state of each key and the pending calls.
 
 ghost use Rattle.std.specs.Prelude.{◌≡◌, ◌≢◌, ◌↔◌, ◌<◌, ◌≤◌, ◌+◌, ◌++◌, ◌∷◌, [], ℕ, IsTrue, All, List, length, false, true, None, Some, IfOk, OnOk, IfErr, IfSome, MatchOption, if◌then◌else◌, ◌⊎◌};
 ghost use Rattle.std.specs.Prelude.{Contains, IsSome, slice_index_or, ◌==◌, ◌&&◌};
@@ -29,8 +29,9 @@ use std::alloc::{AllocError, Global};
 use std::collections::HashMap;
 use thiserror::Error;
 
-/// A call of a stream. `thread` is any number. `begun` is the moment of its begin, 1 to `LAST_MOMENT`. `ended` is the moment of its end,
-/// after its begin and at most `LAST_MOMENT`, with its reply. A call without an end is pending to the end of the stream.
+/// A call of a stream. `thread` is any number. `begun` is the moment at which the call begins, 1 to `LAST_MOMENT`.
+/// `ended` is the moment at which it ends, which is later and at most `LAST_MOMENT`, and its reply. A call without an
+/// end stays pending to the end of the stream.
 #[derive(Clone, Copy, Debug, PartialEq, Eq)]
 pub struct StreamCall {
     pub thread: u32,
@@ -42,25 +43,25 @@ pub struct StreamCall {
 /// The last moment of a stream, 2^63 - 1.
 pub const LAST_MOMENT: u64 = (1 << 63) - 1;
 
-/// The first number after all moments.
+/// The first number that is greater than every moment.
 pub(crate) const BEHIND_ALL: u64 = 1 << 63;
 
-/// Why a call cannot come next. If several reasons hold, the first in this order is returned.
+/// Why a call cannot come next. If several reasons apply, the first in this order is returned.
 #[derive(Clone, Copy, Debug, PartialEq, Eq, Error)]
 pub enum StreamFault {
-    /// The call begins at moment 0 or no later than a call before it, or one of its moments is above `LAST_MOMENT`.
+    /// The call begins at moment 0, or no later than an earlier call, or one of its moments is above `LAST_MOMENT`.
     #[error("it begins at moment 0 or no later than a call before it, or a moment is too large")]
     Early,
-    /// The call does not end after its begin.
+    /// The call ends no later than it begins.
     #[error("it does not end after its begin")]
     Ends,
     /// The call is a `ceiling` that ended, or its reply is neither true nor false.
     #[error("it is a ceiling that ended, or its reply is not true or false")]
     NotPlain,
-    /// A call before it ends at the begin or at the end of the call.
+    /// An earlier call ends when this call begins or ends.
     #[error("a call before it ends at one of its moments")]
     Taken,
-    /// An earlier call of its thread is pending when the call begins.
+    /// The thread already has a pending call when this call begins.
     #[error("its thread has a call pending")]
     Busy,
     /// An allocation failed.
@@ -79,23 +80,23 @@ impl From<AllocError> for StreamFault {
 /// The verdict of a stream.
 #[derive(Clone, Copy, Debug, PartialEq, Eq)]
 pub(crate) enum StreamVerdict {
-    /// Some order explains the calls, from the opening keys, and leaves the keys.
+    /// Some order explains the calls, from the opening keys, and leaves the final keys.
     Linearizable,
     /// No order explains the calls.
     NotLinearizable(Refusal),
 }
 
-/// Why no order explains the calls of a stream: a key, and a moment.
+/// Why no order explains the calls of a stream: the key that rules every order out, and a moment.
 #[derive(Clone, Copy, Debug, PartialEq, Eq)]
 pub struct Refusal {
-    /// The key whose calls have no order.
+    /// The key whose calls no order explains.
     pub key: Key,
-    /// The calls of the key that begin by this moment, with all their replies, have no order, whichever keys it leaves. `None` if no order
-    /// of all calls of the key leaves its final state.
+    /// No order explains the calls of the key that begin by this moment, with all their replies, whatever keys it
+    /// leaves. `None` if no order explains all calls of the key and leaves its final state.
     pub moment: Option<u64>,
 }
 
-/// The key on which the rule failed, and the moment at which it failed.
+/// The key for which the rule failed, and the moment at which it failed.
 #[derive(Clone, Copy)]
 pub(crate) struct Failed {
     pub(crate) key: Key,
@@ -116,7 +117,7 @@ impl StreamCall {
         self.call.key().0 == key
     }
 
-    /// Returns the effect of the call on its key. For a pending call, the effect that it can have.
+    /// Returns the effect of the call on its key. For a pending call, returns the effect that it can have.
     pub(crate) fn effect(self) -> Effect
         ensures { kind_as result ≡ kind_if self.call self.ended }
     {
@@ -181,7 +182,7 @@ impl Pending {
         self.call.call.key().0
     }
 
-    /// Returns the event of the call's end.
+    /// Returns the event at which the call ends.
     pub(crate) fn event(self) -> Event
         ensures { event_as result ≡ event_of self }
     {
@@ -189,8 +190,8 @@ impl Pending {
     }
 }
 
-/// Meets the event of a key without a state at the moment after `before`. Returns whether the rule still holds. (A function of its own, so
-/// that other events need no room for a new state.)
+/// Processes the event, at the moment after `before`, of a key that has no state yet. Returns whether the rule still
+/// holds. This is a separate function so that other events need no stack space for a new state.
 fn meet_new_key(
     states: &mut HashMap<u32, KeyState>,
     alloc: Global,
@@ -211,7 +212,7 @@ fn meet_new_key(
     Ok(goes_on)
 }
 
-/// Meets the event of a key at the moment after `before`. Returns whether the rule still holds.
+/// Processes the event of a key at the moment after `before`. Returns whether the rule still holds.
 fn meet_key(
     states: &mut HashMap<u32, KeyState>,
     alloc: Global,
@@ -233,7 +234,7 @@ fn meet_key(
     Ok(goes_on)
 }
 
-/// Records the begin of a call after the rule has failed on its key.
+/// Records that a call begins after the rule has failed for its key.
 fn note_begin(
     states: &mut HashMap<u32, KeyState>,
     alloc: Global,
@@ -252,7 +253,7 @@ fn note_begin(
     Ok(())
 }
 
-/// Records the end of a call after the rule has failed on its key. Returns the clash of the call, if one is found.
+/// Records that a call ends after the rule has failed for its key. Returns the call's clash, if one is found.
 fn note_end(states: &mut HashMap<u32, KeyState>, call: StreamCall) -> Option<Clash>
     ensures { EndIsKept states.old call states.new result }
 {
@@ -265,7 +266,7 @@ fn note_end(states: &mut HashMap<u32, KeyState>, call: StreamCall) -> Option<Cla
     None
 }
 
-/// The result of the end of a call.
+/// What the end of a call has shown.
 #[derive(Clone, Copy)]
 struct EndMet {
     /// Whether the rule still holds.
@@ -274,7 +275,8 @@ struct EndMet {
     overlaps: bool,
 }
 
-/// Ends a call of a key without a state at the moment after `before`. If the rule fails, looks for the clash of the call.
+/// Ends a call of a key that has no state yet, at the moment after `before`. If the rule fails, searches for the call's
+/// clash.
 fn meet_new_key_end(
     states: &mut HashMap<u32, KeyState>,
     alloc: Global,
@@ -309,7 +311,7 @@ fn meet_new_key_end(
     })
 }
 
-/// Ends a call at the moment after `before`. If the rule fails, looks for the clash of the call.
+/// Ends a call at the moment after `before`. If the rule fails, searches for the call's clash.
 fn meet_key_end(
     states: &mut HashMap<u32, KeyState>,
     alloc: Global,
@@ -360,7 +362,7 @@ impl Failed {
     }
 }
 
-/// Returns the smaller of a key and another key, if there is another.
+/// Returns the smaller of two keys, or `key` if `other` is `None`.
 fn smallest(key: u32, other: Option<u32>) -> u32
     ensures { (result ≡ key) ⊎ (other ≡ Some result) }
 {
@@ -370,7 +372,7 @@ fn smallest(key: u32, other: Option<u32>) -> u32
     }
 }
 
-/// Returns the verdict, where `key` is a key whose calls cannot leave its final state, if there is one.
+/// Returns the verdict, given a key whose calls cannot leave its final state, if there is one.
 fn verdict_of_key(key: Option<u32>) -> StreamVerdict
     ensures { result ≡ verdict_of_key key }
 {
@@ -383,11 +385,11 @@ fn verdict_of_key(key: Option<u32>) -> StreamVerdict
     }
 }
 
-/// A stream of calls of a set, judged call by call. It stores the state of each key and the pending calls, so its memory does not grow with
-/// the number of calls.
+/// A stream of calls of a set that is judged call by call. It stores the state of each key and the pending calls, so
+/// its memory use does not grow with the number of calls.
 ///
-/// Calls must come in the order of their begins. `verdict` and `verdict_cut_off` return whether some order explains them. (The rule looks
-/// at the moments of each key once, in their order, so no moment has to be stored.)
+/// Calls must arrive in the order in which they began. `verdict` and `verdict_cut_off` return whether some order
+/// explains them. The rule looks at the moments of each key only once and in order, so no moment has to be stored.
 #[derive(Drop)]
 pub(crate) struct Stream {
     alloc: Global,
@@ -395,14 +397,14 @@ pub(crate) struct Stream {
     pending: PendingCalls,
     moment: u64,
     failed: Option<Failed>,
-    /// A clash of the key on which the rule has failed.
+    /// The clash of the key for which the rule has failed, if one was found.
     clash: Option<Clash>,
-    /// How many calls that have ended overlap a change of their key.
+    /// How many of the calls that have ended overlap a change of their key.
     overlapped: u64,
 }
 
 impl Stream {
-    /// Returns a stream without calls, for a set that opens with `opening`. The keys must increase.
+    /// Returns a stream without calls, for a set that opens with `opening`, which must be in increasing order.
     pub fn new(alloc: Global, opening: &[u32]) -> Result<Stream, AllocError>
         requires { IsStrictlyIncreasing opening.now }
         ensures opened { IfOk result (λ s. (threads : ℕ) → IsStreamKept threads opening.now [] s) }
@@ -419,7 +421,7 @@ impl Stream {
         })
     }
 
-    /// Returns why a call cannot come next, if it cannot.
+    /// Returns the reason why a call cannot come next, or `None` if it can.
     fn find_fault(&self, call: StreamCall) -> Option<StreamFault>
         ensures { MatchOption result (MayCome self.now.pending self.now.moment (record_of call))
             (λ fault. MayCome self.now.pending self.now.moment (record_of call) → ⊥) }
@@ -435,7 +437,7 @@ impl Stream {
         }
     }
 
-    /// Meets the event of a key at a moment, and moves to the moment.
+    /// Processes the event of a key at a moment, and advances to this moment.
     fn meet(&mut self, key: u32, moment: u64, event: Event) -> Result<(), AllocError>
         ensures met { OnOk result (IsMet self.old key moment (event_as event) self.new) }
         ensures known { OnOk result (BeginIsKnown self.old.states key (event_as event) self.new.states self.old.failed self.old.clash) }
@@ -468,14 +470,14 @@ impl Stream {
         Ok(())
     }
 
-    /// Drops a stored clash. (A function of its own, so that ends need no room for a clash.)
+    /// Drops a stored clash. This is a separate function so that ends of calls need no stack space for a clash.
     fn forget_clash(&mut self)
         ensures { self.new ≡ record self.old { clash = None } }
     {
         self.clash = None;
     }
 
-    /// Ends a call while the rule holds.
+    /// Ends a call while the rule still holds.
     fn meet_end_going(&mut self, next: Pending) -> Result<(), AllocError>
         requires { self.old.failed ≡ None }
         ensures pending { OnOk result (self.new.pending ≡ self.old.pending) }
@@ -516,7 +518,7 @@ impl Stream {
         self.moment = next.end;
     }
 
-    /// Ends a pending call, and moves to the moment of its end.
+    /// Ends a pending call, and advances to the moment of its end.
     fn end(&mut self, next: Pending) -> Result<(), AllocError>
         ensures met { OnOk result (IsMet self.old (key_in next) next.end (event_of next) self.new) }
         ensures known { OnOk result (EndIsKnown self.old.states next.call self.new.states self.old.failed self.old.clash self.new.clash) }
@@ -530,7 +532,7 @@ impl Stream {
         Ok(())
     }
 
-    /// Ends all pending calls whose ends are before a moment.
+    /// Ends all pending calls that end before a moment.
     fn meet_before(&mut self, moment: u64) -> Result<(), AllocError>
         requires { moment ≤ behind_all }
         ensures kept { OnOk result ((threads : ℕ) (opening : List ℕ) (calls : List RecordedCall) → IsStreamKept threads opening calls self.old
@@ -545,7 +547,7 @@ impl Stream {
         Ok(())
     }
 
-    /// Begins a call, once no pending call ends before its begin.
+    /// Begins a call. All pending calls that end before this must have been ended.
     fn begin(&mut self, call: StreamCall) -> Result<(), AllocError>
         requires may { MayCome self.old.pending self.old.moment (record_of call) }
         requires met { All (λ p. call.begun ≤ p.end) self.old.pending }
@@ -574,14 +576,14 @@ impl Stream {
         Ok(())
     }
 
-    /// Adds a call, which must begin after all calls before it.
+    /// Adds a call, which must begin after all calls added before.
     ///
-    /// An error other than `Memory` is the reason why the call cannot come next, and changes nothing. After `Memory` the stream is of no
-    /// more use.
+    /// An error other than `Memory` is the reason why the call cannot come next, and changes nothing. After `Memory`,
+    /// the stream can no longer be used.
     pub fn add(&mut self, call: StreamCall) -> Result<(), StreamFault>
         ensures added { OnOk result ((threads : ℕ) (opening : List ℕ) (calls : List RecordedCall) → call.thread < threads
             → IsStreamKept threads opening calls self.old → IsStreamKept threads opening (calls ++ record_of call ∷ []) self.new) }
-        // The stream has reached the begin of the call.
+        // The stream has advanced to the moment at which the call begins.
         ensures moment { OnOk result (moment_of self.new ≡ call.begun) }
         ensures refused { IfErr result (λ fault. fault ≢ StreamFault.Memory
             → (MayCome (pending_in self.old) (moment_of self.old) (record_of call) → ⊥) × (self.new ≡ self.old)) }
@@ -593,7 +595,7 @@ impl Stream {
         Ok(())
     }
 
-    /// Returns the smallest key with a state whose calls cannot leave its final state, if there is one.
+    /// Of the keys that have a state, returns the smallest one whose calls cannot leave its final state, if any.
     fn wrongly_left(&self, keys: &[u32]) -> Option<u32>
         requires { IsStrictlyIncreasing keys.now }
         ensures { MatchOption result
@@ -609,7 +611,7 @@ impl Stream {
         wrong
     }
 
-    /// Returns a final key without a state, if there is one.
+    /// Returns a final key that has no state, if any.
     fn unknown_left(&self, keys: &[u32]) -> Option<u32>
         ensures { MatchOption result
             ((k : ℕ) → has_key k keys.now ≡ true → get nat_eq self.now.states k ≢ None)
@@ -634,7 +636,8 @@ impl Stream {
         }
     }
 
-    /// Returns how many calls overlap a change of their key that ends, other than themselves. The number is right if the rule has not failed.
+    /// Returns how many calls overlap a change of their key that ends, other than themselves. The number is correct
+    /// only if the rule has not failed.
     pub(crate) fn overlapped(&self) -> u64 {
         self.overlapped
             .saturating_add(self.pending.overlapping(&self.states, self.moment))
@@ -649,8 +652,8 @@ impl Stream {
         self.meet_before(BEHIND_ALL)
     }
 
-    /// Returns whether some order linearizes all calls of a stream at its end, from the opening keys, and leaves `keys`: `Linearizable`
-    /// exactly if one does, and `NotLinearizable` exactly if none does. The set has no quota.
+    /// Decides whether some order linearizes all calls of a stream at its end, from the opening keys, and leaves
+    /// `keys`: returns `Linearizable` if one does and `NotLinearizable` if none does. The set has no quota.
     pub(crate) fn verdict(&self, keys: &[u32]) -> StreamVerdict
         requires increase { IsStrictlyIncreasing keys.now }
         requires met { All (λ p. behind_all ≤ p.end) (pending_in self.now) }
@@ -664,9 +667,9 @@ impl Stream {
         }
     }
 
-    /// Returns whether some order linearizes all calls of a stream at its end, from the opening keys: `Linearizable` exactly if one does,
-    /// whichever keys it leaves, and `NotLinearizable` exactly if none does. It is for a recording that was cut off, so that its final keys
-    /// are unknown.
+    /// Decides whether some order linearizes all calls of a stream at its end, from the opening keys, whatever keys it
+    /// leaves: returns `Linearizable` if one does and `NotLinearizable` if none does. For a recording that was cut off,
+    /// so that its final keys are unknown.
     pub(crate) fn verdict_cut_off(&self) -> StreamVerdict
         requires { All (λ p. behind_all ≤ p.end) (pending_in self.now) }
         ensures said { (threads : ℕ) (opening : List ℕ) (calls : List RecordedCall) → IsStreamOf threads opening calls self.now
@@ -679,7 +682,7 @@ impl Stream {
         }
     }
 
-    /// Returns the clash of the key on which the rule has failed, if one was found.
+    /// Returns the clash of the key for which the rule has failed, if one was found.
     pub(crate) fn clash_met(&self) -> Option<Clash>
         ensures { result ≡ clash_met self.now.failed self.now.clash }
     {
@@ -689,7 +692,7 @@ impl Stream {
         }
     }
 
-    /// Returns the clash of the final state of a key, if one is found. `None` if the rule has failed.
+    /// Returns the clash with a key's final state, if one is found. Returns `None` if the rule has failed.
     pub(crate) fn clash_left(&self, key: u32, left: Presence) -> Option<Clash>
         ensures { IfSome result (λ c. (self.now.failed ≡ None) × IsFoundLeft key (facts_for self.now.states key) left c) }
     {

@@ -1,47 +1,48 @@
-//! Searches a stretch of time in which a key must change back more often than it can. No contract is about the stretch: the count made from
-//! it is checked afterwards.
+//! Searches for a stretch of time in which a key would have to change back more often than it can. No contract mentions
+//! the stretch, since the count that is made from it is checked afterwards.
 
 use crate::clash::{has_ended, other};
 use crate::stream::StreamCall;
 use lset_words::{Effect, Presence};
 use std::alloc::{AllocError, Global};
 
-/// The time and the state of a count's calls.
+/// A stretch of time, and the state in which its changes leave the key. A count is made from the calls in a stretch.
 #[derive(Clone, Copy)]
 pub(crate) struct Stretch {
     /// The state in which the changes leave the key.
     pub(crate) was: Presence,
-    /// The changes begin at this moment or later.
+    /// The changes begin no earlier than this moment.
     from: u64,
-    /// The changes end at this moment or earlier.
+    /// The changes end no later than this moment.
     upto: u64,
-    /// A call before the changes that saw the key in this state.
+    /// A call before the changes that saw the key in the state `was`.
     pub(crate) first: Option<StreamCall>,
     /// A call after the changes that saw the key in the other state.
     pub(crate) last: Option<StreamCall>,
-    /// The begin of the stretch. `None` if the key had the state at first.
+    /// The begin of the stretch. `None` if the key had the state `was` at the opening.
     pub(crate) since: Option<u64>,
-    /// The end of the stretch. `None` if the final state of the key is the other state.
+    /// The end of the stretch. `None` if the key's final state is the other state.
     pub(crate) until: Option<u64>,
 }
 
-/// The smallest stretch so far, by the number of its calls plus that of the calls that could change the key back.
+/// The smallest stretch found so far. The size is the number of its calls plus the number of calls that could change
+/// the key back.
 #[derive(Clone, Copy)]
 struct Best {
     found: Option<Stretch>,
     size: usize,
 }
 
-/// A begin or an end that the search looks at.
+/// A begin or an end of a call that matters to the search.
 #[derive(Clone, Copy)]
 enum Step {
-    /// A change back begins: when it ends.
+    /// A call that can change the key back begins. The value is when it ends.
     Back(u64),
-    /// A change ends: when it began.
+    /// A change to the state `was` ends. The value is when it began.
     Change(u64),
-    /// A call that saw the other state begins: its index in `looks`.
+    /// A call that saw the other state begins. The value is its index in `looks`.
     Begins(usize),
-    /// A call that saw the other state ends: its index in `looks`.
+    /// A call that saw the other state ends. The value is its index in `looks`.
     Ends(usize),
 }
 
@@ -58,7 +59,7 @@ struct Look {
     changes: usize,
 }
 
-/// The begins and ends of a key's calls, sorted by moments.
+/// The begins and ends of a key's calls, sorted by their moments.
 #[derive(Drop)]
 struct Steps {
     steps: Vec<Timed>,
@@ -79,7 +80,7 @@ impl Stretch {
         }
     }
 
-    /// Whether the call is one of the changes of the stretch.
+    /// Returns whether the call is one of the changes in the stretch.
     pub(crate) fn has(&self, call: StreamCall) -> bool {
         is_change_to(call, self.was) && self.from <= call.begun && has_ended(call, self.upto)
     }
@@ -91,7 +92,7 @@ impl Stretch {
         }
     }
 
-    /// Returns the number of calls of the stretch. The opening state and the final state count like calls.
+    /// Returns the number of calls in the stretch. The opening state and the final state each count like a call.
     fn places(&self, changes: usize) -> usize {
         let before = self.first.is_some() || self.since.is_none();
         let after = self.last.is_some() || self.until.is_none();
@@ -108,7 +109,7 @@ fn is_change_to(call: StreamCall, was: Presence) -> bool {
     }
 }
 
-/// Returns the call that began last among those that saw a state and had ended by a moment.
+/// Of the calls that saw a state and had ended by a moment, returns the one that began last.
 fn last_look(calls: &[StreamCall], was: Presence, moment: u64) -> Option<StreamCall> {
     let mut last = None;
     for call in calls {
@@ -122,7 +123,8 @@ fn last_look(calls: &[StreamCall], was: Presence, moment: u64) -> Option<StreamC
 }
 
 impl Best {
-    /// Returns the stretch, if fewer calls can change the key back than its calls need, and if it is smaller than this one.
+    /// Returns `stretch` if it makes a count and is smaller than this one, otherwise this one. It makes a count if
+    /// fewer calls can change the key back than its calls require.
     fn or(self, stretch: Stretch, changes: usize, backs: usize) -> Best {
         let places = stretch.places(changes);
         let size = places.saturating_add(backs);
@@ -138,7 +140,7 @@ impl Best {
 }
 
 impl Steps {
-    /// Returns the steps of calls that matter to a count for a state.
+    /// Returns the steps that matter to a count whose changes leave the key in the state `was`.
     fn of(alloc: Global, calls: &[StreamCall], was: Presence) -> Result<Steps, AllocError> {
         let mut all = Steps {
             steps: Vec::new(alloc),
@@ -182,7 +184,7 @@ impl Steps {
         Ok(())
     }
 
-    /// Returns the smallest stretch with this start.
+    /// Returns the smallest stretch with this start, or `best` if that is smaller.
     fn pass(&mut self, start: Stretch, left: Option<Presence>, best: Best) -> Best {
         let mut pass = Pass {
             start,
@@ -202,7 +204,8 @@ impl Steps {
     }
 }
 
-/// A walk over the steps, for the stretches with one start: how many changes have ended, and how many changes back have begun.
+/// A walk over the steps, for all stretches with the same start: how many changes have ended, and how many calls that
+/// can change the key back have begun.
 #[derive(Clone, Copy)]
 struct Pass {
     start: Stretch,
@@ -277,7 +280,7 @@ fn smaller_stretch(
     Ok(best)
 }
 
-/// Returns the stretch of the smallest count of the calls of a key, if there is one.
+/// Returns the stretch of the smallest count of the calls of a key, if there is a count.
 pub(crate) fn smallest_stretch(
     alloc: Global,
     calls: &[StreamCall],

@@ -1,4 +1,4 @@
--- The state stays right from line to line.
+-- Proof: the reader's state stays correct from line to line.
 use Rattle.std.proofs.Common.{◌≡◌, ℕ, ◌+◌, ◌-◌, ◌<◌, ◌^◌, true, List, [], ◌∷◌, ◌++◌, length, min, Option, Some, None, refl, sym, ap, subst, ◌∙◌}
 use Rattle.std.proofs.Common.{arith}
 use Rattle.std.specs.Prelude.{nat_lt, slice_get}
@@ -18,7 +18,7 @@ use Rattle.lset_recording.specs.Texts.{Recording}
 use Rattle.lset_recording.specs.Reading.{SoFar, Comes}
 use Rattle.lset_recording.specs.Kept.{AreKeys, IsFirst, IsJudging, IsKept, IsJudgeKept}
 
--- ---- one key more
+-- ---- Lemmas about one more key
 
 above_pushed : (keys : List ℕ) (key k : ℕ) → is_above (keys ++ key ∷ []) k ≡ nat_lt key k
 above_pushed keys key k =
@@ -37,7 +37,7 @@ keys_more keys key are above low =
       few = omega (arith, long, few, low);
     }
 
--- ---- one line more
+-- ---- Lemmas about one more line
 
 first_none : (s : Section) (k : ℕ) (o : Option Judge) → Comes s (told.Opening k) → IsFirst s o → o ≡ None
 first_none part.Opening k o comes first = first
@@ -48,7 +48,7 @@ no_calls : (opening more : List ℕ) (calls : List CallRecord) (o : Option Judge
 no_calls opening more calls None none kept = kept
 no_calls opening more calls (Some s) none kept = absurd cc
 
--- a text with opening keys alone
+-- An opening key extends a text that has only opening keys so far: the keys stay increasing, and there is no judge yet.
 pub opening_parts : (s : SoFar) (k : ℕ) (j : Judging) → IsJudging s j → Comes s.section (told.Opening k) → k < 2 ^ 32
     → is_above j.opening.items k ≡ true
     → (is_above s.told.opening k ≡ true) × AreKeys (s.told.opening ++ k ∷ [])
@@ -69,7 +69,7 @@ key_parts c k j kept low added =
     let above : is_above c.keys k ≡ true = subst (λ (o : List ℕ). is_above o k ≡ true) kept.keys added in
     (above, keys_more c.keys k kept.left above low)
 
--- ---- how many calls there are
+-- ---- Lemmas about the number of calls
 
 few_calls : (opening : List ℕ) (calls : List CallRecord) (o : Option Judge) → IsJudgeKept opening calls o → length calls < behind_all
 few_calls opening calls None kept = let n = ap length kept in omega (arith, n)

@@ -1,4 +1,4 @@
--- The lines of each kind.
+-- The lines of each kind, and what they say.
 use Rattle.std.proofs.Common.{◌≡◌, subst, ℕ, ◌<◌, ◌≤◌, ◌^◌, Bool, true, false, Result, length, List, [], ◌∷◌, Option, Some, None, Ok, Err, refl, arith, codes, cond}
 use Rattle.std.specs.Prelude.{IfSome, nat_lt}
 use Rattle.std.specs.Fmt.{decimal}
@@ -31,7 +31,7 @@ use Rattle.lset_recording.specs.Texts.{end_pieces, call_pieces, title}
 use Rattle.lset_recording.specs.Reading.{kinds, from_calls, opening_kind, open_kind, true_kind, false_kind, key_kind, end_kind, cut_kind}
 use Rattle.lset_recording.specs.Reading.{Comes, IsFormed, line_told, line_behind_title}
 
--- the pieces of a line
+-- Returns the fields of a line.
 abbrev pub line_pieces : Line → List (List ℕ)
 line_pieces told.Title = title ∷ []
 line_pieces (told.Opening k) = codes "opening" ∷ decimal k ∷ []
@@ -43,7 +43,7 @@ line_pieces told.Cut = codes "cut" ∷ []
 abbrev pub IsMoment : ℕ → Type 0
 IsMoment m = (1 ≤ m) × (m ≤ LAST_MOMENT)
 
--- the numbers and words of a line
+-- The numbers and words of a call's line are valid.
 pub record IsNumbered (x : StreamCall) : Type 0 where
   pub thread : x.thread < 2 ^ 32
   pub key : (key_of x.call).0 < 2 ^ 32
@@ -59,7 +59,7 @@ IsLine (told.Key k) = k < 2 ^ 32
 IsLine told.End = Unit {0}
 IsLine told.Cut = Unit {0}
 
--- ---- the values of the lines
+-- ---- Lemmas about the values in lines
 
 abbrev call_of : ℕ → Call → ℕ → Option (ℕ × Reply) → StreamCall
 call_of n c b e = record { thread = n; call = c; begun = b; ended = e }
@@ -128,7 +128,7 @@ kinds_known section.Keys =
     known_in section.Keys (key_kind ∷ end_kind ∷ []) (key_known, (end_known, tt)) ((λ t. tt), ((λ t. tt), tt))
 kinds_known s = tt
 
--- ---- what a line says
+-- ---- Lemmas about what a line says
 
 short_line : {A E : Type 0} (b : Bool) (e : E) (r : Result A E) (x : A) → cond b (Err e) r ≡ Ok x → r ≡ Ok x
 short_line true e r x is = absurd cc

@@ -1,4 +1,4 @@
--- A number before a space, read digit by digit.
+-- Reading a number that ends before a space, digit by digit.
 use Rattle.std.proofs.Common.{◌≡◌, ℕ, ◌+◌, ◌-◌, ◌*◌, ◌<◌, ◌≤◌, true, List, [], ◌∷◌, ◌++◌, length, get_or, take, drop, refl, sym, ap, subst, ◌∙◌, arith, leb, length-drop, take-append-drop, add-one}
 use Rattle.std.specs.Fmt.{decimal}
 use Rattle.std.specs.Char.{is_ascii_digit}
@@ -9,18 +9,18 @@ use Rattle.std.proofs.lemmas.Grind.{get_or_after_one}
 use Rattle.std.proofs.lemmas.List.{take_rest, drop_more, get_or-take, length-take-le}
 use Rattle.lset_text.proofs.NumberLaws.{value_more, digit_more, is_spelled, number_ok}
 
--- the largest number that is read
+-- The largest number that is read.
 abbrev pub largest : ℕ
 largest = 9223372036854775799
 
--- the digits so far: their value, and no digit follows a leading zero
+-- The digits read so far and their value. No digit follows a leading zero.
 pub record AreDigits (text : List ℕ) (count value : ℕ) : Type 0 where
   pub spelled : value ≡ digits_value 10 (take count text)
   pub digits : AllDigits 10 (take count text)
   pub first : get_or text 0 0 ≡ 48 → count ≡ 1
   pub small : value ≤ largest
 
--- the bytes after the first byte
+-- Dropping the first byte shifts the indices of the others by one.
 behind_first : (text : List ℕ) (i : ℕ) → get_or (take (length text - 1) (drop 1 text)) i 0 ≡ get_or text (i + 1) 0
 behind_first text i =
     let next : 1 + i ≡ i + 1 = omega arith in

@@ -28,7 +28,7 @@ use Rattle.lset_recording.specs.Texts.{Recording, title}
 use Rattle.lset_recording.specs.Reading.{SoFar, IsTaken, IsRefused, Reads, Says, cause_if_long, ending, first_line, kinds, line_behind_title, line_told}
 use Rattle.lset_recording.specs.Kept.{IsAnswered, IsJudging, IsHeld, IsLineOf, IsRead, IsRefusedAt, newlines}
 
--- ---- one whole line
+-- ---- Lemmas about a single complete line
 
 line_and : (line more : List ℕ) → Lacks 10 line → cut_at 10 (line ++ 10 ∷ more) ≡ line ∷ cut_at 10 more
 line_and line more lacks = slice_split_at (λ b. eqb b 10) line 10 more lacks refl
@@ -43,7 +43,7 @@ reads_last : (n : ℕ) (s : SoFar) (line : List ℕ) (parts : List (List ℕ)) (
 reads_last n s line [] cause some refused = absurd (omega arith)
 reads_last n s line (y ∷ ys) cause some refused = inr (cause, refused, refl)
 
--- a line of too many bytes
+-- A line that has too many bytes is refused.
 pub too_long : (s : SoFar) (line : List ℕ) → LONGEST_LINE < length line → IsRefused s line (cause_if_long s.section)
 too_long s line many = inl (by s.section)
   where
@@ -59,7 +59,7 @@ too_long s line many = inl (by s.section)
     by part.Title = untitled (bytes_eq line title) refl
     by p = behind p
 
--- ---- newlines
+-- ---- Lemmas about counting newlines
 
 newlines_and : (bytes more : List ℕ) → newlines (bytes ++ more) ≡ newlines bytes + newlines more
 newlines_and bytes more = sum_by-append (λ (b : ℕ). cond (b == 10) 1 0) bytes more
@@ -72,7 +72,7 @@ no_newlines (b ∷ bs) lacks =
     let others = no_newlines bs lacks.1 in
     omega (arith, cons, here, others)
 
--- a newline of a piece ends a line of it
+-- A newline in a piece ends one of the piece's lines.
 pub line_of_piece : (bytes done line more : List ℕ) (n : ℕ) → n ≡ first_line + newlines (bytes ++ done)
     → IsLineOf bytes (done ++ (line ++ 10 ∷ more)) n
 line_of_piece bytes done line more n at =
@@ -83,9 +83,9 @@ line_of_piece bytes done line more n at =
     let one : newlines (10 ∷ more) ≡ 1 + newlines more = sum_by-cons (λ (x : ℕ). cond (x == 10) 1 0) 10 more in
     (omega (arith, at, before), omega (arith, at, before, all, parts, last, one))
 
--- ---- the bytes so far
+-- ---- Lemmas about the bytes read so far
 
--- the state in a text: what the lines above say, and the stored bytes of the next line
+-- The reader's position in a text: what the complete lines say, and the stored bytes of the next line.
 pub record StandsAt (bytes held : List ℕ) (n : ℕ) (s : SoFar) : Type 0 where
   pub lacks : Lacks 10 held
   pub goes : (more : List ℕ) (read : Result Recording LineFault) → Reads n s (cut_at 10 (held ++ more)) read → Says (bytes ++ more) read
@@ -107,7 +107,7 @@ read_at bytes held s r at judging line sound = record {
   sound = sound;
 }
 
--- more bytes of a line
+-- More bytes of the same line are added to the stored bytes.
 pub held_more : (bytes held more : List ℕ) (n : ℕ) (s : SoFar) → StandsAt bytes held n s → Lacks 10 more
     → StandsAt (bytes ++ more) (held ++ more) n s
 held_more bytes held more n s at lacks = record {
@@ -129,7 +129,7 @@ module _ (bytes held : List ℕ) (n : ℕ) (s : SoFar) (at : StandsAt bytes held
       subst (λ (t : List ℕ). Says t read) (sym (append_assoc bytes (10 ∷ []) more))
       (at.goes (10 ∷ more) read (subst (λ (ps : List (List ℕ)). Reads n s ps read) (sym (line_and held more at.lacks)) h))
 
-  -- a line that is accepted
+  -- If the line is accepted, the reader continues with the next line.
   line_taken : (t : SoFar) → IsTaken s held t → StandsAt (bytes ++ 10 ∷ []) [] (n + 1) t
   line_taken t taken = record {
     lacks = All-nil (λ b. eqb b 10 ≡ false);
@@ -141,7 +141,7 @@ module _ (bytes held : List ℕ) (n : ℕ) (s : SoFar) (at : StandsAt bytes held
         omega (arith, and, one, was);
   }
 
-  -- a line that is refused
+  -- If the line is refused, the text has this error.
   pub line_refused : (cause : Cause) → IsRefused s held cause → (more : List ℕ)
       → Says ((bytes ++ 10 ∷ []) ++ more) (Err (fault n cause))
   line_refused cause refused more =
@@ -153,7 +153,7 @@ module _ (bytes held : List ℕ) (n : ℕ) (s : SoFar) (at : StandsAt bytes held
       read_at (bytes ++ 10 ∷ []) [] t q (subst (λ (m : ℕ). StandsAt (bytes ++ 10 ∷ []) [] m t) (sym next) (line_taken t taken)) judging
       (subst (IsHeld [] q.line.items) (sym short) (sym none)) sound
 
-  -- the end of the text
+  -- If the text ends here, its result is `ending`.
   pub at_end : (read : Result Recording LineFault) → read ≡ ending n s held → Says bytes read
   at_end read ends =
       subst (λ (t : List ℕ). Says t read) (append-nil bytes)
@@ -161,7 +161,7 @@ module _ (bytes held : List ℕ) (n : ℕ) (s : SoFar) (at : StandsAt bytes held
       (subst (λ (ps : List (List ℕ)). Reads n s ps read)
       (sym (ap (cut_at 10) (append-nil held) ∙ slice_split_none (λ b. eqb b 10) held at.lacks)) ends))
 
--- bytes that are stored, and bytes for which there is no room
+-- Bytes are stored, or dropped if the line is too long to be stored.
 pub held_on : (long : Bool) (held kept new more : List ℕ) → IsHeld held kept long → new ≡ kept ++ more → IsHeld (held ++ more) new long
 held_on true held kept new more is now = omega (arith, is, length-append held more)
 held_on false held kept new more is now = ap (λ (t : List ℕ). t ++ more) is ∙ sym now
@@ -171,7 +171,7 @@ pub held_full : (long : Bool) (held kept more : List ℕ) → IsHeld held kept l
 held_full true held kept more is full = omega (arith, is, length-append held more)
 held_full false held kept more is full = let long = ap length is in omega (arith, long, full, length-append held more)
 
--- ---- a whole line in a piece
+-- ---- Lemmas about a complete line within a piece
 
 pub nothing_held : (bytes : List ℕ) (r : RecordingReader) (is : IsRead bytes r) → r.is_long ≡ false → r.line.items ≡ [] → [] ≡ is.held
 nothing_held bytes r is short none = sym (subst (IsHeld is.held r.line.items) short is.line ∙ none)
@@ -182,7 +182,7 @@ whole_line bytes line r is lacks short none =
     subst (λ (held : List ℕ). StandsAt (bytes ++ line) (held ++ line) r.judging.number is.told) (sym (nothing_held bytes r is short none))
     (held_more bytes is.held line r.judging.number is.told (stands bytes r is) lacks)
 
--- ---- the end
+-- ---- Lemmas about the end of the text
 
 pub above_zero : (n : ℕ) → (n ≡ 0 → ⊥) → 0 < n
 above_zero zero other = absurd (other refl)
@@ -218,9 +218,9 @@ module _ (r : RecordingReader) where
   line_of_end (Ok answer) line = tt
   line_of_end (Err e) line = λ bytes is. line ∙ is.counted
 
--- ---- the lines of a piece
+-- ---- Lemmas about the lines within a piece
 
--- a text with an error has this error, whatever bytes come
+-- If a text has an error, it has the same error whatever bytes follow.
 pub refused_on : (bytes done line more : List ℕ) (e : LineFault) → IsRefusedAt (bytes ++ done ++ line ++ 10 ∷ []) e
     → IsRefusedAt (bytes ++ (done ++ (line ++ 10 ∷ more))) e
 refused_on bytes done line more e refused other rest =
@@ -229,7 +229,7 @@ refused_on bytes done line more e refused other rest =
     regrouped : (bytes ++ done ++ line ++ 10 ∷ []) ++ (more ++ rest) ≡ (bytes ++ (done ++ (line ++ 10 ∷ more))) ++ rest
     regrouped = simp append_assoc
 
--- ---- after an error
+-- ---- Lemmas about the state after an error
 
 pub none_failed : (failed : Option LineFault) (e : LineFault) → failed ≡ None → failed ≡ Some e → ⊥
 none_failed failed e none some = cc

@@ -1,4 +1,4 @@
--- If bytes say a recording, they are its text.
+-- Proof: if bytes are read as a recording, they are its text.
 use Rattle.std.proofs.Common.{◌≡◌, ℕ, ◌+◌, inl, inr, Bool, true, false, cond, List, [], ◌∷◌, ◌++◌, map, Ok, refl, sym, ap, subst, ◌∙◌}
 use Rattle.std.proofs.Common.{append_assoc, append-nil}
 use Rattle.std.proofs.lemmas.List.{map_push}
@@ -14,7 +14,7 @@ use Rattle.lset_recording.specs.Texts.{Recording, call_line, key_line, end_line,
 use Rattle.lset_recording.specs.Reading.{SoFar, Comes, IsTaken, Reads, Says, ending, first_line, is_done, is_title, nothing_told, section_after, with_line, with_told}
 use Rattle.lset_recording.proofs.LineKinds.{line_pieces, line_found_in}
 
--- ---- the lines so far
+-- ---- Lemmas about the lines read so far
 
 abbrev so_far : Recording → List (List ℕ)
 so_far c = title ∷ opening_lines c.opening ++ map call_line c.calls ++ map key_line c.keys
@@ -22,7 +22,7 @@ so_far c = title ∷ opening_lines c.opening ++ map call_line c.calls ++ map key
 abbrev lines_at : SoFar → List (List ℕ)
 lines_at s = cond (is_title s.section) [] (cond (is_done s.section) (lines s.told) (so_far s.told))
 
--- what has not come yet in a section
+-- States what a recording cannot contain yet in this section.
 abbrev Reaches : Section → Recording → Type 0
 Reaches part.Title c = (c.opening ≡ []) × (c.calls ≡ []) × (c.keys ≡ []) × (c.cut_off ≡ false)
 Reaches part.Opening c = (c.calls ≡ []) × (c.keys ≡ []) × (c.cut_off ≡ false)
@@ -30,7 +30,7 @@ Reaches part.Calls c = (c.keys ≡ []) × (c.cut_off ≡ false)
 Reaches part.Keys c = c.cut_off ≡ false
 Reaches part.Done c = Unit {0}
 
--- what has not come yet before a line
+-- States what a recording cannot contain yet before this line.
 abbrev Finds : Line → Recording → Type 0
 Finds told.Title c = Reaches part.Title c
 Finds (told.Opening k) c = Reaches part.Opening c
@@ -51,12 +51,12 @@ behind_all o c k y = simp append_assoc refl
 behind_end : (o c k : List (List ℕ)) (y : List ℕ) → o ++ c ++ k ++ y ∷ [] ≡ (o ++ c ++ k) ++ y ∷ []
 behind_end o c k y = simp append_assoc refl
 
--- the lines above a line
+-- Returns the lines above a line.
 abbrev above : Line → Recording → List (List ℕ)
 above told.Title c = []
 above l c = so_far c
 
--- one more line after those above it
+-- One more line is appended to those above it.
 more_lines : (c : Recording) (l : Line) → Finds l c
     → lines_at (record { section = section_after l; told = with_line c l }) ≡ above l c ++ line_of (line_pieces l) ∷ []
 more_lines c told.Title next = rw (next.0, next.1, next.2) refl
@@ -107,7 +107,7 @@ lines_above part.Keys c told.Title comes = absurd comes
 lines_above part.Done c l comes = absurd comes
 lines_above s c l comes = refl
 
--- a line that is accepted
+-- If a line is accepted, the text grows by this line.
 one_line : (s t : SoFar) (x : List ℕ) → Reaches s.section s.told → IsTaken s x t → Reaches t.section t.told × (lines_at t ≡ lines_at s ++ x ∷ [])
 one_line s t x reached taken =
     let l = taken.0 in
@@ -117,7 +117,7 @@ one_line s t x reached taken =
     ∙ ap (λ (ls : List (List ℕ)). ls ++ line_of (line_pieces l) ∷ []) (lines_above s.section s.told l found.2) ∙ ap (λ (y : List ℕ). lines_at s ++ y ∷ []) (sym found.0) in
     subst (λ (u : SoFar). Reaches u.section u.told × (lines_at u ≡ lines_at s ++ x ∷ [])) (sym taken.3) (reaches_more s.told l next, now)
 
--- ---- the whole
+-- ---- Proof for the whole text
 
 at_end : (n : ℕ) (s : SoFar) (rest : List ℕ) (c : Recording) → Ok c ≡ ending n s rest → (rest ≡ []) × (lines_at s ≡ lines c)
 at_end n s [] c is = (refl, by s.section s.told is)

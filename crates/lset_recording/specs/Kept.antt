@@ -1,4 +1,4 @@
--- The state of a reader after some bytes of a recording.
+-- The state of a reader after it has read some bytes of a recording.
 use Rattle.std.specs.Prelude.{◌≡◌, ◌≢◌, ℕ, ◌+◌, ◌<◌, ◌≤◌, ◌^◌, ◌⊎◌, Bool, true, false, List, [], ◌++◌, length, Option, Some, None, Contains, ◌==◌, not, count_by}
 use Rattle.std.specs.Prelude.{Result, Err}
 use Rattle.std.specs.List.Sorted.{IsStrictlyIncreasing}
@@ -19,17 +19,17 @@ use Rattle.lset_recording.specs.declared.reader.RecordingReader.{RecordingReader
 use Rattle.lset_recording.specs.Texts.{Recording, IsRecording, all_threads}
 use Rattle.lset_recording.specs.Reading.{SoFar, Reads, Says, first_line, is_done, is_title, IsVerdictOnRecording}
 
--- the moment is the begin of one of the calls, or 0
+-- States that one of the calls begins at the moment, or that the moment is 0.
 abbrev pub IsLatest : List CallRecord → ℕ → Type 0
 IsLatest calls moment = (moment ≡ 0) ⊎ ((x : CallRecord) × Contains calls x × (moment ≡ x.begun))
 
--- THE JUDGE has judged the calls. There is none before the first call
+-- States that the judge has judged these calls. Before the first call there is no judge.
 abbrev pub IsJudgeKept : List ℕ → List CallRecord → Option Judge → Type 0
 IsJudgeKept opening calls None = calls ≡ []
 IsJudgeKept opening calls (Some j) =
     IsJudgeOf all_threads opening calls j × IsLatest calls (moment_of j.stream) × (length calls ≤ moment_of j.stream)
 
--- keys increase. So there are no more keys than numbers below the next key, and their count is a number of the machine
+-- The keys increase. So there are at most k of them below any next key k, and their number fits in a machine word.
 pub record AreKeys (keys : List ℕ) : Type 0 where
   pub increase : IsStrictlyIncreasing keys
   pub below : (k : ℕ) → is_above keys k ≡ true → length keys ≤ k
@@ -39,11 +39,11 @@ abbrev pub count_if : Bool → ℕ
 count_if true = 1
 count_if false = 0
 
--- how many lines have been read
+-- Returns how many lines have been read.
 abbrev pub lines_of : SoFar → ℕ
 lines_of s = count_if (not (is_title s.section)) + length s.told.opening + length s.told.calls + length s.told.keys + count_if (is_done s.section)
 
--- the fields of the state are those of the recording so far
+-- The fields of the state agree with the recording read so far.
 pub record IsKept (c : Recording) (j : Judging) : Type 0 where
   pub opening : j.opening.items ≡ c.opening
   pub opens : AreKeys c.opening
@@ -53,7 +53,7 @@ pub record IsKept (c : Recording) (j : Judging) : Type 0 where
   pub left : AreKeys c.keys
   pub cut_off : j.cut_off ≡ c.cut_off
 
--- there is no judge before the first call
+-- States that there is no judge before the first call.
 abbrev pub IsFirst : Section → Option Judge → Type 0
 IsFirst part.Title judge = judge ≡ None
 IsFirst part.Opening judge = judge ≡ None
@@ -61,23 +61,24 @@ IsFirst part.Calls judge = Unit {0}
 IsFirst part.Keys judge = Unit {0}
 IsFirst part.Done judge = Unit {0}
 
--- THE STATE AFTER SOME LINES is right
+-- The state after some lines is correct.
 pub record IsJudging (s : SoFar) (j : Judging) : Type 0 where
   pub kept : IsKept s.told j
   pub section : j.section ≡ s.section
   pub first : IsFirst s.section j.judge
   pub number : j.number ≡ first_line + lines_of s
 
--- the bytes of a line without its newline are stored, unless there are too many
+-- States that the bytes of the line so far, which has no newline yet, are stored, unless there are too many of them.
 abbrev pub IsHeld : List ℕ → List ℕ → Bool → Type 0
 IsHeld held kept false = held ≡ kept
 IsHeld held kept true = LONGEST_LINE < length held
 
--- the number of newlines in the bytes
+-- Returns the number of newlines among the bytes.
 abbrev pub newlines : List ℕ → ℕ
 newlines bytes = count_by (λ (b : ℕ). b == 10) bytes
 
--- THE STATE AFTER SOME BYTES is right: with any further bytes, the whole text says what the rest says from this state
+-- The state after some bytes is correct. Whatever bytes follow, reading them from this state has the same result as
+-- reading the whole text.
 pub record IsRead (bytes : List ℕ) (r : RecordingReader) : Type 0 where
   pub told : SoFar
   pub judging : IsJudging told r.judging
@@ -89,19 +90,19 @@ pub record IsRead (bytes : List ℕ) (r : RecordingReader) : Type 0 where
   pub counted : r.judging.number ≡ first_line + newlines bytes
   pub sound : r.failed ≡ None
 
--- the newline of the line is among the bytes of a piece, which comes after `bytes`
+-- States that the line ends within a piece that comes after `bytes`: its newline is in the piece.
 abbrev pub IsLineOf : List ℕ → List ℕ → ℕ → Type 0
 IsLineOf bytes piece line = (first_line + newlines bytes ≤ line) × (line < first_line + newlines (bytes ++ piece))
 
--- the reader has returned an error
+-- States that the reader has returned this error.
 abbrev pub HasFailed : RecordingReader → LineFault → Type 0
 HasFailed r e = r.failed ≡ Some e
 
--- each text that begins with these bytes has the error
+-- States that every text that begins with these bytes has this error.
 abbrev pub IsRefusedAt : List ℕ → LineFault → Type 0
 IsRefusedAt bytes e = e.cause ≢ wrong.Memory → (more : List ℕ) → Says (bytes ++ more) (Err e)
 
--- THE ANSWER on a recording is right
+-- The answer on a recording is correct.
 pub record IsAnswered (c : Recording) (answer : RecordingAnswer) : Type 0 where
   pub recording : IsRecording c
   pub verdict : IsVerdictOnRecording c answer.verdict

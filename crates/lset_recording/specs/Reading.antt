@@ -1,4 +1,4 @@
--- Reading a recording line by line: its lines, or the first error.
+-- Reading a recording line by line. The result is the recording, or the first error.
 use Rattle.std.specs.Prelude.{◌≡◌, ℕ, ◌+◌, ◌<◌, ◌^◌, nat_lt, Bool, true, false, List, [], ◌∷◌, ◌++◌, length, codes, Option, Some, None, ◌⊎◌, IfSome}
 use Rattle.std.specs.Prelude.{Result, Ok, Err, if◌then◌else◌}
 use Rattle.std.specs.Str.{bytes_eq}
@@ -31,7 +31,7 @@ use Rattle.lset_recording.specs.declared.recording_lines.Section.TheVariants as 
 use Rattle.lset_recording.specs.declared.recording_lines.TheConstants.{LONGEST_LINE}
 use Rattle.lset_recording.specs.Texts.{Recording, all_threads, dash, recording_text, title}
 
--- ---- the lines of each section
+-- ---- The lines allowed in each section
 
 abbrev pub opening_kind : LineKind RecordingLine
 opening_kind = (opening_form, λ t. told.Opening t.1.0)
@@ -39,11 +39,11 @@ opening_kind = (opening_form, λ t. told.Opening t.1.0)
 abbrev pub moment : Piece
 moment = piece.number 1 LAST_MOMENT
 
--- the mark of a missing end or reply
+-- The mark in place of a missing end or reply.
 abbrev pub none : Piece
 none = piece.word dash
 
--- the line of a call with this end, from its thread, word, key and begin
+-- Returns the line of a call with this end, given the values of its thread, name, key and begin.
 abbrev pub call_told : {X : Type 0} → ℕ × (CallWord × (ℕ × (ℕ × X))) → Option (ℕ × Reply) → RecordingLine
 call_told t end = told.Call (record {
   thread = t.0;
@@ -52,11 +52,11 @@ call_told t end = told.Call (record {
   ended = end;
 })
 
--- the form of a call's line, with the form of its end
+-- Returns the form of a call's line, given the form of its end.
 abbrev pub call_form : Form → Form
 call_form end = piece.word (codes "call") ∷ piece.any ∷ piece.call ∷ piece.any ∷ moment ∷ end
 
--- a pending call, and a call that returned true or false
+-- The lines of a pending call, of a call that returned true, and of a call that returned false.
 abbrev pub open_kind : LineKind RecordingLine
 open_kind = (call_form (none ∷ none ∷ []), λ t. call_told t.1 None)
 
@@ -75,7 +75,7 @@ end_kind = (piece.word (codes "end") ∷ [], λ t. told.End)
 abbrev pub cut_kind : LineKind RecordingLine
 cut_kind = (piece.word (codes "cut") ∷ [], λ t. told.Cut)
 
--- Sections come in one order, and each can be missing. A recording that was cut off has no final keys.
+-- Sections have a fixed order, and each can be missing. A recording that was cut off has no final keys.
 abbrev pub from_keys : List (LineKind RecordingLine)
 from_keys = key_kind ∷ end_kind ∷ []
 
@@ -85,7 +85,7 @@ call_kinds = open_kind ∷ true_kind ∷ false_kind ∷ []
 abbrev pub from_calls : List (LineKind RecordingLine)
 from_calls = call_kinds ++ cut_kind ∷ from_keys
 
--- THE LINES THAT CAN COME after the title, in a section
+-- Returns the kinds of lines allowed in a section after the title.
 abbrev pub kinds : Section → List (LineKind RecordingLine)
 kinds section.Title = []
 kinds section.Opening = opening_kind ∷ from_calls
@@ -100,23 +100,23 @@ is_title section.Calls = false
 is_title section.Keys = false
 is_title section.Done = false
 
--- the first line must be the title
+-- Reads the first line, which must be the title.
 abbrev pub title_told : List ℕ → Result RecordingLine Cause
 title_told line = if bytes_eq line title then Ok told.Title else Err wrong.Header
 
--- any other line; a line of too many bytes is an error
+-- Reads any later line. A line with too many bytes is an error.
 abbrev pub line_behind_title : Section → List ℕ → Result RecordingLine Cause
 line_behind_title s line = if nat_lt LONGEST_LINE (length line) then Err wrong.Line else line_in One wrong.Line (kinds s) line
 
--- WHAT A LINE SAYS in a section
+-- Reads a line in a section.
 abbrev pub line_told : Section → List ℕ → Result RecordingLine Cause
 line_told s line = if is_title s then title_told line else line_behind_title s line
 
--- the cause of the error if a line has too many bytes
+-- Returns the cause of the error if a line has too many bytes.
 abbrev pub cause_if_long : Section → Cause
 cause_if_long s = if is_title s then wrong.Header else wrong.Line
 
--- ---- a line after earlier lines
+-- ---- How a line extends the lines before it
 
 abbrev pub section_after : RecordingLine → Section
 section_after told.Title = section.Opening
@@ -134,7 +134,7 @@ with_line c (told.Key k) = record c { keys = c.keys ++ k ∷ [] }
 with_line c told.End = c
 with_line c told.Cut = record c { cut_off = true }
 
--- what lines say: their section, their calls and their keys
+-- What the lines read so far say: the current section, and the recording up to here.
 pub record SoFar : Type 0 where
   pub section : Section
   pub told : Recording
@@ -148,7 +148,8 @@ nothing_told = record {
   told = record { opening = []; calls = []; keys = []; cut_off = false };
 }
 
--- a line can follow earlier lines: keys increase, and calls are a history in the order of their begins
+-- States that a line can follow the lines before it: keys increase, and calls form a history, in the order in which
+-- they began.
 abbrev pub GoesOn : Recording → RecordingLine → Type 0
 GoesOn c told.Title = Unit {0}
 GoesOn c (told.Opening k) = is_above c.opening k ≡ true
@@ -157,12 +158,12 @@ GoesOn c (told.Key k) = is_above c.keys k ≡ true
 GoesOn c told.End = Unit {0}
 GoesOn c told.Cut = Unit {0}
 
--- the cause of the error if a line cannot follow
+-- Returns the cause of the error if a line cannot follow.
 abbrev pub cause_of : RecordingLine → Cause
 cause_of (told.Call x) = wrong.History
 cause_of l = wrong.Opening
 
--- the numbers of a line are in range, and a call that ended returned true or false
+-- States that the numbers in a line are in range, and that a call that ended returned true or false.
 abbrev pub IsFormed : RecordingLine → Type 0
 IsFormed told.Title = Unit {0}
 IsFormed (told.Opening k) = k < 2 ^ 32
@@ -172,7 +173,7 @@ IsFormed (told.Key k) = k < 2 ^ 32
 IsFormed told.End = Unit {0}
 IsFormed told.Cut = Unit {0}
 
--- the lines that can come in a section
+-- States that this line is allowed in a section.
 abbrev pub Comes : Section → RecordingLine → Type 0
 Comes section.Title told.Title = Unit {0}
 Comes section.Title l = ⊥
@@ -186,18 +187,18 @@ Comes section.Keys told.End = Unit {0}
 Comes section.Keys l = ⊥
 Comes section.Done l = ⊥
 
--- A LINE IS ACCEPTED: the lines now say `t`
+-- States that a line is accepted, and that the lines then say `t`.
 abbrev pub IsTaken : SoFar → List ℕ → SoFar → Type 0
 IsTaken s line t = (l : RecordingLine) × (line_told s.section line ≡ Ok l) × GoesOn s.told l × (t ≡ with_told s l)
 
--- A LINE IS REFUSED with a cause
+-- States that a line is refused with this cause.
 abbrev pub IsRefused : SoFar → List ℕ → Cause → Type 0
 IsRefused s line cause = (line_told s.section line ≡ Err cause)
     ⊎ ((l : RecordingLine) × (line_told s.section line ≡ Ok l) × (GoesOn s.told l → ⊥) × (cause ≡ cause_of l))
 
--- ---- texts
+-- ---- Reading whole texts
 
--- a text ends after the line `end` or `cut`
+-- Returns whether a text can end here: its last line was `end` or `cut`.
 abbrev pub is_done : Section → Bool
 is_done section.Title = false
 is_done section.Opening = false
@@ -205,17 +206,18 @@ is_done section.Calls = false
 is_done section.Keys = false
 is_done section.Done = true
 
--- the cause of the error if the text ends in a section
+-- Returns the cause of the error if the text ends in this section.
 abbrev pub cause_at_end : Section → Cause
 cause_at_end s = if is_title s then wrong.Header else wrong.NotEnded
 
--- the result at the end of a text, which has these bytes after its last newline
+-- Returns the result if the text ends here, with these bytes after its last newline.
 abbrev pub ending : ℕ → SoFar → List ℕ → Result Recording LineFault
 ending line s [] = if is_done s.section then Ok s.told else Err (fault line (cause_at_end s.section))
 ending line s (b ∷ bs) = Err (fault line wrong.NotEnded)
 
--- WHAT THE PARTS OF A TEXT SAY: its whole lines, and then the bytes after the last newline. `line` is the number of the first part, `s` is what
--- the lines above say. Each line is accepted, or the first line that is refused is the error.
+-- Reads the parts of a text: its complete lines, then the bytes after the last newline. `line` is the number of the
+-- first part, and `s` is what the lines above say. Either every line is accepted, or the first refused line is the
+-- error.
 abbrev pub Reads : ℕ → SoFar → List (List ℕ) → Result Recording LineFault → Type 0
 Reads line s [] read = ⊥
 Reads line s (rest ∷ []) read = read ≡ ending line s rest
@@ -223,28 +225,28 @@ Reads line s (x ∷ y ∷ more) read =
     ((next : SoFar) × IsTaken s x next × Reads (line + 1) next (y ∷ more) read)
     ⊎ ((cause : Cause) × IsRefused s x cause × (read ≡ Err (fault line cause)))
 
--- the number of the first line
+-- The number of the first line.
 abbrev pub first_line : ℕ
 first_line = 1
 
--- WHAT BYTES SAY: a recording, or the first error
+-- Reads bytes as a recording. The result is the recording, or the first error.
 abbrev pub Says : List ℕ → Result Recording LineFault → Type 0
 Says bytes read = Reads first_line nothing_told (cut_at 10 bytes) read
 
--- if bytes say a recording, they are the text of the recording
+-- States that if bytes are read as a recording, they are the text of this recording.
 abbrev pub RecordingsAreRead : Type 0
 RecordingsAreRead = (bytes : List ℕ) (c : Recording) → Says bytes (Ok c) → bytes ≡ recording_text c
 
--- the verdict on a whole recording, or on a recording that was cut off (`true`)
+-- States the verdict on a whole recording or, for `true`, on a recording that was cut off.
 abbrev pub IsVerdictIf : Bool → Recording → Verdict → Type 0
 IsVerdictIf true c verdict = IsVerdictCutOff all_threads c.opening c.calls verdict
 IsVerdictIf false c verdict = IsVerdict all_threads c.opening c.calls c.keys verdict
 
--- THE VERDICT on a recording
+-- States that the verdict on a recording is correct.
 abbrev pub IsVerdictOnRecording : Recording → Verdict → Type 0
 IsVerdictOnRecording c verdict = IsVerdictIf c.cut_off c verdict
 
--- ---- the lines that can come in a section
+-- ---- Which lines a section allows
 
 abbrev pub takes_opening : Section → Bool
 takes_opening section.Title = false
@@ -260,7 +262,7 @@ takes_calls section.Calls = true
 takes_calls section.Keys = false
 takes_calls section.Done = false
 
--- final keys, or the end of the text
+-- Returns whether final keys or the end of the text are allowed in a section.
 abbrev pub takes_keys : Section → Bool
 takes_keys section.Title = false
 takes_keys section.Opening = true

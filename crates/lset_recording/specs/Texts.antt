@@ -1,4 +1,4 @@
--- [Recording] and its text: the calls of a set, in the order of their begins.
+-- [Recording] and its text: the calls of a set, in the order in which they began.
 use Rattle.std.specs.Prelude.{ℕ, ◌^◌, Bool, if◌then◌else◌, List, [], ◌∷◌, ◌++◌, map, codes, Option, Some, None, All}
 use Rattle.std.specs.Fmt.{decimal}
 use Rattle.std.specs.List.Sorted.{IsStrictlyIncreasing}
@@ -14,18 +14,19 @@ use Rattle.lset_judge.specs.Verdict.{IsPlain}
 use Rattle.lset_judge.specs.Stream.{IsBefore}
 
 pub record Recording : Type 0 where
-  -- the opening keys, the calls, and the final keys
+  -- The opening keys. The calls and the final keys follow.
   pub opening : List ℕ
   pub calls : List CallRecord
   pub keys : List ℕ
-  -- whether the recording was cut off, so that its final keys are unknown
+  -- Whether the recording was cut off, so that its final keys are unknown.
   pub cut_off : Bool
 
--- threads are numbers below 2^32
+-- The number of possible threads. Threads are numbers below 2^32.
 abbrev pub all_threads : ℕ
 all_threads = 2 ^ 32
 
--- A RECORDING: its keys increase. Its calls are a history with moments below 2^63, and each call that ended returned true or false
+-- A recording: its opening keys and its final keys increase. Its calls are a history with moments below 2^63, and each
+-- call that ended returned true or false.
 pub record IsRecording (c : Recording) : Type 0 where
   pub opening : IsStrictlyIncreasing c.opening
   pub calls : IsHistory all_threads c.calls
@@ -33,17 +34,17 @@ pub record IsRecording (c : Recording) : Type 0 where
   pub before : All IsBefore c.calls
   pub keys : IsStrictlyIncreasing c.keys
 
--- ---- the text of a recording
+-- ---- The text of a recording
 
--- the first line of the text
+-- The first line of the text.
 abbrev pub title : List ℕ
 title = codes "listset-calls 1"
 
--- the mark of a missing end or reply
+-- The mark in place of a missing end or reply.
 abbrev pub dash : List ℕ
 dash = codes "-"
 
--- the end and the reply of a call, two marks if the call is pending
+-- Returns the fields with the end and the reply of a call. A pending call has two marks instead.
 abbrev pub end_pieces : Option (ℕ × Reply) → List (List ℕ)
 end_pieces None = dash ∷ dash ∷ []
 end_pieces (Some end) = decimal end.0 ∷ reply_text end.1 ∷ []
@@ -57,13 +58,13 @@ call_line x = line_of (call_pieces x)
 abbrev pub key_line : ℕ → List ℕ
 key_line key = number_line (codes "key") key
 
--- the last line of the text
+-- Returns the last line of the text.
 abbrev pub end_line : Bool → List ℕ
 end_line cut_off = if cut_off then codes "cut" else codes "end"
 
 abbrev pub lines : Recording → List (List ℕ)
 lines c = title ∷ opening_lines c.opening ++ map call_line c.calls ++ map key_line c.keys ++ end_line c.cut_off ∷ []
 
--- [Recording text]: the lines of a recording, each with a newline
+-- [Recording text]: the lines of a recording, each with a newline.
 abbrev pub recording_text : Recording → List ℕ
 recording_text c = text_of (lines c)

@@ -1,5 +1,5 @@
-//! Reads the line of a call that has ended in one pass. Most lines of a long recording are such lines. For any other line, and for an error, the
-//! result is `None`, and the line is read by the kinds of lines.
+//! A fast path for the lines of completed calls, which are most lines of a long recording. It reads such a line in one
+//! pass. For any other line, and for an error, the result is `None`, and the line is read in the general way.
 
 ghost use Rattle.std.specs.Prelude.{◌≡◌, ◌≤◌, ◌++◌, ◌∷◌, IfSome, Ok, true, codes};
 ghost use Rattle.std.specs.Fmt.{decimal};
@@ -19,7 +19,8 @@ use lset_words::{Key, Reply};
 /// The largest value to which a digit can be appended without overflow: 10 * value + 9 is still a moment.
 const LAST_WITH_A_DIGIT: u64 = 922_337_203_685_477_579;
 
-/// Returns the number before the first space, and the bytes after the space. Returns `None` also for the last eight moments.
+/// Returns the number before the first space, and the bytes after the space. Also returns `None` for the last eight
+/// moments.
 fn digits_before(text: &[u8]) -> Option<(u64, &[u8])>
     ensures { IfSome result (λ p. (text.now ≡ decimal p.0 ++ 32 ∷ p.1.now) × (p.0 ≤ LAST_MOMENT)) }
 {
@@ -68,7 +69,7 @@ fn moment_before(text: &[u8]) -> Option<(u64, &[u8])>
     Some((value, rest))
 }
 
-/// Returns the word of a call before the first space, and the bytes after the space.
+/// Returns the name of a call before the first space, and the bytes after the space.
 fn word_before(text: &[u8]) -> Option<(CallWord, &[u8])>
     ensures { IfSome result (λ p. (text.now ≡ call_word_text p.0 ++ 32 ∷ p.1.now) × HasWord One p.0) }
 {
@@ -91,7 +92,7 @@ fn word_before(text: &[u8]) -> Option<(CallWord, &[u8])>
     }
 }
 
-/// Returns the reply true or false, if the text is its word.
+/// Returns the reply `true` or `false`, if the text spells it.
 fn reply_in(text: &[u8]) -> Option<Reply>
     ensures { IfSome result (λ reply. (text.now ≡ reply_text reply) × (is_truth reply ≡ true)) }
 {
@@ -102,7 +103,7 @@ fn reply_in(text: &[u8]) -> Option<Reply>
     }
 }
 
-/// Returns the bytes after the first word of a call's line.
+/// Returns the bytes after the first field, `call`, of a call's line.
 fn behind_call(line: &[u8]) -> Option<&[u8]>
     ensures { IfSome result (λ rest. line.now ≡ codes "call " ++ rest.now) }
 {
@@ -112,7 +113,7 @@ fn behind_call(line: &[u8]) -> Option<&[u8]>
     }
 }
 
-/// Returns the call of a line in a section that can have calls, if the call has ended. `None` says nothing about the line.
+/// Reads the line of a completed call, in a section that allows calls. `None` does not mean that the line is wrong.
 pub(crate) fn quick_call(line: &[u8]) -> Option<StreamCall>
     ensures { IfSome result (λ call. (section : Section) → takes_calls section ≡ true
         → line_in One Cause.Line (kinds section) line.now ≡ Ok (Call call)) }

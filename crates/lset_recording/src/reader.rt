@@ -13,7 +13,7 @@ use lset_text::{Cause, LineFault};
 use memchr::memchr;
 use std::alloc::Global;
 
-/// Returns the bytes before the first newline, and the bytes after it. `None` if there is no newline.
+/// Returns the bytes before the first newline and the bytes after it, or `None` if there is no newline.
 fn next_line(bytes: &[u8]) -> Option<(&[u8], &[u8])>
     ensures { MatchOption result (Lacks 10 bytes.now) (λ p. (bytes.now ≡ p.0.now ++ 10 ∷ p.1.now) × Lacks 10 p.0.now) }
 {
@@ -28,14 +28,14 @@ fn next_line(bytes: &[u8]) -> Option<(&[u8], &[u8])>
 pub struct RecordingReader {
     judging: Judging,
     line: ArrayVec<u8, LONGEST_LINE>,
-    // whether the line has more bytes than that
+    // Whether the current line is too long to be stored.
     is_long: bool,
-    // the error that `feed` has returned
+    // The error that `feed` has returned.
     failed: Option<LineFault>,
 }
 
 impl RecordingReader {
-    /// Returns a reader that has read nothing yet. Does not allocate.
+    /// Returns a reader that has not read anything yet. Does not allocate.
     pub fn new(alloc: Global) -> RecordingReader
         ensures { IsRead [] result }
     {
@@ -53,14 +53,14 @@ impl RecordingReader {
         LineFault::at(self.judging.number(), cause)
     }
 
-    /// Whether no byte of a line is stored.
+    /// Returns whether no bytes of a line are stored.
     fn holds_none(&self) -> bool
         ensures { IsTrue result → (self.now.line.items ≡ []) × (self.now.is_long ≡ false) }
     {
         !self.is_long && self.line.as_slice().is_empty()
     }
 
-    /// Stores bytes of a line that has not ended.
+    /// Stores the first bytes of a line, or more bytes of it. The line has not ended yet.
     fn hold(&mut self, bytes: &[u8])
         requires { Lacks 10 bytes.now }
         ensures read { (before : List ℕ) → IsRead before self.old → IsRead (before ++ bytes.now) self.new }
@@ -72,7 +72,7 @@ impl RecordingReader {
         }
     }
 
-    /// Reads the stored line, which ends here.
+    /// Reads the stored line, which is complete.
     fn newline_in(&mut self) -> Result<(), LineFault>
         ensures taken { OnOk result ((bytes : List ℕ) → IsRead bytes self.old → IsRead (bytes ++ 10 ∷ []) self.new) }
         ensures refused { IfErr result (λ fault. (bytes : List ℕ) → IsRead bytes self.old → IsRefusedAt (bytes ++ 10 ∷ []) fault) }
@@ -90,7 +90,7 @@ impl RecordingReader {
         }
     }
 
-    /// Reads a line of which no byte is stored, and its newline, without a copy.
+    /// Reads a line and its newline without copying the line. The reader must not have stored any bytes of the line.
     fn whole_line_in(&mut self, line: &[u8]) -> Result<(), LineFault>
         requires lacks { Lacks 10 line.now }
         requires none { self.old.line.items ≡ [] }
@@ -106,7 +106,7 @@ impl RecordingReader {
         }
     }
 
-    /// Reads the rest of a line, and its newline.
+    /// Reads the rest of a line and its newline.
     fn line_in(&mut self, line: &[u8]) -> Result<(), LineFault>
         requires { Lacks 10 line.now }
         ensures taken { OnOk result ((bytes : List ℕ) → IsRead bytes self.old → IsRead (bytes ++ line.now ++ 10 ∷ []) self.new) }
@@ -121,7 +121,7 @@ impl RecordingReader {
         self.newline_in()
     }
 
-    /// Reads the next bytes, if the bytes before had no error.
+    /// Reads the next bytes. There has been no error so far.
     fn bytes_in(&mut self, piece: &[u8]) -> Result<(), LineFault>
         ensures taken { OnOk result ((bytes : List ℕ) → IsRead bytes self.old → IsRead (bytes ++ piece.now) self.new) }
         ensures refused { IfErr result (λ fault. (bytes : List ℕ) → IsRead bytes self.old → IsRefusedAt (bytes ++ piece.now) fault) }
@@ -138,12 +138,14 @@ impl RecordingReader {
         Ok(())
     }
 
-    /// Reads the next bytes of the text, and judges the calls whose lines end in them. Allocates; does not block.
+    /// Reads the next bytes of the text, and judges the calls whose lines end in these bytes. Allocates; does not
+    /// block.
     ///
     /// # Errors
     ///
-    /// The first error of the text, whatever comes after these bytes; `Cause::Memory` if an allocation fails. The newline of its line is in the
-    /// piece. After an error each further call of `feed`, and `finish`, return that error.
+    /// Returns the first error of the text, which does not depend on the bytes that follow, or `Cause::Memory` if an
+    /// allocation fails. The newline of the line that it names is in `piece`. After an error, each further call of
+    /// `feed` or `finish` returns the same error.
     #[tactic(auto, using(crate::proofs::ReadLaws::none_failed, crate::proofs::ReadLaws::one_failed))]
     pub fn feed(&mut self, piece: &[u8]) -> Result<(), LineFault>
         ensures taken { OnOk result ((bytes : List ℕ) → IsRead bytes self.old → IsRead (bytes ++ piece.now) self.new) }
@@ -164,7 +166,8 @@ impl RecordingReader {
         }
     }
 
-    /// Returns the answer on the text, if it ends here and has had no error.
+    /// Ends the text here and returns the answer on it, or the error if the text cannot end here. There must not have
+    /// been an error before.
     fn end(self) -> Result<RecordingAnswer, LineFault>
         ensures said { IfOk result (λ answer. (bytes : List ℕ) → IsRead bytes self
             → (c : Recording) × Says bytes (Ok c) × IsAnswered c answer) }
@@ -178,12 +181,13 @@ impl RecordingReader {
         self.judging.finish()
     }
 
-    /// Returns the verdict on the text, which ends here: whether some order explains its calls and leaves its final keys. If the recording was
-    /// cut off, any final keys count. Allocates; does not block.
+    /// Ends the text here, and returns the verdict on it: whether some order explains its calls and leaves its final
+    /// keys. If the recording was cut off, any final keys will do. Allocates; does not block.
     ///
     /// # Errors
     ///
-    /// The error of the text, if it cannot end here; `Cause::Memory` if an allocation fails; the error of `feed`, if it returned one.
+    /// Returns the error of the text if it cannot end here, `Cause::Memory` if an allocation fails, and the error of
+    /// `feed` if `feed` has returned one.
     #[tactic(auto, using(crate::proofs::ReadLaws::none_failed, crate::proofs::ReadLaws::one_failed))]
     pub fn finish(self) -> Result<RecordingAnswer, LineFault>
         ensures said { IfOk result (λ answer. (bytes : List ℕ) → IsRead bytes self
@@ -200,7 +204,7 @@ impl RecordingReader {
     }
 }
 
-/// A lemma: if bytes say a recording, they are its text. So a recording has one text.
+/// Lemma: if bytes are read as a recording, they are its text. So each recording has only one text.
 #[tactic(auto, using(crate::proofs::TextFound::text_found))]
 pub fn recordings_are_read()
     ensures { RecordingsAreRead }

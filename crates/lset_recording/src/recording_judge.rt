@@ -1,4 +1,4 @@
-//! The state after some lines: the judge of their calls, and their keys.
+//! The state of a reader after some lines: the judge of the calls, and the keys.
 
 ghost use Rattle.std.specs.Prelude.{◌≡◌, ◌≢◌, ◌+◌, ◌++◌, ◌∷◌, [], true, false, Ok, Err, None, Some, IfOk, IfErr, OnOk, OnErr, List, ℕ, is_some};
 ghost use Rattle.std.specs.List.Sorted.{IsStrictlyIncreasing};
@@ -16,23 +16,23 @@ use lset_judge::{Judge, StreamCall, StreamFault, Verdict};
 use lset_text::{Cause, LineFault, is_above};
 use std::alloc::{AllocError, Global};
 
-/// The number of the first line, the title.
+/// The number of the first line, which is the title.
 const FIRST_LINE: u64 = 1;
 
-/// The verdict on a recording, with its numbers of calls.
+/// The verdict on a recording, and how many calls it has.
 #[derive(Debug, Drop)]
 pub struct RecordingAnswer {
-    /// Whether some order explains its calls, and else why none does.
+    /// Whether some order explains the recording's calls and, if not, why.
     pub verdict: Verdict,
-    /// How many calls it has.
+    /// How many calls the recording has.
     pub calls: u64,
-    /// How many of them overlap another call that changes their key.
+    /// How many of the calls overlap another call that changes their key.
     pub overlapped: u64,
-    /// Whether it was cut off.
+    /// Whether the recording was cut off.
     pub cut_off: bool,
 }
 
-/// Returns the judge, or a judge without calls of a set that opens with these keys.
+/// Returns the judge, or creates one for a set that opens with these keys.
 #[tactic(auto, using(crate::proofs::NextCalls::opened))]
 fn or_opened(alloc: Global, judge: Option<Judge>, opening: &[u32]) -> Result<Judge, AllocError>
     requires { IsStrictlyIncreasing opening.now }
@@ -44,7 +44,7 @@ fn or_opened(alloc: Global, judge: Option<Judge>, opening: &[u32]) -> Result<Jud
     }
 }
 
-/// Returns the cause of the error in a call's line.
+/// Returns the cause to report for a call that cannot come next.
 fn cause_of_fault(fault: StreamFault) -> Cause
     ensures memory { result ≢ Cause.Memory → fault ≢ StreamFault.Memory }
     ensures other { result ≢ Cause.Memory → result ≡ Cause.History }
@@ -74,7 +74,7 @@ fn add_call(judge: &mut Judge, call: StreamCall) -> Result<(), Cause>
     }
 }
 
-/// Appends a key to increasing keys, if it is above them.
+/// Appends a key to increasing keys. Fails if the key is not above the last one.
 fn add_key(keys: &mut Vec<u32>, key: u32) -> Result<(), Cause>
     requires { IsStrictlyIncreasing keys.old.items }
     ensures increase { IsStrictlyIncreasing keys.new.items }
@@ -89,7 +89,7 @@ fn add_key(keys: &mut Vec<u32>, key: u32) -> Result<(), Cause>
     Ok(())
 }
 
-/// Stores a judge without calls. (A function of its own, so that a line needs no room for a judge.)
+/// Stores a judge without calls in `place`. This is a separate function so that lines need no stack space for a judge.
 fn create_judge(alloc: Global, opening: &[u32], place: &mut Option<Judge>) -> Result<(), AllocError>
     requires increase { IsStrictlyIncreasing opening.now }
     requires none { place.old ≡ None }
@@ -118,7 +118,7 @@ impl Judging {
         }
     }
 
-    /// Creates the judge from the opening keys, if there is none yet.
+    /// Creates the judge from the opening keys, unless there is one already.
     fn open(&mut self) -> Result<(), AllocError>
         ensures kept { OnOk result ((c : Recording) → IsKept c self.old → IsKept c self.new) }
         ensures ready { OnOk result (is_some self.new.judge ≡ true) }
@@ -151,7 +151,7 @@ impl Judging {
         Ok(())
     }
 
-    /// Adds a line to the recording so far.
+    /// Adds a line to the recording read so far.
     fn keep(&mut self, line: Line) -> Result<(), Cause>
         requires { IsFormed line }
         ensures kept { OnOk result ((s : SoFar) → IsJudging s self.old → Comes s.section line
@@ -193,7 +193,7 @@ impl Judging {
         self.number
     }
 
-    /// Reads a line, or returns the cause of its error.
+    /// Reads a line. If it has an error, returns the cause.
     pub(crate) fn read_line(&mut self, line: &[u8]) -> Result<(), Cause>
         ensures taken { OnOk result ((s : SoFar) → IsJudging s self.old
             → (t : SoFar) × IsTaken s line.now t × IsJudging t self.new × (self.new.number ≡ self.old.number + 1)) }
@@ -251,7 +251,7 @@ impl Judging {
         }
     }
 
-    /// Returns the answer on the text, if it ends here after a newline.
+    /// Returns the answer on the text, which ends here after a newline.
     pub(crate) fn finish(self) -> Result<RecordingAnswer, LineFault>
         ensures said { IfOk result (λ answer. (s : SoFar) → IsJudging s self
             → (ending self.number s [] ≡ Ok s.told) × IsAnswered s.told answer) }

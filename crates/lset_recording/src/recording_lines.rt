@@ -23,13 +23,13 @@ use lset_judge::{LAST_MOMENT, StreamCall};
 use lset_text::{Cause, Version, cut, long_number, number, read_call};
 use lset_words::{Key, Reply};
 
-/// The most bytes of a line, without its newline.
+/// The maximum length of a line in bytes, without its newline.
 pub const LONGEST_LINE: usize = 128;
 
 /// The first line, without its newline.
 const TITLE: &[u8] = b"listset-calls 1";
 
-/// A section of a text.
+/// A section of a recording.
 #[derive(Clone, Copy)]
 pub enum Section {
     Title,
@@ -39,7 +39,8 @@ pub enum Section {
     Done,
 }
 
-/// A line: the title, an opening key, a call, a final key, the end, or the mark of a recording that was cut off.
+/// A line of a recording: the title, an opening key, a call, a final key, the end, or the mark of a recording that was
+/// cut off.
 #[derive(Clone, Copy)]
 pub enum Line {
     Title,
@@ -90,7 +91,7 @@ impl Section {
     }
 }
 
-/// The pieces of a call's line after its first word, up to its begin.
+/// The fields of a call's line after the first one, up to the moment at which the call begins.
 #[derive(Clone, Copy)]
 struct CallPieces<'a> {
     thread: &'a [u8],
@@ -170,7 +171,7 @@ fn ended_call(pieces: CallPieces<'_>, end: &[u8], reply: &[u8]) -> Result<Line, 
     }
 }
 
-/// Returns the call of a line, from its thread and the bytes after it.
+/// Reads the call of a line, given the thread's field and the bytes after it.
 fn call(thread: &[u8], rest: &[u8]) -> Result<Line, Cause>
     ensures { result ≡ first_of One Cause.Line call_kinds (codes "call" ∷ thread.now ∷ cut_at 32 rest.now) }
 {
@@ -239,7 +240,7 @@ fn line_in(section: Section, line: &[u8]) -> Result<Line, Cause>
     call(second, rest)
 }
 
-/// What the first line says.
+/// Reads the first line, which must be the title.
 fn title_told(line: &[u8]) -> Result<Line, Cause>
     ensures { result ≡ title_told line.now }
 {
@@ -250,11 +251,11 @@ fn title_told(line: &[u8]) -> Result<Line, Cause>
     }
 }
 
-/// Returns what a line, without its newline, says in a section. Does not allocate.
+/// Reads a line, given without its newline, in a section. Does not allocate.
 ///
 /// # Errors
 ///
-/// The cause of the error, if the line cannot come in the section.
+/// Returns the cause of the error if the line is not allowed in the section.
 pub fn line_told(section: Section, line: &[u8]) -> Result<Line, Cause>
     ensures { result ≡ line_told section line.now }
 {

@@ -20,7 +20,7 @@ use Rattle.lset_recording.specs.Reading.{kinds, from_calls, takes_calls}
 use Rattle.lset_recording.proofs.LineKinds.{IsMoment, IsLineIn, kinds_known, line_pieces}
 use Rattle.lset_recording.proofs.quick.quick_call.Goals as goal
 
--- the line of a call that has ended
+-- The line of a call that has ended.
 module _ (n k b e : ℕ) (w : CallWord) (r : Reply) where
   abbrev pub ended_call : StreamCall
   ended_call = record { thread = n; call = with_key w (record { 0 = k }); begun = b; ended = Some (e, r) }
