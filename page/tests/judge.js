@@ -71,12 +71,12 @@ function checkByHand(ask) {
   const answer = new OwnAnswer(exerciseOf(report, "replies"));
   const [first, contains, remove, second] = answer.exercise.calls;
   [[first, 10], [contains, 39], [remove, 23], [second, 36]].forEach(([call, at]) => answer.place(call, at));
-  [first, remove, second].forEach((call) => answer.say(call, "true"));
+  [first, remove, second].forEach((call) => answer.setReply(call, "true"));
   const says = () => verdictOn(ask, answer).says;
   check(`a reply is missing: ${says()}`, says() === "Still missing: the reply of contains(5) of A.");
-  answer.say(contains, "true");
+  answer.setReply(contains, "true");
   check(`the wrong reply: ${says()}`, says().startsWith("contains(5) of A does not answer true in this run."));
-  answer.say(contains, "false");
+  answer.setReply(contains, "false");
   const set = "after add(5) of B in your order the set is {5}, and it would answer true.";
   const wrong = `contains(5) of A cannot answer false there: ${set}`;
   check(`the wrong moment: ${says()}`, says() === wrong && verdictOn(ask, answer).clash === 1);

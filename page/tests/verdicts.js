@@ -590,7 +590,7 @@ function placedAnswer(exercise) {
   const answer = new OwnAnswer(exercise);
   for (const call of exercise.calls.filter(({ ended }) => draw(ended === null ? 2 : 30) > 0)) {
     answer.place(call, call.begun + draw((call.ended ?? exercise.last) - call.begun + 1));
-    answer.say(call, draw(12) === 0 ? pick(["true", "false"]) : call.reply);
+    answer.setReply(call, draw(12) === 0 ? pick(["true", "false"]) : call.reply);
   }
   return answer;
 }

@@ -11,7 +11,7 @@ import { HISTORY_LEFT } from "../draw/history.js";
 import { drawListing } from "../draw/listing.js";
 import { byId, scrollToLine, setAble, setHtml } from "../page/dom.js";
 import { works } from "../page/kept.js";
-import { askNow, hiddenOutcomes, isJudging, now, show, tell } from "../page/now.js";
+import { askNow, hiddenOutcomes, isJudging, now, show, say } from "../page/now.js";
 import { goByHand, isPlaying } from "../page/play.js";
 import { addressOfAssignment, addressOfCode, titleIn } from "../page/visit.js";
 import { examples, openTask, scrollToEvent } from "../page/work.js";
@@ -44,7 +44,7 @@ export function showRun() {
   const run = new ShownRun(trace, state, count);
   const figure = figureOfTask(run);
   figure.box.classList.toggle("judged", isJudging());
-  figure.part("tale").setAttribute("aria-live", isPlaying() ? "off" : "polite");
+  figure.part("said").setAttribute("aria-live", isPlaying() ? "off" : "polite");
   figure.showRun(run, moment, now.prefs.hides);
   setHtml(byId("order"), drawOrder(trace, count, now.prefs.hides));
   showThreads(moment.event);
@@ -82,7 +82,7 @@ function showTable(moment) {
 
 function showListing(moment) {
   if (!byId("listing-box").open) return;
-  if (more.CODE === null) return void loadMore().then(show, ({ message }) => tell(message));
+  if (more.CODE === null) return void loadMore().then(show, ({ message }) => say(message));
   const box = byId("listing");
   box.innerHTML = drawListing(moment);
   const line = box.querySelector(".moved") ?? box.querySelector(".here");
@@ -96,7 +96,7 @@ function pressPicture({ target, clientX }) {
     const { first, step } = bench.figure.scale;
     goByHand(first - 1 + Math.ceil((clientX - calls.getBoundingClientRect().left - HISTORY_LEFT) / step));
   }
-  if (said !== "") tell(escaped(said));
+  if (said !== "") say(escaped(said));
 }
 
 export function listenToBench() {

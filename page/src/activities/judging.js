@@ -2,7 +2,7 @@
 import { CLASSICS } from "../../made/classics.js";
 import { drawJudged, drawOwnOrder, judgeScale, momentOfReport } from "../draw/judged_bars.js";
 import { byId, redraw } from "../page/dom.js";
-import { askNow, dispatch, exampleShown, held, isJudging, now, tell } from "../page/now.js";
+import { askNow, dispatch, exampleShown, held, isJudging, now, say } from "../page/now.js";
 import { addressOf } from "../run/address.js";
 import { askList } from "../run/broken.js";
 import { exerciseOf, LEVELS, MOST_JUDGED, OwnAnswer, repliesOf, verdictOn, wordOfAnswer } from "../run/judged.js";
@@ -32,7 +32,7 @@ class Judging {
     const isBroken = level === "claim" && broken?.status === 0 && Math.random() < 0.5;
     const report = isBroken ? broken : askList(askNow, "listset_replay", lacks, text);
     if (report.status === 0) this.take(exerciseOf(report.text, lacks === null ? level : "claim", lacks === null && !isBroken));
-    else tell(`This run cannot be judged: ${escaped(report.text.trim())}.`);
+    else say(`This run cannot be judged: ${escaped(report.text.trim())}.`);
   }
 
   take(exercise) {
@@ -119,7 +119,7 @@ class Judging {
     choice.append(new Option("?", ""), ...repliesOf(this.exercise, call).map((reply) => new Option(reply, reply)));
     choice.value = this.answer.replies.get(call.id) ?? "";
     choice.onchange = () => {
-      this.answer.say(call, choice.value === "" ? undefined : choice.value);
+      this.answer.setReply(call, choice.value === "" ? undefined : choice.value);
       this.changed();
     };
     const box = document.createElement("label");
@@ -167,11 +167,11 @@ function hintOfRun() {
 
 export function beginJudging() {
   const { trace } = now.run;
-  if (held.engine === null) return tell("The replayer does not run in this browser: nothing can be judged.");
-  if (!now.run.isRun || trace.refused !== null) return tell("A run with a refused event cannot be judged: delete the red line of the schedule first.");
-  if (trace.calls.length === 0) return tell("There is no call to judge yet.");
-  if (trace.total > MOST_JUDGED) return tell(`A run of at most ${MOST_JUDGED} events can be judged; this one has ${trace.total}.`);
-  tell("");
+  if (held.engine === null) return say("The replayer does not run in this browser: nothing can be judged.");
+  if (!now.run.isRun || trace.refused !== null) return say("A run with a refused event cannot be judged: delete the red line of the schedule first.");
+  if (trace.calls.length === 0) return say("There is no call to judge yet.");
+  if (trace.total > MOST_JUDGED) return say(`A run of at most ${MOST_JUDGED} events can be judged; this one has ${trace.total}.`);
+  say("");
   judging.begin(homeworkOf(now.place, now.task) === null ? judgePart("level").value : "replies");
   byId("next").focus(); // the arrows step; on the level they would change it
 }

@@ -52,7 +52,7 @@ export function scaleOf(trace, count, width, hides = false, isLow = false) {
   const labels = layLabels(trace.threads, shownIn(trace, first, last), itemOf, { start: HISTORY_LEFT - 6, edge: width, mostRows });
   const above = isLow && trace.threads <= 6 ? 0 : ROW_HEIGHT * (isWhole ? labels.rows : mostRows);
   const lane = above + bar + below;
-  const now = hides ? count : Infinity; // the last event of which something is told
+  const now = hides ? count : Infinity; // the last event that is shown
   const height = 6 + trace.threads * lane + (isWhole && labels.areWhole ? 0 : ROW_HEIGHT);
   const y = (thread) => 2 + thread * lane + above + bar / 2;
   const { places, areWhole } = labels;
@@ -95,9 +95,9 @@ function drawLabel(call, scale, left, top) {
   const place = scale.labels.get(call.id);
   const [indent, base] = scale.isIn ? [6, top + 14] : [0, top - 4];
   if (place === null) return label({ class: "call", x: left + indent, y: base }, signOf(call));
-  const isTold = call.reply !== null && call.ended <= scale.now;
+  const hasReply = call.reply !== null && call.ended <= scale.now;
   const done = call.ended !== null && call.ended <= scale.count;
-  const reply = isTold ? tag("tspan", { class: done ? "reply" : "reply later" }, ` ${call.reply}`) : "";
+  const reply = hasReply ? tag("tspan", { class: done ? "reply" : "reply later" }, ` ${call.reply}`) : "";
   return tag("text", { class: "call", x: place.x + indent, y: base - ROW_HEIGHT * place.row }, callText(call), reply);
 }
 

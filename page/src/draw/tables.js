@@ -107,9 +107,9 @@ function nameOfContents({ lacks }) {
 const BY_POINTS = "the set by the linearization points of the calls";
 
 export function drawContents(trace, scale) {
-  const told = contentsIn(trace, scale.first, scale.last).filter((part) => part.from <= Math.max(scale.now, scale.first));
-  const parts = told.map((part) => drawContent(part, scale));
-  const now = told.findLast((part) => part.from <= Math.max(scale.count, scale.first));
+  const shown = contentsIn(trace, scale.first, scale.last).filter((part) => part.from <= Math.max(scale.now, scale.first));
+  const parts = shown.map((part) => drawContent(part, scale));
+  const now = shown.findLast((part) => part.from <= Math.max(scale.count, scale.first));
   const x = Math.min(Math.max(scale.x(scale.count), HISTORY_LEFT + 12), scale.width - 44);
   const number = scale.count > 0 ? label({ class: "number", x, y: 42 }, `event ${scale.count}`) : "";
   const what = trace.lacks === null ? "the set" : BY_POINTS;

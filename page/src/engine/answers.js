@@ -95,8 +95,8 @@ function orderIn([fault, ...values], keys) {
 // after a colon; null if it says nothing, or there is no cause.
 export function sentenceOn(ask, cause, ...kinds) {
   if (!cause) return null;
-  const told = ask("listset_faults").text;
-  const parts = kinds.map((kind) => told.split(`, in ${kind};`)[1]?.split("\n\n")[0] ?? "");
+  const causes = ask("listset_faults").text;
+  const parts = kinds.map((kind) => causes.split(`, in ${kind};`)[1]?.split("\n\n")[0] ?? "");
   const [, said] = new RegExp(`^  ${cause} +((?:.|\n {12})+)`, "m").exec(parts.join("\n")) ?? [];
   return said === undefined ? null : said[0].toLowerCase() + said.slice(1).replace(/\n +/g, " ").replace(/\.( .*)?$/, "");
 }

@@ -15,7 +15,7 @@ const isSlide = ({ view }) => view === "lecture";
 const isFree = ({ isClaim }) => !isClaim; // of a claim there is no run to step through
 
 export const SEEN = {
-  ...Object.fromEntries(["top", "told", "order"].map((id) => [id, isFull])),
+  ...Object.fromEntries(["top", "said", "order"].map((id) => [id, isFull])),
   leave: ({ view }) => view !== null && view !== "embed",
   scene: ({ screen }) => screen === "scene",
   bench: ({ screen }) => screen !== "scene",

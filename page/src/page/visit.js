@@ -8,7 +8,7 @@ import { startOfLacking } from "../run/broken.js";
 import { escaped, inLetters } from "../run/markup.js";
 import { eventsAsked } from "../run/schedule_text.js";
 import { HERE, keepUnder, keepWork } from "./kept.js";
-import { now, tell } from "./now.js";
+import { now, say } from "./now.js";
 import { entryOf } from "./reducer.js";
 
 const MOMENT = 400; // milliseconds: the bar follows once nothing has moved for so long, since browsers refuse quick changes of it
@@ -50,11 +50,11 @@ export const linkTo = (address) => location.href.replace(/#.*$/, "") + address;
 
 export async function copyLink() {
   const address = now.run.isRun ? addressHere() : null;
-  if (address === null) return tell("This schedule has no link: it is refused, or too long for an address. Save it as a file.");
+  if (address === null) return say("This schedule has no link: it is refused, or too long for an address. Save it as a file.");
   const link = linkTo(address);
   const shown = `<code>${escaped(link)}</code>${warningOf(link)}`;
-  tell(`Copy this link: ${shown}`);
-  if (await copied(link)) tell(`The link is copied: ${shown}`);
+  say(`Copy this link: ${shown}`);
+  if (await copied(link)) say(`The link is copied: ${shown}`);
 }
 
 // Copies a text. Returns whether the browser allowed it.

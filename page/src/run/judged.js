@@ -55,7 +55,7 @@ export class OwnAnswer {
     this.points.delete(call.id);
   }
 
-  say(call, reply) {
+  setReply(call, reply) {
     this.replies.set(call.id, reply);
   }
 
@@ -146,7 +146,7 @@ export function answerOfWord(exercise, word) {
     if (call === undefined || answer.points.has(call.id)) return null;
     at = Math.max(at, call.begun);
     answer.points.set(call.id, { at, turn: answer.turn++ });
-    answer.say(call, reply);
+    answer.setReply(call, reply);
   }
   return answer;
 }

@@ -118,7 +118,7 @@ const HAND = ({ student, number }, count) => `<section class="panel hand" id="ha
   <label>Student number <input id="hand-number" inputmode="numeric" value="${escaped(number)}"></label>
   <button data-do="copy">Copy the text</button><button data-do="save">Save as a file</button>
   <button class="quiet" data-do="afresh">Start afresh on this computer</button></div>
-  <p class="small" id="scene-told" role="status">${count === 0 ? "No task is solved yet. Solved tasks are added to this text, and your teacher’s page runs each of them again." : `The text has your ${counted(count, "solution")}. Your teacher’s page runs ${count === 1 ? "it" : "each of them"} again.`}</p>
+  <p class="small" id="scene-said" role="status">${count === 0 ? "No task is solved yet. Solved tasks are added to this text, and your teacher’s page runs each of them again." : `The text has your ${counted(count, "solution")}. Your teacher’s page runs ${count === 1 ? "it" : "each of them"} again.`}</p>
   <details><summary>See the text</summary><pre id="hand-text"></pre></details></section>`;
 
 function html(place) {
@@ -154,7 +154,7 @@ const fill = () => (part("#hand-text").textContent = textNow());
 
 function isNamed() {
   if (part("#hand-student").value.trim() !== "") return true;
-  part("#scene-told").textContent = "Please enter your name first.";
+  part("#scene-said").textContent = "Please enter your name first.";
   part("#hand-student").focus();
   return false;
 }
@@ -170,7 +170,7 @@ function fileName() {
 function save() {
   if (!isNamed()) return;
   saveText(fileName(), textNow());
-  part("#scene-told").textContent = `Saved: ${fileName()}. Hand in this file.`;
+  part("#scene-said").textContent = `Saved: ${fileName()}. Hand in this file.`;
 }
 
 export const assignmentView = {

@@ -8,7 +8,7 @@ import { departureOf, isTaskDone, NO_TASK } from "../run/broken.js";
 import { wayOn } from "./assignment.js";
 import { isBrokenOnce, isNamed, keepBrokenLine, keepNamed } from "./progress.js";
 import { runOfText } from "./live_run.js";
-import { drawHintAndOn, drawLedger, onStage, foot, head, hintAndOn, isOddRun, LACKS_ONE, numberOfKey, optionButtons, pressThread, scene, setScene, takeFreeFigure, talk } from "./scene.js";
+import { drawHintAndOn, drawLedger, onStage, foot, head, hintAndOn, isOddRun, LACKS_ONE, numberOfKey, optionButtons, pressThread, scene, setScene, takeFreeFigure, showPrompt } from "./scene.js";
 
 const HINTS = 3;
 const levelOf = ({ id }) => levelOfNumber(id);
@@ -96,7 +96,7 @@ function wonHtml({ note, wrong }) {
 function draw(state) {
   if (state.stage === "") return;
   const isDone = state.stage === "done";
-  if (!isDone || !scene.figure.isBusy) talk(isDone ? wonHtml(state) : taskHtml(state));
+  if (!isDone || !scene.figure.isBusy) showPrompt(isDone ? wonHtml(state) : taskHtml(state));
   drawHintAndOn(isDone, state.hints === 0 ? "Hint" : state.hints < HINTS ? "Another hint" : "Start over");
   if (isDone && isNamed(nameNow())) strike();
 }

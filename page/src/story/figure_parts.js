@@ -8,7 +8,7 @@ import { momentAt } from "../run/sentences.js";
 import { scrollToLine, setHtml } from "../page/dom.js";
 import { drawOwnCode } from "./code.js";
 import { barEnds, scrollToLane, showDock, showScrub, showStrip } from "./dock.js";
-import { taleOf } from "./tale.js";
+import { saidOf } from "./said.js";
 
 export const NARROW = "(max-width: 760px)";
 const ROOMY = "(min-width: 1500px)"; // beside the list the code has room too
@@ -22,9 +22,9 @@ const codeBox = (spec) => `<details class="codebox" ${opensCode(spec) ? "open" :
     <p class="small hint">${spec.list === "lock-free" && !spec.isPath ? CAS : LETTERS}</p></details>`;
 
 export function frameOf({ box, spec }) {
-  const talk = spec.talk === false ? "" : '<div id="talk" class="talk" aria-live="polite"></div>';
+  const prompt = spec.prompt === false ? "" : '<div id="prompt" class="prompt" aria-live="polite"></div>';
   box.innerHTML = `<div class="stage"><div class="list" tabindex="0" role="group" aria-label="the list"></div>
-    <p class="tale" aria-live="polite"></p><div class="strip"></div><div class="scrub"></div>${talk}<div class="dock"></div></div>
+    <p class="said" aria-live="polite"></p><div class="strip"></div><div class="scrub"></div>${prompt}<div class="dock"></div></div>
     ${spec.code === false ? "" : codeBox(spec)}`;
   box.classList.add("fig");
   box.classList.toggle("plain", spec.plain === true);
@@ -36,9 +36,8 @@ export function frameOf({ box, spec }) {
 export function drawFigure(figure, moment, isNear) {
   const { run, spec, box } = figure;
   placeTheList(figure, moment, isNear);
-  const tale = figure.told ?? taleHere(figure, moment);
-  const words = tale === "" ? (spec.tale ?? "") : tale;
-  if (figure.part("tale").innerHTML !== words) figure.part("tale").innerHTML = words;
+  const said = figure.said ?? saidHere(figure, moment);
+  if (figure.part("said").innerHTML !== said) figure.part("said").innerHTML = said;
   box.classList.toggle("at-end", run.count === run.trace.total);
   box.classList.toggle("shut", !figure.canStep);
   showCode(figure, moment);
@@ -59,13 +58,13 @@ function scrollSoon(figure, moved) {
   });
 }
 
-function taleHere({ run, spec }, moment) {
+function saidHere({ run, spec }, moment) {
   if (spec.sentence) return spec.sentence(moment);
-  if (moment.event === null) return "";
+  if (moment.event === null) return spec.says ?? "";
   const isOfLock = spec.plain === true && moment.event.word === "list.lock";
-  if (!isOfLock || moment.event.answer === undefined) return taleOf(moment, spec);
+  if (!isOfLock || moment.event.answer === undefined) return saidOf(moment, spec);
   const { answer, call } = moment.event;
-  const before = taleOf(momentAt(run.state, run.count - 1), spec);
+  const before = saidOf(momentAt(run.state, run.count - 1), spec);
   run.state.moveTo(run.count);
   return `${before} <b>${callText(call)} returns ${answer}.</b>`;
 }
@@ -121,7 +120,7 @@ function showCode(figure, { state, event, before }) {
   const box = figure.part("lines");
   if (box === null) return;
   const { spec, run, canStep, isGuess } = figure;
-  const { list, plain, fresh, struck, hides, instead } = Object.assign({}, spec, isGuess ? spec.hidden : {}); // some is not told before it
+  const { list, plain, fresh, struck, hides, instead } = Object.assign({}, spec, isGuess ? spec.hidden : {}); // some is shown only after it
   const isAble = (thread) => !run.isIdle(thread) || figure.left(thread).length > 0;
   if (!isAble(figure.active)) figure.active = figure.shown.find(isAble) ?? figure.active;
   const { active } = figure;

@@ -27,7 +27,7 @@ export function assignmentOfLink(link) {
 }
 
 // Returns the rows of the table, one for each student. A file is { name, text }. Without an `assignment` the columns are all tasks that were handed in.
-export async function checkAll(files, assignment, tellProgress = (_at, _of) => {}) {
+export async function checkAll(files, assignment, sayProgress = (_at, _of) => {}) {
   const found = files.flatMap(({ name, text }) => textsIn(text).map((one) => ({ ...one, file: name })));
   const without = files.filter(({ name }) => !found.some(({ file }) => file === name));
   const empty = without.map(({ name, text }) => (text.startsWith("PK\u0003\u0004") ? `${name} (unpack it first)` : name));
@@ -36,7 +36,7 @@ export async function checkAll(files, assignment, tellProgress = (_at, _of) => {
   const students = new Map();
   for (const [index, text] of handed.entries()) {
     takeText(students, text, courses, assignment);
-    tellProgress(index + 1, handed.length);
+    sayProgress(index + 1, handed.length);
     if (index % 3 === 2) await new Promise((done) => setTimeout(done));
   }
   const rows = [...students.values()].sort((one, other) => one.name.localeCompare(other.name));
@@ -111,8 +111,8 @@ function notesOnNames(row, rows) {
 // Returns the steps of a schedule, one on each line, so that differently grouped texts compare equal.
 const oneByOne = (schedule) => schedule.replace(/^go (\d+) (\d+)$/gm, (_, thread, count) => Array(Number(count)).fill(`go ${thread}`).join("\n"));
 
-// Of each row with whom it shares schedules, step by step: { count, of, isTold, rows }. Schedules that many have are no sign, and named; one
-// other alone may be chance, and is not told where there could be more.
+// Of each row with whom it shares schedules, step by step: { count, of, isListed, rows }. Schedules that many have are no sign, and named; one
+// other alone can be chance, and is listed only if no second one could be shared.
 function noteCopies(rows) {
   const byText = new Map();
   const own = new Map(rows.map((row) => [row, [...row.solved].filter(([, schedule]) => schedule !== null).map((entry) => entry.join("\n"))]));
@@ -124,12 +124,12 @@ function noteCopies(rows) {
     const rare = keys.filter(isRare);
     for (const other of new Set(rare.flatMap((key) => byText.get(key)).filter((one) => one !== row))) {
       const shared = keys.filter((key) => own.get(other).includes(key));
-      const isTold = shared.filter(isRare).length >= Math.min(2, rare.length);
-      const group = row.copies.find((one) => one.count === shared.length && one.isTold === isTold);
-      if (group === undefined) row.copies.push({ count: shared.length, of: keys.length, isTold, rows: [other] });
+      const isListed = shared.filter(isRare).length >= Math.min(2, rare.length);
+      const group = row.copies.find((one) => one.count === shared.length && one.isListed === isListed);
+      if (group === undefined) row.copies.push({ count: shared.length, of: keys.length, isListed, rows: [other] });
       else group.rows.push(other);
     }
-    row.copies.sort((one, other) => Number(other.isTold) - Number(one.isTold) || other.count - one.count);
+    row.copies.sort((one, other) => Number(other.isListed) - Number(one.isListed) || other.count - one.count);
   }
   return [...new Set([...byText.keys()].filter((key) => !isRare(key)).map((key) => key.split("\n")[0]))];
 }
@@ -137,7 +137,7 @@ function noteCopies(rows) {
 // Returns "3 of 3 with David Maier, Vera Peters". With `all`, also pairs that the page does not report (for the spreadsheet).
 export function copiesText({ copies }, all = false) {
   const nameOf = ({ name, number }) => (number === "" ? name : `${name} (${number})`);
-  const groups = copies.filter(({ isTold }) => all || isTold);
+  const groups = copies.filter(({ isListed }) => all || isListed);
   return groups.map(({ count, of, rows }) => `${count} of ${of} with ${rows.map(nameOf).join(", ")}`).join("; ");
 }
 

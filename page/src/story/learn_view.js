@@ -7,7 +7,7 @@ import { escaped, inLetters, tag } from "../run/markup.js";
 import { wayOn } from "./assignment.js";
 import { learning } from "./learning.js";
 import { linesOf, runOfText } from "./live_run.js";
-import { drawHintAndOn, onStage, foot, head, hintAndOn, LACKS_ONE, LIST_WORDS, part, pressThread, scene, setScene, takeFreeFigure, talk } from "./scene.js";
+import { drawHintAndOn, onStage, foot, head, hintAndOn, LACKS_ONE, LIST_WORDS, part, pressThread, scene, setScene, takeFreeFigure, showPrompt } from "./scene.js";
 
 const HINT = 1; // of `hints`, in the scene: the hint is shown; the answer is shown
 const ANSWER = 2;
@@ -103,7 +103,7 @@ function draw(state) {
   if (state.stage === "" || shown.verdict === null) return;
   const isDone = state.stage === "done";
   setHtml(part("#goal"), conditionsHtml());
-  talk(isDone ? solvedHtml() : taskHtml(state));
+  showPrompt(isDone ? solvedHtml() : taskHtml(state));
   const { lesson } = learning.panel;
   const last = lesson.answer.length > 0 ? ANSWER : HINT;
   drawHintAndOn(isDone, lesson.hint !== "" && state.hints < HINT ? "Hint" : state.hints < last ? "Show an answer" : "Start over");

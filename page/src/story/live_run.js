@@ -5,7 +5,7 @@ import { openingIn, scheduleOfDraft, scheduleOfTrace, scheduleText } from "../ru
 import { isFailed, isLock } from "../run/outcomes.js";
 import { keysInChain, promisedKeys, State } from "../run/state.js";
 import { isTrace, Trace } from "../run/trace.js";
-import { joinedRows, phaseAt } from "./tale.js";
+import { joinedRows, phaseAt } from "./presses.js";
 
 const MOST_STEPS = 80; // of one call, in the short lists of the story
 export const linesOf = (schedule) => schedule.split("\n").filter((line) => /^(begin|go) /.test(line));

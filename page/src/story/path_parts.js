@@ -33,7 +33,7 @@ export function welcome(done) {
 
 const asked = (text, note = "") => `<p class="ask">${text}</p>${note === "" ? "" : `<p class="again">${note}</p>`}`;
 
-export function talkOf(screen, { stage, chosen, note }, figure) {
+export function promptOf(screen, { stage, chosen, note }, figure) {
   const reply = replyTo(screen.options, chosen, stage !== "done");
   if (stage === "guess") return asked(screen.ask) + optionButtons(screen.options.map(({ text }) => text));
   const ledger = screen.ledger ? drawLedger(figure.run) : "";

@@ -28,11 +28,11 @@ export const isScene = ({ place }) => place.screen === "scene";
 export const setScene = (given) => dispatch("scene", given);
 
 export async function copyText(text, words) {
-  part("#scene-told").textContent = ((await copied(text)) ? words : `Copy this by hand: ${text}`) + warningOf(text);
+  part("#scene-said").textContent = ((await copied(text)) ? words : `Copy this by hand: ${text}`) + warningOf(text);
 }
 
 // Shows text on the stage, above the threads' buttons. Its space is reserved, so nothing scrolls.
-export const talk = (html) => setHtml(part("#talk"), html);
+export const showPrompt = (html) => setHtml(part("#prompt"), html);
 
 export function takeFigure(figure) {
   scene.figure?.end();
@@ -120,9 +120,9 @@ const lowered = (text) => text[0].toLowerCase() + text.slice(1);
 export function replyTo(options, chosen, isToCome) {
   const option = options?.[chosen];
   if (option === undefined) return "";
-  const { text, say, right = false } = option;
+  const { text, says, right = false } = option;
   const said = `You said: ${lowered(text)}${text.endsWith("?") ? "" : "."}`;
-  return `<p class="you ${right ? "right" : "wrong"}"><b>${said}</b> ${say || (right && isToCome ? "Let us see." : "")}</p>`;
+  return `<p class="you ${right ? "right" : "wrong"}"><b>${said}</b> ${says || (right && isToCome ? "Let us see." : "")}</p>`;
 }
 
 export function drawLedger(run) {
@@ -151,7 +151,7 @@ export function pressThread(event) {
   if (thread === -1 || figure === null) return;
   const { run, spec, isBusy } = figure;
   const isAnswered = spec.free && !isBusy && run.isIdle(thread) && run.trace.calls.some((call) => call.thread === thread);
-  if (isAnswered) figure.tell(`${chipOf(thread)} has returned. Press <b>begin</b> for its next call.`);
+  if (isAnswered) figure.say(`${chipOf(thread)} has returned. Press <b>begin</b> for its next call.`);
   else figure.press(thread);
 }
 

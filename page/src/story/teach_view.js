@@ -153,7 +153,7 @@ function html() {
   const lead = `<p class="lead">A lecture of 45 minutes, figures for your own pages, homework as a single link, and automatic checking of what is handed in.
     No account, no server: all of it happens in the browser.</p><p class="jump">${Object.entries(PANELS).map(jump).join("")}</p>`;
   return `${head("", "For teachers", lead, "title")}${lectureHtml()}${embedHtml()}${homeworkHtml()}${handInsHtml()}${OWN}
-    <footer class="foot"><span id="scene-told" class="small" role="status"></span><span class="spread"></span>
+    <footer class="foot"><span id="scene-said" class="small" role="status"></span><span class="spread"></span>
     <button class="quiet" data-do="jump" data-panel="homework">Homework</button><button class="quiet" data-do="jump" data-panel="handins">Hand-ins</button></footer>`;
 }
 

@@ -85,12 +85,12 @@ def test_old_addresses_open_the_questions(visitor):
 def test_sentences_are_whole(visitor):
     """Of each event of each example, as the story tells it."""
     visitor.open("#ask")
-    told = visitor.inside("""const { LiveRun, QUESTIONS, APPENDIX, taleOf, momentAt } = listsets;
+    told = visitor.inside("""const { LiveRun, QUESTIONS, APPENDIX, saidOf, momentAt } = listsets;
         return [...QUESTIONS, ...APPENDIX].flatMap(({ list, opening, threads = 2, quota = 4, lines, rest }) => {
           const run = new LiveRun({ list, opening, threads, quota, lines: [...lines, ...rest] });
           return Array.from({ length: run.trace.total }, (_, at) => {
             run.moveTo(at + 1);
-            return taleOf(momentAt(run.state, run.count)).replace(/<[^>]*>/g, "");
+            return saidOf(momentAt(run.state, run.count)).replace(/<[^>]*>/g, "");
           });
         })""")
     assert len(told) > 300 and not [it for it in told if "undefined" in it or not it.endswith(".") or len(it) < 10]

@@ -36,7 +36,7 @@ def test_the_contradiction_is_in_sight_on_a_phone(visitor):
 def test_a_wrong_answer_has_its_reply_and_the_right_one_strikes_the_line(visitor):
     won(visitor)
     visitor.click("[data-option]", "releases the lock")
-    assert "No: it releases the lock only after that." in visitor.text("#talk")
+    assert "No: it releases the lock only after that." in visitor.text("#prompt")
     assert not visitor.is_seen(".steps del")
     visitor.click("[data-option]", "continues")
     visitor.idle()
@@ -53,7 +53,7 @@ def test_a_won_level_can_be_explored_on(visitor):
     won(visitor)
     visitor.press("a")
     visitor.idle()
-    assert "returns true" in visitor.text(".tale")
+    assert "returns true" in visitor.text(".said")
     visitor.settle()
     assert visitor.hash.startswith("#break=1&list=coarse")
     where = visitor.hash
@@ -107,7 +107,7 @@ def test_a_self_loop_does_not_cross_its_key(visitor):
 def test_a_run_that_ends_rightly_is_told(visitor):
     visitor.open("#break=2")
     visitor.step("aaabbbababab")
-    assert "not broken this time" in visitor.text("#talk") and visitor.is_seen("[data-again]")
+    assert "not broken this time" in visitor.text("#prompt") and visitor.is_seen("[data-again]")
 
 
 def test_a_level_has_one_number(visitor):
@@ -120,6 +120,6 @@ def test_a_level_has_one_number(visitor):
 def test_a_key_begins_no_second_call(visitor):
     visitor.open("#break=1")
     visitor.step("aaaaaaaaa")
-    assert "Press begin" in visitor.text(".tale") and visitor.text("[data-begin='0']") == "begin"
+    assert "Press begin" in visitor.text(".said") and visitor.text("[data-begin='0']") == "begin"
     visitor.click("[data-begin='0']")
     assert not visitor.is_seen("[data-begin='0']")

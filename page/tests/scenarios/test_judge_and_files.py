@@ -100,9 +100,9 @@ def test_compare_by_keys_and_back(visitor):
 
 def test_a_wrong_address_is_told(visitor):
     visitor.open("#example=nothing")
-    assert "nothing" in visitor.text("#told")
+    assert "nothing" in visitor.text("#said")
     visitor.open("#list=lazy&threads=2&quota=x")
-    assert "quota" in visitor.text("#told")
+    assert "quota" in visitor.text("#said")
 
 
 def test_without_webassembly(visitor):

@@ -77,7 +77,7 @@ def test_three_threads_and_the_goal_are_in_sight(visitor):
 def test_a_key_asks_which_call(visitor):
     visitor.open("#learn=marked-in-chain")
     visitor.press("a")
-    assert "Which call" in visitor.text(".tale") and visitor.script("return document.activeElement.dataset.call") == "0"
+    assert "Which call" in visitor.text(".said") and visitor.script("return document.activeElement.dataset.call") == "0"
     assert not visitor.is_seen("[data-step='0']")
 
 
@@ -85,10 +85,10 @@ def test_the_last_try_is_there_again(visitor):
     visitor.open("#learn=one-lock")
     visitor.step("ab")
     visitor.settle()
-    tale, where = visitor.text(".tale"), visitor.hash
+    tale, where = visitor.text(".said"), visitor.hash
     visitor.open("#learn=hand-over-hand")
     visitor.open("#learn=one-lock")
-    assert visitor.text(".tale") == tale
+    assert visitor.text(".said") == tale
     visitor.click("[data-again]")
     visitor.settle()
     assert visitor.hash == "#learn=one-lock" and where.startswith("#learn=one-lock&list=coarse")
@@ -98,10 +98,10 @@ def test_no_answer_is_told_unasked(visitor):
     visitor.open("#learn=lost-pred")
     before = visitor.text("main")
     visitor.click("#hint")
-    assert "Hint." in visitor.text("#talk") and "See one of them" not in before
+    assert "Hint." in visitor.text("#prompt") and "See one of them" not in before
     visitor.click("#hint")
     visitor.click("[data-do=answer]")
-    visitor.wait("return document.querySelector('#talk').innerText.includes('shown to you')")
+    visitor.wait("return document.querySelector('#prompt').innerText.includes('shown to you')")
     assert not visitor.is_seen(".reveal")
 
 

@@ -60,7 +60,7 @@ def test_what_is_done_is_ticked_and_handed_in(visitor):
     visitor.open(LINK)
     assert "5 tasks, 2 done" in visitor.text(".lead") and visitor.is_seen(".tasks .done")
     visitor.click("[data-do=copy]")
-    assert visitor.text("#scene-told") == "Please enter your name first." and visitor.focus() == "INPUT hand-student"
+    assert visitor.text("#scene-said") == "Please enter your name first." and visitor.focus() == "INPUT hand-student"
     visitor.type("#hand-student", "Ada Lovelace")
     visitor.type("#hand-number", "4711000")
     visitor.unfold("#hand details")
@@ -68,7 +68,7 @@ def test_what_is_done_is_ticked_and_handed_in(visitor):
     assert "student Ada Lovelace (4711000)" in text and "one-lock #list=coarse" in text and "break second-walk #" in text
     assert "assignment Week 3\n" in text
     visitor.click("[data-do=save]")
-    assert visitor.text("#scene-told") == "Saved: ada-lovelace-4711000-week-3.txt. Hand in this file."
+    assert visitor.text("#scene-said") == "Saved: ada-lovelace-4711000-week-3.txt. Hand in this file."
 
 
 def dropped(visitor, files):
@@ -99,7 +99,7 @@ def test_a_class_is_checked(visitor):
     assert visitor.script("return document.getElementById('in-link').value") == visitor.text("#hw-link")
     dropped(visitor, [*files, *more])
     visitor.wait("return document.querySelectorAll('.class tbody tr').length === 33", seconds=60)
-    told = visitor.text("#in-told")
+    told = visitor.text("#in-said")
     assert "34 files: 33 students, 0 merged, 1 without a hand-in. 31 with all 2 tasks." in told and "notes.txt" in told
     assert "too many students have the same one: Level 1, CoarseList" in told
     row = lambda name: visitor.script("return [...document.querySelectorAll('.class tbody tr')].find((it) => it.innerText.includes(arguments[0])).innerText", name)
@@ -113,7 +113,7 @@ def test_a_class_is_checked(visitor):
     visitor.click(".class thead button", "Same schedules")
     assert "2 of 2 with" in visitor.text(".class tbody tr")
     visitor.type("#in-link", "http://example.org/foo")
-    assert visitor.text("#in-told") == "This is no link of an assignment: “#assignment=” is missing." and not visitor.is_seen(".class")
+    assert visitor.text("#in-said") == "This is no link of an assignment: “#assignment=” is missing." and not visitor.is_seen(".class")
 
 
 def test_who_has_a_number_is_one_student(visitor):
@@ -121,7 +121,7 @@ def test_who_has_a_number_is_one_student(visitor):
     visitor.open("#teachers")
     dropped(visitor, [[f"{at}.txt", HAND_IN.format("x", name, BROKEN)] for at, name in enumerate(names)])
     visitor.wait("return document.querySelectorAll('.class tbody tr').length === 4")
-    assert "5 files: 4 students, 1 merged, 0 without a hand-in." in visitor.text("#in-told")
+    assert "5 files: 4 students, 1 merged, 0 without a hand-in." in visitor.text("#in-said")
     assert visitor.text(".class tbody").count("two names for one number: Anna Abel, Hana Gök") == 2
     assert "merged from 2.txt, 3.txt" in visitor.text(".class tbody")
 
@@ -181,7 +181,7 @@ def test_the_lecture_goes_on_by_one_key(visitor):
     visitor.press("Escape")
     visitor.wait("return location.hash === '#teachers'")
     visitor.open("#lecture=99")
-    assert "the slides 1 to 11" in visitor.text("#told")
+    assert "the slides 1 to 11" in visitor.text("#said")
 
 
 def test_a_slide_takes_every_key_and_stops_where_it_is_decided(visitor):
@@ -199,9 +199,9 @@ def test_a_slide_takes_every_key_and_stops_where_it_is_decided(visitor):
     visitor.open("#lecture=5")
     visitor.press("PageDown")
     visitor.revealed()
-    assert "pred is no longer in the list" in visitor.text(".tale") and "No." in visitor.text(".why")
+    assert "pred is no longer in the list" in visitor.text(".said") and "No." in visitor.text(".why")
     visitor.press("PageDown")
-    visitor.wait("return document.querySelector('.tale').innerText.includes('returns true')")
+    visitor.wait("return document.querySelector('.said').innerText.includes('returns true')")
 
 
 def test_a_slide_follows_its_window(visitor):

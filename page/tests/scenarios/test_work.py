@@ -123,7 +123,7 @@ def test_one_is_judged(visitor):
 
 def test_a_schedule_of_a_broken_list_opens_its_level(visitor):
     visitor.open("#list=coarse&threads=2&quota=2&opening=3.7&s=b0.add.5,g0.3&event=4&lacks=1")
-    assert visitor.text("h1").startswith("One thread at a time") and "too big" in visitor.text(".tale") or "reads" in visitor.text(".tale")
+    assert visitor.text("h1").startswith("One thread at a time") and "too big" in visitor.text(".said") or "reads" in visitor.text(".said")
 
 
 def test_a_numbered_run_is_the_same_for_all(visitor, another):
