@@ -1,4 +1,4 @@
-// The lines of the algorithm beside the picture: each row of a list stands on one of them, and the calls of a line make its rows.
+// Checks the code beside the list: each row of a list belongs to one of its lines, and the calls of a line make its rows.
 "use strict";
 
 const { inPage } = require("../in_node.js");

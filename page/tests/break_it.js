@@ -1,5 +1,5 @@
-// node tests/break_it.js: broken lists, each broken by a schedule of examples/schedules/lacks, as docs/CLASSIC.md says; drafts on
-// them, what is handed in, and a lesson that has one. Prints how many checks passed, and what failed, as JSON.
+// node tests/break_it.js checks the broken lists: each is broken by a schedule of examples/schedules/lacks, as docs/CLASSIC.md says; drafts on them,
+// hand-ins about them, and a lesson on one. Prints as JSON how many checks passed, and which failed.
 "use strict";
 
 const fs = require("fs");
@@ -42,7 +42,7 @@ function checkBroken(ask, name) {
   check(`${name} is a list of one kind`, verdictOnLacking(ask, name, ofOther).kind === "refused");
 }
 
-// Each event has a sentence and a picture. The correct list makes the same events up to one at which it departs.
+// Each event has a sentence and a picture. The correct list makes the same events up to the first difference.
 function checkDeparture(ask, name) {
   const trace = new Trace(ask("listset_lacking", name, scheduleOf(name), "trace").text, 2);
   check(`${name} stands in its trace`, trace.lacks === name && trace.kind === LACKING[name]);

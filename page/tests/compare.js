@@ -17,8 +17,7 @@ function check(result, name, isGood) {
   else result.failed.push(name);
 }
 
-// Each trace is read, its schedule is the one that was given, and the state goes on and back to where it began. Some end
-// ceilings.
+// Each trace can be read, its schedule is the given one, and the state can move on and back to the start. Some runs end ceilings.
 function checkTraces(result, engine, cases) {
   const replies = new Set();
   for (const { texts } of cases.filter((wanted) => wanted.function === "listset_trace")) {

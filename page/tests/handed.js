@@ -1,5 +1,4 @@
-// node tests/handed.js: the texts that are handed in, as mail brings them, and the teacher's tool. Prints how many checks passed,
-// and what failed, as JSON.
+// node tests/handed.js checks hand-ins, also as mail delivers them, and the teacher's tool. Prints as JSON how many checks passed, and which failed.
 "use strict";
 
 const { spawnSync } = require("child_process");
@@ -105,7 +104,7 @@ function checkTeacher(course, folder) {
   check(`two of one name: ${named.lines}`, named.status === 1 && named.lines.filter((line) => line.startsWith("Max: 2 rows with this name")).length === 2);
 }
 
-// The tasks of one assignment only, a folder, UTF-16, the table, and a wrong link.
+// Only the tasks of one assignment count; a folder, UTF-16, the CSV table, and a wrong link.
 function checkAssignment(course, folder) {
   const link = "https://lists.example/page/#assignment=Week+3&learn=one-lock";
   const [answer, other] = course.lessons.map(({ name, solution }) => ({ name, schedule: solution }));

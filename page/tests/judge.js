@@ -1,5 +1,5 @@
-// node tests/judge.js: the reader's answers about a run, judged by the engine's check; and two lists side by side. Prints how many
-// checks passed, and what failed, as JSON.
+// node tests/judge.js checks the reader's answers about a run, judged by the engine's check, and two lists side by side. Prints as JSON how many
+// checks passed, and which failed.
 "use strict";
 
 const fs = require("fs");
@@ -141,7 +141,7 @@ function checkHistoryLabels(traces) {
   check(`the labels of the examples are whole: ${signs} are signs`, signs === 0);
 }
 
-// No label of a bar covers another, on a wide page and on a phone, whatever was answered, for numbered runs too.
+// No label of a bar covers another, on a wide page and on a phone, whatever the answers are; for numbered runs too.
 function checkLabels(ask, schedules) {
   const [drawJudged, judgeScale] = ["drawJudged", "judgeScale"].map(inPage);
   const judgedAt = (exercise, answer, width) => ({ exercise, answer, scale: judgeScale(exercise, width), moment: 0, count: 0 });
@@ -235,7 +235,7 @@ function checkRefusals(ask) {
   check(`left otherwise: ${left}`, left.join() === unchanged.join());
 }
 
-// The words for answers that no short text gets.
+// The words for answers that no short text produces.
 function checkAnswers(ask) {
   const said = (text) => inPage("verdictOnCalls")(ask, { text: `${text}\n` }, TITLE);
   const { kind, reasons, calls } = said("verdict none\nkey 7\nclash true\nfirst call 2 add 7 50 60 true\nsecond call 3 contains 7 65 70 false");

@@ -1,6 +1,5 @@
-// node tests/lessons.js: the lessons as text, their goals, and what a lesson says of a try. Prints how many checks passed, and what
-// failed, as JSON. recorded.txt has schedules of each lesson, with the conditions of its goal that the run of each is known to meet, up to
-// the event that is refused.
+// node tests/lessons.js checks the lessons as text, their goals, and the words about an attempt. Prints as JSON how many checks passed, and which
+// failed. recorded.txt has schedules of each lesson, with the conditions that each run is known to meet, and the event at which it is refused.
 "use strict";
 
 const fs = require("fs");
@@ -89,7 +88,7 @@ function checkTries(ask, { lessons }) {
   for (const one of lessons) check(`${one.name}: a solution is no dead end`, judged(ask, one, one.solution).deadEnd === null);
 }
 
-// Schedules that are not looked at, each with the reason.
+// Schedules that are not judged, each with the reason.
 function checkReasons(ask, [lesson]) {
   const answer = lesson.solution;
   const reasons = [
@@ -110,7 +109,7 @@ function checkReasons(ask, [lesson]) {
   );
 }
 
-// A change of the text, the line that the error names (by a part of it), and the error.
+// A change of the text, a part of the line that the error names, and the error.
 const BROKEN = [
   ["listset-course 1", "listset-course 2", "listset-course 2", 'expected "listset-course 1" here'],
   [/^course .*$/m, "", "listset-course 1", 'expected the line "course NAME"'],
@@ -154,7 +153,7 @@ function checkFaults() {
   }
 }
 
-// Starts and answers may be drafts, which the engine makes schedules.
+// Starts and answers can be drafts, which the engine turns into schedules.
 function checkDrafts(ask, { lessons }) {
   const drafted = TEXT.replace("  go 1 7\n  begin 0 contains 5\n  go 0 3\n", "  go 1 to 12\n  begin 0 contains 5\n  go 0 out\n");
   const course = triedCourse(ask, drafted);

@@ -1,5 +1,6 @@
-"""Compares page/listset.js, in node, with the program on words drawn at random: both outputs and the status. Of wrong words the status is
-the same, nothing is on the output, and both begin with the same line and show a usage of the same command, or none. page/test compares the engine itself on many texts."""
+"""Compares page/listset.js in node with the program on random arguments: both outputs and the exit status. For wrong arguments the statuses agree,
+standard output is empty, and both print the same first line and the usage of the same command. page/test compares the engine itself on many texts.
+"""
 
 import os
 import random
@@ -18,19 +19,19 @@ REFUSED = "listset-schedule 1\nlist lazy\nthreads 2\nquota 4\nbegin 0 add 5\ngo 
 
 
 def said(words, text=b"", output=subprocess.PIPE):
-    """What a program writes on its output and on standard error, and its status."""
+    """Returns what a program writes to its output and to standard error, and its exit status."""
     done = subprocess.run(words, input=text, stdout=output, stderr=subprocess.PIPE, timeout=SECONDS)
     return done.stdout, done.stderr, done.returncode
 
 
 def parts_of_error(text):
-    """Of a text about wrong words its first line, and the program and command of its usage."""
+    """Returns the first line of an error about wrong arguments, and the program and the command that its usage names."""
     lines = text.split(b"\n")
     return lines[0], [it.split()[:3] for it in lines if it.startswith(b"Usage: ")]
 
 
 def difference(words, ours, due):
-    """A line that tells how the two differ, or None. Of words that are wrong the program's text is clap's, whose tips differ."""
+    """Returns a line about the difference between the two, or None. For wrong arguments the program's text is clap's, whose tips differ."""
     if due[1].startswith(b"error: "):
         is_right = (ours[0], ours[2]) == (due[0], due[2]) == (b"", 2) and parts_of_error(ours[1]) == parts_of_error(due[1])
     else:
@@ -39,7 +40,7 @@ def difference(words, ours, due):
 
 
 def compared_unwritten(program, script, words):
-    """The same of an output that takes no bytes, and of one that is closed."""
+    """Compares the two when the output takes no bytes, and when it is closed."""
     with open("/dev/full", "wb") as full:
         ours, due = (said([*which, *words], output=full) for which in (script, program))
     closed, due_closed = (said(["sh", "-c", 'exec "$@" >&-', "sh", *which, *words]) for which in (script, program))
@@ -48,14 +49,14 @@ def compared_unwritten(program, script, words):
 
 
 def drawn_words(dice):
-    """A command, with some words that it may take or not."""
+    """Draws a command, with some arguments that it accepts or not."""
     some = [dice.choice(dice.choice([FLAGS, OPTIONS, OPTIONS, VALUES])) for _ in range(dice.choice([0, 1, 1, 2, 2, 3, 4]))]
     command = dice.choice(COMMANDS)
     return [command, *(["lazy", "2", "4", "9", "8"] if command == "gen" and dice.random() < 0.5 else []), *" ".join(some).split()]
 
 
 def asked(program, names):
-    """The words to compare, each with a text for the standard input, which is read where they name no file."""
+    """Returns the arguments to compare, each with a text for standard input, which is read if no file is named."""
     dice, schedule = random.Random(1), said([*program, "example", names[0]])[0]
     report = said([*program, "replay"], schedule)[0]
     texts = [schedule, report, REFUSED.encode(), b""]
@@ -72,7 +73,7 @@ def asked(program, names):
 
 
 def in_node(program, script, names):
-    """How many passed, and a line for each that failed."""
+    """Returns how many comparisons passed, and a line for each that failed."""
     def compared(given):
         words, text = given
         return difference(words, said([*script, *words], text), said([*program, *words], text))

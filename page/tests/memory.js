@@ -1,5 +1,5 @@
-// node page/tests/memory.js: the heap of the module (wasm/heap.c) until memory is refused. Blocks stand apart and within the memory,
-// which ends 16 MiB below 4 GiB (page/build); what is refused leaves the heap as it was.
+// node page/tests/memory.js checks the heap of the module (wasm/heap.c) until an allocation is refused. Blocks do not overlap and are inside the
+// memory, which ends 16 MiB below 4 GiB (page/build). A refused allocation leaves the heap unchanged.
 "use strict";
 
 const fs = require("fs");
@@ -18,7 +18,7 @@ function check(what, is) {
   else failed.push(what);
 }
 
-// As many blocks of a size as there are, and then what is still to be had.
+// Allocates as many blocks of a size as possible, then what still fits.
 function fill(size) {
   const { memory, page_alloc: alloc, page_free: free } = new WebAssembly.Instance(built, { env: { read: () => -1n } }).exports;
   const blocks = [];

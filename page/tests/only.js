@@ -1,5 +1,5 @@
-// What `judge --only KEY` prints of random recordings: the recording of the key; if no order explains its calls, a part of them that the judge
-// refuses in the same two lines, and whose opening state is the only one that the calls before it leave.
+// Checks `judge --only KEY` on random recordings. The result is the recording of the key. If no order explains its calls, the result is a part of
+// them that the judge refuses with the same two lines, and whose opening state is the only one that the calls before it can leave.
 "use strict";
 
 const { startedEngine } = require("../in_node.js");
@@ -22,7 +22,7 @@ function replyOf(keys, { word, key }) {
   return word === "add" ? !is : is;
 }
 
-// Calls that overlap, with a wrong reply now and then, and some pending at the end; the keys at the start and the end.
+// Draws calls that overlap, some with a wrong reply and some pending at the end; and the keys at the start and the end.
 function drawn(count) {
   const opening = KEYS.filter(() => below(2) === 0);
   const [keys, pending, calls, wrong] = [new Set(opening), [], [], below(3) > 0 ? 3 : 0];

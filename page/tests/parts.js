@@ -1,5 +1,4 @@
-// node tests/parts.js: the parts of the page that need no browser, by the committed module: some sentences, addresses, and what is kept
-// beside the page.
+// node tests/parts.js checks the parts of the page that need no browser, with the committed module: some sentences, addresses, and stored data.
 "use strict";
 
 const { createHash } = require("crypto");
@@ -36,7 +35,7 @@ function sentencesOf(engine, schedule) {
   return trace.events().map((_, index) => withoutTags(inPage("sentenceOf")(inPage("momentAt")(state, index + 1))));
 }
 
-// How sentences end that no generated run has often (tests/sentences.js reads the others back).
+// Ends of sentences that generated runs rarely have (tests/sentences.js checks the other sentences).
 function checkSentences(engine) {
   const last = (kind, quota, ...lines) =>
     sentencesOf(engine, ["listset-schedule 1", `list ${kind}`, "threads 2", `quota ${quota}`, ...lines, ""].join("\n")).pop();
@@ -255,7 +254,7 @@ function checkStage(engine, texts) {
   check(`a long chain is folded: ${items.length}, ${units.width}`, items.length <= 14 && units.width * units.scale <= 1281 && items.some(({ names }) => names.length > 20));
 }
 
-// Five threads add, remove and look, one to three steps each in turn, on each list.
+// Five threads add, remove and look, one to three steps at a time, on each list.
 function crowded(engine) {
   const calls = ["add 5", "remove 5", "add 7", "contains 7", "remove 7"].map((call, thread) => `begin ${thread} ${call}`);
   const turns = Array.from({ length: 60 }, (_, turn) => `go ${(turn * 3) % 5} ${1 + (turn % 3)}`);
@@ -271,8 +270,8 @@ function longerBy(engine, text, line) {
   return engine.ask("listset_trace", longer).text.includes("\nrefused ") ? text : longer;
 }
 
-// Each thread of a call stands at a line of the proved code: at one that begins a call up to its first step alone, at one that ends
-// a call just before its answer, in `find` where that walks again; and at each line that makes a row a thread stood.
+// Each thread in a call is at a line of the proved code: until its first step at a line that begins a call, just before its answer at a line that
+// ends one, and in `find` if that walks again. A thread has been at each line that makes a row.
 function checkListing(engine, texts) {
   const met = new Set();
   const wrong = texts.flatMap((text) => {
@@ -289,7 +288,8 @@ function checkListing(engine, texts) {
   check(`lines at which no thread stood: ${lines.filter((line) => !met.has(line))}`, lines.every((line) => met.has(line)));
 }
 
-// What is wrong with the line of a thread that makes this event next, in a list of none or one. The ceilings of two lists have none.
+// Returns what is wrong with the line of the thread that makes this event next: an array of no or one sentence. The ceilings of two lists have no
+// line.
 function wrongLine(trace, event, held, met) {
   const { kind } = trace;
   const found = inPage("codeOf")(kind, held.call);

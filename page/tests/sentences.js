@@ -1,6 +1,6 @@
-// node tests/sentences.js: no sentence about a generated run says what is not so. The runs are of each list and of each broken one. A
-// sentence is read back: the keys that it compares, what it says of a key that is there or is not, whether what it adds, removes, unlinks
-// or marks is so in the chain, who holds a lock, and what it says of the thread's next step and reply.
+// node tests/sentences.js checks that no sentence about a generated run is false. The runs are of each list and of each broken one. The check reads a
+// sentence back: the keys that it compares, whether a key is present or absent, whether what it adds, removes, unlinks or marks is so in the chain,
+// who holds a lock, and what the thread does and returns next.
 "use strict";
 
 const fs = require("fs");
@@ -15,8 +15,8 @@ const numberOf = (key) => ({ "−∞": -Infinity, "+∞": Infinity })[key] ?? Nu
 
 const isMarkOf = (event, node, thread) => event.word === `${node}.link` && event.to.endsWith("*") && thread === inPage("letterOf")(event.thread);
 
-// The words of a sentence, and whether they are false, given the words in its brackets: of what was found, of the chain and the locks as
-// they are then (chain, keys, lockOf, linkOf), of the thread, and of its next step and its call.
+// A pattern of a sentence, and whether its words are false, given the words in brackets and the facts: what was found, the chain and the locks at
+// that moment (chain, keys, lockOf, linkOf), the thread, its next step and its call.
 const CLAIMS = [
   [/key: (\S+)\. .*above (\d+)/, ([saw, key]) => numberOf(saw) <= numberOf(key)],
   [/key: (\S+)\. .*is below (\d+)/, ([saw, key]) => numberOf(saw) >= numberOf(key)],

@@ -1,6 +1,6 @@
-// node tests/verdicts.js [CASES]: what the page says of recordings, of runs of broken lists and of the reader's own orders, all drawn at random,
-// is true: each sentence is a property, which a search of all orders decides; also what the diagnosis of a refused recording says. Prints how many
-// checks passed, and what failed, as JSON.
+// node tests/verdicts.js [CASES] checks that what the page says of random recordings, of runs of broken lists and of the reader's own orders is true.
+// Each sentence is a property that a search of all orders decides; the sentences of a diagnosis are checked too. Prints as JSON how many checks
+// passed, and which failed.
 "use strict";
 
 const fs = require("fs");
@@ -14,7 +14,7 @@ const [verdictOnCalls, verdictOnLacking, verdictOn] = ["verdictOnCalls", "verdic
 const [OwnAnswer, exerciseOf, readReport, LACKING] = ["OwnAnswer", "exerciseOf", "readReport", "LACKING"].map(inPage);
 const LAST = Infinity;
 
-// ---- numbers drawn at random, the same in each run
+// ---- Random numbers, the same in each run.
 
 let seed = 1;
 function draw(most) {
@@ -25,7 +25,7 @@ function draw(most) {
 }
 const pick = (some) => some[draw(some.length)];
 
-// ---- a search of all orders; a call has a thread, an operation, a key, begun, ended and a reply, which are null while it is pending
+// ---- A search of all orders. A call has a thread, an operation, a key, begun, ended and a reply; the last two are null while it is pending.
 
 function replyOf({ operation, key }, keys, hasRoom) {
   if (operation === "ceiling") {
@@ -43,7 +43,7 @@ function keysAfter({ operation, key }, keys) {
   return operation === "add" && !keys.includes(key) ? [...keys, key].sort((one, other) => one - other) : keys;
 }
 
-// The sets that the orders leave which explain the calls, as texts.
+// Returns the sets that the explaining orders can leave, as texts.
 function leftByOrders(all, opening, quota = Infinity) {
   const calls = all.filter((call) => call.ended !== null || mayChange(call));
   const isBefore = (one, other) => one.ended !== null && one.ended < other.begun;
@@ -65,7 +65,7 @@ function leftByOrders(all, opening, quota = Infinity) {
   return left;
 }
 
-// A call as the judge reads it: a ceiling, and an add that answered full, look at a key.
+// Returns a call as the judge reads it: a ceiling, and an add that answered full, look at a key.
 function asLook(call) {
   if (call.reply === "full") return { ...call, operation: "contains", reply: "false" };
   if (call.operation !== "ceiling" || call.reply === null) return call;
@@ -81,9 +81,9 @@ function waysLeft(calls, key, isThere) {
 
 const quotaIn = (report) => Number(/^quota (\d+)$/m.exec(report)[1]);
 
-// ---- what is judged, and the properties of the sentences
+// ---- What is judged, and the properties of the sentences.
 
-// A case: the calls, the opening keys and the keys left, or null if these are not known, and the quota.
+// A case has the calls, the opening keys, the final keys (null if unknown), and the quota.
 const isExplained = ({ calls, opening, keys, quota }) => {
   const left = leftByOrders(calls, opening, quota);
   return keys === null ? left.size > 0 : left.has(keys.join());
@@ -163,7 +163,7 @@ function checkSentences(properties, it, sentences) {
   for (const sentence of sentences) checkSentence(properties, it, sentence, said);
 }
 
-// `said` is what the sentences before have said, `line` what else the line of this one has.
+// `said` has the facts of the earlier sentences, `line` the other parts of this sentence's line.
 function checkSentence(properties, it, sentence, said, line) {
   const [pattern, holds] = properties.find(([one]) => one.test(sentence)) ?? [null, () => false];
   met.add(pattern);
@@ -172,7 +172,7 @@ function checkSentence(properties, it, sentence, said, line) {
   else if (result.failed.length < 20) result.failed.push(`${pattern === null ? "no property is of" : "false:"} ${JSON.stringify(sentence)} on\n${it.text}`);
 }
 
-// ---- recordings
+// ---- Recordings.
 
 function drawnRecording() {
   const opening = [5, 7].filter(() => draw(3) === 0);
@@ -207,7 +207,7 @@ function drawnRecording() {
   return { calls, padding, opening, keys: left, quota: Infinity, text };
 }
 
-// Returns right calls of other keys, one after another: of few calls a diagnosis has no likely cause.
+// Returns right calls of other keys, one after another. A diagnosis of few calls has no likely cause.
 function paddingAfter(last) {
   const made = [["contains", "false"], ["add", "true"], ["add", "false"], ["contains", "true"], ["remove", "true"], ["remove", "false"]];
   const ofKeys = [11, 13, 15].flatMap((key) => [...made, ...made, ...made, ...made].map(([operation, reply]) => ({ thread: 3, operation, key, reply })));
@@ -260,7 +260,7 @@ function checkText(ask, it, told) {
   return result.failed.push(`the text and the record differ:\n${lines.join("\n")}\n${JSON.stringify(told)} on\n${it.text}`);
 }
 
-// ---- what is wrong in a recording, by the same engine: a headline, calls and facts
+// ---- What is wrong in a recording, by the same engine: a headline, calls and facts.
 
 const holdsReply = (call) => call.ended !== null;
 const turned = (call) => ({ ...call, reply: call.reply === "true" ? "false" : "true" });
@@ -269,7 +269,7 @@ const needsKey = (call) => (call.reply === "true") === (call.operation !== "add"
 const ofKey = (it, key) => it.calls.filter((call) => call.key === key);
 const opens = (it, key) => it.opening.includes(key);
 
-// Whether calls of a key have an order from a state of it, which leaves it so, if that is given.
+// Decides whether calls of a key have an order from a given state of the key, and to a final state if one is given.
 function hasOrder(calls, key, isThere, left = null) {
   const ways = waysLeft(calls, key, isThere);
   return left === null ? ways.length > 0 : ways.includes(left);
@@ -284,8 +284,8 @@ const knownBy = (calls, moment) => calls.flatMap((call) => {
   return isChange(call) ? [{ ...call, ended: null, reply: null }] : [];
 });
 
-// The moments after which a key's calls can be looked at by themselves, and its state: the first, and those at which no change runs and the
-// calls or the changes before leave but one state.
+// Returns the moments from which a key's calls can be judged by themselves, each with the key's state: the first moment, and each one at which no
+// change is pending and the earlier calls or changes leave only one state.
 function startsOf(calls, key, isThere) {
   const changes = calls.filter(isChange);
   const found = [[0, isThere]];
@@ -348,7 +348,7 @@ function wrongAnswers(it, operation, isAside) {
     count += answers.length;
     wrong.push(...answers.filter((call) => !hasOrder([...others, call], key, opens(it, key), left)));
   }
-  // whether the answers that fit alone have an order together too
+  // whether the calls of each key have an order without these answers
   const isAll = keysOf(it).every((key) => hasOrder(ofKey(it, key).filter((call) => !wrong.includes(call)), key, opens(it, key), isAside ? null : leftOf(it, key)));
   return { wrong, count, isAll };
 }
@@ -358,7 +358,7 @@ const inTime = (call, since, until) => call.begun <= until && since <= (call.end
 const runsBeside = (it, call, operation) => it.calls.some((one) => one !== call && one.key === call.key && one.operation === operation && isChange(one) && inTime(one, call.begun, call.ended));
 
 function isHeadline(it, why, [key, gone, operation, ofCall, reply, expected]) {
-  // without a reply that was expected, the call need not be drawn
+  // if no reply was expected, the call need not be drawn
   const told = expected === undefined ? it.calls.map((call) => ({ call, mark: "-" })) : why.shown;
   const named = told.filter(({ call }) => call.operation === operation && call.key === Number(ofCall) && call.reply === reply);
   const isMarked = ({ call, mark }) => mark === `expected ${turned(call).reply}` && expected === turned(call).reply;
@@ -378,7 +378,7 @@ function isTold(it, { wrong, count: answers, isAll }, [operation, atLeast, count
   return Number(found) === someFound && Number(missed) === someMissed;
 }
 
-// Whether what leaves a key and what needs it contradict each other somewhere, and no two calls overlap meanwhile.
+// Decides whether a call that leaves a key and a call that needs the other state contradict each other, while no two calls overlap.
 function isWrongAlone(it) {
   return keysOf(it).some((key) => {
     const ended = ofKey(it, key).filter(holdsReply);
@@ -476,7 +476,7 @@ const OF_WHY = [
   [/^because all is among the first (\d+) calls of a key$/, (it, [count]) => keysOf(it).some((key) => ofKey(it, key).length >= Number(count))],
 ];
 
-// ---- runs of broken lists
+// ---- Runs of broken lists.
 
 const OF_LACKING = [
   [/^Not broken yet: some order explains this run\.$/, isExplained],
@@ -515,7 +515,7 @@ function isToldSo(it, key, first, second) {
   return firsts.some((one) => seconds.some((other) => isNoneBetween(ofKey, key, isPresent ? "remove" : "add", one?.begun ?? 0, other?.ended ?? LAST)));
 }
 
-// A run of a broken list, from its start or after the schedule that breaks it: each line is tried, and kept if the list takes it.
+// Draws a run of a broken list, from its start or after the schedule that breaks the list. Each line is tried, and kept if the list accepts it.
 function drawnRun(ask, name) {
   const breaking = path.join(__dirname, "..", "..", "examples", "schedules", "lacks", `${name}.schedule`);
   const opening = [3, 7].filter(() => draw(3) > 0);
@@ -542,7 +542,7 @@ function checkLacking(ask, name) {
   return checkSentences(OF_LACKING, it, [...says.split(/(?<=\.) /), ...(kind === "broken" ? [inPage("TO_BREAK")] : [])]);
 }
 
-// ---- the reader's own order of a run
+// ---- The reader's own order of a run.
 
 const OF_OWN = [
   [/^Still missing: (.*)\.$/, (it, [told]) => {
@@ -568,7 +568,7 @@ const OF_OWN = [
 
 const nameIn = (call) => `${call.operation}(${call.key}) of ${"ABCD"[call.thread]}`;
 
-// The places of the reader's order: each call, the one before it, the set before and after it, what it is said to answer and what is due.
+// Returns the places of the reader's order: each call with the call before it, the set before and after it, its given answer and the due one.
 function stepsOf(it) {
   let [keys, before] = [it.opening, null];
   const steps = [{ after: keys }];
@@ -585,7 +585,7 @@ function stepsOf(it) {
 
 const faultsOf = (it) => stepsOf(it).slice(1).filter(({ call, answer, said }) => answer !== said || (call.reply ?? "true") !== said);
 
-// An answer with points somewhere in the bars of the calls.
+// Returns an answer with random points in the bars of the calls.
 function placedAnswer(exercise) {
   const answer = new OwnAnswer(exercise);
   for (const call of exercise.calls.filter(({ ended }) => draw(ended === null ? 2 : 30) > 0)) {
@@ -595,7 +595,7 @@ function placedAnswer(exercise) {
   return answer;
 }
 
-// An answer that is handed in: the order of the run, with a call moved or missing.
+// Returns an answer to hand in: the order of the run, with a call moved or missing.
 function writtenAnswer(exercise) {
   const pieces = exercise.places.map(({ call, reply }) => `${call}-${reply}`);
   if (draw(2) === 0) pieces.splice(draw(pieces.length), 0, ...pieces.splice(draw(pieces.length), 1));

@@ -27,7 +27,7 @@ const cards = (all) => tag("div", { class: "cards" }, ...all.map(drawCard));
 const lead = (words, score = "") => `<p class="lead">${words}</p>${score === "" ? "" : `<p class="score">${score}</p>`}`;
 const goOn = (href, count, all) => tag("a", { class: "button primary", href }, `${count === 0 ? "Begin" : count < all ? "Go on" : "Once more"} →`);
 
-// ---- Guess, then see
+// ---- Guess, then see.
 function askHtml() {
   const { asks } = keptStory();
   const seen = QUESTIONS.filter(({ name }) => asks[name] !== undefined);
@@ -42,7 +42,7 @@ function askHtml() {
     ${foot('<a class="button quiet" href="#story=1">The path of twenty minutes</a>', goOn(`#ask=${next.name}`, seen.length, QUESTIONS.length))}`;
 }
 
-// ---- Break it: the lists that lack a check, the simplest first
+// ---- Break it: the lists that lack a check, the simplest first.
 function breakHtml() {
   const cardOf = (name) => {
     const { story, lacks } = BREAK_LEVELS[name];
@@ -58,7 +58,7 @@ function breakHtml() {
     <h2>Three more</h2>${cards(THREE_MORE.map(cardOf))}${foot("", goOn(`#break=${numberOfLevel(next)}`, count, Infinity))}`;
 }
 
-// ---- Solve it: the lessons of a course; below them what is handed in, and courses of one's own
+// ---- Solve it: the lessons of a course, the text to hand in, and the reader's own courses.
 function learnHtml() {
   const { panel } = learning;
   const { lessons, name } = panel.course;
@@ -94,7 +94,7 @@ function openBook() {
   drawLearnMap();
 }
 
-// ---- Judge: a run by its number, recorded calls, or an example by its question
+// ---- Judge: recorded calls, a run by its number, or an example by its question.
 function judgeHtml() {
   const judged = Object.keys(judgedLines());
   const cardOf = ({ name, kind }) => {
@@ -114,7 +114,7 @@ function beginJudge() {
   listenToRecorded();
 }
 
-// ---- Read: the pages made of docs/, the words of the page, what is proved
+// ---- Read: the documents, the terms of the page, and what is proved.
 export const PAGES = [
   ["how-it-works.html", "How it works", "The five lists, from one lock to none, each with the runs that show why."],
   ["classic.html", "The examples", "Eighteen runs, each with its question, the answer, and what goes wrong without the check."],

@@ -1,5 +1,5 @@
-// A text that is handed in: a title, the course and the student, and a line for each solution: the name of its lesson, a space and
-// the address of a schedule (or a whole link that ends with it), an order that was judged right, or what breaks a list.
+// A text to hand in: a title, the course and the student, then a line for each solution. A solution is the name of a lesson, a space and the address
+// of a schedule (or a whole link that ends with the address), an order that was judged right, or a run that breaks a list.
 //
 //     listset-lessons 2
 //     course The twelve lessons of the five lists
@@ -10,8 +10,8 @@
 //     break mark-in-add #list=lock-free&threads=2&quota=2&opening=3.7&s=b0.add.5,g0.5&event=6
 //     end
 //
-// The text often comes by mail: lines can be quoted, folded or encoded, and other lines can surround it.
-// One file can have the texts of a whole class, and courses.
+// The text often comes by mail: lines can be quoted, folded or encoded, and other lines can surround it. One file can have the texts of a whole
+// class, and courses.
 import { CLASSICS, LACKING } from "../../made/classics.js";
 import { AddressFault, addressOf, readAddress } from "../run/address.js";
 import { askList, isTaskDone, NO_TASK, verdictOnLacking } from "../run/broken.js";

@@ -1,5 +1,5 @@
-// Break it, of each list that lacks a check: what it lacks, what is not so and the reply to that, the first calls, the events and calls of
-// the shortest run known, and what is struck out. A level is linked by its number, its place here: none is given anew.
+// The levels of Break it, one for each list that lacks a check: the missing check, wrong guesses with a reply to each, the first calls, the events
+// and calls of the shortest known run, and the code to strike out. A link names a level by its place here, so no level gets another place.
 
 export const BREAK_LEVELS = {
   lock: {

@@ -19,7 +19,7 @@ function windowOf(total, count, room) {
 
 const shownIn = ({ calls }, first, last) => calls.filter(({ begun, ended }) => begun <= last && (ended === null || ended >= first));
 
-// `isLow`: there is little height, so the labels are inside the bars.
+// If there is little height (`isLow`), the labels are inside the bars.
 function formOf(threads, isLow) {
   if (isLow && threads <= 6) return { bar: 19, below: 4, mostRows: 1 };
   if (threads > 12) return { bar: 9, below: 1, mostRows: 1 };
@@ -59,7 +59,7 @@ export function scaleOf(trace, count, width, hides = false, isLow = false) {
   return { first, last, step, lane, bar, width, count, now, edge, height, x, y, spanOf, labels: places, areWhole, isIn: above === 0 };
 }
 
-// Whether a point is known by now: at the call's change, or when the call returns.
+// Decides whether a point is already known: after the call's change, or when the call returns.
 export const isReached = (call, count) => call.at <= count && (call.changes || (call.ended !== null && call.ended <= count));
 
 export function drawLane(scale, thread, place = thread) {
@@ -150,8 +150,8 @@ const BETWEEN = 8; // two labels of a row
 export const ROW_HEIGHT = 15;
 export const widthOf = (text, reply = "") => LETTER * text.length + (reply === "" ? 0 : LETTER + BOLD * reply.length);
 
-// Of each item, { left, right, wide } by their left ends, its place { x, row }; null if no row has space. A label begins at the left end of
-// its bar, in the first row (0 is next to the bar) that is free there, or else ends at its right end.
+// Returns the place { x, row } of each label { left, right, wide }, or null if no row has space. The labels come by their left ends. A label begins
+// at the left end of its bar, in the first free row (row 0 is next to the bar), or else ends at the bar's right end.
 function placeLabels(items, { start, edge, mostRows }) {
   const taken = Array.from({ length: mostRows }, () => start);
   return items.map(({ left, right, wide }) => {

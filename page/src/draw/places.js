@@ -10,8 +10,9 @@ const WIDEST = 190; // of a node
 const BESIDE = 18; // between two nodes that are not in the chain
 const MOST_POINTING = 6; // threads whose hands are drawn
 
-// A form has the least pixels of a unit, so that no label is too small to read; the heights of the two parts of a node, with its key and with
-// its lock; the room of a node and its gap; the gap as a share of a node; what a hand measures; and of the nodes outside the chain, how far below it they may stand, the roomiest first (0: in its gaps).
+// A form has the least pixels of a unit (so that every label is large enough to read), the heights of a node's two parts (its key and its lock), the
+// room of a node with its gap, the gap as a share of a node, and the measures of a hand. `below` lists how far below the chain other nodes can be
+// drawn, the roomiest first; 0 draws them in the gaps of the chain.
 const HANDS = { height: 30, over: 9, left: 28, letter: 10.4, right: 12 };
 const SMALL_HANDS = { height: 26, over: 8, left: 21, letter: 9.8, right: 5 };
 const WIDE = { least: 0.9, key: 56, lock: 32, slot: 100, gap: 0.5, hand: HANDS, kind: "", below: [54, 30, 0] };
@@ -31,7 +32,7 @@ function pointersOf(state, event) {
   });
 }
 
-// Whether a register is drawn. One that has the head can be unset, so it is drawn only as `pred` of a walk that has begun.
+// Decides whether a register is drawn. A register that has the head can be unset, so only `pred` of a walk that has begun is drawn there.
 export const isPointing = (held, name) => held[name] !== "head" || (name === "pred" && held.curr !== "head");
 
 function importantNodes(state, event, pointers) {
@@ -188,9 +189,9 @@ function freeHand(own, placed, { x, y, width: node }, { height, over }, width) {
 }
 
 /**
- * `room`: the pixels of the stage (`wide`, `high`, and of a unit the `least`), the most nodes of the chain (`slots`), where a `lock` is shown
- * ("list", "nodes" or ""), whether no node leaves the chain (`flat`), how `tight` it was drawn before, the pixels left free at both `ends`, and
- * the registers whose hands are not drawn (`hides`).
+ * `room` has the pixels of the stage (`wide`, `high`) and the `least` of a unit, the most nodes of the chain (`slots`), where a `lock` is shown
+ * ("list", "nodes" or ""), whether every node stays in the chain (`flat`), how `tight` the last drawing was, the pixels left free at both `ends`,
+ * and the registers whose hands are not drawn (`hides`).
  * @typedef {{ wide: number, high: number, least?: number, slots: number, lock: string, flat?: boolean, tight?: number, ends?: number[], hides: string[], names?: boolean }} Room
  */
 export function arranged(state, event, room) {

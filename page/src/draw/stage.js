@@ -81,7 +81,10 @@ const HATCH = { id: "hatch", width: 9, height: 9, patternUnits: "userSpaceOnUse"
 const STRIPES = tag("rect", { class: "ground", width: 9, height: 9 }) + tag("line", { class: "stripe", x1: 0, x2: 0, y1: 0, y2: 9 });
 const DEFINITIONS = tag("defs", {}, tag("pattern", HATCH, STRIPES), ...["in", "out", "hot"].map(drawTip));
 
-/** The list as an element; `own` makes the names in it its own. @param {import("./places.js").Room} room */
+/**
+ * Returns the list as an SVG element. `own` is put before the names in the element, so that two elements do not share one.
+ * @param {import("./places.js").Room} room
+ */
 export function drawStage(state, event, room, own = "", list = arranged(state, event, room)) {
   const { chain, items, places, names, hands, more, units } = list;
   const { width, scale } = units;

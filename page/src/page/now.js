@@ -8,7 +8,7 @@ import { exampleIn, reduce, stateAtFirst } from "./reducer.js";
 
 export const NO_ENGINE = "The replayer does not run in this browser: no schedule can be run, no report checked. A file of listset trace can be opened.";
 export const now = stateAtFirst();
-/** The engine, or null; `hasEngine` until it is known that there is none. @type {{ engine: any, hasEngine: boolean, render: () => void }} */
+/** The engine, or null. `hasEngine` is false once the engine has failed to start. @type {{ engine: any, hasEngine: boolean, render: () => void }} */
 export const held = { engine: null, hasEngine: true, render: () => {} };
 
 // Applies an action without drawing.
@@ -23,7 +23,8 @@ export function dispatch(type, given) {
   show();
 }
 
-// Listeners: `taken`, with a trace, before it is drawn; `ran`, after a text has run; `kept`, after the works changed; `recorded` and `course`, with a file's text.
+// The listeners of each occasion: `taken` gets a trace before the trace is drawn, `ran` follows a run of a text, `kept` a change of the works;
+// `recorded` and `course` get a file's text.
 const listeners = { taken: [], ran: [], kept: [], recorded: [], course: [] };
 export const on = (what, ...deeds) => listeners[what].push(...deeds);
 

@@ -60,7 +60,7 @@ export async function copyLink() {
 // Copies a text. Returns whether the browser allowed it.
 export const copied = async (text) => navigator.clipboard?.writeText(text).then(() => true, () => false) ?? false;
 
-// ---- the addresses of the scenes
+// ---- The addresses of the scenes.
 const SCENES = ["assignment", "story", "ask", "code", "teachers", "notes", "handout"]; // run/address.js reads the others, with their schedules
 const SCENE_VIEWS = ["lecture", "embed"];
 

@@ -1,5 +1,5 @@
-// Judge yourself: the calls and the keys are those of the run, the order and the replies in it the reader's. So the proved `check` says ok if
-// the reader's order explains what the run did, also where it is not the replayer's.
+// Judge yourself. The calls and the keys are those of the run; the order and the replies are the reader's. The proved `check` accepts every order
+// that explains the run, not only the replayer's.
 import { readReport, readVerdict } from "../engine/answers.js";
 import { callText, letterOf, openReply } from "./markup.js";
 
@@ -98,7 +98,7 @@ export function verdictOn(ask, answer) {
   return { isRight: false, clash, report, says: faultInWords(answer, order) };
 }
 
-// Judges the claim that no order exists by the proved judge, without a search.
+// Judges the claim that no order exists. Asks the proved judge; the page does not search.
 function verdictOnClaim(ask, { isWhole, reportText }) {
   const said = (isRight, says) => ({ isRight, clash: null, report: null, says });
   const there = "There is one: this is a run of a correct list, and each of those has an order (proved). Find it.";

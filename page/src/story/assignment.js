@@ -1,4 +1,4 @@
-// An assignment is its address, #assignment=Week+3&learn=one-lock.lost-pred&break=6.7&judge=lazy.2.5.2.17. It is stored nowhere else.
+// Assignments. An assignment is its address and is stored nowhere else: #assignment=Week+3&learn=one-lock.lost-pred&break=6.7&judge=lazy.2.5.2.17.
 import { BOOK, BOOK_NAME } from "../../made/book.js";
 import { LACKING } from "../../made/classics.js";
 import { LISTS } from "../../made/rows.js";
@@ -78,7 +78,7 @@ export function tasksOf(given) {
   return { tasks: [...learn, ...levels, ...taken(wordsIn(given.judge, ","), seedTask, "run")], unknown };
 }
 
-// ---- the progress in this browser: solved lessons, broken levels, judged runs
+// ---- The progress in this browser: solved lessons, broken levels, judged runs.
 export function taskOfJudged(line, tasks) {
   const [, run = "", level] = line.split(" ");
   if (level === "claim") return null;
@@ -159,7 +159,7 @@ function isNamed() {
   return false;
 }
 
-// joerg-mueller-4711-week-3.txt
+// Returns a name such as joerg-mueller-4711-week-3.txt.
 function fileName() {
   const { student, number } = keptStory();
   const letters = { ä: "ae", ö: "oe", ü: "ue", ß: "ss" };

@@ -35,7 +35,7 @@ function begin(place) {
   if (place.given.text !== undefined) looked();
 }
 
-// Whether the broken run was opened from a link, and so was not found by the reader.
+// Decides whether the broken run came with the link, so that the reader has not found it.
 const isShown = (run) => now.place.given.text !== undefined && run.lines.join() === run.first.join() && !isBrokenOnce(nameNow());
 
 function looked() {
@@ -52,7 +52,7 @@ function looked() {
   setScene({ stage: "done", note: whyOf(verdict, wasShown) });
 }
 
-// Says what is left to do if a key is outside the list, else why the run is not broken although it looks so.
+// Returns what is left to do if a key is outside the list, or why a run that looks broken is not.
 function notYet(run, { kind, isExplained }) {
   const lost = run.promised().filter((key) => !run.has().includes(key));
   if (run.trace.calls.some(({ ended }) => ended === null)) return lost.length === 0 ? "" : `${lost.join(" and ")} is no longer in the list. Now let each call return.`;

@@ -1,4 +1,4 @@
-// Checks what a class handed in: the texts of many files, as a table of students and tasks. check_lessons.js prints the same table.
+// Checks the hand-ins of a class: makes a table of students and tasks from the texts of many files. check_lessons.js prints the same table.
 import { LISTS } from "../../made/rows.js";
 import { judgedPart, readHandIn, textsIn } from "../course/hand_in.js";
 import { triedCourse } from "../course/lesson.js";
@@ -69,7 +69,7 @@ function takeText(students, text, courses, assignment) {
   if (answers.length > 0) own.notes.push(`the very answer of the lesson: ${answers.join("; ")}`);
 }
 
-// `odd`: solutions of tasks that are not in the assignment, and solutions that are the lesson's own answer.
+// Judges one solution. `odd` collects the tasks that are not in the assignment, and the solutions that equal the lesson's own answer.
 function judgePart(own, lessons, line, tasks, odd) {
   const verdict = judgedPart(askNow, lessons, line);
   const task = (line.startsWith("judge ") ? taskOfJudged(line, tasks ?? [])?.id : undefined) ?? verdict.task;
@@ -111,8 +111,8 @@ function notesOnNames(row, rows) {
 // Returns the steps of a schedule, one on each line, so that differently grouped texts compare equal.
 const oneByOne = (schedule) => schedule.replace(/^go (\d+) (\d+)$/gm, (_, thread, count) => Array(Number(count)).fill(`go ${thread}`).join("\n"));
 
-// Of each row with whom it shares schedules, step by step: { count, of, isListed, rows }. Schedules that many have are no sign, and named; one
-// other alone can be chance, and is listed only if no second one could be shared.
+// Adds to each row the students who have the same schedules, step by step: { count, of, isListed, rows }. A schedule that many students have is no
+// sign of copying, and is returned. A single shared schedule can be chance, so it is listed only if the student has no other rare one.
 function noteCopies(rows) {
   const byText = new Map();
   const own = new Map(rows.map((row) => [row, [...row.solved].filter(([, schedule]) => schedule !== null).map((entry) => entry.join("\n"))]));
@@ -144,8 +144,8 @@ export function copiesText({ copies }, all = false) {
 // Counts for each task the students who solved it.
 export const sumsOf = ({ rows, columns }) => columns.map(({ id }) => rows.filter(({ solved }) => solved.has(id)).length);
 
-// A table for a spreadsheet, whose cells are `parted` as its language wants: German and French ones by semicolons. A cell that a spreadsheet would
-// compute is made a plain text.
+// Returns a table for a spreadsheet. `parted` separates the cells: German and French spreadsheets need semicolons. A cell that a spreadsheet would
+// compute becomes plain text.
 export function csvOf({ rows, columns }, parted = ",") {
   const cell = (value) => {
     const text = String(value).replace(/^[=+\-@\t\r]/, "'$&");

@@ -72,7 +72,7 @@ export function openContents(figure, press) {
   });
 }
 
-// ---- the last screen: a summary, and where to go next
+// ---- The last screen: a summary, and where to go next.
 export const LAST = SCREENS.length + 1; // the number of the last screen
 
 const WAYS = [

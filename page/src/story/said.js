@@ -1,4 +1,4 @@
-// One short sentence about an event, for readers without the book: nodes by their keys, threads by their letters.
+// Writes one short sentence about an event, for readers without the book: nodes by their keys, threads by their letters.
 import { callText, chipOf, keyText } from "../run/markup.js";
 import { isLock, ownerIn } from "../run/outcomes.js";
 import { linkTarget } from "../run/state.js";

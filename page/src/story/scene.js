@@ -8,16 +8,16 @@ import { Figure } from "./figure.js";
 import { NARROW } from "./figure_parts.js";
 
 /**
- * A view has the class of its place (`kind`) and its parts as text; `fault` says why there is no such place, `begin` makes the figure once the
- * parts are there, `draw` shows how far one is, `end` comes before the parts go; `deeds` are done by buttons, `press` by a key; `goes` on or
- * back on a slide, and says whether it did.
+ * A view has the class of its place (`kind`) and its parts as text. `fault` returns why there is no such place, or null. `begin` makes the figure
+ * after the parts are in the page, `draw` shows the progress, `end` is called before the parts are removed. Buttons run `deeds`, a key calls
+ * `press`. `goes` moves on or back on a slide, and returns whether it did.
  * @typedef {import("../page/reducer.js").Place} Place
  * @typedef {{ kind: string, title: (place: Place) => string, html: (place: Place) => string, fault?: (place: Place) => string | null,
  *   begin?: (place: Place) => void, draw?: (scene: import("../page/reducer.js").Scene) => void, end?: () => void,
  *   deeds?: Record<string, (target: any) => any>, press?: (event: KeyboardEvent) => any, goes?: (by: number) => any }} View
  */
 
-/** @type {Record<string, View>} of an activity, or of one without an id its map */
+/** The views by activity; the overview of an activity is `ACTIVITY map`. @type {Record<string, View>} */
 export const VIEWS = {};
 export const scene = { key: "", view: null, figure: null, isFirst: true };
 export const part = (selector) => byId("scene").querySelector(selector);
@@ -31,7 +31,7 @@ export async function copyText(text, words) {
   part("#scene-said").textContent = ((await copied(text)) ? words : `Copy this by hand: ${text}`) + warningOf(text);
 }
 
-// Shows text on the stage, above the threads' buttons. Its space is reserved, so nothing scrolls.
+// Shows the task, the question or the reply above the threads' buttons. The space is reserved, so nothing scrolls.
 export const showPrompt = (html) => setHtml(part("#prompt"), html);
 
 export function takeFigure(figure) {

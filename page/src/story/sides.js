@@ -30,11 +30,11 @@ export class Sides {
   constructor(kinds, { program, quota, opening }) {
     this.program = program;
     this.turns = [];
-    // `counts`: how many events a side has after each turn
+    // `counts` has the number of events of a side after each turn.
     this.sides = kinds.map((list) => ({ run: new LiveRun({ list, threads: program.length, quota, opening }), counts: [0] }));
   }
 
-  // Returns what a turn makes in each list: a schedule line, or null if that list waits. Returns null if both are done.
+  // Returns the schedule line that a turn makes in each list, or null for a list that waits. Returns null if both lists are done.
   linesOf(thread) {
     if (thread >= this.program.length) return null;
     const isIdle = this.sides.map(({ run }) => run.isIdle(thread));

@@ -2,7 +2,7 @@
 
 
 def hurried(visitor):
-    """The run is shown to its end at once by a key."""
+    """Shows the run to its end at once, by a key."""
     visitor.press("Right")
     visitor.revealed()
 
@@ -83,7 +83,7 @@ def test_old_addresses_open_the_questions(visitor):
 
 
 def test_sentences_are_whole(visitor):
-    """Of each event of each example, as the story tells it."""
+    """Each event of each example has a whole sentence."""
     visitor.open("#ask")
     told = visitor.inside("""const { LiveRun, QUESTIONS, APPENDIX, saidOf, momentAt } = listsets;
         return [...QUESTIONS, ...APPENDIX].flatMap(({ list, opening, threads = 2, quota = 4, lines, rest }) => {

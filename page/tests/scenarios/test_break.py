@@ -1,4 +1,4 @@
-"""Break: each level is won, its answer is not told, the contradiction is in sight, and what is missing is struck out."""
+"""Break: each level is won, its answer is not revealed, the contradiction is visible, and the missing check is struck out."""
 
 import pathlib
 
@@ -6,7 +6,7 @@ SCHEDULES = pathlib.Path(__file__).resolve().parents[3] / "examples/schedules/la
 
 
 def won(visitor):
-    """Level 1 by its hints: both walk, B does its whole add, A ends."""
+    """Wins level 1 by its hints: both walk, B makes its whole add, A ends."""
     visitor.open("#break=1")
     for key in "aaabbbbbbaa":
         if not visitor.is_seen(".reveal"):

@@ -1,4 +1,4 @@
-"""Judge, Compare, files, and what is told of wrong ones."""
+"""Judge, Compare, files, and the messages about wrong ones."""
 
 from test_stage import fit
 

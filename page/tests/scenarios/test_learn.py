@@ -1,4 +1,4 @@
-"""Solve: a lesson is tried, solved and explored on; a teacher's course goes from profile to profile."""
+"""Solve: a lesson is tried, solved and changed; a teacher's course is passed from profile to profile."""
 
 COURSE = """listset-course 1
 course Monday
@@ -30,7 +30,7 @@ def courses(visitor):
 
 
 def solved(visitor):
-    """The course's lesson, as a student does it: A walks to the node of 5, B removes it, A looks at the mark."""
+    """Solves the course's lesson as a student does: A walks to the node of 5, B removes the node, A looks at the mark."""
     begin(visitor, 0, "contains", 5)
     visitor.step("a")
     begin(visitor, 1, "remove", 5)

@@ -1,4 +1,4 @@
-"""The bench: a run step by step, a choice of one's own, keys, the play, the browser's history."""
+"""The bench: a run step by step, the reader's own choice, keys, the play, the browser's history."""
 
 
 def test_one_goes_on_from_here_by_the_code(visitor):
@@ -81,7 +81,7 @@ def test_keys_and_slider(visitor):
 
 
 def test_live_regions_say_a_sentence_once(visitor):
-    """Of a step the sentence alone is heard, once: on the bench, and of two lists at most one of each."""
+    """A screen reader hears only the sentence of a step, once: on the bench, and at most once for each of two lists."""
     for address, key, most in (("#example=snip", "Right", 1), ("#compare", "Left", 2)):
         visitor.open(address)
         visitor.script("""window.said = []; const isLive = (it) => it?.closest("[aria-live=polite], [role=status], [role=alert], output") ?? null;

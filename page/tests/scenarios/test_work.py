@@ -134,7 +134,7 @@ def test_a_numbered_run_is_the_same_for_all(visitor, another):
 
 
 def test_a_slow_network(visitor):
-    """The engine comes late: the example is there from its trace before, and the page says who ran it."""
+    """The engine comes late: the example is shown from its stored trace first, and the page says who ran it."""
     visitor.go(f"{visitor.place}/slow.html#example=snip&event=3")
     visitor.wait("return document.body.dataset.ready === 'soon'")
     assert visitor.event() == 3 and "kept beside the page" in visitor.text("#source")
