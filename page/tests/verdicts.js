@@ -110,7 +110,7 @@ const OF_RECORDING = [
     (it, [count, keys]) => isExplained(it) && Number(count ?? 1) === it.calls.length + it.padding.length && keys.startsWith(",") === (it.keys === null)],
   [/^(\d+) of them overlap a change of their key\.$/, (it, [count]) => Number(count) === overlapped(it)],
   [/^That is few, and a race shows only if calls meet: take fewer keys, more threads, or pauses in the set\.$/, (it) => 20 * overlapped(it) < it.calls.length + it.padding.length],
-  [/^The recording was cut off: some keys left fit, and those that were left are not known\.$/, (it) => it.keys === null && isExplained(it)],
+  [/^The recording was cut off: some final keys fit; the real ones are not known\.$/, (it) => it.keys === null && isExplained(it)],
   [/^The first 40 calls are drawn\.$/, (it) => it.calls.length + it.padding.length > 40],
   [/^Not linearizable: no order at all explains these calls( and leaves the keys)?\.$/, (it, [keys]) => !isExplained(it) && (keys === undefined) === (leftByOrders(it.calls, it.opening).size === 0 || it.keys === null)],
   [/^No order explains the calls of key (\d+) up to moment (\d+)\.$/, (it, [key, moment], said) => {
@@ -505,7 +505,7 @@ function isLost({ calls, opening, keys }, key) {
 
 // Decides whether calls of these names, or the opening or final state of the key, contradict each other, and no other call could change that.
 function isToldSo(it, key, first, second) {
-  const looks = it.calls.map((call) => ({ ...asLook(call), told: `${nameIn(call)} ${call.ended === null ? "is open" : `answers ${call.reply}`}` }));
+  const looks = it.calls.map((call) => ({ ...asLook(call), told: `${nameIn(call)} ${call.ended === null ? "is pending" : `answers ${call.reply}`}` }));
   const named = (told) => looks.filter((call) => call.key === key && call.told === told);
   const isPresent = first === null ? it.opening.includes(key) : first[1];
   const end = /^at the end the set (has it|does not have it)$/.exec(second)?.[1];

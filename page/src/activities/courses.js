@@ -75,7 +75,7 @@ export function listenToCourses() {
   lessonPart("save").onclick = () => saveText("lessons.course", box.value);
   lessonPart("hand-in").onclick = handIn;
   lessonPart("student").onchange = () => {
-    if (!keepStory({ student: lessonPart("student").value.trim() })) lessonPart("said").textContent = "This browser keeps nothing: hand in before you leave the page.";
+    if (!keepStory({ student: lessonPart("student").value.trim() })) lessonPart("said").textContent = "This browser stores nothing: hand in before you leave the page.";
   };
 }
 

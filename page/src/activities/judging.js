@@ -147,7 +147,7 @@ class Judging {
     judgePart("tries").textContent = tries === 0 ? "" : `${tries} ${tries === 1 ? "try" : "tries"} refused`;
     judgePart("hint").textContent = kind === "wrong" && tries >= 2 && this.exercise.level !== "claim" ? hintOfRun() : "";
     const isKept = kind === "right" && this.exercise.isWhole;
-    judgePart("line").innerHTML = isKept ? `Kept; you hand it in with the lessons: <code>${escaped(this.line)}</code>` : "";
+    judgePart("line").innerHTML = isKept ? `Saved. Hand it in with your lessons: <code>${escaped(this.line)}</code>` : "";
     const drawn = verdict?.report == null ? "" : askNow("listset_show_svg", verdict.report).text;
     judgePart("picture-box").hidden = !drawn.startsWith("<svg ");
     judgePart("picture").innerHTML = judgePart("picture-box").hidden ? "" : drawn;
@@ -169,7 +169,7 @@ export function beginJudging() {
   const { trace } = now.run;
   if (held.engine === null) return say("The replayer does not run in this browser: nothing can be judged.");
   if (!now.run.isRun || trace.refused !== null) return say("A run with a refused event cannot be judged: delete the red line of the schedule first.");
-  if (trace.calls.length === 0) return say("There is no call to judge yet.");
+  if (trace.calls.length === 0) return say("No call has begun: there is nothing to judge yet.");
   if (trace.total > MOST_JUDGED) return say(`A run of at most ${MOST_JUDGED} events can be judged; this one has ${trace.total}.`);
   say("");
   judging.begin(homeworkOf(now.place, now.task) === null ? judgePart("level").value : "replies");

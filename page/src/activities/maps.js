@@ -119,7 +119,7 @@ export const PAGES = [
   ["how-it-works.html", "How it works", "The five lists, from one lock to none, each with the runs that show why."],
   ["classic.html", "The examples", "Eighteen runs, each with its question, the answer, and what goes wrong without the check."],
   ["tables.html", "The step tables", "Each list row by row: what a step reads and writes, and which row comes next."],
-  ["tables.html#progress", "Progress: blocking, lock-free, wait-free", "Which calls of each list may block, and within how many steps a call ends."],
+  ["tables.html#progress", "Progress: blocking, lock-free, wait-free", "Which calls of each list can block, and within how many steps a call ends."],
 ];
 const TERMS = {
   event: "The begin of a call, or one step of it: one load, store or compare-and-exchange of one word.",
@@ -128,7 +128,7 @@ const TERMS = {
   pending: "A call that has begun and not ended.",
   "takes effect": "At its linearization point: the moment between begin and end at which a call counts in the order.",
   order: "A sequence of all calls. It explains a run if a sequential set gives the same replies in this order.",
-  linearizable: "Some order explains the replies, and keeps each pair of calls that do not overlap as they were.",
+  linearizable: "Some order explains the replies and keeps the order of calls that do not overlap.",
   "row, step table": "The algorithm as numbered steps; a row says what the thread does next.",
   "pred, curr": "Two neighbouring nodes of a walk; curr is the node after pred.",
   marked: "A node whose key is removed. It can still be in the chain until it is unlinked.",

@@ -68,7 +68,7 @@ export async function openFile(text, name) {
 
 function openTrace(text, task) {
   const fault = faultOfTrace(text);
-  if (fault !== null) return sayError(`this is no trace: ${fault}`);
+  if (fault !== null) return sayError(`this is not a trace: ${fault}`);
   beginTask(task);
   takeTrace(new Trace(text), 0, "a trace from a file");
   takeScheduleOfTrace();

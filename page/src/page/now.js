@@ -6,7 +6,7 @@ import { State } from "../run/state.js";
 import { byId } from "./dom.js";
 import { exampleIn, reduce, stateAtFirst } from "./reducer.js";
 
-export const NO_ENGINE = "The replayer does not run in this browser: no schedule can be run, no report checked. A file of listset trace can be opened.";
+export const NO_ENGINE = "The replayer does not run in this browser: it cannot run a schedule or check a report. You can still open a file of listset trace.";
 export const now = stateAtFirst();
 /** The engine, or null. `hasEngine` is false once the engine has failed to start. @type {{ engine: any, hasEngine: boolean, render: () => void }} */
 export const held = { engine: null, hasEngine: true, render: () => {} };

@@ -68,7 +68,7 @@ export function sceneOfHash(hash) {
   const { view = null, ...parts } = Object.fromEntries(new URLSearchParams(hash.replace(/^#/, "")));
   const activity = SCENES.find((name) => name in parts);
   if (activity === undefined) return null;
-  if (view !== null && !SCENE_VIEWS.includes(view)) throw new AddressFault(`"${view.slice(0, 60)}" is no view of a page`);
+  if (view !== null && !SCENE_VIEWS.includes(view)) throw new AddressFault(`"${view.slice(0, 60)}" is not a view`);
   const { [activity]: id, ...given } = parts;
   return { activity, id, given, view };
 }

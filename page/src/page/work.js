@@ -83,12 +83,12 @@ function takeAnswer(answer, text, at, says) {
   const source = now.run.lacks === null ? "run by the proved replayer" : "a run of a broken list";
   if (isTrace(answer.text)) takeTrace(new Trace(answer.text, versionOf(text)), at, source);
   else sayErrorLine(answer.text.trim());
-  say(works.isKept ? says : `${says} This browser keeps nothing: save the schedule before you leave the page.`);
+  say(works.isKept ? says : `${says} This browser stores nothing: save the schedule before you leave the page.`);
   announce("ran");
 }
 
 // ---- The examples by name. Without an engine they are shown from stored traces (more.js).
-const KEPT_BESIDE = "a trace that is kept beside the page";
+const KEPT_BESIDE = "a stored trace";
 const known = { examples: null };
 
 export function examples() {

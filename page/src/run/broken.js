@@ -60,7 +60,7 @@ function isLost({ calls, opening, keys }, key) {
 // Returns the report's call for a call of a refusal. The judge reads a ceiling, and an add that returned full, as a look at a key.
 function callInWords({ calls }, { thread, begun }) {
   const call = calls.find((one) => one.thread === thread && one.begun === Number(begun));
-  return `${nameOfCall(call)} ${call.ended === null ? "is open" : `answers ${call.reply}`}`;
+  return `${nameOfCall(call)} ${call.ended === null ? "is pending" : `answers ${call.reply}`}`;
 }
 
 export function departureOf(ask, trace) {

@@ -67,7 +67,7 @@ function wrongEvent(text) {
 export function faultOfTrace(text) {
   const lines = text.split("\n");
   const at = wrongLine(lines);
-  if (at !== -1) return `line ${at + 1}: "${(lines[at] ?? "").slice(0, 80)}" is no line of a trace here`;
+  if (at !== -1) return `line ${at + 1}: "${(lines[at] ?? "").slice(0, 80)}" is not a line of a trace at this place`;
   const event = wrongEvent(text);
   return event === null ? null : `event ${event} cannot come here`;
 }

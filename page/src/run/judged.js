@@ -129,7 +129,7 @@ function faultInWords(answer, { fault, call, place, reply, set, answer: due, beg
     return `${named(call)} begins at event ${begun}, and in your order it comes before ${named(other)}, which ended at event ${ended}.`;
   }
   if (fault === "WrongSet") return `Your order leaves the set ${set}; at the end of this run it is {${answer.exercise.keys.join(", ")}}.`;
-  return `This is no order of the calls of this run (${fault}).`;
+  return `This is not an order of the calls of this run (${fault}).`;
 }
 
 // Returns the last word of a line to hand in, as in `judge read-in-anothers-step replies 0-true,2-true,1-false,3-true`, or "".

@@ -17,8 +17,8 @@ const openingOf = ({ given: { opening, s } }) => (opening === undefined ? (s ===
 function html(place) {
   const list = listOf(place);
   const tab = ([kind, name]) => tag("button", { class: "small", "data-do": "list", "data-list": kind, "aria-pressed": kind === list }, name);
-  const prose = `<p class="prose">Each thread’s letter stands at the line that it executes next. Press that line to execute it; press another line, and
-    the thread runs there. Let an idle thread begin any call.</p>`;
+  const prose = `<p class="prose">Each thread’s letter marks the line that the thread executes next. Press that line to execute it. Press another line, and
+    the thread runs to it. Let an idle thread begin any call.</p>`;
   return `${onStage(`${head("", "Press a line, and its thread executes it.", prose)}
     <div class="line"><span class="branches">${Object.entries(LIST_WORDS).map(tab).join("")}</span>
     <label class="small">begins with <input id="code-opening" value="${openingOf(place).join(" ")}" size="8"></label></div>
@@ -38,7 +38,7 @@ function begin(place) {
   if (figure.run.trace.refused !== null) {
     figure = figureOf(place, []);
     part("#code-said").hidden = false;
-    part("#code-said").textContent = "These steps cannot be made on this list; it begins anew.";
+    part("#code-said").textContent = "This list cannot make these steps, so it starts afresh.";
   }
   figure.onStep = () => setScene({ text: addressOfCode(listOf(place), openingOf(place), figure.run.lines, setOfPlace(place)) });
   figure.onStep();

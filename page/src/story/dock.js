@@ -139,7 +139,7 @@ export function chooseCall(figure, row) {
 
 // Asks the reader which call an idle thread begins, and focuses its fields.
 export function askCall(figure, thread) {
-  figure.say(`Which call is ${chipOf(thread)} to begin? Choose its operation and its number, then press <b>begin</b>.`);
+  figure.say(`Which call should ${chipOf(thread)} begin? Choose an operation and a number, then press <b>begin</b>.`);
   figure.box.querySelector(`[data-thread="${thread}"] select`)?.focus();
 }
 

@@ -21,7 +21,7 @@ function studentOf(text, file) {
 export function assignmentOfLink(link) {
   const { assignment: title, ...given } = Object.fromEntries(new URLSearchParams(link.replaceAll("&amp;", "&").replace(/^[^#]*#?/, "")));
   const { tasks, unknown } = tasksOf(given);
-  if (title === undefined) return { fault: "This is no link of an assignment: “#assignment=” is missing." };
+  if (title === undefined) return { fault: "This is not the link of an assignment: “#assignment=” is missing." };
   if (unknown.length > 0) return { fault: `This link names tasks that do not exist: ${unknown.join(", ")}.` };
   return tasks.length === 0 ? { fault: "The assignment of this link has no task." } : { title, tasks };
 }
@@ -66,7 +66,7 @@ function takeText(students, text, courses, assignment) {
   for (const { line } of isOther ? [] : read.solutions) judgePart(own, course?.lessons ?? [], line, assignment?.tasks ?? null, odd);
   const [others, answers] = [odd.others, odd.answers].map((some) => [...some].map((task) => titleOf(task, courses)));
   if (others.length > 0) own.notes.push(`${counted(others.length, "solution")} of tasks not asked: ${others.join("; ")}`);
-  if (answers.length > 0) own.notes.push(`the very answer of the lesson: ${answers.join("; ")}`);
+  if (answers.length > 0) own.notes.push(`the lesson’s own answer: ${answers.join("; ")}`);
 }
 
 // Judges one solution. `odd` collects the tasks that are not in the assignment, and the solutions that equal the lesson's own answer.
@@ -83,7 +83,7 @@ function judgePart(own, lessons, line, tasks, odd) {
     own.notes.push(`${title}: ${inLetters(verdict.says)}`);
   }
   if (verdict.isVeryAnswer) odd.answers.add(task);
-  if (verdict.ofExample) own.notes.push(`${title}: the very run of the example ${verdict.ofExample}`);
+  if (verdict.ofExample) own.notes.push(`${title}: exactly the run of the example ${verdict.ofExample}`);
 }
 
 // Returns the title of a task: a lesson, a level, or a judged run.

@@ -84,7 +84,7 @@ function taskHtml({ hints }) {
     isSolved && isShown ? "This is the answer that was shown to you. Find another one." : "",
     deadEnd === null ? "" : inLetters(deadEnd),
     reason ?? "",
-    isKept ? "" : "This browser keeps nothing: hand in before you leave the page.",
+    isKept ? "" : "This browser stores nothing: hand in before you leave the page.",
   ].filter((note) => note !== "");
   const hint = hints >= HINT && lesson.hint !== "" ? `<p><b>Hint.</b> ${escaped(inLetters(lesson.hint))}</p>` : "";
   const answer = hints >= ANSWER ? '<p class="line">There is more than one answer. <button data-do="answer">See one of them</button></p>' : "";
@@ -128,7 +128,7 @@ async function seeAnswer() {
 
 export const learnView = {
   kind: "ask-one",
-  fault: ({ id }) => (learning.panel.lessonNamed(id) === undefined ? `no course that is kept here has a lesson "${id}"` : null),
+  fault: ({ id }) => (learning.panel.lessonNamed(id) === undefined ? `no stored course has a lesson "${id}"` : null),
   title: ({ id }) => `Solve it: ${learning.panel.lessonNamed(id).title}`,
   html, begin, draw, press: pressThread,
   deeds: { hint, answer: seeAnswer, replay: () => scene.figure.replay(), afresh: () => scene.figure.again() },

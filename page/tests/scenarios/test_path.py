@@ -218,7 +218,7 @@ def test_step_by_the_code(visitor):
     visitor.open(where)
     assert "It waits." in visitor.text(".said")
     visitor.open("#code=lazy&s=g0.4")
-    assert "cannot be made" in visitor.text("#code-said")
+    assert "cannot make these steps" in visitor.text("#code-said")
 
 
 def test_letters_can_be_switched_off(visitor):

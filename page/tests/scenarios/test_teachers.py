@@ -113,7 +113,7 @@ def test_a_class_is_checked(visitor):
     visitor.click(".class thead button", "Same schedules")
     assert "2 of 2 with" in visitor.text(".class tbody tr")
     visitor.type("#in-link", "http://example.org/foo")
-    assert visitor.text("#in-said") == "This is no link of an assignment: “#assignment=” is missing." and not visitor.is_seen(".class")
+    assert visitor.text("#in-said") == "This is not the link of an assignment: “#assignment=” is missing." and not visitor.is_seen(".class")
 
 
 def test_who_has_a_number_is_one_student(visitor):
