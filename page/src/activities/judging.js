@@ -3,7 +3,7 @@ import { CLASSICS } from "../../made/classics.js";
 import { drawJudged, drawOwnOrder, judgeScale, momentOfReport } from "../draw/judged_bars.js";
 import { byId, redraw } from "../page/dom.js";
 import { askNow, dispatch, exampleShown, held, isJudging, now, say } from "../page/now.js";
-import { addressOf } from "../run/address.js";
+import { addressOf, partsOfSeed } from "../run/address.js";
 import { askList } from "../run/broken.js";
 import { exerciseOf, LEVELS, MOST_JUDGED, OwnAnswer, repliesOf, verdictOn, wordOfAnswer } from "../run/judged.js";
 import { callText, chipOf, escaped } from "../run/markup.js";
@@ -103,7 +103,7 @@ class Judging {
     const { level, calls } = this.exercise;
     this.count = now.run.count;
     this.scale = judgeScale(this.exercise, Math.max(300, judgePart("bars").clientWidth));
-    judgePart("task").textContent = LEVELS[level].task;
+    judgePart("task").textContent = `${now.task.kind === "seed" ? `Run ${partsOfSeed(now.task.id).number}. ` : ""}${LEVELS[level].task}`;
     judgePart("none").hidden = level !== "claim";
     redraw(judgePart("bars"), drawJudged(this));
     const asked = level === "replies" ? calls.filter((call) => call.ended !== null) : [];

@@ -8,6 +8,7 @@ export const LIST_LOCK = 40; // above a list with one lock
 const MARGIN = 8;
 const WIDEST = 190; // of a node
 const BESIDE = 18; // between two nodes that are not in the chain
+const BESIDE_HANDS = 2; // between two hands in a row, so that their edges meet
 const MOST_POINTING = 6; // threads whose hands are drawn
 
 // A form has the least pixels of a unit (so that every label is large enough to read), the heights of a node's two parts (its key and its lock), the
@@ -90,7 +91,7 @@ const widthOfHand = ({ left, letter, right }, words) => left + letter * words.le
 function handsPerSlot(form, { names = false }, width, slots) {
   const node = widthOfNode(form, width - 2 * MARGIN, slots);
   const gap = (width - 2 * MARGIN - slots * node) / Math.max(1, slots - 1);
-  return Math.max(1, Math.floor((node + 0.45 * gap + 6) / (widthOfHand(form.hand, names ? "curr, succ" : "pred") + 6)));
+  return Math.max(1, Math.floor((node + 0.45 * gap + BESIDE_HANDS) / (widthOfHand(form.hand, names ? "curr, succ" : "pred") + BESIDE_HANDS)));
 }
 
 const widthOfNode = (form, all, slots) => Math.min(WIDEST, all / (slots + form.gap * (slots - 1)));
@@ -145,8 +146,8 @@ function placeAside(state, chain, shown, places, { width, down, spare }) {
 function rowsOf(hands, most) {
   const rows = [];
   for (const own of hands) {
-    const row = rows.find(({ wide }) => wide + 6 + own.wide <= most);
-    if (row !== undefined) Object.assign(row, { wide: row.wide + 6 + own.wide, hands: [...row.hands, own] });
+    const row = rows.find(({ wide }) => wide + BESIDE_HANDS + own.wide <= most);
+    if (row !== undefined) Object.assign(row, { wide: row.wide + BESIDE_HANDS + own.wide, hands: [...row.hands, own] });
     else rows.push({ wide: own.wide, hands: [own] });
   }
   return rows;
@@ -166,8 +167,8 @@ function handsOn(pointers, places, { form: { hand }, width }, hides) {
     return rowsOf(hands, node + (aside ? 10 : 0.45 * gap)).flatMap((row, index) => {
       let left = Math.max(2, Math.min(width - row.wide - 2, x + (node - row.wide) / 2)); // at the ends of the chain, towards its middle
       return row.hands.map((own) => {
-        left += own.wide + 6;
-        return { ...own, x: left - own.wide - 6, y: Math.max(1, y - hand.height + hand.over - index * (hand.height + 2)) };
+        left += own.wide + BESIDE_HANDS;
+        return { ...own, x: left - own.wide - BESIDE_HANDS, y: Math.max(1, y - hand.height + hand.over - index * (hand.height + 2)) };
       });
     });
   });

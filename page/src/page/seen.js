@@ -24,7 +24,7 @@ export const SEEN = {
   workshop: (facts) => isStage(facts) && isFull(facts),
   "question-box": ({ kind, isJudging }) => kind === "example" && !isJudging,
   "own-head": ({ kind }) => kind === "own",
-  "seed-box": ({ kind }) => kind === "seed",
+  "seed-box": ({ kind, isJudging }) => kind === "seed" && !isJudging,
   "judge-head": ({ activity }) => activity === "judge",
   "go-on-here": (facts) => facts.activity !== "judge" && isFull(facts) && facts.hasEngine,
   past: ({ isJudging, view }) => !isJudging && view !== "list",

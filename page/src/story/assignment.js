@@ -65,6 +65,12 @@ export function wayOn({ activity, id }, own) {
   return next === undefined ? { href: addressOfAssignment(homework), words: "All tasks →" } : { href: next.href, words: "Next task →" };
 }
 
+// Returns the link that leads back from a place: to the assignment if the place is one of its tasks, else the place's own.
+export function wayBack(place, own, task = undefined) {
+  const homework = homeworkOf(place, task);
+  return homework === null ? own : { href: addressOfAssignment(homework), words: `← ${titleOfAssignment(homework)}` };
+}
+
 export function tasksOf(given) {
   const unknown = [];
   const taken = (words, taskOf, what) =>

@@ -5,10 +5,10 @@ import { BREAK_LEVELS, TEN, levelOfNumber, numberOfLevel, whyWrong } from "../da
 import { askNow, now } from "../page/now.js";
 import { addressOf } from "../run/address.js";
 import { departureOf, isTaskDone, NO_TASK } from "../run/broken.js";
-import { wayOn } from "./assignment.js";
+import { wayBack, wayOn } from "./assignment.js";
 import { isBrokenOnce, isNamed, keepBrokenLine, keepNamed } from "./progress.js";
 import { runOfText } from "./live_run.js";
-import { drawHintAndOn, drawLedger, onStage, foot, head, hintAndOn, isOddRun, LACKS_ONE, numberOfKey, optionButtons, pressThread, scene, setScene, takeFreeFigure, showPrompt } from "./scene.js";
+import { backLink, drawHintAndOn, drawLedger, onStage, foot, head, hintAndOn, isOddRun, LACKS_ONE, numberOfKey, optionButtons, pressThread, scene, setScene, takeFreeFigure, showPrompt } from "./scene.js";
 
 const HINTS = 3;
 const levelOf = ({ id }) => levelOfNumber(id);
@@ -20,7 +20,7 @@ function html(place) {
   const next = TEN[(at + 1) % TEN.length];
   const kicker = `<a href="#break">Break it</a> · level ${numberOfLevel(name)} · ${LISTS[LACKING[name]].name} without one check`;
   return `${onStage(head(kicker, BREAK_LEVELS[name].story))}
-    ${foot('<a class="button quiet" href="#break">All lists</a>', hintAndOn(wayOn(place, { href: `#break=${numberOfLevel(next)}`, words: "Next list →" })))}`;
+    ${foot(backLink(wayBack(place, { href: "#break", words: "All lists" })), hintAndOn(wayOn(place, { href: `#break=${numberOfLevel(next)}`, words: "Next list →" })))}`;
 }
 
 function begin(place) {

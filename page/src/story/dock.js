@@ -67,7 +67,7 @@ export function showStrip(figure) {
   figure.part("strip").style.setProperty("--zoom", String(zoomOf(figure)));
   setHtml(figure.part("strip"), tag("div", { class: "calls" }, drawCalls(run.trace, scale)) + drawContents(run.trace, scale) + LEGEND);
 }
-const isLow = () => innerHeight < 760 || innerWidth < 761 || isLecture();
+const isLow = () => innerHeight < 760 || isLecture();
 // The path draws its bars larger, and aligns the list with them.
 const zoomOf = ({ spec, stripWide }) => (isLecture() ? innerHeight / 450 : !spec.isPath ? 1 : stripWide < 600 ? 1.34 : stripWide < 1500 ? 1.35 : 1.55);
 export const barEnds = (figure) => [(HISTORY_LEFT - 6) * zoomOf(figure), 16 * zoomOf(figure)];

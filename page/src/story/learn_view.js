@@ -4,10 +4,10 @@ import { setHtml } from "../page/dom.js";
 import { now } from "../page/now.js";
 import { versionOf } from "../run/schedule_text.js";
 import { escaped, inLetters, tag } from "../run/markup.js";
-import { wayOn } from "./assignment.js";
+import { wayBack, wayOn } from "./assignment.js";
 import { learning } from "./learning.js";
 import { linesOf, runOfText } from "./live_run.js";
-import { drawHintAndOn, onStage, foot, head, hintAndOn, LACKS_ONE, LIST_WORDS, part, pressThread, scene, setScene, takeFreeFigure, showPrompt } from "./scene.js";
+import { backLink, drawHintAndOn, onStage, foot, head, hintAndOn, LACKS_ONE, LIST_WORDS, part, pressThread, scene, setScene, takeFreeFigure, showPrompt } from "./scene.js";
 
 const HINT = 1; // of `hints`, in the scene: the hint is shown; the answer is shown
 const ANSWER = 2;
@@ -25,7 +25,7 @@ function html(place) {
   const asked = `<p class="asked">${escaped(inLetters(lesson.question))}</p>`;
   const goal = '<div class="goal"><p class="kicker">A solution shows</p><div id="goal" aria-live="polite"></div></div>';
   return `${onStage(`<div class="two">${head(kicker, escaped(lesson.title), asked)}${goal}</div>`)}
-    ${foot('<a class="button quiet" href="#learn">All lessons</a>', hintAndOn(wayOn(place, own)))}`;
+    ${foot(backLink(wayBack(place, { href: "#learn", words: "All lessons" })), hintAndOn(wayOn(place, own)))}`;
 }
 
 function begin({ id, given }) {

@@ -3,7 +3,7 @@ import { change, dispatch, now } from "../page/now.js";
 import { byId, setHtml } from "../page/dom.js";
 import { copied } from "../page/visit.js";
 import { warningOf } from "../run/address.js";
-import { chipOf, tag } from "../run/markup.js";
+import { chipOf, escaped, tag } from "../run/markup.js";
 import { Figure } from "./figure.js";
 import { NARROW } from "./figure_parts.js";
 
@@ -83,6 +83,8 @@ export const head = (kicker, title, more = "", kind = "") =>
 
 // Returns a screen whose figure takes the remaining height.
 export const onStage = (head, kind = "") => `<section class="screen on-stage ${kind}">${head}<div id="figure"></div></section>`;
+
+export const backLink = ({ href, words }) => tag("a", { class: "button quiet back", href }, escaped(words));
 
 export const hintAndOn = ({ href, words }) =>
   `<button id="hint" class="quiet" data-do="hint"></button>${tag("a", { id: "go-on", class: "button quiet", href, "data-words": words }, "Skip →")}`;

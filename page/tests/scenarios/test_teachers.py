@@ -22,11 +22,11 @@ def test_homework_is_one_link_that_lasts(visitor, another):
     assert student.text("h1") == "Week 3"
     student.click(".task[href='#break=6']")
     student.wait("return location.hash === '#break=6'")
-    assert student.text("#home") == "← Back to Week 3"
+    assert student.text(".foot .back") == "← Week 3"
     student.open("#break=7")
-    assert not student.is_seen("#home")
+    assert student.text(".foot .back") == "All lists"
     student.open("#break=6")
-    student.click("#home")
+    student.click(".foot .back")
     student.wait("return document.querySelector('h1').innerText === 'Week 3'")
 
 
