@@ -137,7 +137,7 @@ def test_a_slow_network(visitor):
     """The engine comes late: the example is shown from its stored trace first, and the page says who ran it."""
     visitor.go(f"{visitor.place}/slow.html#example=snip&event=3")
     visitor.wait("return document.body.dataset.ready === 'soon'")
-    assert visitor.event() == 3 and "kept beside the page" in visitor.text("#source")
+    assert visitor.event() == 3 and "a stored trace" in visitor.text("#source")
     visitor.press("Right")
     assert visitor.event() == 4
     visitor.wait("return document.body.dataset.ready === 'yes'")
