@@ -156,7 +156,7 @@ export const BOOK = [
   "  say Thread 1 has an add that answers true.",
   "  rest R of 0: holding 2",
   "  call A: within R",
-  "  say From its begin to its end thread 0 holds two locks and makes no step.",
+  "  say During the whole add of thread 1, thread 0 holds two locks and makes no step.",
   "dead-ends",
   "  call R of 0: remove, key 9, ended",
   "  say The remove has ended: thread 0 no longer holds a lock. Undo, or let it begin another call.",

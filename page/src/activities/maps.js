@@ -39,7 +39,7 @@ function askHtml() {
   return `${head("", "Guess, then see", lead(words, seen.length === 0 ? "" : score), "title")}${cards(QUESTIONS.map(cardOf))}
     <h2>Seven more</h2><p class="prose">These lists have a fourth operation. <b>ceiling(k)</b> returns the smallest number that is at least k.
     And each thread can add only a limited number of keys (its quota).</p>${cards(APPENDIX.map(cardOf))}
-    ${foot('<a class="button quiet" href="#story=1">The path of twenty minutes</a>', goOn(`#ask=${next.name}`, seen.length, QUESTIONS.length))}`;
+    ${foot('<a class="button quiet" href="#story=1">← The path</a>', goOn(`#ask=${next.name}`, seen.length, QUESTIONS.length))}`;
 }
 
 // ---- Break it: the lists that lack a check, the simplest first.
@@ -47,12 +47,12 @@ function breakHtml() {
   const cardOf = (name) => {
     const { story, lacks } = BREAK_LEVELS[name];
     const state = isBrokenOnce(name) ? { says: lacks, state: "done" } : {};
-    return { href: `#break=${numberOfLevel(name)}`, list: `level ${numberOfLevel(name)} · ${LIST_WORDS[LACKING[name]]}`, title: story, ...state };
+    return { href: `#break=${numberOfLevel(name)}`, list: `${LIST_WORDS[LACKING[name]]} · level ${numberOfLevel(name)}`, title: story, ...state };
   };
   const count = TEN.filter(isBrokenOnce).length;
   const next = TEN.find((name) => !isBrokenOnce(name)) ?? TEN[0];
   const words = `Ten lists, from one lock to none. Each lacks one check. Let A and B step until a number is lost, or two
-    answers cannot both be right. Then name the missing check.`;
+    answers cannot both be right. Then name the missing check. (Each list keeps its level number, so that links stay valid.)`;
   const top = lead(words, count === 0 ? "" : `<b>${count}</b> of ${TEN.length} broken`);
   return `${head("", "Break it", top, "title")}${cards(TEN.map(cardOf))}
     <h2>Three more</h2>${cards(THREE_MORE.map(cardOf))}${foot("", goOn(`#break=${numberOfLevel(next)}`, count, Infinity))}`;

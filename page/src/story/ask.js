@@ -29,7 +29,7 @@ export const QUESTIONS = [
   {
     name: "same-gap", list: "optimistic", title: "One gap for two", opening: [], hides: [6, 7, 8],
     lines: ["begin 0 add 5", "begin 1 add 7", "go 0 2", "go 1 2", "go 1 out", "go 0 2"], rest: ["go 0 out"],
-    question: "Both had walked to the gap between head and tail. B was first with its 7. Now A has its locks. What does A do?",
+    question: "A adds 5, B adds 7. Both had walked to the gap between head and tail, and B was first. Now A has its locks. What does A do?",
     options: [
       { text: "It links 5 in: it belongs before 7", says: "A’s curr is still the tail. Head → 5 → tail: that would lose 7." },
       { text: "It notices, and starts again", right: true, says: "" },
@@ -50,7 +50,7 @@ export const QUESTIONS = [
     broken: "5 is lost: it is linked behind a node that is no longer in the list.",
   },
   {
-    name: "marked-in-chain", list: "lazy", title: "There, and removed", opening: [5],
+    name: "marked-in-chain", list: "lazy", title: "A marked node", opening: [5],
     lines: ["begin 1 remove 5", "go 1 to 12", "begin 0 contains 5", "go 0 2"], rest: ["go 0 out"],
     question: "B has marked 5, and has not unlinked it yet. A’s walk stops at that node. What does contains(5) answer?",
     options: [
@@ -61,7 +61,7 @@ export const QUESTIONS = [
     why: "<b>false.</b> With the mark, 5 has left the set; it does not matter that its node is still in the chain. A takes no lock; one word that it reads decides. (The book’s LazyList has the mark in a word of its own.)",
   },
   {
-    name: "marked-pred", list: "lazy", title: "Warned by a mark", opening: [3], hides: [6, 7],
+    name: "marked-pred", list: "lazy", title: "A removed pred, and one walk", opening: [3], hides: [6, 7],
     lines: ["begin 0 add 5", "go 0 4", "begin 1 remove 3", "go 1 out", "go 0 2"], rest: ["go 0 out"],
     question: "A’s pred, 3, has been removed by B. This list never walks twice. What warns A?",
     options: [
@@ -98,7 +98,7 @@ export const QUESTIONS = [
     broken: "Both return true, and 5 was there once.",
   },
   {
-    name: "snip", list: "lock-free", title: "Helping: unlinking another thread’s node", opening: [5],
+    name: "snip", list: "lock-free", title: "A remover that stops", opening: [5],
     lines: ["begin 0 remove 5", "go 0 to 10"], rest: ["begin 1 add 7", "go 1 out", "go 0 out"], calls: { 1: [["add", 7]] },
     question: "A has marked 5, and stops before it unlinks the node. B wants to add 7 just behind it. Does B have to wait?",
     options: [
@@ -122,7 +122,7 @@ export const QUESTIONS = [
     why: "<b>A’s CAS fails, and changes nothing.</b> It expected the tail, and sees 7. A walks again, with the same node: no other thread has seen it yet.",
   },
   {
-    name: "left-in-chain", list: "lock-free", title: "Answered, and still there", opening: [5],
+    name: "left-in-chain", list: "lock-free", title: "A node left behind", opening: [5],
     lines: ["begin 0 add 3", "go 0 to 7", "begin 1 remove 5", "go 1 to 10", "go 0 out", "go 1 out"], rest: ["begin 0 contains 5", "go 0 out"],
     calls: { 0: [["contains", 5]] },
     question: "B’s remove(5) has returned true, and its node is still in the chain. Now A asks contains(5). What is the answer?",

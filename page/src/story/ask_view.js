@@ -70,7 +70,7 @@ function promptOf({ stage, chosen, at, branches }) {
   if (stage === "playing") return at === 0 ? reply || '<p class="you">Let us see.</p>' : '<p class="you">Now on a list without its check.</p>';
   if (at > 0) return promptOfBranch(branches[at]);
   if (stage === "task") {
-    return `<p class="ask">This was the question. Go to any moment with the slider, and let the other thread go on.</p>
+    return `<p class="ask">This was the question. Go to any moment with the slider, and try another order from there.</p>
       <p class="line"><button data-do="home">← Back to the example</button></p>`;
   }
   const without = item.lacks === undefined ? "" : `<button data-do="without">And if ${CHECK_WORDS[item.lacks]}?</button>`;

@@ -64,7 +64,7 @@ function notYet(run, { kind, isExplained }) {
 
 const whyOf = ({ why }, wasShown) => {
   const ofList = why.replace(/the set (has|does not have) it/, "the list $1 it"); // no set is this
-  return `${ofList}. No order of the calls explains that. This verdict comes from the proved checker.${wasShown ? " This run was shown to you: find one of your own." : ""}`;
+  return `${ofList}. No order of the calls explains that. (Checked by a proved program.)${wasShown ? " This run was shown to you: find one of your own." : ""}`;
 };
 
 const NOBODY_KNOWS = "No run is known that breaks this list. Try it, and say why.";
@@ -87,7 +87,7 @@ function wonHtml({ note, wrong }) {
   const asked = `<p class="ask">What does this list do wrong?</p>${optionButtons(optionsOf(name), wrong)}<p role="status">${reply}</p>`;
   const { total } = run.trace;
   const known = total > shortest[0] ? ` A run with ${shortest[0]} steps is known.` : "";
-  const named = `<p><b class="yes">✓ ${lacks}</b> The code shows it struck out. <span class="small">Your run has ${total} steps (one press can make several).${known}</span></p>
+  const named = `<p><b class="yes">✓ ${lacks}</b> In the code, the missing part is struck out. Your run is shown again from the step at which the correct list differs. <span class="small">Your run has ${total} steps (one press can make several).${known}</span></p>
     <p class="line"><button data-do="replay">See your run again</button> <button data-do="afresh" class="quiet">Break it in another way</button></p>`;
   const ledger = isOddRun(run) ? drawLedger(run) : "";
   return `<div class="reveal won">${ledger}<div><p class="why"><b>Broken.</b> ${note}</p>${isDone ? named : asked}</div></div>`;

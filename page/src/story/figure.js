@@ -5,7 +5,7 @@ import { drawFigure, frameOf, markLostNodes } from "./figure_parts.js";
 import { askCall, beginOwn, chooseCall, pressed } from "./dock.js";
 import { LiveRun } from "./live_run.js";
 
-const BIT = 300; // milliseconds between two steps of one press
+const BIT = 400; // milliseconds between two steps of one press
 const BETWEEN = 450; // and between two presses that the page makes
 const sleep = (time) => new Promise((done) => setTimeout(done, time));
 const made = { count: 0 };
@@ -162,6 +162,7 @@ export class Figure {
 
   undo() {
     if (this.isBusy || this.past.length === 0) return;
+    if (this.spec.restart !== undefined) return this.spec.restart();
     this.run.take(this.past.pop());
     this.isLost = false;
     this.draw(true);
@@ -170,6 +171,7 @@ export class Figure {
 
   again() {
     if (this.isBusy) return;
+    if (this.spec.restart !== undefined) return this.spec.restart();
     this.run.take(this.run.first);
     Object.assign(this, { past: [], said: this.spec.says ?? null, isLost: false });
     Object.assign(this.drawn, { slots: 0, tight: 0 });

@@ -16,7 +16,7 @@ export const isNarrow = () => matchMedia(NARROW).matches;
 const opensCode = ({ opensCode: isAsked }) => !isNarrow() && !isLecture() && (isAsked === true || matchMedia(ROOMY).matches);
 
 const CAS = "CAS x: a → b makes x point to b if x still points to a. succ is the node after curr.";
-const LETTERS = "The letter shows the thread’s next line. Click that line to execute it, or another line to run to it.";
+const LETTERS = "Once a thread has begun, its letter shows its next line. Click that line to execute it, or another line to run to it.";
 const codeBox = (spec) => `<details class="codebox" ${opensCode(spec) ? "open" : ""}><summary>code<span>: <b>${spec.codeTitle}</b></span></summary>
     <p class="small code-note" ${spec.codeNote ? "" : "hidden"}>${spec.codeNote ?? ""}</p><span class="runs"></span><div class="lines"></div>
     <p class="small hint">${spec.list === "lock-free" && !spec.isPath ? CAS : LETTERS}</p></details>`;
@@ -72,9 +72,10 @@ function saidHere({ run, spec }, moment) {
 const HIDDEN = { false: ["succ"], true: [] }; // a reader of the path has two hands to follow; the code of the lock-free list names a third
 export const lockShown = ({ list, plain, locks = true }) => (!locks || plain ? "" : list === "coarse" ? "list" : list === "lock-free" ? "" : "nodes");
 
-function placeTheList(figure, { state, event }, isNear) {
+function placeTheList(figure, { state, event: made }, isNear) {
   const { id, run, spec, wide, tall, drawn } = figure;
   if (wide === 0) return;
+  const event = made !== null && figure.shown.includes(made.thread) ? made : null; // what a thread without a button did is not lit
   const box = figure.part("list");
   const { names = false, slots = 4, flat, strip, isPath = false } = spec;
   const hides = HIDDEN[String(names || (spec.list === "lock-free" && !isPath))];

@@ -52,7 +52,7 @@ function begin(place) {
   const screen = screenOf(place);
   if (screen === null) return;
   const isGuess = screen.ask !== undefined;
-  const figure = takeFigure(new Figure(part("#figure"), { ...screen.figure, isPath: true }));
+  const figure = takeFigure(new Figure(part("#figure"), { ...screen.figure, isPath: true, restart: screen.play && (() => openScene(now.place)) }));
   figure.onStep = looked;
   figure.box.classList.toggle("hides-points", screen.figure.hidesPoints === true);
   setScene({ stage: isGuess ? "guess" : "task" });

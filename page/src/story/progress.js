@@ -27,7 +27,7 @@ export const keepNamed = (name) => keepUnder(NAMED, [...new Set([...(keptUnder(N
 export function startAfresh(button) {
   if (button.dataset.isSure !== "yes") {
     button.dataset.isSure = "yes";
-    button.textContent = "Press again to delete all answers, solutions and names stored here";
+    button.textContent = "Press again to delete";
     return;
   }
   change("run", { text: "" }); // and is not kept anew

@@ -68,7 +68,7 @@ function linkSaid(moment, owner, who, phase) {
       if (owner === before.pred && isMarked) return `sees a mark on its pred: ${bold("it was removed meanwhile.")} It starts again.`;
       return isMarked ? `sees a mark on ${who}. It starts again.` : `sees that ${who} points to ${to} now. It starts again.`;
     }
-    return owner === before.pred ? "sees no mark on its pred, which still points to curr." : `sees no mark on ${who}. It can write.`;
+    return owner === before.pred ? "sees no mark on its pred, which still points to curr." : `sees no mark on ${who} either. It can write.`;
   }
   if (phase === "again") {
     if (owner === before.pred && before.pc === 8) {
@@ -91,18 +91,21 @@ function writeSaid(moment, owner, who) {
   const isDone = event.deed === "store" || event.saw === event.from;
   if (event.to.endsWith("*")) {
     if (isDone) return `marks ${who}: ${bold(`${key} is removed.`)}`;
-    return event.saw.endsWith("*") ? `wants to mark ${who}, but it is marked already. ${bold("It was too late")}, and walks again.` : `wants to mark ${who}, but its arrow has changed. It walks again.`;
+    return event.saw.endsWith("*") ? `wants to mark ${who}, but it is marked already. ${bold("It was too late")}, and walks again.` : `tries to mark ${who}, but its arrow has changed. It walks again.`;
   }
   if (!state.nodes[owner].reached && event.put === undefined && event.took === undefined && event.deed === "store" && owner !== before.pred) {
-    return `lets its node point to ${to}.`;
+    return `points its new node to ${to}.`;
   }
   if (event.put !== undefined) {
     const isIn = state.chain().includes(linkTarget(event.to));
-    return isIn ? `lets ${who} point to ${key}: ${bold(`${key} is in the list.`)}` : `lets its pred point to ${key}. ${bold("But that pred is not in the list.")}`;
+    return isIn ? `makes ${who} point to ${key}: ${bold(`${key} is in the list.`)}` : `makes its pred point to ${key}. ${bold("But that pred is not in the list.")}`;
   }
   if (!isDone) {
     const rest = event.answer !== undefined ? "That does not matter: the mark counts." : "It walks again.";
-    return `wants to change the arrow of ${who}, but it is no longer what it read. ${rest}`;
+    return `tries to change the arrow of ${who}, but the arrow has changed. ${rest}`;
   }
-  return `lets ${who} point to ${to}: ${nodeName(state, before.curr)} is unlinked.`;
+  const chain = state.chain();
+  const curr = nodeName(state, before.curr);
+  if (chain.includes(owner)) return `makes ${who} point to ${to}: ${curr} is unlinked.`;
+  return `makes ${who} point to ${to}. ${bold(`But ${who} is not in the list${chain.includes(before.curr) ? `: ${curr} stays` : ""}.`)}`;
 }

@@ -123,8 +123,8 @@ export function replyTo(options, chosen, isToCome) {
   const option = options?.[chosen];
   if (option === undefined) return "";
   const { text, says, right = false } = option;
-  const said = `You said: ${lowered(text)}${text.endsWith("?") ? "" : "."}`;
-  return `<p class="you ${right ? "right" : "wrong"}"><b>${said}</b> ${says || (right && isToCome ? "Let us see." : "")}</p>`;
+  const said = right && !isToCome ? "Right." : `You said: ${lowered(text)}${text.endsWith("?") ? "" : "."}`;
+  return `<p class="you ${right ? "right" : "wrong"}"><b>${said}</b> ${right ? (isToCome ? says || "Let us see." : "") : says}</p>`;
 }
 
 export function drawLedger(run) {
@@ -135,7 +135,7 @@ export function drawLedger(run) {
     return tag("td", { class: isIn ? (others.includes(key) ? "" : "odd") : "gap" }, isIn ? key : "");
   };
   const row = (name, keys, others) => tag("tr", {}, tag("th", { scope: "row" }, name), ...all.map(cell(keys, others)));
-  return tag("table", { class: "ledger" }, row("answers promise", promised, has), row("list has", has, promised));
+  return tag("table", { class: "ledger" }, row("should have", promised, has), row("list has", has, promised));
 }
 
 export const isOddRun = (run) => run.promised().join() !== run.has().join();
