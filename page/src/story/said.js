@@ -33,7 +33,7 @@ function deedSaid(moment, plain) {
   const key = event.call.key;
   if (event.deed === "load" && event.word.endsWith(".key")) return keySaid(event, owner, key, phase, held);
   if (event.deed === "load") return linkSaid(moment, owner, who, phase);
-  if (event.deed === "store" && event.word.endsWith(".key")) return `makes a node for ${key}. No other thread sees it yet.`;
+  if (phase === "make") return nodeSaid(moment, owner, key);
   return writeSaid(moment, owner, who);
 }
 
@@ -84,6 +84,13 @@ function linkSaid(moment, owner, who, phase) {
   return owner === "head" ? `starts at the head: curr is at ${to}.` : `moves on: curr is at ${to}.`;
 }
 
+// Only a broken list uses a node twice.
+function nodeSaid({ state, event }, owner, key) {
+  const isUsed = state.nodes[owner].reached;
+  if (event.word.endsWith(".key")) return isUsed ? `writes ${key} into a node that was used before.` : `makes a node for ${key}. No other thread sees it yet.`;
+  return `points ${isUsed ? "that" : "its new"} node to ${nodeName(state, linkTarget(event.to))}.`;
+}
+
 function writeSaid(moment, owner, who) {
   const { state, event, before } = moment;
   const key = event.call.key;
@@ -92,9 +99,6 @@ function writeSaid(moment, owner, who) {
   if (event.to.endsWith("*")) {
     if (isDone) return `marks ${who}: ${bold(`${key} is removed.`)}`;
     return event.saw.endsWith("*") ? `wants to mark ${who}, but it is marked already. ${bold("It was too late")}, and walks again.` : `tries to mark ${who}, but its arrow has changed. It walks again.`;
-  }
-  if (!state.nodes[owner].reached && event.put === undefined && event.took === undefined && event.deed === "store" && owner !== before.pred) {
-    return `points its new node to ${to}.`;
   }
   if (event.put !== undefined) {
     const isIn = state.chain().includes(linkTarget(event.to));

@@ -15,7 +15,7 @@ def test_each_question_is_shown_changed_and_left(visitor):
         visitor.open(f"#ask={name}")
         visitor.click("[data-option]")
         hurried(visitor)
-        assert visitor.text(".reveal .you").startswith("You said: ") and len(visitor.text(".reveal .why")) > 40, name
+        assert visitor.text(".reveal .you").startswith(("You said: ", "Right.")) and len(visitor.text(".reveal .why")) > 40, name
         if visitor.is_seen("[data-do=without]"):
             assert visitor.text("[data-do=without]").startswith("And if "), name
             visitor.click("[data-do=without]")
@@ -66,7 +66,7 @@ def test_a_frame_in_another_page(visitor):
     assert visitor.script(seen) == [True, True, True, True, False, True]
     visitor.script("document.querySelector('iframe').contentDocument.querySelectorAll('[data-option]')[1].click()")
     visitor.wait("return document.querySelector('iframe').contentDocument.querySelector('.reveal') !== null")
-    assert visitor.script("return document.querySelector('iframe').contentDocument.querySelector('.you').innerText").startswith("You said: ")
+    assert visitor.script("return document.querySelector('iframe').contentDocument.querySelector('.you').innerText").startswith(("You said: ", "Right."))
     leaves = "it.getClientRects().length > 0 && it.target !== '_blank'"
     links = f"return [...document.querySelector('iframe').contentDocument.links].filter((it) => {leaves}).length"
     assert visitor.script(links) == 0  # nothing leads out of the frame

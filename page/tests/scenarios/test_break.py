@@ -112,7 +112,7 @@ def test_a_run_that_ends_rightly_is_told(visitor):
 
 def test_a_level_has_one_number(visitor):
     visitor.open("#break")
-    assert visitor.text(".card[href='#break=7'] i").startswith("level 7 ")
+    assert visitor.text(".card[href='#break=7'] i").endswith(" level 7")
     visitor.open("#break=7")
     assert visitor.is_seen("#figure") and "level 7" in visitor.script("return document.querySelector('.kicker').textContent")
 

@@ -119,7 +119,7 @@ def test_show_a_step_leads_on_from_where_the_reader_is(visitor):
 
 
 def test_a_mark_warns_an_add_and_a_thread_helps(visitor):
-    for address, told, word in (("#story=7.2", "sees a mark on its pred", "the mark warned A"), ("#story=9.2", "5 is unlinked", "Neither.")):
+    for address, told, word in (("#story=7.2", "sees a mark on its pred", "the mark warned A"), ("#story=9.2", "5 is unlinked", "6 is not lost")):
         visitor.open(address)
         seen = ""
         while not visitor.is_seen(".reveal"):
