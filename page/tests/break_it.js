@@ -65,7 +65,7 @@ function checkContents(trace) {
     const drawn = inPage("drawContents")(trace, inPage("scaleOf")(trace, count, 860, true));
     const [, words] = /aria-label="([^"]*)"/.exec(drawn);
     const isTold = words.startsWith(`the set by the linearization points of the calls after event ${count}: {`);
-    check(`${trace.lacks}: event ${count}: ${words}`, isTold && drawn.includes(">answers</text>"));
+    check(`${trace.lacks}: event ${count}: ${words}`, isTold && drawn.includes(">have</text>"));
   }
 }
 
