@@ -29,7 +29,7 @@ const counted = (count, word) => inPage("counted")(count, word);
 const say = (line) => process.stdout.write(`${printable(line)}\n`);
 const tell = (line) => process.stderr.write(`lessons: ${printable(line)}\n`);
 
-// What a deed with a file gives; a file that cannot be read is trouble.
+// Returns what a function makes of a file. A file that cannot be read is an error.
 function withFile(file, deed) {
   try {
     return deed(file);
@@ -50,7 +50,7 @@ function textOf(file) {
   return inPage("textOfBytes")(bytes);
 }
 
-// The courses among the files, read and tried; their faults are told.
+// Reads and tries the courses among the files, and reports their errors.
 function coursesOf(ask, files) {
   const found = files.flatMap(({ name, text }) => inPage("textsIn")(text).map((one) => ({ ...one, file: name })));
   return found.filter(({ kind }) => kind === "course").map(({ file, number, text }) => {
@@ -71,7 +71,7 @@ async function toldCourses(courses, isLink) {
   return 0;
 }
 
-// Says of each student how much is solved, what is open, and the notes of the table.
+// Prints for each student how much is solved, what is missing, and the notes of the table.
 function toldRow(row, columns) {
   const who = row.number === "" ? row.name : `${row.name} (${row.number})`;
   const open = columns.filter(({ id }) => !row.solved.has(id)).map(({ title }) => title);

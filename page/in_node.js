@@ -1,4 +1,4 @@
-// The page in node, where a tool or a test works without a browser: what its modules export, and the engine.
+// The page in node, for tools and tests without a browser: the exports of its modules, and the engine.
 "use strict";
 
 const fs = require("fs");
@@ -12,7 +12,7 @@ const NOT_RUN = "this node does not run the WebAssembly module; version 18 does"
 
 const bundle = { names: null };
 
-// Version 18 has no global `crypto`, and its streams do not know the format of a course in a link: those of zlib do.
+// Node 18 has no global `crypto`, and its streams do not know the format of a course in a link. Those of zlib do.
 globalThis.crypto ??= require("crypto").webcrypto;
 try {
   new CompressionStream("deflate-raw");
@@ -25,7 +25,7 @@ try {
   };
 }
 
-// What some words mean in the page: a name that a module exports, or an expression of such names.
+// Returns the value of a name that a module of the page exports, or of an expression of such names.
 function inPage(words) {
   const textOf = (name) => fs.readFileSync(path.join(__dirname, name), "utf8");
   bundle.names ??= vm.runInThisContext(`${textOf("page.js")}\n${textOf("more.js")}\nObject.assign(listsets.more, MORE), listsets`, { filename: "page.js" });
@@ -34,7 +34,7 @@ function inPage(words) {
   return new Function(...Object.keys(names), `return (${words});`)(...Object.values(names));
 }
 
-// The engine, which reads inputs by `read`, or null if node does not run it.
+// Starts the engine, which reads inputs by `read`. Returns null if node does not run it.
 async function startedEngine(read) {
   const bytes = fs.readFileSync(path.join(__dirname, "listset.wasm"));
   if (!WebAssembly.validate(bytes)) return null;

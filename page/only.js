@@ -1,4 +1,4 @@
-// `judge --only KEY`: a recording of the calls of one key; if no order explains them, of the few that show it.
+// `judge --only KEY`: prints the recording of one key's calls. If no order explains them, prints the few calls that show why.
 "use strict";
 
 const ENOUGH = 16; // if a part of the calls is enough, the most that are printed
@@ -31,8 +31,8 @@ function textOf(calls, key, { first, behind, opening, left }) {
   return ["listset-calls 1", ...(opening ? [`opening ${key}`] : []), ...made, ...ends, ""].join("\n");
 }
 
-// The part that shows a refusal up to a moment, or to the end: from the last call on that begins while none is pending and when the state
-// of the key is known; or from an earlier one, if few calls are between.
+// Returns the part that shows a refusal up to a moment, or to the end. The part begins with the last call that begins while no call is pending and
+// the state of the key is known, or with an earlier one if few calls are between.
 function partOf(calls, all, moment, refusal) {
   const behind = moment === undefined ? all.behind : calls.filter(({ begin }) => begin <= BigInt(moment)).length;
   const part = moment === undefined ? all : { ...all, behind, left: null };
@@ -46,7 +46,7 @@ function partOf(calls, all, moment, refusal) {
   return part;
 }
 
-// The calls that begin while none is pending, by their places.
+// Returns the places of the calls that begin while no call is pending.
 function restsOf(calls) {
   const rests = [];
   let latest = 0n;

@@ -1,4 +1,4 @@
-// The page: its parts are put together, and it starts.
+// Connects the parts of the page, and starts it.
 import { listenToBench, showBar, showPlace, showRun } from "./activities/bench.js";
 import { listenToCourses } from "./activities/courses.js";
 import { compareView } from "./activities/compare.js";
@@ -47,7 +47,7 @@ function listen() {
   window.addEventListener("pagehide", keepNow);
 }
 
-// All that is seen follows from the state: first what is there at all, then what stands in it.
+// Draws everything from the state: first which parts are visible, then their contents.
 function render() {
   showParts(now);
   const isInScene = isScene(now);
@@ -66,7 +66,7 @@ function connect() {
   on("course", openCourseFile);
 }
 
-// Nothing is drawn yet: what the page says while the engine comes stands there.
+// Takes an empty trace without drawing it, so that the page's first text stays while the engine loads.
 function takeEmpty() {
   held.render = () => {};
   takeTrace(new Trace(EMPTY_TRACE), 0, "");

@@ -1,5 +1,4 @@
-// Tests the code beside the picture: each row of a list's table belongs to one of its lines, and the calls on a line
-// are the ones that make its rows.
+// Checks the code beside the list: each row of a list belongs to one of its lines, and the calls of a line make its rows.
 "use strict";
 
 const { inPage } = require("../in_node.js");

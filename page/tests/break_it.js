@@ -1,6 +1,5 @@
-// node tests/break_it.js: tests broken lists. Each is broken by a schedule in examples/schedules/lacks, as
-// docs/CLASSIC.md says. Also tests drafts for broken lists, hand-ins, and a lesson that uses one. Prints as JSON how
-// many checks passed and which failed.
+// node tests/break_it.js checks the broken lists: each is broken by a schedule of examples/schedules/lacks, as docs/CLASSIC.md says; drafts on them,
+// hand-ins about them, and a lesson on one. Prints as JSON how many checks passed, and which failed.
 "use strict";
 
 const fs = require("fs");
@@ -44,8 +43,7 @@ function checkBroken(ask, name) {
   check(`${name} is a list of one kind`, verdictOnLacking(ask, name, ofOther).kind === "refused");
 }
 
-// Checks that each event has a sentence and a picture. The correct list must make the same events up to the one at
-// which the broken list departs from it.
+// Each event has a sentence and a picture. The correct list makes the same events up to the first difference.
 function checkDeparture(ask, name) {
   const trace = new Trace(ask("listset_lacking", name, scheduleOf(name), "trace").text, 2);
   check(`${name} stands in its trace`, trace.lacks === name && trace.kind === LACKING[name]);
@@ -68,7 +66,7 @@ function checkContents(trace) {
     const drawn = inPage("drawContents")(trace, inPage("scaleOf")(trace, count, 860, true));
     const [, words] = /aria-label="([^"]*)"/.exec(drawn);
     const isTold = words.startsWith(`the set by the linearization points of the calls after event ${count}: {`);
-    check(`${trace.lacks}: event ${count}: ${words}`, isTold && drawn.includes(">answers</text>"));
+    check(`${trace.lacks}: event ${count}: ${words}`, isTold && drawn.includes(">have</text>"));
   }
 }
 

@@ -18,8 +18,7 @@ function check(result, name, isGood) {
   else result.failed.push(name);
 }
 
-// Checks that each trace is read, that its schedule is the given one, and that the state can go forward and back to
-// where it began. Some of the traces end ceilings.
+// Each trace can be read, its schedule is the given one, and the state can move on and back to the start. Some runs end ceilings.
 function checkTraces(result, engine, cases) {
   const replies = new Set();
   for (const { texts } of cases.filter((wanted) => wanted.function === "listset_trace")) {

@@ -1,5 +1,4 @@
-// node tests/handed.js: tests texts that are handed in, in the form in which mail delivers them, and the teacher's
-// tool. Prints as JSON how many checks passed and which failed.
+// node tests/handed.js checks hand-ins, also as mail delivers them, and the teacher's tool. Prints as JSON how many checks passed, and which failed.
 "use strict";
 
 const { spawnSync } = require("child_process");
@@ -89,7 +88,7 @@ function checkTeacher(course, folder) {
   const answers = course.lessons.map(({ name, solution }) => ({ name, schedule: solution }));
   const text = (student, solutions, orders = []) => handInText(NAME, student, solutions, orders);
   const all = said(folder, text("Ada", answers, [ORDER, BROKEN]));
-  const very = `Ada: the very answer of the lesson: ${course.lessons.map(({ title }) => title).join("; ")}`;
+  const very = `Ada: the lesson’s own answer: ${course.lessons.map(({ title }) => title).join("; ")}`;
   check(`all: ${all.lines}`, same(all, { status: 0, lines: ["Ada: 14 of 14 solved", very], fault: "" }));
   const whole = said(folder, text("Ada", answers, [BROKEN.replace(",b0.add.5,g0.8", "")]));
   check(`explained: ${whole.lines[1]}`, whole.status === 1 && whole.lines[1].endsWith("Not broken yet: some order explains this run."));
@@ -105,7 +104,7 @@ function checkTeacher(course, folder) {
   check(`two of one name: ${named.lines}`, named.status === 1 && named.lines.filter((line) => line.startsWith("Max: 2 rows with this name")).length === 2);
 }
 
-// Checks hand-ins for one assignment, in a folder and in UTF-16, the table, and a wrong link.
+// Only the tasks of one assignment count; a folder, UTF-16, the CSV table, and a wrong link.
 function checkAssignment(course, folder) {
   const link = "https://lists.example/page/#assignment=Week+3&learn=one-lock";
   const [answer, other] = course.lessons.map(({ name, solution }) => ({ name, schedule: solution }));
@@ -145,7 +144,7 @@ function checkOwn(ask, course, folder) {
   const shown = inPage("scheduleOfTrace")(trace);
   const line = `break second-walk ${inPage("addressOf")(shown, trace.total)}`;
   const [named] = said(folder, text("Eve", [], [line])).lines.slice(-1);
-  check(`that of an example: ${named}`, named.endsWith("the very run of the example stale-pred"));
+  check(`that of an example: ${named}`, named.endsWith("exactly the run of the example stale-pred"));
   const other = said(folder, text("Eve", [], [BROKEN_OWN])).lines;
   check(`but not one's own: ${other}`, same(other, ["Eve: 1 of 1 solved"]));
   const nowhere = said(folder, "listset-lessons 2\ncourse Another\nstudent Eve\nend\n");
@@ -167,23 +166,23 @@ judge snip points 0-true
 judge nosuch points 0-true
 judge snip deep 0-true
 judge snip replies 0-foo,2-true,1-true
-This is no line of a solution.
+This is not a line of a solution.
 `;
   const { status, lines } = said(folder, text);
   const due = [
-    `line 15: "This is no line of a solution." is no line of a solution`,
+    `line 15: "This is not a line of a solution." is not a line of a solution`,
     'line 1: the text is incomplete: the final line "end" is missing',
     "The one lock: the address of a schedule is missing, from # on",
     "Two at once: missing: B has an add that answers true.",
     "Two at once: Line 9 of the schedule is refused: the thread has no pending call.",
     "The lost predecessor: the address is not that of a schedule",
-    "The changed link: The list, the number of threads, the quota and the opening keys are to be those of the lesson.",
-    "Marked, and still in the chain: there is more behind the address",
+    "The changed link: The list, the number of threads, the quota and the opening keys must be those of the lesson.",
+    "Marked, and still in the chain: more follows the address",
     'Over removed nodes: "g0.x" is no s of an address',
     'there is no lesson "no-lesson"',
     "judge snip points: Still missing: the point of remove(5) of A, the point of add(7) of B.",
     'judge nosuch points: there is no example "nosuch"',
-    "judge snip deep: a level is due, one of points, replies, claim",
+    "judge snip deep: expected a level, one of points, replies, claim",
     "judge snip replies: This order is not judged: listset: line 8: Line.",
   ];
   for (const line of due) check(`told: ${line}; ${lines.slice(0, 16).join("; ")}`, lines.some((one) => one.startsWith("?Eve (2): ") && one.endsWith(line)));

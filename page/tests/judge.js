@@ -1,5 +1,5 @@
-// node tests/judge.js: tests the reader's answers about a run, which the engine's check judges, and two lists side by
-// side. Prints as JSON how many checks passed and which failed.
+// node tests/judge.js checks the reader's answers about a run, judged by the engine's check, and two lists side by side. Prints as JSON how many
+// checks passed, and which failed.
 "use strict";
 
 const fs = require("fs");
@@ -72,12 +72,12 @@ function checkByHand(ask) {
   const answer = new OwnAnswer(exerciseOf(report, "replies"));
   const [first, contains, remove, second] = answer.exercise.calls;
   [[first, 10], [contains, 39], [remove, 23], [second, 36]].forEach(([call, at]) => answer.place(call, at));
-  [first, remove, second].forEach((call) => answer.say(call, "true"));
+  [first, remove, second].forEach((call) => answer.setReply(call, "true"));
   const says = () => verdictOn(ask, answer).says;
   check(`a reply is missing: ${says()}`, says() === "Still missing: the reply of contains(5) of A.");
-  answer.say(contains, "true");
+  answer.setReply(contains, "true");
   check(`the wrong reply: ${says()}`, says().startsWith("contains(5) of A does not answer true in this run."));
-  answer.say(contains, "false");
+  answer.setReply(contains, "false");
   const set = "after add(5) of B in your order the set is {5}, and it would answer true.";
   const wrong = `contains(5) of A cannot answer false there: ${set}`;
   check(`the wrong moment: ${says()}`, says() === wrong && verdictOn(ask, answer).clash === 1);
@@ -143,8 +143,7 @@ function checkHistoryLabels(traces) {
   check(`the labels of the examples are whole: ${signs} are signs`, signs === 0);
 }
 
-// Checks that no label of a bar covers another one, on a wide page and on a phone, whatever was answered, and for
-// numbered runs too.
+// No label of a bar covers another, on a wide page and on a phone, whatever the answers are; for numbered runs too.
 function checkLabels(ask, schedules) {
   const [drawJudged, judgeScale] = ["drawJudged", "judgeScale"].map(inPage);
   const judgedAt = (exercise, answer, width) => ({ exercise, answer, scale: judgeScale(exercise, width), moment: 0, count: 0 });
@@ -238,7 +237,7 @@ function checkRefusals(ask) {
   check(`left otherwise: ${left}`, left.join() === unchanged.join());
 }
 
-// Checks the words for answers that no short text gets.
+// The words for answers that no short text produces.
 function checkAnswers(ask) {
   const said = (text) => inPage("verdictOnCalls")(ask, { text: `${text}\n` }, TITLE);
   const { kind, reasons, calls } = said("verdict none\nkey 7\nclash true\nfirst call 2 add 7 50 60 true\nsecond call 3 contains 7 65 70 false");

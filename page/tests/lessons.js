@@ -1,6 +1,5 @@
-// node tests/lessons.js: tests the lessons as texts, their goals, and what a lesson says about an attempt. Prints as
-// JSON how many checks passed and which failed. recorded.txt has schedules for each lesson, and the conditions of its
-// goal that each run is known to meet, up to the event that is refused.
+// node tests/lessons.js checks the lessons as text, their goals, and the words about an attempt. Prints as JSON how many checks passed, and which
+// failed. recorded.txt has schedules of each lesson, with the conditions that each run is known to meet, and the event at which it is refused.
 "use strict";
 
 const fs = require("fs");
@@ -89,7 +88,7 @@ function checkTries(ask, { lessons }) {
   for (const one of lessons) check(`${one.name}: a solution is no dead end`, judged(ask, one, one.solution).deadEnd === null);
 }
 
-// Checks that schedules that are not examined have a reason.
+// Schedules that are not judged, each with the reason.
 function checkReasons(ask, [lesson]) {
   const answer = lesson.solution;
   const reasons = [
@@ -110,25 +109,25 @@ function checkReasons(ask, [lesson]) {
   );
 }
 
-// A change of the text, a part of the line that the error should name, and the error.
+// A change of the text, a part of the line that the error names, and the error.
 const BROKEN = [
   ["listset-course 1", "listset-course 2", "listset-course 2", 'expected "listset-course 1" here'],
   [/^course .*$/m, "", "listset-course 1", 'expected the line "course NAME"'],
   ["title The one lock\n", "", "lesson one-lock", 'the lesson lacks "title"'],
-  ["list coarse", "list course", "list course", '"course" is no list: it is coarse, fine'],
-  ["threads 3", "threads three", "threads three", '"three" is no threads'],
-  ["quota 4\n", "quota 4 4\n", "quota 4 4", '"4 4" is no quota'],
+  ["list coarse", "list course", "list course", '"course" is not a value of "list": expected coarse, fine'],
+  ["threads 3", "threads three", "threads three", '"three" is not a value of "threads"'],
+  ["quota 4\n", "quota 4 4\n", "quota 4 4", '"4 4" is not a value of "quota"'],
   ["threads 3\n", "threads 3\nquota 5\n", "quota 4", '"quota" is in this lesson already, at line '],
   ["quota 4\nstart", "start\nquota 4", "quota 4", 'expected "quota" above "start"'],
-  ["\nquestion\n", "\nqestion\n", "qestion", '"qestion" is no word of a lesson'],
+  ["\nquestion\n", "\nqestion\n", "qestion", '"qestion" is not a word of a lesson'],
   ["\nstart\n", "\nstart begin 0 add 5\n", "start begin", 'expected what "start" says in the lines below it'],
   ["lesson hand-over-hand", "lesson one-lock", "lesson one-lock", "there is a lesson one-lock above"],
   ["\n  step S in C: last", "\n  step S in D: last", "in D: last", "nothing above is named D"],
-  ["\n  step S: sees a mark", "\n  step S: sees the mark", "sees the mark", '"sees the mark" is no clause of a step'],
+  ["\n  step S: sees a mark", "\n  step S: sees the mark", "sees the mark", '"sees the mark" is not a clause of a step'],
   ["\n  call A: within R", "\n  call A: within A", "within A", "A is a call, and a rest is due there"],
   ["\n  call A: within R", "\n  step A: last", "  step A: last", "A is a call"],
   ["\n  rest R of 0: holding 2", "\n  rest R in A", "rest R in A", "a rest is that of a thread"],
-  ["\n  all calls ended", "\n  calls end", "  calls end", '"calls end" is no line of a goal, as "call C of 0'],
+  ["\n  all calls ended", "\n  calls end", "  calls end", '"calls end" is not a line of a goal, such as "call C of 0'],
   ["  say At that moment the node is still in the chain.\n", "", "  step S: in the chain", 'a goal ends with a line "say .."'],
 ];
 
@@ -154,7 +153,7 @@ function checkFaults() {
   }
 }
 
-// Checks that starts and answers can be drafts, which the engine expands into schedules.
+// Starts and answers can be drafts, which the engine turns into schedules.
 function checkDrafts(ask, { lessons }) {
   const drafted = TEXT.replace("  go 1 7\n  begin 0 contains 5\n  go 0 3\n", "  go 1 to 12\n  begin 0 contains 5\n  go 0 out\n");
   const course = triedCourse(ask, drafted);

@@ -1,6 +1,5 @@
-"""Compares page/listset.js, run by node, with the program for random arguments: both outputs and the exit status. For
-wrong arguments, the exit status must be equal, the output must be empty, and both error texts must begin with the same
-line and show the usage of the same command, or none. page/test compares the engine itself on many texts.
+"""Compares page/listset.js in node with the program on random arguments: both outputs and the exit status. For wrong arguments the statuses agree,
+standard output is empty, and both print the same first line and the usage of the same command. page/test compares the engine itself on many texts.
 """
 
 import os
@@ -26,15 +25,13 @@ def said(words, text=b"", output=subprocess.PIPE):
 
 
 def parts_of_error(text):
-    """Returns the first line of an error about arguments, and the program and command in its usage."""
+    """Returns the first line of an error about wrong arguments, and the program and the command that its usage names."""
     lines = text.split(b"\n")
     return lines[0], [it.split()[:3] for it in lines if it.startswith(b"Usage: ")]
 
 
 def difference(words, ours, due):
-    """Returns a line that says how the two differ, or None. For wrong arguments, the program's text is clap's, whose tips
-    may differ.
-    """
+    """Returns a line about the difference between the two, or None. For wrong arguments the program's text is clap's, whose tips differ."""
     if due[1].startswith(b"error: "):
         is_right = (ours[0], ours[2]) == (due[0], due[2]) == (b"", 2) and parts_of_error(ours[1]) == parts_of_error(due[1])
     else:
@@ -43,7 +40,7 @@ def difference(words, ours, due):
 
 
 def compared_unwritten(program, script, words):
-    """Compares the two with an output that accepts no bytes, and with a closed one."""
+    """Compares the two when the output takes no bytes, and when it is closed."""
     with open("/dev/full", "wb") as full:
         ours, due = (said([*which, *words], output=full) for which in (script, program))
     closed, due_closed = (said(["sh", "-c", 'exec "$@" >&-', "sh", *which, *words]) for which in (script, program))
@@ -52,14 +49,14 @@ def compared_unwritten(program, script, words):
 
 
 def drawn_words(dice):
-    """Returns a command with some arguments that it may or may not accept."""
+    """Draws a command, with some arguments that it accepts or not."""
     some = [dice.choice(dice.choice([FLAGS, OPTIONS, OPTIONS, VALUES])) for _ in range(dice.choice([0, 1, 1, 2, 2, 3, 4]))]
     command = dice.choice(COMMANDS)
     return [command, *(["lazy", "2", "4", "9", "8"] if command == "gen" and dice.random() < 0.5 else []), *" ".join(some).split()]
 
 
 def asked(program, names):
-    """Returns the arguments to compare, each with a text for standard input, which is read if they name no file."""
+    """Returns the arguments to compare, each with a text for standard input, which is read if no file is named."""
     dice, schedule = random.Random(1), said([*program, "example", names[0]])[0]
     report = said([*program, "replay"], schedule)[0]
     texts = [schedule, report, REFUSED.encode(), b""]

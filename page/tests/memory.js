@@ -1,6 +1,5 @@
-// node page/tests/memory.js: tests the module's heap (wasm/heap.c) until an allocation is refused. Blocks must not
-// overlap and must lie within the memory, which ends 16 MiB below 4 GiB (page/build). A refused allocation must leave
-// the heap unchanged.
+// node page/tests/memory.js checks the heap of the module (wasm/heap.c) until an allocation is refused. Blocks do not overlap and are inside the
+// memory, which ends 16 MiB below 4 GiB (page/build). A refused allocation leaves the heap unchanged.
 "use strict";
 
 const fs = require("fs");
@@ -19,7 +18,7 @@ function check(what, is) {
   else failed.push(what);
 }
 
-// Allocates as many blocks of a size as possible, and then whatever is still available.
+// Allocates as many blocks of a size as possible, then what still fits.
 function fill(size) {
   const { memory, page_alloc: alloc, page_free: free } = new WebAssembly.Instance(built, { env: { read: () => -1n } }).exports;
   const blocks = [];

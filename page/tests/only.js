@@ -1,6 +1,5 @@
-// Tests what `judge --only KEY` prints for random recordings: the recording of the key or, if no order explains its
-// calls, a part of them. The judge must refuse this part with the same two lines, and its opening state must be the
-// only one in which the earlier calls can leave the key.
+// Checks `judge --only KEY` on random recordings. The result is the recording of the key. If no order explains its calls, the result is a part of
+// them that the judge refuses with the same two lines, and whose opening state is the only one that the calls before it can leave.
 "use strict";
 
 const { startedEngine } = require("../in_node.js");
@@ -23,8 +22,7 @@ function replyOf(keys, { word, key }) {
   return word === "add" ? !is : is;
 }
 
-// Returns random overlapping calls, of which some have a wrong reply and some are pending at the end, with the opening
-// and the final keys.
+// Draws calls that overlap, some with a wrong reply and some pending at the end; and the keys at the start and the end.
 function drawn(count) {
   const opening = KEYS.filter(() => below(2) === 0);
   const [keys, pending, calls, wrong] = [new Set(opening), [], [], below(3) > 0 ? 3 : 0];

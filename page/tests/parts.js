@@ -1,5 +1,4 @@
-// node tests/parts.js: tests the parts of the page that need no browser, with the committed module: some sentences,
-// addresses, and files that are kept beside the page.
+// node tests/parts.js checks the parts of the page that need no browser, with the committed module: some sentences, addresses, and stored data.
 "use strict";
 
 const { createHash } = require("crypto");
@@ -36,7 +35,7 @@ function sentencesOf(engine, schedule) {
   return trace.events().map((_, index) => withoutTags(inPage("sentenceOf")(inPage("momentAt")(state, index + 1))));
 }
 
-// Checks the ends of sentences that are rare in generated runs (tests/sentences.js checks the others).
+// Ends of sentences that generated runs rarely have (tests/sentences.js checks the other sentences).
 function checkSentences(engine) {
   const last = (kind, quota, ...lines) =>
     sentencesOf(engine, ["listset-schedule 1", `list ${kind}`, "threads 2", `quota ${quota}`, ...lines, ""].join("\n")).pop();
@@ -260,8 +259,7 @@ function checkStage(engine, texts) {
   check(`a long chain is folded: ${items.length}, ${units.width}`, items.length <= 14 && units.width * units.scale <= 1281 && items.some(({ names }) => names.length > 20));
 }
 
-// Returns for each list a schedule in which five threads take turns of one to three steps each to add, remove and look
-// for keys.
+// Five threads add, remove and look, one to three steps at a time, on each list.
 function crowded(engine) {
   const calls = ["add 5", "remove 5", "add 7", "contains 7", "remove 7"].map((call, thread) => `begin ${thread} ${call}`);
   const turns = Array.from({ length: 60 }, (_, turn) => `go ${(turn * 3) % 5} ${1 + (turn % 3)}`);
@@ -277,9 +275,8 @@ function longerBy(engine, text, line) {
   return engine.ask("listset_trace", longer).text.includes("\nrefused ") ? text : longer;
 }
 
-// Checks that each thread with a call is shown at a line of the proved code: before its first step only at a line that
-// begins a call, just before its reply at one that ends a call, and in `find` while that traverses again. A thread must
-// have been shown at every line that makes a row.
+// Each thread in a call is at a line of the proved code: until its first step at a line that begins a call, just before its answer at a line that
+// ends one, and in `find` if that walks again. A thread has been at each line that makes a row.
 function checkListing(engine, texts) {
   const met = new Set();
   const wrong = texts.flatMap((text) => {
@@ -296,8 +293,8 @@ function checkListing(engine, texts) {
   check(`lines at which no thread stood: ${lines.filter((line) => !met.has(line))}`, lines.every((line) => met.has(line)));
 }
 
-// Returns what is wrong with the line shown for the thread that makes this event next, as a list with at most one
-// entry. The ceilings of two lists have no line.
+// Returns what is wrong with the line of the thread that makes this event next: an array of no or one sentence. The ceilings of two lists have no
+// line.
 function wrongLine(trace, event, held, met) {
   const { kind } = trace;
   const found = inPage("codeOf")(kind, held.call);

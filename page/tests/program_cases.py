@@ -1,6 +1,5 @@
-"""Makes cases for the page's engine from the program's answers to texts and arguments: each function that takes a text, on
-each example, on generated schedules, drafts, recorded calls and reports, and on damaged ones; pictures with options,
-broken lists, arguments of gen, and names.
+"""The program's answers to texts and arguments, as cases for the page's engine. Each function that takes a text is asked about each example, about
+generated schedules, drafts, recorded calls and reports, and about broken texts; also pictures by options, broken lists, values of gen, and names.
 """
 
 import base64
@@ -27,20 +26,18 @@ VALUES = ["1", "2", "3", "8", "20", "", "x", "00", "-1", "18446744073709551615",
 
 
 class Program:
-    """The program at this path."""
+    """A program, by its path."""
 
     def __init__(self, path):
         self.path = path
 
     def program_answers(self, *words, text=b""):
-        """Returns what it prints, on its output or as the line about an error, and its exit status."""
+        """Returns what the program prints (its output, or its line about an error) and its exit status."""
         done = subprocess.run([self.path, *words], input=text, stdout=subprocess.PIPE, stderr=subprocess.PIPE, timeout=SECONDS)
         return done.stdout + done.stderr, done.returncode
 
     def case(self, function, words, *texts, given=b""):
-        """Returns a case: the texts for a function of the module, and what the program prints for the arguments, with
-        `given` as its input.
-        """
+        """Returns a case: a function of the module with its texts, and what the program prints for these arguments and this input."""
         output, status = self.program_answers(*words, text=given)
         output = output.removesuffix(OF_A_FILE)
         return {"function": f"listset_{function}", "words": words, "texts": [base64.b64encode(it).decode() for it in texts], "status": status,
@@ -51,8 +48,8 @@ class Program:
 
 
 def generated(program, dice):
-    """Yields schedules for each list, with few threads and many, with and without free slots. In some, `ceiling` replaces
-    each `contains`; some of these end at a refused event. One schedule is long.
+    """Generates schedules of each list, with few threads and many, with and without free slots; some with a ceiling in place of each `contains`, some of
+    these ending at a refused event; and a long one.
     """
     for kind in LISTS:
         yield program.program_answers("gen", kind, "4", "300", "1100", "4", "1")[0]
@@ -63,7 +60,7 @@ def generated(program, dice):
 
 
 def broken(dice, texts, many=BROKEN):
-    """Yields texts in which one to three bytes are changed, dropped or inserted, and some that are cut off."""
+    """Returns texts with one to three bytes changed, dropped or inserted, and some that are cut."""
     for _ in range(many):
         text = bytearray(dice.choice(texts))
         for _ in range(dice.randrange(1, 4)):
@@ -73,7 +70,7 @@ def broken(dice, texts, many=BROKEN):
 
 
 def texts_of(program, dice):
-    """Yields texts of all kinds, right and wrong."""
+    """Returns texts of all kinds, right and wrong."""
     names = program.names_of_examples()
     examples = [program.program_answers("example", *flag, name)[0] for name in names for flag in ([], ["--broken"])]
     of_versions = [re.sub(rb"(?<=^listset-schedule )\d", version, text) for text in examples for version in (b"1", b"2", b"3", b"02", b"2 ")]
@@ -86,8 +83,8 @@ def texts_of(program, dice):
 
 
 def cases_of_options(program, dice, texts):
-    """Yields texts for the functions with options. The options are right or wrong; those that are not given are empty.
-    Also yields the schedules that break the broken lists, and random ones, for these lists.
+    """Returns cases of functions with options, right and wrong; an option that is not given is empty. Also runs the schedules that break the broken
+    lists, and generated ones, on these lists.
     """
     files = {it.stem: it.read_bytes() for it in sorted(LACKS.glob("*.schedule"))}
     for _ in range(DRAWN):
@@ -104,7 +101,7 @@ def cases_of_options(program, dice, texts):
 
 
 def cases_of_values(program, dice):
-    """Yields arguments of gen, most of them right, and names."""
+    """Returns cases for values of gen, most of them right, and for names."""
     for _ in range(DRAWN):
         values = [dice.choice([*LISTS * 4, "", "skip"]), *(dice.choice(VALUES[:4] * 6 + VALUES) for _ in range(dice.choice([5, 5, 5, 3, 0])))]
         yield program.case("gen", ["gen", "--", *values], "\0".join(values).encode(), b"")
@@ -116,7 +113,7 @@ def cases_of_values(program, dice):
 
 
 def all_cases(path):
-    """Returns the cases: for each, the function of the module, and what the program at this path answers."""
+    """Returns all cases: a function of the module, and the answer of the program at this path."""
     program, dice = Program(path), random.Random(26)
     texts = texts_of(program, dice)
     made = [*cases_of_values(program, dice), *cases_of_options(program, dice, texts)]

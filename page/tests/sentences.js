@@ -1,7 +1,6 @@
-// node tests/sentences.js: checks that no sentence about a generated run is false. There are runs of each list and of
-// each broken list. Each sentence is parsed, and these are checked against the run: the keys that it compares, the keys
-// that it calls present or absent, whether the chain shows what it says is added, removed, unlinked or marked, who
-// holds a lock, and what it says about the thread's next step and reply.
+// node tests/sentences.js checks that no sentence about a generated run is false. The runs are of each list and of each broken one. The check reads a
+// sentence back: the keys that it compares, whether a key is present or absent, whether what it adds, removes, unlinks or marks is so in the chain,
+// who holds a lock, and what the thread does and returns next.
 "use strict";
 
 const fs = require("fs");
@@ -16,8 +15,8 @@ const numberOf = (key) => ({ "−∞": -Infinity, "+∞": Infinity })[key] ?? Nu
 
 const isMarkOf = (event, node, thread) => event.word === `${node}.link` && event.to.endsWith("*") && thread === inPage("letterOf")(event.thread);
 
-// Words of a sentence, and a test whether they are false. The test receives the bracketed words, what was found, the
-// chain and the locks at that moment (chain, keys, lockOf, linkOf), the thread, its next step, and its call.
+// A pattern of a sentence, and whether its words are false, given the words in brackets and the facts: what was found, the chain and the locks at
+// that moment (chain, keys, lockOf, linkOf), the thread, its next step and its call.
 const CLAIMS = [
   [/key: (\S+)\. .*above (\d+)/, ([saw, key]) => numberOf(saw) <= numberOf(key)],
   [/key: (\S+)\. .*is below (\d+)/, ([saw, key]) => numberOf(saw) >= numberOf(key)],
@@ -70,13 +69,25 @@ function factsAfter(state, event, others) {
   return { ...others, event, thread: `t${event.thread}`, chain, keys, keyOf, lockOf, linkOf, locks: state.locks() };
 }
 
-function falseIn(sentence, facts) {
+// The same of the short sentences of the path (`said.js`).
+const ownerOf = ({ word }) => word.split(".")[0];
+const SHORT_CLAIMS = [
+  [/: \S+ is unlinked\./, (_, { chain, before }) => chain.includes(before.curr)],
+  [/: \d+ is in the list\./, (_, { chain, event }) => !chain.includes(event.to)],
+  [/No other thread sees it yet/, (_, { chain, event }) => chain.includes(ownerOf(event))],
+  [/ is not in the list/, (_, { chain, event }) => chain.includes(ownerOf(event))],
+  [/: \S+ stays\./, (_, { chain, before }) => !chain.includes(before.curr)],
+  [/: \d+ is removed\./, (_, { event, linkOf }) => !linkOf(ownerOf(event)).endsWith("*")],
+  [/ returns (\w+)\.$/, ([reply], { event }) => event.answer.replace("at-", "") !== reply],
+];
+
+function falseIn(claims, sentence, facts) {
   const isFalse = ([words, test]) => {
     const found = words.exec(sentence);
     if (found !== null) seen.add(words);
     return found !== null && test(found.slice(1), facts);
   };
-  return CLAIMS.filter(isFalse).map(([words]) => words.source);
+  return claims.filter(isFalse).map(([words]) => words.source);
 }
 const seen = new Set(); // the claims that some sentence has made
 
@@ -89,8 +100,11 @@ function readRun(trace) {
     state.moveTo(event.number - 1);
     const chainBefore = state.chain();
     const before = { next, chainBefore, keysBefore: keysInChain(state), eventAt: (number) => events[number - 1] };
-    const sentence = inPage("sentenceOf")(inPage("momentAt")(state, event.number)).replace(/<[^>]*>/g, "");
-    return { number: event.number, sentence, wrong: falseIn(sentence, factsAfter(state, event, before)) };
+    const moment = inPage("momentAt")(state, event.number);
+    const [sentence, short] = ["sentenceOf", "saidOf"].map((name) => inPage(name)(moment).replace(/<[^>]*>/g, ""));
+    const facts = factsAfter(state, event, before);
+    const wrong = [...falseIn(CLAIMS, sentence, facts), ...falseIn(SHORT_CLAIMS, short, { ...facts, before: moment.before })];
+    return { number: event.number, sentence, short, wrong };
   });
 }
 
@@ -131,7 +145,7 @@ async function main() {
     if (runs.length > 0 && wrong.length === 0) result.passed++;
     else result.failed.push(`${lacks ?? kind}: of ${runs.length} runs, ${wrong.length} sentences are false: ${JSON.stringify(wrong.slice(0, 2))}`);
   }
-  const unseen = CLAIMS.filter(([words]) => !seen.has(words)).slice(0, -1);
+  const unseen = [...SHORT_CLAIMS, ...CLAIMS].filter(([words]) => !seen.has(words)).slice(0, -1);
   if (unseen.length === 0) result.passed++;
   else result.failed.push(`no sentence says ${unseen.map(([words]) => words.source).join(" or ")}`);
   if (count >= LEAST) result.passed++;

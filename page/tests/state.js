@@ -66,7 +66,7 @@ function checkSeen() {
   const claim = reduce(own, { type: "exercise", exercise: { level: "claim" } });
   check("a claim shows no run", has(claim, ["judge", "judge-moments"]) && !["run-figure", "dock", "past"].some((id) => has(claim, [id])));
   const slide = reduce(own, { type: "view", view: "lecture" });
-  check("a slide", has(slide, ["task", "run-figure", "past", "leave"]) && !["top", "go-on-here", "told"].some((id) => has(slide, [id])));
+  check("a slide", has(slide, ["task", "run-figure", "past", "leave"]) && !["top", "go-on-here", "said"].some((id) => has(slide, [id])));
   const scene = atScene("story", "2");
   check("a scene", has(scene, ["scene", "top"]) && !["bench", "task", "stage", "workshop"].some((id) => has(scene, [id])));
   check("a frame", !has(reduce(scene, { type: "view", view: "embed" }), ["top"]) && !has(reduce(scene, { type: "view", view: "embed" }), ["leave"]));

@@ -1,7 +1,6 @@
-// node tests/verdicts.js [CASES]: checks that what the page says about recordings, about runs of broken lists and about
-// the reader's own orders is true. All of them are random. Each sentence is a property that a search of all orders
-// decides, as is what the diagnosis of a refused recording says. Prints as JSON how many checks passed and which
-// failed.
+// node tests/verdicts.js [CASES] checks that what the page says of random recordings, of runs of broken lists and of the reader's own orders is true.
+// Each sentence is a property that a search of all orders decides; the sentences of a diagnosis are checked too. Prints as JSON how many checks
+// passed, and which failed.
 "use strict";
 
 const fs = require("fs");
@@ -15,7 +14,7 @@ const [verdictOnCalls, verdictOnLacking, verdictOn] = ["verdictOnCalls", "verdic
 const [OwnAnswer, exerciseOf, readReport, LACKING] = ["OwnAnswer", "exerciseOf", "readReport", "LACKING"].map(inPage);
 const LAST = Infinity;
 
-// ---- random numbers, the same in each run
+// ---- Random numbers, the same in each run.
 
 let seed = 1;
 function draw(most) {
@@ -26,7 +25,7 @@ function draw(most) {
 }
 const pick = (some) => some[draw(some.length)];
 
-// ---- a search of all orders; a call has a thread, an operation, a key, begun, ended and a reply; the last two are null while it is pending
+// ---- A search of all orders. A call has a thread, an operation, a key, begun, ended and a reply; the last two are null while it is pending.
 
 function replyOf({ operation, key }, keys, hasRoom) {
   if (operation === "ceiling") {
@@ -44,7 +43,7 @@ function keysAfter({ operation, key }, keys) {
   return operation === "add" && !keys.includes(key) ? [...keys, key].sort((one, other) => one - other) : keys;
 }
 
-// Returns the sets that are left by the orders that explain the calls, as texts.
+// Returns the sets that the explaining orders can leave, as texts.
 function leftByOrders(all, opening, quota = Infinity) {
   const calls = all.filter((call) => call.ended !== null || mayChange(call));
   const isBefore = (one, other) => one.ended !== null && one.ended < other.begun;
@@ -66,7 +65,7 @@ function leftByOrders(all, opening, quota = Infinity) {
   return left;
 }
 
-// Returns a call as the judge reads it: a ceiling, or an add that returned full, reads a key.
+// Returns a call as the judge reads it: a ceiling, and an add that answered full, look at a key.
 function asLook(call) {
   if (call.reply === "full") return { ...call, operation: "contains", reply: "false" };
   if (call.operation !== "ceiling" || call.reply === null) return call;
@@ -82,9 +81,9 @@ function waysLeft(calls, key, isThere) {
 
 const quotaIn = (report) => Number(/^quota (\d+)$/m.exec(report)[1]);
 
-// ---- cases, and the properties of sentences
+// ---- What is judged, and the properties of the sentences.
 
-// A case has the calls, the opening keys, the final keys (null if they are unknown), and the quota.
+// A case has the calls, the opening keys, the final keys (null if unknown), and the quota.
 const isExplained = ({ calls, opening, keys, quota }) => {
   const left = leftByOrders(calls, opening, quota);
   return keys === null ? left.size > 0 : left.has(keys.join());
@@ -111,7 +110,7 @@ const OF_RECORDING = [
     (it, [count, keys]) => isExplained(it) && Number(count ?? 1) === it.calls.length + it.padding.length && keys.startsWith(",") === (it.keys === null)],
   [/^(\d+) of them overlap a change of their key\.$/, (it, [count]) => Number(count) === overlapped(it)],
   [/^That is few, and a race shows only if calls meet: take fewer keys, more threads, or pauses in the set\.$/, (it) => 20 * overlapped(it) < it.calls.length + it.padding.length],
-  [/^The recording was cut off: some keys left fit, and those that were left are not known\.$/, (it) => it.keys === null && isExplained(it)],
+  [/^The recording was cut off: some final keys fit; the real ones are not known\.$/, (it) => it.keys === null && isExplained(it)],
   [/^The first 40 calls are drawn\.$/, (it) => it.calls.length + it.padding.length > 40],
   [/^Not linearizable: no order at all explains these calls( and leaves the keys)?\.$/, (it, [keys]) => !isExplained(it) && (keys === undefined) === (leftByOrders(it.calls, it.opening).size === 0 || it.keys === null)],
   [/^No order explains the calls of key (\d+) up to moment (\d+)\.$/, (it, [key, moment], said) => {
@@ -164,7 +163,7 @@ function checkSentences(properties, it, sentences) {
   for (const sentence of sentences) checkSentence(properties, it, sentence, said);
 }
 
-// Checks a sentence. `said` has what earlier sentences said, and `line` the rest of this sentence's line.
+// `said` has the facts of the earlier sentences, `line` the other parts of this sentence's line.
 function checkSentence(properties, it, sentence, said, line) {
   const [pattern, holds] = properties.find(([one]) => one.test(sentence)) ?? [null, () => false];
   met.add(pattern);
@@ -173,7 +172,7 @@ function checkSentence(properties, it, sentence, said, line) {
   else if (result.failed.length < 20) result.failed.push(`${pattern === null ? "no property is of" : "false:"} ${JSON.stringify(sentence)} on\n${it.text}`);
 }
 
-// ---- recordings
+// ---- Recordings.
 
 function drawnRecording() {
   const opening = [5, 7].filter(() => draw(3) === 0);
@@ -208,7 +207,7 @@ function drawnRecording() {
   return { calls, padding, opening, keys: left, quota: Infinity, text };
 }
 
-// Returns correct calls of other keys, which do not overlap. They make the recording long enough for a likely cause.
+// Returns right calls of other keys, one after another. A diagnosis of few calls has no likely cause.
 function paddingAfter(last) {
   const made = [["contains", "false"], ["add", "true"], ["add", "false"], ["contains", "true"], ["remove", "true"], ["remove", "false"]];
   const ofKeys = [11, 13, 15].flatMap((key) => [...made, ...made, ...made, ...made].map(([operation, reply]) => ({ thread: 3, operation, key, reply })));
@@ -261,7 +260,7 @@ function checkText(ask, it, told) {
   return result.failed.push(`the text and the record differ:\n${lines.join("\n")}\n${JSON.stringify(told)} on\n${it.text}`);
 }
 
-// ---- what is wrong in a recording, as found by the same engine: a headline, calls and facts
+// ---- What is wrong in a recording, by the same engine: a headline, calls and facts.
 
 const holdsReply = (call) => call.ended !== null;
 const turned = (call) => ({ ...call, reply: call.reply === "true" ? "false" : "true" });
@@ -270,8 +269,7 @@ const needsKey = (call) => (call.reply === "true") === (call.operation !== "add"
 const ofKey = (it, key) => it.calls.filter((call) => call.key === key);
 const opens = (it, key) => it.opening.includes(key);
 
-// Returns whether some order explains the calls of a key from one of its states and, if `left` is given, leaves that
-// state.
+// Decides whether calls of a key have an order from a given state of the key, and to a final state if one is given.
 function hasOrder(calls, key, isThere, left = null) {
   const ways = waysLeft(calls, key, isThere);
   return left === null ? ways.length > 0 : ways.includes(left);
@@ -287,8 +285,8 @@ const knownBy = (calls, moment) => calls.flatMap((call) => {
   return isChange(call) ? [{ ...call, ended: null, reply: null }] : [];
 });
 
-// Returns the moments after which a key's calls can be considered separately, each with the key's state: the first
-// moment, and those at which no change runs and the earlier calls or changes leave only one state.
+// Returns the moments from which a key's calls can be judged by themselves, each with the key's state: the first moment, and each one at which no
+// change is pending and the earlier calls or changes leave only one state.
 function startsOf(calls, key, isThere) {
   const changes = calls.filter(isChange);
   const found = [[0, isThere]];
@@ -354,7 +352,7 @@ function wrongAnswers(it, operation, isAside) {
     count += answers.length;
     wrong.push(...answers.filter((call) => !hasOrder([...others, call], key, opens(it, key), left)));
   }
-  // whether the answers that can be explained one by one can also be explained together
+  // whether the calls of each key have an order without these answers
   const isAll = keysOf(it).every((key) => hasOrder(ofKey(it, key).filter((call) => !wrong.includes(call)), key, opens(it, key), isAside ? null : leftOf(it, key)));
   return { wrong, count, isAll };
 }
@@ -364,7 +362,7 @@ const inTime = (call, since, until) => call.begun <= until && since <= (call.end
 const runsBeside = (it, call, operation) => it.calls.some((one) => one !== call && one.key === call.key && one.operation === operation && isChange(one) && inTime(one, call.begun, call.ended));
 
 function isHeadline(it, why, [key, gone, operation, ofCall, reply, expected]) {
-  // if no opposite reply was expected, the call need not be drawn
+  // if no reply was expected, the call need not be drawn
   const told = expected === undefined ? it.calls.map((call) => ({ call, mark: "-" })) : why.shown;
   const named = told.filter(({ call }) => call.operation === operation && call.key === Number(ofCall) && call.reply === reply);
   const isMarked = ({ call, mark }) => mark === `expected ${turned(call).reply}` && expected === turned(call).reply;
@@ -384,26 +382,7 @@ function isTold(it, { wrong, count: answers, isAll }, [operation, atLeast, count
   return Number(found) === someFound && Number(missed) === someMissed;
 }
 
-// Returns the next completed call of an operation on the key of an answer, if no change of the key ran between the two.
-function nextCall(it, answer, operation) {
-  const next = ofKey(it, answer.key).filter((call) => call.operation === operation && call.ended !== null && call.begun > answer.ended).sort((one, other) => one.begun - other.begun)[0];
-  if (next === undefined) return undefined;
-  const until = isChange(next) ? next.begun - 0.5 : next.ended;
-  return ofKey(it, answer.key).some((call) => call !== answer && isChange(call) && inTime(call, answer.begun, until)) ? undefined : next;
-}
-
-// Decides whether a contradiction of a short list is one: the calls of the key that had begun by its end have no order.
-function isListed(it, told) {
-  const [, key, symptom, since, until] = /^key (\d+) (lost|came back|added twice|removed twice|missed|found, though absent,|contradictory) from (\d+) (?:to (\d+)|on)$/.exec(told) ?? [];
-  if (key === undefined) return false;
-  const calls = ofKey(it, Number(key));
-  const last = until === undefined ? LAST : Number(until);
-  const hasTwo = (operation) => calls.filter((call) => call.operation === operation && call.reply === "true" && inTime(call, Number(since), last)).length >= 2;
-  if (symptom.endsWith("twice") && !hasTwo(symptom.startsWith("added") ? "add" : "remove")) return false;
-  return until === undefined ? !hasOrderOf(it, Number(key)) : !hasOrder(knownBy(calls, last), Number(key), opens(it, Number(key)));
-}
-
-// Whether what leaves a key and what needs it contradict each other somewhere, and no two calls overlap meanwhile.
+// Decides whether a call that leaves a key and a call that needs the other state contradict each other, while no two calls overlap.
 function isWrongAlone(it) {
   return keysOf(it).some((key) => {
     const ended = ofKey(it, key).filter(holdsReply);
@@ -534,7 +513,7 @@ const OF_WHY = [
   [/^because all is among the first (\d+) calls of a key$/, (it, [count]) => keysOf(it).some((key) => ofKey(it, key).length >= Number(count))],
 ];
 
-// ---- runs of broken lists
+// ---- Runs of broken lists.
 
 const OF_LACKING = [
   [/^Not broken yet: some order explains this run\.$/, isExplained],
@@ -564,7 +543,7 @@ function isLost({ calls, opening, keys }, key) {
 // Returns whether two calls, or a call and the opening or final state of the key, contradict each other, and no other
 // call could have changed that. The calls are given by name.
 function isToldSo(it, key, first, second) {
-  const looks = it.calls.map((call) => ({ ...asLook(call), told: `${nameIn(call)} ${call.ended === null ? "is open" : `answers ${call.reply}`}` }));
+  const looks = it.calls.map((call) => ({ ...asLook(call), told: `${nameIn(call)} ${call.ended === null ? "is pending" : `answers ${call.reply}`}` }));
   const named = (told) => looks.filter((call) => call.key === key && call.told === told);
   const isPresent = first === null ? it.opening.includes(key) : first[1];
   const end = /^at the end the set (has it|does not have it)$/.exec(second)?.[1];
@@ -574,8 +553,7 @@ function isToldSo(it, key, first, second) {
   return firsts.some((one) => seconds.some((other) => isNoneBetween(ofKey, key, isPresent ? "remove" : "add", one?.begun ?? 0, other?.ended ?? LAST)));
 }
 
-// Returns a random run of a broken list, from its start or after the schedule that breaks it. Each line is tried, and
-// kept if the list accepts it.
+// Draws a run of a broken list, from its start or after the schedule that breaks the list. Each line is tried, and kept if the list accepts it.
 function drawnRun(ask, name) {
   const breaking = path.join(__dirname, "..", "..", "examples", "schedules", "lacks", `${name}.schedule`);
   const opening = [3, 7].filter(() => draw(3) > 0);
@@ -602,7 +580,7 @@ function checkLacking(ask, name) {
   return checkSentences(OF_LACKING, it, [...says.split(/(?<=\.) /), ...(kind === "broken" ? [inPage("TO_BREAK")] : [])]);
 }
 
-// ---- the reader's own order for a run
+// ---- The reader's own order of a run.
 
 const OF_OWN = [
   [/^Still missing: (.*)\.$/, (it, [told]) => {
@@ -628,8 +606,7 @@ const OF_OWN = [
 
 const nameIn = (call) => `${call.operation}(${call.key}) of ${"ABCD"[call.thread]}`;
 
-// Returns the places of the reader's order: each call, the one before it, the set before and after it, the reply it is
-// said to have, and the correct reply.
+// Returns the places of the reader's order: each call with the call before it, the set before and after it, its given answer and the due one.
 function stepsOf(it) {
   let [keys, before] = [it.opening, null];
   const steps = [{ after: keys }];
@@ -646,12 +623,12 @@ function stepsOf(it) {
 
 const faultsOf = (it) => stepsOf(it).slice(1).filter(({ call, answer, said }) => answer !== said || (call.reply ?? "true") !== said);
 
-// Returns an answer with points at random places in the bars of the calls.
+// Returns an answer with random points in the bars of the calls.
 function placedAnswer(exercise) {
   const answer = new OwnAnswer(exercise);
   for (const call of exercise.calls.filter(({ ended }) => draw(ended === null ? 2 : 30) > 0)) {
     answer.place(call, call.begun + draw((call.ended ?? exercise.last) - call.begun + 1));
-    answer.say(call, draw(12) === 0 ? pick(["true", "false"]) : call.reply);
+    answer.setReply(call, draw(12) === 0 ? pick(["true", "false"]) : call.reply);
   }
   return answer;
 }

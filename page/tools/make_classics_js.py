@@ -1,5 +1,6 @@
-"""What docs/CLASSIC.md says, as made/classics.js: of each example its question, the answer, the events that decide it, what goes wrong
-without it, and which lists of its kind lack that check; and the kind of each list that lacks one."""
+"""Makes made/classics.js from docs/CLASSIC.md: for each example its question, the answer, the events that decide it, what goes wrong without the check,
+and the lists of its kind that lack the check; also the kind of each broken list.
+"""
 import json
 import re
 
@@ -15,13 +16,13 @@ def paragraph(section, title):
 
 
 def turns_of(section):
-    """The numbers of the events at which the example turns: the lines of its trace below the paragraph that says so."""
+    """Returns the numbers of the deciding events: the lines of the trace below the paragraph that announces them."""
     part = section.split("**Answer.**", 1)[1].split("**Without it.**", 1)[0]
     return [int(number) for number in re.findall(r"^    event (\d+) line ", part, re.M)]
 
 
 def classics_text(page):
-    """The text of made/classics.js for the text of docs/CLASSIC.md."""
+    """Returns the text of made/classics.js for the text of docs/CLASSIC.md."""
     lacking = dict(LACKING.findall(page))
     kinds = {kind.replace("-", ""): kind for kind in lacking.values()}
     classics = {}

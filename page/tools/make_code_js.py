@@ -1,6 +1,7 @@
-"""The plain loops of the proved crates as made/code.js: the functions that make the steps of calls, as they stand in the source, with
-the rows of its list's table that each line makes, by the comments ('// row 3', '// rows 5, 6, 7') at these lines, so that the page shows each
-thread at its line. The rows of a ceiling of the lists that mark are left to the interpreter."""
+"""Makes made/code.js from the plain loops of the proved crates: the source of the functions that make the steps of calls, with the table rows that each
+line makes. Comments at these lines name the rows ('// row 3', '// rows 5, 6, 7'). The page uses them to show each thread at its line. The interpreter
+makes the rows of a ceiling in the lists that mark.
+"""
 
 import json
 import re
@@ -19,7 +20,7 @@ HEAD = """// The proved loops of the lists as they stand in crates/, with the ro
 
 
 def lines_of(lines):
-    """Each line that names rows: its number, its step, the rows."""
+    """Yields each line that names rows: its number, its step, the rows."""
     for number, line in enumerate(lines, 1):
         code, _, said = line.partition(" // row")
         if said:
@@ -28,7 +29,7 @@ def lines_of(lines):
 
 
 def is_last(lines, number):
-    """Whether the call answers at this line or behind it in the same block."""
+    """Decides whether the call returns at this line or after it in the same block."""
     for line in lines[number - 1:]:
         if re.search(r"_last\(|\breturn\b", line):
             return True
@@ -38,7 +39,7 @@ def is_last(lines, number):
 
 
 def steps_of(found, lines):
-    """The steps of a file. Where a row has several, each says whether calls begin there, and whether they answer."""
+    """Yields the steps of a file. If a row has several, each says whether calls begin there, and whether they return."""
     rows = [row for *_, made in found for row in made]
     for number, step, made in found:
         told = {"line": number, "rows": made}
@@ -48,7 +49,7 @@ def steps_of(found, lines):
 
 
 def code_of(file):
-    """The functions of a file that have steps: each with its lines, its steps, and what it calls of the others at which line."""
+    """Returns the functions of a file that have steps: each with its lines, its steps, and the lines at which it calls the others."""
     source = rattle_sources.Source((TOP / "crates" / file).read_text(encoding="utf-8"))
     lines = source.lines
     steps = [*steps_of([*lines_of(lines)], lines)]
@@ -65,14 +66,14 @@ def code_of(file):
 
 
 def function_text(code):
-    """A function as JavaScript."""
+    """Returns a function as JavaScript."""
     text = "\n".join(code["lines"]).replace("\\", "\\\\").replace("`", "\\`").replace("${", "\\${")
     told = ", ".join(f"{name}: {json.dumps(code[name])}" for name in ("name", "first", "steps", "calls"))
     return f"    {{ {told}, text: `\n{text}` }},\n"
 
 
 def code_text():
-    """The text of made/code.js."""
+    """Returns the text of made/code.js."""
     files = dict.fromkeys(file for some in LISTS.values() for file in some)
     functions = [f'  "crates/{file}": [\n{"".join(map(function_text, code_of(file)))}  ],\n' for file in files]
     lists = [f'  "{name}": {json.dumps([f"crates/{file}" for file in some])},\n' for name, some in LISTS.items()]

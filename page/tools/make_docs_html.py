@@ -1,9 +1,10 @@
-"""Pages of docs/ as HTML, in the frame of page/index.html: each picture leads into its run, moment by moment, each line of a trace to its
-event, each row of a table to an event of an example that makes it (traces.js), where one does, and each broken list into the schedule
-that breaks it (examples/schedules/lacks).
+"""Makes HTML of pages in docs/, in the frame of page/index.html. Each picture links to its run, moment by moment, and each line of a trace to its event.
+Each row of a table links to an event of an example that makes the row (traces.js), if there is one. Each broken list links to the schedule that
+breaks it (examples/schedules/lacks).
 
-Python-Markdown makes HTML of them; what is changed here is its output. What is for the terminal is left out: of a block of code the lines
-that begin with `$`, and all that stands between the comments `<!-- terminal -->` and `<!-- end -->`."""
+Python-Markdown makes the HTML; this script changes its output. Text for the terminal is left out: in a block of code the lines that begin with `$`,
+and everything between the comments `<!-- terminal -->` and `<!-- end -->`.
+"""
 
 import html
 import os
@@ -47,14 +48,14 @@ PAGE = """<!doctype html>
 
 
 def frame(index):
-    """The links and the header of the page's index.html, for a page beside it."""
+    """Returns the links and the header of index.html, for a page beside it."""
     header = re.search(r"<header\b.*?</header>", index, re.S)[0]
     header = re.sub(r' (data-to|aria-current)="[^"]*"', "", header.replace('href="#', 'href="index.html#'))
     return {"links": "\n".join(re.findall(r"^<link .*>$", index, re.M)), "header": header}
 
 
 class Runs:
-    """The classic examples by their traces: the list of each, the lines of its events, and of each row the first event that makes it."""
+    """The classic examples by their traces: the list of each, the lines of its events, and for each row the first event that makes it."""
 
     def __init__(self, text):
         self.events, self.rows = {}, {kind: {} for kind in KINDS.values()}
@@ -68,24 +69,24 @@ class Runs:
                 stood[thread] = row
 
     def link(self, name, event, said):
-        """A link into an example's run, where it has so many events."""
+        """Returns a link to an event of an example's run, if the run has so many events."""
         if event > len(self.events.get(name, [])):
             return said
         return f'<a href="index.html#example={name}&amp;event={event}">{said}</a>'
 
     def numbers(self, name, text):
-        """A text whose numbers lead to the events of an example."""
+        """Returns a text whose numbers link to the events of an example."""
         return re.sub(r"\d+", lambda it: self.link(name, int(it[0]), it[0]), text)
 
 
 class Document:
-    """One page on its way to HTML: the section that it is in, with its example and its lists."""
+    """A page that is being converted: the current section, with its example and its lists."""
 
     def __init__(self, runs, broken):
         self.runs, self.broken, self.example, self.kinds, self.lists_told = runs, broken, None, [], 0
 
     def body(self, text):
-        """The page's HTML: that of its text, with links."""
+        """Returns the HTML of the page's text, with links."""
         made = markdown.markdown(text, extensions=["tables", "toc", "sane_lists"], extension_configs={"toc": {"slugify": slug_of}})
         made = re.sub(r'<a href="([^"]*)">(.*?)</a>', link_of, made)
         made = FILE.sub(lambda it: self.runs.link(it[1], 0, it[0]) if it[1] in self.runs.events else it[0], made)
@@ -107,7 +108,7 @@ class Document:
         return made
 
     def table(self, made):
-        """A table, of which the first column may have numbers of rows, which lead to an event that makes the row, or of events."""
+        """Returns a table. If its first column has numbers of rows or of events, they link to an event: the row's, or the event itself."""
         kind = re.search("<th>(.*?)</th>", made)[1]
         first = {"Row": self.row, "Events": lambda cell: self.runs.numbers(self.example, cell)}.get(kind, str)
         return re.sub(r"(?<=<tr>\n<td>)(.*?)(?=</td>)", lambda it: first(it[1]), made)
@@ -117,7 +118,7 @@ class Document:
         return self.runs.link(*found, cell) if found else cell
 
     def broken_list(self, found):
-        """The name of a broken list leads into the schedule that breaks it, on that list, which the page knows by its number."""
+        """Links the name of a broken list to the schedule that breaks it. The page knows the list by its number."""
         if found[2] not in self.broken:
             return found[0]
         self.lists_told += 1
@@ -125,13 +126,13 @@ class Document:
         return f'<li><a href="{address}">{found[1]}</a>'
 
     def code(self, lines):
-        """A block of code; a picture and a trace of the section's example have links into its run."""
+        """Returns a block of code. A picture or a trace of the section's example gets links to its run."""
         events = self.runs.events.get(self.example, [])
         is_picture = (found := PICTURE.match(lines[0])) and int(found[1]) == len(events)
         return "<pre>" + "\n".join(self.of_run(line, is_picture, html.unescape(line) in events) for line in lines) + "</pre>"
 
     def of_run(self, line, is_picture, is_event):
-        """A line of the picture or of the trace of the section's example, whose moments lead into its run; or any other."""
+        """Returns a line. If it belongs to the picture or the trace of the section's example, its moments link to the run."""
         if is_picture and line.startswith("moment "):
             return self.runs.numbers(self.example, line)
         found = re.match(r"(event | +\d+ +at )(\d+)\b", line) if is_picture or is_event else None
@@ -139,7 +140,7 @@ class Document:
 
 
 def address_of(schedule):
-    """A schedule as src/run/address.js has it in an address."""
+    """Returns a schedule as src/run/address.js writes it in an address."""
     title, *lines = schedule.splitlines()
     words = [line.split() for line in lines]
     opening = [values[0] for word, *values in words[3:] if word == "opening"]
@@ -156,12 +157,12 @@ def slug_of(heading, _separator):
 
 
 def kinds_in(text):
-    """The lists that a text names."""
+    """Returns the lists that a text names."""
     return [kind for name, kind in KINDS.items() if name in text]
 
 
 def link_of(found):
-    """A link of a page in docs/, as it leads from page/."""
+    """Returns a link of a page in docs/, as seen from page/."""
     target, said = found.groups()
     said = f"“{NAMES[said]}”" if said in NAMES else said
     path, sign, heading = target.partition("#")
@@ -173,10 +174,10 @@ def link_of(found):
 
 
 def page_of(source, text, document, framed):
-    """The HTML of a page."""
+    """Returns the HTML of a page."""
     body = document.body(LEFT_OUT.sub("", text))
     nav = [f'<a href="{PAGES[it]}">{name}</a>' if it != source else f"<b>{name}</b>" for it, name in NAMES.items()]
-    # (the contents stand below what is said of the page, where no table there has them)
+    # (the contents follow the introduction, if no table there lists them)
     contents = [f'<a href="#{slug}">{re.sub("</?a[^>]*>", "", said)}</a>' for slug, said in re.findall(r'<h2 id="(.*?)">(.*?)</h2>', body)]
     before, sign, after = body.partition("<h2")
     if before.count('href="#') < len(contents) / 2:
@@ -187,7 +188,7 @@ def page_of(source, text, document, framed):
 
 
 def docs_made(top):
-    """The pages by name, from docs/, page/index.html, page/made/traces.js and examples/schedules/lacks."""
+    """Returns the pages by name, made of docs/, page/index.html, page/made/traces.js and examples/schedules/lacks."""
     runs = Runs((top / "page" / "made" / "traces.js").read_text(encoding="utf-8"))
     broken = {it.stem: it.read_text(encoding="utf-8") for it in (top / "examples" / "schedules" / "lacks").glob("*.schedule")}
     framed = frame((top / "page" / "index.html").read_text(encoding="utf-8"))

@@ -1,4 +1,4 @@
-"""The file help.json of the page's folder: what the program prints of itself, for page/listset.js in Node."""
+"""Makes page/help.json: the program's help texts, for page/listset.js in Node."""
 
 import json
 import re
@@ -7,6 +7,6 @@ HELP = re.compile(r"^    \$ listset (--help|--version|help \w+)\n((?:    (?!\$ )
 
 
 def help_text(page):
-    """The texts that a page of transcripts has of `listset --help`, `--version` and `help COMMAND`, by `--help`, `--version` and COMMAND."""
+    """Returns the texts of `listset --help`, `--version` and `help COMMAND` in a page of transcripts, by `--help`, `--version` and COMMAND."""
     found = {words.removeprefix("help "): re.sub("^    ", "", text, flags=re.M).rstrip("\n") + "\n" for words, text in HELP.findall(page)}
     return json.dumps(found, ensure_ascii=False, indent=1) + "\n"

@@ -1,5 +1,4 @@
-"""The rows of docs/TABLES.md as made/rows.js: the texts that the page shows beside a thread's row, and what its sentences need of
-them."""
+"""Makes made/rows.js from docs/TABLES.md: the texts that the page shows beside a thread's row, and what its sentences need of the rows."""
 import json
 import re
 
@@ -7,7 +6,7 @@ from lists import lists as all_lists
 
 REGISTERS = ["pred", "curr", "succ", "node", "pkey", "ckey"]
 CALLS = ["add", "remove", "contains", "ceiling"]
-# What the column "Then" says of where a row leads, in its own words.
+# The words of the column "Then", by where they lead.
 LEADS = {
     "below": r"below K: (?:[^;]*, )?(\d+)",  # on with the walk
     "invalid": r"reply none, (\d+)",  # the validation failed
@@ -16,18 +15,18 @@ LEADS = {
 
 
 def plain(text):
-    """A cell or a paragraph without the signs of Markdown."""
+    """Returns a cell or a paragraph without Markdown's signs."""
     return re.sub(r"\*\*|`", "", text).strip()
 
 
 def leads_of(then):
-    """The rows to which the column "Then" leads, by what it means."""
+    """Returns the rows to which the column "Then" leads, by their meaning."""
     found = {name: re.search(pattern, then) for name, pattern in LEADS.items()}
     return {name: int(next(filter(None, match.groups()))) for name, match in found.items() if match}
 
 
 def rows_of(section):
-    """The rows of a section's table."""
+    """Returns the rows of a section's table."""
     rows = {}
     for line in section.splitlines():
         cells = [plain(cell) for cell in line.strip("|").split("|")]
@@ -37,7 +36,7 @@ def rows_of(section):
 
 
 def deciding_rows(section):
-    """The rows at which a call adds, removes and leaves; of a list whose calls leave by answering, one past its last row."""
+    """Returns the rows at which a call adds, removes and leaves. If calls leave by returning, the last is one past the table's end."""
     def row_of(pattern):
         found = re.search(pattern, section)
         return int(found[1]) if found else max(number for number in rows_of(section)) + 1
@@ -45,7 +44,7 @@ def deciding_rows(section):
 
 
 def reads_of(section):
-    """The rows of `contains` and those of `ceiling`, of the lists in which these take no lock."""
+    """Returns the rows of `contains` and of `ceiling` in the lists in which these take no lock."""
     rows = rows_of(section)
     ceiling = int(re.search(r"`ceiling` at row (\d+)", section)[1])
     return {"contains": {number: row for number, row in rows.items() if number < ceiling},
@@ -53,12 +52,12 @@ def reads_of(section):
 
 
 def registers_in(rows):
-    """The registers that these rows set."""
+    """Returns the registers that these rows set."""
     return [name for name in REGISTERS if any(f"{name} = " in row["then"] for row in rows)]
 
 
 def calls_of(section, reads):
-    """The numbers of the rows that each call can make, and the registers that these set."""
+    """Returns the numbers of the rows that each call can make, and the registers that these rows set."""
     rows = rows_of(section)
     adds, removes, leaves = deciding_rows(section)
     left_out = {"add": range(removes, leaves), "remove": range(adds, removes)}
@@ -71,7 +70,7 @@ def calls_of(section, reads):
 
 
 def rows_text(tables):
-    """The text of made/rows.js for the text of docs/TABLES.md."""
+    """Returns the text of made/rows.js for the text of docs/TABLES.md."""
     sections = {part.split("\n", 1)[0].strip(): part for part in tables.split("\n## ")}
     reads = reads_of(sections["Reads without locks"])
     lists = {}

@@ -1,5 +1,5 @@
-// node page/tools/make_traces.js: made/traces.js, which has what the page's engine says of the classic examples: the list of their
-// names, and the trace of each. A browser that cannot run the engine shows the examples from it.
+// node page/tools/make_traces.js makes made/traces.js: the names and the traces of the classic examples, by the page's engine. A browser that cannot
+// run the engine shows the examples from this file.
 "use strict";
 
 const fs = require("fs");

@@ -11,11 +11,11 @@ import { HISTORY_LEFT } from "../draw/history.js";
 import { drawListing } from "../draw/listing.js";
 import { byId, scrollToLine, setAble, setHtml } from "../page/dom.js";
 import { works } from "../page/kept.js";
-import { askNow, hiddenOutcomes, isJudging, now, show, tell } from "../page/now.js";
+import { askNow, hiddenOutcomes, isJudging, now, show, say } from "../page/now.js";
 import { goByHand, isPlaying } from "../page/play.js";
-import { addressOfAssignment, addressOfCode, titleIn } from "../page/visit.js";
+import { addressOfCode, titleIn } from "../page/visit.js";
 import { examples, openTask, scrollToEvent } from "../page/work.js";
-import { homeworkOf, titleOfAssignment } from "../story/assignment.js";
+import { wayBack } from "../story/assignment.js";
 import { Figure, STILL } from "../story/figure.js";
 import { linesOf, ShownRun } from "../story/live_run.js";
 import { titleOfScene } from "../story/scene.js";
@@ -44,7 +44,7 @@ export function showRun() {
   const run = new ShownRun(trace, state, count);
   const figure = figureOfTask(run);
   figure.box.classList.toggle("judged", isJudging());
-  figure.part("tale").setAttribute("aria-live", isPlaying() ? "off" : "polite");
+  figure.part("said").setAttribute("aria-live", isPlaying() ? "off" : "polite");
   figure.showRun(run, moment, now.prefs.hides);
   setHtml(byId("order"), drawOrder(trace, count, now.prefs.hides));
   showThreads(moment.event);
@@ -82,7 +82,7 @@ function showTable(moment) {
 
 function showListing(moment) {
   if (!byId("listing-box").open) return;
-  if (more.CODE === null) return void loadMore().then(show, ({ message }) => tell(message));
+  if (more.CODE === null) return void loadMore().then(show, ({ message }) => say(message));
   const box = byId("listing");
   box.innerHTML = drawListing(moment);
   const line = box.querySelector(".moved") ?? box.querySelector(".here");
@@ -96,7 +96,7 @@ function pressPicture({ target, clientX }) {
     const { first, step } = bench.figure.scale;
     goByHand(first - 1 + Math.ceil((clientX - calls.getBoundingClientRect().left - HISTORY_LEFT) / step));
   }
-  if (said !== "") tell(escaped(said));
+  if (said !== "") say(escaped(said));
 }
 
 export function listenToBench() {
@@ -130,35 +130,27 @@ export function openSeed(seed, count) {
 
 function taskOfWatch() {
   const suffix = isJudging() ? "&judge" : "";
-  if (now.task.kind === "seed") drawSeedBox(now.task.id, suffix);
+  if (now.task.kind === "seed" && !isJudging()) drawSeedBox(now.task.id);
   const names = examples().map(({ name }) => name);
   const at = now.task.kind === "example" ? names.indexOf(now.task.id) : -1;
   const to = (index) => (at >= 0 && names[index] !== undefined ? `#example=${names[index]}${suffix}` : null);
-  return { before: to(at - 1), all: suffix === "" ? ["#ask", "All questions"] : ["#judge", "All runs"], next: to(at + 1) };
+  const all = suffix === "" ? { href: "#ask", words: "All questions" } : { href: "#judge", words: "All runs" };
+  return { before: to(at - 1), all: wayBack(now.place, all, now.task), next: to(at + 1) };
 }
 
-function drawSeedBox(seed, suffix) {
+function drawSeedBox(seed) {
   const { kind, number } = partsOfSeed(seed);
   byId("seed-number").textContent = number;
   if (document.activeElement !== byId("seed-input")) byId("seed-input").value = number;
-  byId("seed-another").href = `#seed=${anotherSeed(seed, kind)}${suffix}`;
+  byId("seed-another").href = `#seed=${anotherSeed(seed, kind)}`;
   byId("seed-judge").href = `#seed=${seed}&judge`;
-  byId("seed-judge").hidden = suffix !== "";
   byId("seed-open").onclick = () => {
     const wanted = Number(byId("seed-input").value);
-    if (wanted > 0) location.hash = `#seed=${seedOf(kind, wanted)}${suffix}`;
+    if (wanted > 0) location.hash = `#seed=${seedOf(kind, wanted)}`;
   };
 }
 
 // ---- The links to the previous and the next task, and the window's title.
-function showHome() {
-  const homework = now.place.view === null ? homeworkOf(now.place, now.task) : null;
-  byId("home").hidden = homework === null;
-  if (homework === null) return;
-  byId("home").textContent = `← Back to ${titleOfAssignment(homework)}`;
-  byId("home").href = addressOfAssignment(homework);
-}
-
 // Sets the address of "Go on from here" only when it is pressed, since a long run has a long address.
 function aimGoOn() {
   const { trace, count } = now.run;
@@ -167,7 +159,6 @@ function aimGoOn() {
 
 export function showPlace() {
   document.title = titleIn(now, titleOfScene);
-  showHome();
   byId("leave").textContent = now.place.slide > 0 ? `${now.place.slide} of ${LECTURE.length} ✕` : "✕";
   if (now.place.screen !== "stage") return;
   const links = taskOfWatch();
@@ -175,5 +166,5 @@ export function showPlace() {
     byId(`task-${name}`).hidden = links[name] === null;
     if (links[name] !== null) byId(`task-${name}`).href = links[name];
   }
-  [byId("task-all").hash, byId("task-all").textContent] = links.all;
+  [byId("task-all").hash, byId("task-all").textContent] = [links.all.href, links.all.words];
 }

@@ -33,7 +33,7 @@ function html(place) {
       <label>initial keys <input id="sides-opening" spellcheck="false" placeholder="no keys" size="8"></label>
       <label>calls <textarea id="sides-program" rows="2" cols="24" spellcheck="false"></textarea></label>
       <button data-do="begin">Run this program</button> <button data-do="copy">Copy link</button></div></details></div>
-    <p id="scene-told" role="status"></p><div id="sides-pictures"></div></section>
+    <p id="scene-said" role="status"></p><div id="sides-pictures"></div></section>
     <footer class="foot"><button class="quiet" data-do="back" aria-label="one turn back">◂</button>
       <input id="sides-slider" type="range" min="0" value="0" aria-label="turn"> <span id="sides-where" class="small"></span> <span id="sides-turns"></span>
       <button class="quiet" id="sides-lecture" data-do="lecture" title="show this as a single lecture slide; press Escape to go back">Lecture view</button></footer>`;
@@ -63,11 +63,11 @@ function beginSides(turns = []) {
     const kinds = SIDES.map((name) => sidesPart(name).value);
     shown.sides = new Sides(kinds, { program, quota: Number(now.place.given.quota ?? QUOTA), opening });
     for (const thread of turns) if (!shown.sides.turn(thread)) break;
-    part("#scene-told").textContent = "";
+    part("#scene-said").textContent = "";
     takeTurns();
   } catch (fault) {
     if (!(fault instanceof RunFault)) throw fault;
-    part("#scene-told").textContent = fault.message;
+    part("#scene-said").textContent = fault.message;
   }
 }
 
@@ -82,7 +82,7 @@ function turnOf(thread) {
   if (at < sides.turns.length) beginSides(sides.turns.slice(0, at));
   const isMade = shown.sides.turn(thread);
   takeTurns();
-  if (!isMade) part("#scene-told").innerHTML = `${chipOf(thread)} has ended all its calls in both lists.`;
+  if (!isMade) part("#scene-said").innerHTML = `${chipOf(thread)} has ended all its calls in both lists.`;
 }
 
 function turnTo(at) {
@@ -124,7 +124,7 @@ function drawSide({ run, counts }, figure) {
   run.state.moveTo(count);
   figure.showRun(new ShownRun(run.trace, run.state, count), undefined, now.prefs.hides);
   const hasWaited = at > 0 && count === counts[at - 1];
-  if (hasWaited) figure.tell(`${chipOf(turns[at - 1])} has ended its call here, and waits for the other list.`);
+  if (hasWaited) figure.say(`${chipOf(turns[at - 1])} has ended its call here, and waits for the other list.`);
 }
 
 function addressOfSides() {

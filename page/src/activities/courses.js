@@ -75,7 +75,7 @@ export function listenToCourses() {
   lessonPart("save").onclick = () => saveText("lessons.course", box.value);
   lessonPart("hand-in").onclick = handIn;
   lessonPart("student").onchange = () => {
-    if (!keepStory({ student: lessonPart("student").value.trim() })) lessonPart("told").textContent = "This browser keeps nothing: hand in before you leave the page.";
+    if (!keepStory({ student: lessonPart("student").value.trim() })) lessonPart("said").textContent = "This browser stores nothing: hand in before you leave the page.";
   };
 }
 
@@ -91,6 +91,6 @@ async function handIn() {
   box.focus();
   box.select();
   const count = `${counted(solutions.length, "solution")}, ${counted(orders.length, "judged order")} and ${counted(broken.length, "broken list")}`;
-  lessonPart("told").textContent = (await copied(box.value)) ? `The text with ${count} is copied.` : `Copy this text: it has ${count}.`;
+  lessonPart("said").textContent = (await copied(box.value)) ? `The text with ${count} is copied.` : `Copy this text: it has ${count}.`;
 }
 

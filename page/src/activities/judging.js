@@ -2,8 +2,8 @@
 import { CLASSICS } from "../../made/classics.js";
 import { drawJudged, drawOwnOrder, judgeScale, momentOfReport } from "../draw/judged_bars.js";
 import { byId, redraw } from "../page/dom.js";
-import { askNow, dispatch, exampleShown, held, isJudging, now, tell } from "../page/now.js";
-import { addressOf } from "../run/address.js";
+import { askNow, dispatch, exampleShown, held, isJudging, now, say } from "../page/now.js";
+import { addressOf, partsOfSeed } from "../run/address.js";
 import { askList } from "../run/broken.js";
 import { exerciseOf, LEVELS, MOST_JUDGED, OwnAnswer, repliesOf, verdictOn, wordOfAnswer } from "../run/judged.js";
 import { callText, chipOf, escaped } from "../run/markup.js";
@@ -32,7 +32,7 @@ class Judging {
     const isBroken = level === "claim" && broken?.status === 0 && Math.random() < 0.5;
     const report = isBroken ? broken : askList(askNow, "listset_replay", lacks, text);
     if (report.status === 0) this.take(exerciseOf(report.text, lacks === null ? level : "claim", lacks === null && !isBroken));
-    else tell(`This run cannot be judged: ${escaped(report.text.trim())}.`);
+    else say(`This run cannot be judged: ${escaped(report.text.trim())}.`);
   }
 
   take(exercise) {
@@ -103,7 +103,7 @@ class Judging {
     const { level, calls } = this.exercise;
     this.count = now.run.count;
     this.scale = judgeScale(this.exercise, Math.max(300, judgePart("bars").clientWidth));
-    judgePart("task").textContent = LEVELS[level].task;
+    judgePart("task").textContent = `${now.task.kind === "seed" ? `Run ${partsOfSeed(now.task.id).number}. ` : ""}${LEVELS[level].task}`;
     judgePart("none").hidden = level !== "claim";
     redraw(judgePart("bars"), drawJudged(this));
     const asked = level === "replies" ? calls.filter((call) => call.ended !== null) : [];
@@ -119,7 +119,7 @@ class Judging {
     choice.append(new Option("?", ""), ...repliesOf(this.exercise, call).map((reply) => new Option(reply, reply)));
     choice.value = this.answer.replies.get(call.id) ?? "";
     choice.onchange = () => {
-      this.answer.say(call, choice.value === "" ? undefined : choice.value);
+      this.answer.setReply(call, choice.value === "" ? undefined : choice.value);
       this.changed();
     };
     const box = document.createElement("label");
@@ -147,7 +147,7 @@ class Judging {
     judgePart("tries").textContent = tries === 0 ? "" : `${tries} ${tries === 1 ? "try" : "tries"} refused`;
     judgePart("hint").textContent = kind === "wrong" && tries >= 2 && this.exercise.level !== "claim" ? hintOfRun() : "";
     const isKept = kind === "right" && this.exercise.isWhole;
-    judgePart("line").innerHTML = isKept ? `Kept; you hand it in with the lessons: <code>${escaped(this.line)}</code>` : "";
+    judgePart("line").innerHTML = isKept ? `Saved. Hand it in with your lessons: <code>${escaped(this.line)}</code>` : "";
     const drawn = verdict?.report == null ? "" : askNow("listset_show_svg", verdict.report).text;
     judgePart("picture-box").hidden = !drawn.startsWith("<svg ");
     judgePart("picture").innerHTML = judgePart("picture-box").hidden ? "" : drawn;
@@ -167,11 +167,11 @@ function hintOfRun() {
 
 export function beginJudging() {
   const { trace } = now.run;
-  if (held.engine === null) return tell("The replayer does not run in this browser: nothing can be judged.");
-  if (!now.run.isRun || trace.refused !== null) return tell("A run with a refused event cannot be judged: delete the red line of the schedule first.");
-  if (trace.calls.length === 0) return tell("There is no call to judge yet.");
-  if (trace.total > MOST_JUDGED) return tell(`A run of at most ${MOST_JUDGED} events can be judged; this one has ${trace.total}.`);
-  tell("");
+  if (held.engine === null) return say("The replayer does not run in this browser: nothing can be judged.");
+  if (!now.run.isRun || trace.refused !== null) return say("A run with a refused event cannot be judged: delete the red line of the schedule first.");
+  if (trace.calls.length === 0) return say("No call has begun: there is nothing to judge yet.");
+  if (trace.total > MOST_JUDGED) return say(`A run of at most ${MOST_JUDGED} events can be judged; this one has ${trace.total}.`);
+  say("");
   judging.begin(homeworkOf(now.place, now.task) === null ? judgePart("level").value : "replies");
   byId("next").focus(); // the arrows step; on the level they would change it
 }

@@ -27,7 +27,7 @@ const cards = (all) => tag("div", { class: "cards" }, ...all.map(drawCard));
 const lead = (words, score = "") => `<p class="lead">${words}</p>${score === "" ? "" : `<p class="score">${score}</p>`}`;
 const goOn = (href, count, all) => tag("a", { class: "button primary", href }, `${count === 0 ? "Begin" : count < all ? "Go on" : "Once more"} →`);
 
-// ---- Guess, then see
+// ---- Guess, then see.
 function askHtml() {
   const { asks } = keptStory();
   const seen = QUESTIONS.filter(({ name }) => asks[name] !== undefined);
@@ -39,26 +39,26 @@ function askHtml() {
   return `${head("", "Guess, then see", lead(words, seen.length === 0 ? "" : score), "title")}${cards(QUESTIONS.map(cardOf))}
     <h2>Seven more</h2><p class="prose">These lists have a fourth operation. <b>ceiling(k)</b> returns the smallest number that is at least k.
     And each thread can add only a limited number of keys (its quota).</p>${cards(APPENDIX.map(cardOf))}
-    ${foot('<a class="button quiet" href="#story=1">The path of twenty minutes</a>', goOn(`#ask=${next.name}`, seen.length, QUESTIONS.length))}`;
+    ${foot('<a class="button quiet" href="#story=1">← The path</a>', goOn(`#ask=${next.name}`, seen.length, QUESTIONS.length))}`;
 }
 
-// ---- Break it: the lists that lack a check, the simplest first
+// ---- Break it: the lists that lack a check, the simplest first.
 function breakHtml() {
   const cardOf = (name) => {
     const { story, lacks } = BREAK_LEVELS[name];
     const state = isBrokenOnce(name) ? { says: lacks, state: "done" } : {};
-    return { href: `#break=${numberOfLevel(name)}`, list: `level ${numberOfLevel(name)} · ${LIST_WORDS[LACKING[name]]}`, title: story, ...state };
+    return { href: `#break=${numberOfLevel(name)}`, list: `${LIST_WORDS[LACKING[name]]} · level ${numberOfLevel(name)}`, title: story, ...state };
   };
   const count = TEN.filter(isBrokenOnce).length;
   const next = TEN.find((name) => !isBrokenOnce(name)) ?? TEN[0];
   const words = `Ten lists, from one lock to none. Each lacks one check. Let A and B step until a number is lost, or two
-    answers cannot both be right. Then name the missing check.`;
+    answers cannot both be right. Then name the missing check. (Each list keeps its level number, so that links stay valid.)`;
   const top = lead(words, count === 0 ? "" : `<b>${count}</b> of ${TEN.length} broken`);
   return `${head("", "Break it", top, "title")}${cards(TEN.map(cardOf))}
     <h2>Three more</h2>${cards(THREE_MORE.map(cardOf))}${foot("", goOn(`#break=${numberOfLevel(next)}`, count, Infinity))}`;
 }
 
-// ---- Solve it: the lessons of a course; below them what is handed in, and courses of one's own
+// ---- Solve it: the lessons of a course, the text to hand in, and the reader's own courses.
 function learnHtml() {
   const { panel } = learning;
   const { lessons, name } = panel.course;
@@ -94,7 +94,7 @@ function openBook() {
   drawLearnMap();
 }
 
-// ---- Judge: a run by its number, recorded calls, or an example by its question
+// ---- Judge: recorded calls, a run by its number, or an example by its question.
 function judgeHtml() {
   const judged = Object.keys(judgedLines());
   const cardOf = ({ name, kind }) => {
@@ -114,12 +114,12 @@ function beginJudge() {
   listenToRecorded();
 }
 
-// ---- Read: the pages made of docs/, the words of the page, what is proved
+// ---- Read: the documents, the terms of the page, and what is proved.
 export const PAGES = [
   ["how-it-works.html", "How it works", "The five lists, from one lock to none, each with the runs that show why."],
   ["classic.html", "The examples", "Eighteen runs, each with its question, the answer, and what goes wrong without the check."],
   ["tables.html", "The step tables", "Each list row by row: what a step reads and writes, and which row comes next."],
-  ["tables.html#progress", "Progress: blocking, lock-free, wait-free", "Which calls of each list may block, and within how many steps a call ends."],
+  ["tables.html#progress", "Progress: blocking, lock-free, wait-free", "Which calls of each list can block, and within how many steps a call ends."],
 ];
 const TERMS = {
   event: "The begin of a call, or one step of it: one load, store or compare-and-exchange of one word.",
@@ -128,7 +128,7 @@ const TERMS = {
   pending: "A call that has begun and not ended.",
   "takes effect": "At its linearization point: the moment between begin and end at which a call counts in the order.",
   order: "A sequence of all calls. It explains a run if a sequential set gives the same replies in this order.",
-  linearizable: "Some order explains the replies, and keeps each pair of calls that do not overlap as they were.",
+  linearizable: "Some order explains the replies and keeps the order of calls that do not overlap.",
   "row, step table": "The algorithm as numbered steps; a row says what the thread does next.",
   "pred, curr": "Two neighbouring nodes of a walk; curr is the node after pred.",
   marked: "A node whose key is removed. It can still be in the chain until it is unlinked.",

@@ -7,7 +7,7 @@ import { byId } from "../page/dom.js";
 import { isExample, openKept, openTask, openWork, ownTask, showMarks } from "../page/work.js";
 import { HERE, isText, keepWork, keptUnder, works } from "../page/kept.js";
 import { fillWorks, pickExample } from "../page/controls.js";
-import { exampleShown, goTo, held, now, tell } from "../page/now.js";
+import { exampleShown, goTo, held, now, say } from "../page/now.js";
 import { setView } from "../page/seen.js";
 import { stopPlay } from "../page/play.js";
 import { entryOf } from "../page/reducer.js";
@@ -34,7 +34,7 @@ function openStory(place) {
   const fault = faultOfScene({ id: "", given: {}, ...place });
   if (fault !== null) throw new AddressFault(fault);
   stopPlay();
-  tell("");
+  say("");
   openScene(place);
 }
 
@@ -74,9 +74,9 @@ function openLink({ text, event, lacks, view = null }) {
   if (text === now.run.text && now.run.isRun && now.place.screen === "stage") return goTo(event);
   const own = works.nameOf(text);
   if (own !== null) return openWork(own, event);
-  const told = "Opened from a link. Your changes are kept under a new name";
+  const says = "Opened from a link. Your changes are kept under a new name";
   const others = works.byName.size === 0 ? "" : `; your ${works.byName.size} other works stay under Open`;
-  openTask(ownTask("from a link"), text, event, `${told}${others}.`);
+  openTask(ownTask("from a link"), text, event, `${says}${others}.`);
 }
 
 // Returns the slide that an address names, directly or by its content's address, or 0.
@@ -105,7 +105,7 @@ async function openAddress(given) {
     return true;
   } catch (fault) {
     if (!(fault instanceof AddressFault)) throw fault;
-    tell(`<b class="bad">${escaped(fault.message)}</b>`);
+    say(`<b class="bad">${escaped(fault.message)}</b>`);
     return false;
   }
 }
@@ -155,11 +155,11 @@ function firstVisit() {
 export async function openFirst() {
   fillWorks();
   const isNamed = location.hash !== "" && (await openAddress(location.hash));
-  const said = byId("told").innerHTML;
+  const said = byId("said").innerHTML;
   const isWrong = location.hash !== "" && !isNamed;
   if (!isNamed && (isWrong || addressKept() === "" || !(await openAddress(addressBack())))) firstVisit();
   bringBack();
-  if (!isNamed && said !== "") tell(said);
+  if (!isNamed && said !== "") say(said);
   Object.assign(visit, { isRead: true, entry: entryOf(now) });
   keepSoon();
 }

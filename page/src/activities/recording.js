@@ -34,7 +34,7 @@ function threadsInWords(calls) {
 // A recording without `key` lines says that the set is empty at the end. Returns a remark if that can be a mistake.
 function keysInWords(text, { kind }) {
   const isEmptied = kind === "none" && !/^key /m.test(text) && /^call \d+ add \S+ \S+ \S+ true/m.test(text) && /^end$/m.test(text);
-  return isEmptied ? ["The recording has no line <code>key</code>, so it says that the set is empty at the end. Add a line <code>key 5</code> for each key, here 5, that is left."] : [];
+  return isEmptied ? ["The recording has no line <code>key</code>, so it says that the set is empty at the end. Add a line <code>key K</code> for each key K of the final set."] : [];
 }
 
 // Replaces the judge's reasons by the diagnosis, if there is one.

@@ -66,7 +66,7 @@ class CourseReader {
     this.block = null;
     if (word === "course" && this.lessons.length === 0) this.name = value.slice(0, 80);
     else if (Object.hasOwn(LESSON_WORDS, word)) this.takeWord(word, value, number);
-    else this.fault(number, `"${word.slice(0, 40)}" is no word of a lesson: one of ${WORDS.join(", ")}`);
+    else this.fault(number, `"${word.slice(0, 40)}" is not a word of a lesson: expected one of ${WORDS.join(", ")}`);
   }
 
   takeWord(word, value, number) {
@@ -74,7 +74,7 @@ class CourseReader {
     const part = { number, value, lines: [] };
     if (isBlock) this.block = part;
     if (isBlock && value !== "") this.fault(number, `expected what "${word}" says in the lines below it, each after two spaces`);
-    if (!isBlock && !form.test(value)) this.fault(number, `"${value.slice(0, 60)}" is no ${word}: it is ${says}`);
+    if (!isBlock && !form.test(value)) this.fault(number, `"${value.slice(0, 60)}" is not a value of "${word}": expected ${says}`);
     if (word === "lesson") return this.lessons.push({ lesson: part });
     const parts = this.lessons[this.lessons.length - 1];
     if (parts === undefined) return this.fault(number, `expected "lesson NAME" above "${word}"`);

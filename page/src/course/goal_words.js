@@ -62,12 +62,12 @@ function readGoalLine(text, number, names) {
   };
   if (text.startsWith("say ")) return { says: text.slice("say ".length).trim() };
   if (text === "all calls ended") return { isWhole: (run) => run.calls.every((call) => call.ended !== null) };
-  const parts = GOAL_LINE.exec(text) ?? fail(`"${text}" is no line of a goal, as ${GOAL_FORMS}`);
+  const parts = GOAL_LINE.exec(text) ?? fail(`"${text}" is not a line of a goal, such as ${GOAL_FORMS}`);
   const [, kind, name, count, kinds, join, whose, clauses = ""] = parts;
   const sort = kind ?? kinds;
   const known = (word) => names.get(word) ?? fail(`nothing above is named ${word}`);
-  if (join === "in" && known(whose) !== "call") fail(`${whose} is no call`);
-  if (join === "of" && !/^\d+$/.test(whose)) fail(`${whose} is no thread`);
+  if (join === "in" && known(whose) !== "call") fail(`${whose} is not a call`);
+  if (join === "of" && !/^\d+$/.test(whose)) fail(`${whose} is not a thread`);
   const isNew = name !== undefined && !names.has(name);
   if (name !== undefined && !isNew && names.get(name) !== sort) fail(`${name} is a ${names.get(name)}`);
   if (name !== undefined && !isNew && join !== undefined) fail(`${name} is found above: "${kind} ${name}: .." asks for more of it`);
@@ -88,7 +88,7 @@ const formsOf = (sort) => CLAUSES[sort].map(formOf).join(", ");
 
 function readClause(sort, clause, known, fail) {
   const isOf = ([pattern]) => pattern.test(clause);
-  const [words, test] = CLAUSES[sort].find(isOf) ?? fail(`"${clause}" is no clause of a ${sort}, which are ${formsOf(sort)}`);
+  const [words, test] = CLAUSES[sort].find(isOf) ?? fail(`"${clause}" is not a clause of a ${sort}; the clauses are ${formsOf(sort)}`);
   const given = words.exec(clause).slice(1);
   for (const word of given.filter((one) => /^[A-Z]/.test(one))) {
     const [found, wanted] = [known(word), NAMED[clause.slice(0, clause.lastIndexOf(" "))]];

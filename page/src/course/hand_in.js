@@ -1,5 +1,5 @@
-// A text that is handed in: a title, the course and the student, and a line for each solution: the name of its lesson, a space and
-// the address of a schedule (or a whole link that ends with it), an order that was judged right, or what breaks a list.
+// A text to hand in: a title, the course and the student, then a line for each solution. A solution is the name of a lesson, a space and the address
+// of a schedule (or a whole link that ends with the address), an order that was judged right, or a run that breaks a list.
 //
 //     listset-lessons 2
 //     course The twelve lessons of the five lists
@@ -10,8 +10,8 @@
 //     break mark-in-add #list=lock-free&threads=2&quota=2&opening=3.7&s=b0.add.5,g0.5&event=6
 //     end
 //
-// The text often comes by mail: lines can be quoted, folded or encoded, and other lines can surround it.
-// One file can have the texts of a whole class, and courses.
+// The text often comes by mail: lines can be quoted, folded or encoded, and other lines can surround it. One file can have the texts of a whole
+// class, and courses.
 import { CLASSICS, LACKING } from "../../made/classics.js";
 import { AddressFault, addressOf, readAddress } from "../run/address.js";
 import { askList, isTaskDone, NO_TASK, verdictOnLacking } from "../run/broken.js";
@@ -90,7 +90,7 @@ export function readHandIn({ lines, isEnded, number }) {
     if (isBegin(given.line) || isName) parts.push({ ...given });
     else if (last !== undefined && lacksWords(last.line)) last.line += ` ${given.line}`;
     else if (last !== undefined && isPiece(given.line)) last.line += given.line;
-    else faults.push({ line: given.number, fault: `"${given.line.slice(0, 40)}" is no line of a solution` });
+    else faults.push({ line: given.number, fault: `"${given.line.slice(0, 40)}" is not a line of a solution` });
   }
   const valueOf = (word) => parts.find(({ line }) => line.startsWith(`${word} `))?.line.slice(word.length + 1) ?? null;
   if (!isEnded) faults.push({ line: number, fault: 'the text is incomplete: the final line "end" is missing' });
@@ -116,7 +116,7 @@ export function judgedPart(ask, lessons, line) {
   const not = (says) => ({ task: lesson?.name ?? null, isSolved: false, says });
   if (lesson === undefined) return not(`there is no lesson ${JSON.stringify(word.slice(0, 60))}`);
   if (words.length === 0 || !words[0].includes("#")) return not("the address of a schedule is missing, from # on");
-  if (words.length > 1) return not("there is more behind the address");
+  if (words.length > 1) return not("more follows the address");
   const { schedule, fault } = readSchedule(words[0]);
   if (fault !== undefined) return not(fault);
   const verdict = judged(ask, lesson, schedule);
@@ -127,14 +127,14 @@ export function judgedPart(ask, lessons, line) {
 function judgedOrder(ask, [run = "", level = "", word = "", ...more]) {
   const task = `judge ${run} ${level}`;
   const not = (says) => ({ task, isSolved: false, says });
-  if (!Object.hasOwn(LEVELS, level)) return not(`a level is due, one of ${Object.keys(LEVELS).join(", ")}`);
-  if (more.length > 0) return not("there is more behind the order");
+  if (!Object.hasOwn(LEVELS, level)) return not(`expected a level, one of ${Object.keys(LEVELS).join(", ")}`);
+  if (more.length > 0) return not("more follows the order");
   const { schedule, fault } = run.includes("#") ? readSchedule(run) : scheduleOfExample(ask, run);
   if (fault !== undefined) return not(fault);
   const report = ask("listset_replay", schedule);
   if (report.status !== 0) return not(`the schedule is refused: ${report.text.trim()}`);
   const answer = answerOfWord(exerciseOf(report.text, level), word);
-  if (answer === null) return not("the order is due, as 0-true,2-true,1-false");
+  if (answer === null) return not("expected the order, such as 0-true,2-true,1-false");
   const { isRight, says } = verdictOn(ask, answer);
   return { task, isSolved: isRight === true, says: isRight === true ? "" : says };
 }
@@ -143,11 +143,11 @@ function judgedBreak(ask, [name = "", link = "", ...more]) {
   const task = `break ${name}`;
   const not = (says) => ({ task, isSolved: false, says });
   if (!Object.hasOwn(LACKING, name) || name === NO_TASK) return not("there is no such list to break");
-  if (!link.includes("#")) return not("the address of a schedule is due, from # on");
-  if (more.length > 0) return not("there is more behind the address");
+  if (!link.includes("#")) return not("expected the address of a schedule, from # on");
+  if (more.length > 0) return not("more follows the address");
   const { schedule, fault } = readSchedule(link);
   if (fault !== undefined) return not(fault);
-  if (eventsAsked(schedule) > MOST_EVENTS) return not(`at most ${MOST_EVENTS} events are due`);
+  if (eventsAsked(schedule) > MOST_EVENTS) return not(`expected at most ${MOST_EVENTS} events`);
   const verdict = verdictOnLacking(ask, name, schedule);
   if (!isTaskDone(name, verdict)) return not(verdict.says);
   return { task, isSolved: true, says: "", schedule, ofExample: exampleBy(ask, name, schedule) };

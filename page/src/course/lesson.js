@@ -7,7 +7,7 @@ import { HEADER_LINES, isTrace, Trace } from "../run/trace.js";
 import { readCourse } from "./course_text.js";
 
 export const MOST_EVENTS = 1000; // of a solution
-const OTHER_SET = "The list, the number of threads, the quota and the opening keys are to be those of the lesson.";
+const OTHER_SET = "The list, the number of threads, the quota and the opening keys must be those of the lesson.";
 const setOf = (schedule) => schedule.split("\n").slice(1).filter((line) => !/^(begin|go) /.test(line)).join("\n");
 
 function runOfSchedule(ask, schedule, lacks) {

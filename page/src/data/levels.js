@@ -1,5 +1,5 @@
-// Break it, of each list that lacks a check: what it lacks, what is not so and the reply to that, the first calls, the events and calls of
-// the shortest run known, and what is struck out. A level is linked by its number, its place here: none is given anew.
+// The levels of Break it, one for each list that lacks a check: the missing check, wrong guesses with a reply to each, the first calls, the events
+// and calls of the shortest known run, and the code to strike out. A link names a level by its place here, so no level gets another place.
 
 export const BREAK_LEVELS = {
   lock: {
@@ -17,7 +17,7 @@ export const BREAK_LEVELS = {
     start: [["add", 5], ["add", 4]], shortest: [20, 2], missing: [{ row: 1, part: "lock the list" }],
   },
   "mark-in-remove": {
-    story: "Two threads remove one key. One of them should return that it came too late.",
+    story: "Two threads remove one key. One of them should find that it came too late.",
     hints: [
       "Two removes of the same key, 3.",
       "Let both threads find the node of 3 before either of them marks it.",
@@ -26,7 +26,7 @@ export const BREAK_LEVELS = {
     lacks: "A remove marks a node that is marked already.",
     others: {
       "A remove takes its node out before it marks it.": "it marks the node first",
-      "A remove does not look whether its key is there.": "it compares curr.key with its key",
+      "A remove does not check whether its key is there.": "it compares curr.key with its key",
     },
     start: [["remove", 3], ["remove", 3]], shortest: [14, 2], missing: [{ row: 9, part: "unmarked" }],
   },
@@ -49,7 +49,7 @@ export const BREAK_LEVELS = {
     hints: ["One thread is enough. It adds.", "Two adds of different keys, one after the other.", "Let A add 4, and then 5. Where is 4?"],
     lacks: "An add writes into the node of its last key.",
     others: {
-      "An add does not look whether its key is there.": "it compares curr.key with its key",
+      "An add does not check whether its key is there.": "it compares curr.key with its key",
       "An add writes its arrow without comparing.": "it compares with what it saw",
     },
     start: [["add", 4], ["add", 5]], shortest: [20, 2], missing: [{ row: 5, part: "new " }],
@@ -86,13 +86,13 @@ export const BREAK_LEVELS = {
     story: "It locks two nodes and checks again. But what does it check?",
     hints: [
       "An add of 5 beside a remove of 3, its neighbour.",
-      "The node that the add has found as pred may be unlinked before it is locked.",
+      "The node that the add has found as pred can be unlinked before it is locked.",
       "Stop A before it locks pred, which is the node of 3. Let B remove 3. Then let A end.",
     ],
     lacks: "After locking it does not walk the list again: pred may have been removed.",
     others: {
       "It does not lock curr.": "it locks pred and curr",
-      "It does not look whether pred still leads to curr.": "it looks at that, with both locks",
+      "It does not check whether pred still points to curr.": "it checks that while it holds both locks",
     },
     start: [["add", 5], ["remove", 3]], shortest: [23, 2],
     missing: [{ row: 6, part: "walk from the head again" }, { row: 7, part: "until pred is met, else not valid" }],
@@ -101,12 +101,12 @@ export const BREAK_LEVELS = {
     story: "Marks are set here. Does every call read them?",
     hints: [
       "An add of 5 beside a remove of 3, its neighbour.",
-      "The node that the add has found as pred may be removed before it is locked.",
+      "The node that the add has found as pred can be removed before it is locked.",
       "Stop A before it locks pred, which is the node of 3. Let B remove 3. Then let A end.",
     ],
     lacks: "The validation does not look at the marks.",
     others: {
-      "The validation does not look whether pred still leads to curr.": "it looks at that, with both locks",
+      "The validation does not check whether pred still points to curr.": "it checks that while it holds both locks",
       "A remove does not mark its node.": "it marks the node before it unlinks it",
     },
     start: [["add", 5], ["remove", 3]], shortest: [25, 2],
@@ -122,7 +122,7 @@ export const BREAK_LEVELS = {
     lacks: "An add inserts its node behind a marked one.",
     others: {
       "A remove does not mark its node.": "it marks the node before it unlinks it",
-      "An add does not look whether its key is there.": "it compares curr.key with its key",
+      "An add does not check whether its key is there.": "it compares curr.key with its key",
     },
     start: [["add", 5], ["remove", 3]], shortest: [17, 2], missing: [{ row: 7, part: "unmarked" }],
   },

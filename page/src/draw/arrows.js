@@ -1,6 +1,6 @@
 // Draws the arrows between nodes. Each is one curve of four points, so any arrow can be animated into any other.
 import { linkTarget } from "../run/state.js";
-import { said, tag, title } from "../run/markup.js";
+import { valueText, tag, title } from "../run/markup.js";
 
 export const linkWidth = (width) => (width < 70 ? 12 : Math.min(34, width * 0.3));
 
@@ -32,7 +32,7 @@ export function drawLink(state, name, places, event) {
   const kind = event?.word === `${name}.link` ? "hot" : from.aside ? "out" : "in";
   const isMarked = link.endsWith("*");
   return tag("g", { class: `link ${kind}${from.aside ? " aside" : ""}`, "data-part": `link ${name}`, "data-to": target },
-    title(`${name}.link: ${said(link)}`),
+    title(`${name}.link: ${valueText(link)}`),
     isMarked ? "" : tag("circle", { cx: from.x + from.width - linkWidth(from.width) / 2, cy: from.y + from.key / 2, r: 5 }),
     tag("path", { d: pathOf(from, to, places, isMarked), "marker-end": `url(#tip-${kind})` }));
 }

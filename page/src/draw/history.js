@@ -19,7 +19,7 @@ function windowOf(total, count, room) {
 
 const shownIn = ({ calls }, first, last) => calls.filter(({ begun, ended }) => begun <= last && (ended === null || ended >= first));
 
-// `isLow`: there is little height, so the labels are inside the bars.
+// If there is little height (`isLow`), the labels are inside the bars.
 function formOf(threads, isLow) {
   if (isLow && threads <= 6) return { bar: 19, below: 4, mostRows: 1 };
   if (threads > 12) return { bar: 9, below: 1, mostRows: 1 };
@@ -52,14 +52,14 @@ export function scaleOf(trace, count, width, hides = false, isLow = false) {
   const labels = layLabels(trace.threads, shownIn(trace, first, last), itemOf, { start: HISTORY_LEFT - 6, edge: width, mostRows });
   const above = isLow && trace.threads <= 6 ? 0 : ROW_HEIGHT * (isWhole ? labels.rows : mostRows);
   const lane = above + bar + below;
-  const now = hides ? count : Infinity; // the last event of which something is told
+  const now = hides ? count : Infinity; // the last event that is shown
   const height = 6 + trace.threads * lane + (isWhole && labels.areWhole ? 0 : ROW_HEIGHT);
   const y = (thread) => 2 + thread * lane + above + bar / 2;
   const { places, areWhole } = labels;
   return { first, last, step, lane, bar, width, count, now, edge, height, x, y, spanOf, labels: places, areWhole, isIn: above === 0 };
 }
 
-// Whether a point is known by now: at the call's change, or when the call returns.
+// Decides whether a point is already known: after the call's change, or when the call returns.
 export const isReached = (call, count) => call.at <= count && (call.changes || (call.ended !== null && call.ended <= count));
 
 export function drawLane(scale, thread, place = thread) {
@@ -95,9 +95,9 @@ function drawLabel(call, scale, left, top) {
   const place = scale.labels.get(call.id);
   const [indent, base] = scale.isIn ? [6, top + 14] : [0, top - 4];
   if (place === null) return label({ class: "call", x: left + indent, y: base }, signOf(call));
-  const isTold = call.reply !== null && call.ended <= scale.now;
+  const hasReply = call.reply !== null && call.ended <= scale.now;
   const done = call.ended !== null && call.ended <= scale.count;
-  const reply = isTold ? tag("tspan", { class: done ? "reply" : "reply later" }, ` ${call.reply}`) : "";
+  const reply = hasReply ? tag("tspan", { class: done ? "reply" : "reply later" }, ` ${call.reply}`) : "";
   return tag("text", { class: "call", x: place.x + indent, y: base - ROW_HEIGHT * place.row }, callText(call), reply);
 }
 
@@ -150,8 +150,8 @@ const BETWEEN = 8; // two labels of a row
 export const ROW_HEIGHT = 15;
 export const widthOf = (text, reply = "") => LETTER * text.length + (reply === "" ? 0 : LETTER + BOLD * reply.length);
 
-// Of each item, { left, right, wide } by their left ends, its place { x, row }; null if no row has space. A label begins at the left end of
-// its bar, in the first row (0 is next to the bar) that is free there, or else ends at its right end.
+// Returns the place { x, row } of each label { left, right, wide }, or null if no row has space. The labels come by their left ends. A label begins
+// at the left end of its bar, in the first free row (row 0 is next to the bar), or else ends at the bar's right end.
 function placeLabels(items, { start, edge, mostRows }) {
   const taken = Array.from({ length: mostRows }, () => start);
   return items.map(({ left, right, wide }) => {

@@ -34,12 +34,12 @@ export function judgeScale({ last, threads, calls }, width) {
 
 const momentInWords = (at) => (Number.isInteger(at) ? `at ${at}` : `after ${Math.floor(at)}`);
 const OPEN = "(pending)";
-const saidOf = (call, answer) => (call.ended === null ? OPEN : (answer.replyOf(call) ?? "?"));
+const replyShown = (call, answer) => (call.ended === null ? OPEN : (answer.replyOf(call) ?? "?"));
 
 function drawJudgedCall(call, { answer, exercise, verdict, scale }) {
   const y = scale.y(call.thread);
   const point = answer.points.get(call.id);
-  const reply = saidOf(call, answer);
+  const reply = replyShown(call, answer);
   const isClash = verdict?.clash === call.id;
   const where = point === undefined ? "not placed yet" : momentInWords(point.at);
   const slider = {

@@ -77,7 +77,7 @@ function rowsOf(kind, { thread, held }) {
 export function drawListing({ trace, state, event }) {
   const { kind } = trace;
   const open = state.threads.map((held, thread) => ({ held, thread })).filter(({ held }) => held.pc !== 0);
-  if (open.length === 0) return tag("p", { class: "note" }, "No call is open.");
+  if (open.length === 0) return tag("p", { class: "note" }, "No call is pending.");
   const byFile = new Map();
   for (const one of open) {
     const file = codeOf(kind, one.held.call)?.file;

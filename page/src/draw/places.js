@@ -8,10 +8,12 @@ export const LIST_LOCK = 40; // above a list with one lock
 const MARGIN = 8;
 const WIDEST = 190; // of a node
 const BESIDE = 18; // between two nodes that are not in the chain
+const BESIDE_HANDS = 2; // between two hands in a row, so that their edges meet
 const MOST_POINTING = 6; // threads whose hands are drawn
 
-// A form has the least pixels of a unit, so that no label is too small to read; the heights of the two parts of a node, with its key and with
-// its lock; the room of a node and its gap; the gap as a share of a node; what a hand measures; and of the nodes outside the chain, how far below it they may stand, the roomiest first (0: in its gaps).
+// A form has the least pixels of a unit (so that every label is large enough to read), the heights of a node's two parts (its key and its lock), the
+// room of a node with its gap, the gap as a share of a node, and the measures of a hand. `below` lists how far below the chain other nodes can be
+// drawn, the roomiest first; 0 draws them in the gaps of the chain.
 const HANDS = { height: 30, over: 9, left: 28, letter: 10.4, right: 12 };
 const SMALL_HANDS = { height: 26, over: 8, left: 21, letter: 9.8, right: 5 };
 const WIDE = { least: 0.9, key: 56, lock: 32, slot: 100, gap: 0.5, hand: HANDS, kind: "", below: [54, 30, 0] };
@@ -31,7 +33,7 @@ function pointersOf(state, event) {
   });
 }
 
-// Whether a register is drawn. One that has the head can be unset, so it is drawn only as `pred` of a walk that has begun.
+// Decides whether a register is drawn. A register that has the head can be unset, so only `pred` of a walk that has begun is drawn there.
 export const isPointing = (held, name) => held[name] !== "head" || (name === "pred" && held.curr !== "head");
 
 function importantNodes(state, event, pointers) {
@@ -89,7 +91,7 @@ const widthOfHand = ({ left, letter, right }, words) => left + letter * words.le
 function handsPerSlot(form, { names = false }, width, slots) {
   const node = widthOfNode(form, width - 2 * MARGIN, slots);
   const gap = (width - 2 * MARGIN - slots * node) / Math.max(1, slots - 1);
-  return Math.max(1, Math.floor((node + 0.45 * gap + 6) / (widthOfHand(form.hand, names ? "curr, succ" : "pred") + 6)));
+  return Math.max(1, Math.floor((node + 0.45 * gap + BESIDE_HANDS) / (widthOfHand(form.hand, names ? "curr, succ" : "pred") + BESIDE_HANDS)));
 }
 
 const widthOfNode = (form, all, slots) => Math.min(WIDEST, all / (slots + form.gap * (slots - 1)));
@@ -144,8 +146,8 @@ function placeAside(state, chain, shown, places, { width, down, spare }) {
 function rowsOf(hands, most) {
   const rows = [];
   for (const own of hands) {
-    const row = rows.find(({ wide }) => wide + 6 + own.wide <= most);
-    if (row !== undefined) Object.assign(row, { wide: row.wide + 6 + own.wide, hands: [...row.hands, own] });
+    const row = rows.find(({ wide }) => wide + BESIDE_HANDS + own.wide <= most);
+    if (row !== undefined) Object.assign(row, { wide: row.wide + BESIDE_HANDS + own.wide, hands: [...row.hands, own] });
     else rows.push({ wide: own.wide, hands: [own] });
   }
   return rows;
@@ -165,8 +167,8 @@ function handsOn(pointers, places, { form: { hand }, width }, hides) {
     return rowsOf(hands, node + (aside ? 10 : 0.45 * gap)).flatMap((row, index) => {
       let left = Math.max(2, Math.min(width - row.wide - 2, x + (node - row.wide) / 2)); // at the ends of the chain, towards its middle
       return row.hands.map((own) => {
-        left += own.wide + 6;
-        return { ...own, x: left - own.wide - 6, y: Math.max(1, y - hand.height + hand.over - index * (hand.height + 2)) };
+        left += own.wide + BESIDE_HANDS;
+        return { ...own, x: left - own.wide - BESIDE_HANDS, y: Math.max(1, y - hand.height + hand.over - index * (hand.height + 2)) };
       });
     });
   });
@@ -188,9 +190,9 @@ function freeHand(own, placed, { x, y, width: node }, { height, over }, width) {
 }
 
 /**
- * `room`: the pixels of the stage (`wide`, `high`, and of a unit the `least`), the most nodes of the chain (`slots`), where a `lock` is shown
- * ("list", "nodes" or ""), whether no node leaves the chain (`flat`), how `tight` it was drawn before, the pixels left free at both `ends`, and
- * the registers whose hands are not drawn (`hides`).
+ * `room` has the pixels of the stage (`wide`, `high`) and the `least` of a unit, the most nodes of the chain (`slots`), where a `lock` is shown
+ * ("list", "nodes" or ""), whether every node stays in the chain (`flat`), how `tight` the last drawing was, the pixels left free at both `ends`,
+ * and the registers whose hands are not drawn (`hides`).
  * @typedef {{ wide: number, high: number, least?: number, slots: number, lock: string, flat?: boolean, tight?: number, ends?: number[], hides: string[], names?: boolean }} Room
  */
 export function arranged(state, event, room) {

@@ -43,7 +43,8 @@ function drawKey(node, x, middle, width, hasSign, isBelowName) {
   const text = wordOf(node);
   const isNumber = /^\d/.test(text);
   const size = isBelowName ? 20 : text.length > 4 ? 18 : hasSign ? 24 : isNumber ? 30 : width > 110 ? 20 : width > 70 ? 18 : 16;
-  const key = label({ class: "key", x, y: middle + (hasSign ? -1 : isBelowName ? 13 : isNumber ? 9.5 : 4), style: `font-size:${size}px` }, text);
+  const spacing = !isNumber && width <= 70 ? ";letter-spacing:-.8px;font-weight:500;stroke-width:1.5" : ""; // a narrow node has just room for "head"
+  const key = label({ class: "key", x, y: middle + (hasSign ? -1 : isBelowName ? 13 : isNumber ? 9.5 : 4), style: `font-size:${size}px${spacing}` }, text);
   return key + (hasSign ? label({ class: "sign", x, y: middle + 18.5 }, "marked") : "");
 }
 
@@ -53,7 +54,7 @@ const OPEN = "M-6 -2 v-6 a6 6 0 0 1 12 0";
 // Draws a lock over the given width: pale and open, or closed in its owner's colour.
 function drawLock(lock, x, y, width, height, words = "") {
   const isOpen = lock === "free";
-  const text = isOpen ? `${words}${width > 90 ? "open" : ""}` : `${words}${holderOf(lock)}`;
+  const text = isOpen ? `${words}${width > 90 ? "open" : ""}` : `${words}${words === "" ? "" : "held by "}${holderOf(lock)}`;
   const at = x + (width - 22 - 10 * text.length) / 2 + 8;
   return tag("g", { class: `latch ${isOpen ? "open" : colourOf(Number(lock.slice(1)))}` },
     tag("rect", { class: "plate", x: x + 3, y: y + 1, width: width - 6, height: height - 4, rx: 6 }),
@@ -81,7 +82,10 @@ const HATCH = { id: "hatch", width: 9, height: 9, patternUnits: "userSpaceOnUse"
 const STRIPES = tag("rect", { class: "ground", width: 9, height: 9 }) + tag("line", { class: "stripe", x1: 0, x2: 0, y1: 0, y2: 9 });
 const DEFINITIONS = tag("defs", {}, tag("pattern", HATCH, STRIPES), ...["in", "out", "hot"].map(drawTip));
 
-/** The list as an element; `own` makes the names in it its own. @param {import("./places.js").Room} room */
+/**
+ * Returns the list as an SVG element. `own` is put before the names in the element, so that two elements do not share one.
+ * @param {import("./places.js").Room} room
+ */
 export function drawStage(state, event, room, own = "", list = arranged(state, event, room)) {
   const { chain, items, places, names, hands, more, units } = list;
   const { width, scale } = units;

@@ -57,7 +57,7 @@ export function drawThreads(state, event, all, hidesReplies = false) {
   return tag("table", {}, tag("thead", {}, head), tag("tbody", {}, ...rows));
 }
 
-// ---- the step table of the running list: the last row made, and each thread at its next row
+// ---- The step table of the running list: the last row made, and each thread at its next row.
 export function drawTable({ trace, state, event, before }) {
   const made = event === null || event.deed === "begin" ? null : before.pc;
   const at = new Map();
@@ -72,7 +72,7 @@ export function drawTable({ trace, state, event, before }) {
   return tag("table", {}, tag("thead", {}, tag("tr", {}, ...heads)), tag("tbody", {}, ...lines));
 }
 
-// ---- the contents of the set, and the order of the calls
+// ---- The contents of the set, and the order of the calls.
 const KEY_WIDTH = 8; // pixels, of each character of the contents
 
 function drawContent(part, scale) {
@@ -98,18 +98,18 @@ function drawWindow(scale, total, x) {
   return label({ class: "note", y: 42, ...place }, `events ${scale.first} to ${scale.last} of ${total}`);
 }
 
-// The name of the contents row. A broken list can have other keys than the points of its calls say.
+// Names the row of the set's contents. A broken list can have other keys than the points of its calls imply.
 function nameOfContents({ lacks }) {
   if (lacks === null) return label({ class: "name", x: 6, y: 17 }, "set");
-  const lines = ["by the", "answers"].map((words, line) => label({ class: "name", x: 0, y: 10 + 12 * line, style: "font-size:11px;letter-spacing:-.5px" }, words));
+  const lines = ["should", "have"].map((words, line) => label({ class: "name", x: 0, y: 10 + 12 * line, style: "font-size:11px;letter-spacing:-.5px" }, words));
   return tag("g", {}, title(`${BY_POINTS}; the list may have other keys`), ...lines);
 }
 const BY_POINTS = "the set by the linearization points of the calls";
 
 export function drawContents(trace, scale) {
-  const told = contentsIn(trace, scale.first, scale.last).filter((part) => part.from <= Math.max(scale.now, scale.first));
-  const parts = told.map((part) => drawContent(part, scale));
-  const now = told.findLast((part) => part.from <= Math.max(scale.count, scale.first));
+  const shown = contentsIn(trace, scale.first, scale.last).filter((part) => part.from <= Math.max(scale.now, scale.first));
+  const parts = shown.map((part) => drawContent(part, scale));
+  const now = shown.findLast((part) => part.from <= Math.max(scale.count, scale.first));
   const x = Math.min(Math.max(scale.x(scale.count), HISTORY_LEFT + 12), scale.width - 44);
   const number = scale.count > 0 ? label({ class: "number", x, y: 42 }, `event ${scale.count}`) : "";
   const what = trace.lacks === null ? "the set" : BY_POINTS;

@@ -2,14 +2,14 @@
 
 const linesIn = (text) => text.trimEnd().split("\n");
 
-// A call of a report, `call ID THREAD OPERATION KEY BEGIN END REPLY`; one that is open has no end and no reply.
+// Reads a call of a report, `call ID THREAD OPERATION KEY BEGIN END REPLY`. A pending call has no end and no reply.
 function callOfReport(line) {
   const [, id, thread, operation, key, begun, ended, reply = null] = line.split(" ");
   const end = ended === "open" ? null : Number(ended);
   return { id: Number(id), thread: Number(thread), operation, key: Number(key), begun: Number(begun), ended: end, reply };
 }
 
-// A call of a recording, `call THREAD OPERATION KEY BEGIN END REPLY`. Its moments may be larger than a Number is exact.
+// Reads a call of a recording, `call THREAD OPERATION KEY BEGIN END REPLY`. A moment can be too large for an exact Number.
 export function callOfRecording(line) {
   const [, thread, operation, key, begun, ended, reply] = line.split(" ");
   const isOpen = ended === "-";
@@ -77,7 +77,7 @@ export function readVerdict({ text }) {
   return { kind, ...ofCalls, order: orderIn(valuesOf("order"), valuesOf("set")), why: kind === "none" ? why : null };
 }
 
-// The values that a fault of an order has. Other faults have a call.
+// The values in the record of each error of an order. Errors that are not listed have a call.
 const FAULT_VALUES = {
   HistoryReply: ["call", "reply"],
   SetReply: ["call", "reply", "place", "answer"],
@@ -90,13 +90,13 @@ function orderIn([fault, ...values], keys) {
   return { fault, set: `{${keys.join(", ")}}`, ...Object.fromEntries((FAULT_VALUES[fault] ?? ["call"]).map((name, at) => [name, values[at]])) };
 }
 
-// ---- The program's sentences on the causes of faults.
-// What the text of `listset faults` says first on a cause in a text of one of these kinds ("a schedule", "recorded calls"), to be read
-// after a colon; null if it says nothing, or there is no cause.
+// ---- The program's sentences on the causes of errors.
+// Returns the first sentence of `listset faults` on a cause in a text of one of these kinds ("a schedule", "recorded calls"), to be read after a
+// colon. Returns null if there is no cause or no sentence.
 export function sentenceOn(ask, cause, ...kinds) {
   if (!cause) return null;
-  const told = ask("listset_faults").text;
-  const parts = kinds.map((kind) => told.split(`, in ${kind};`)[1]?.split("\n\n")[0] ?? "");
+  const causes = ask("listset_faults").text;
+  const parts = kinds.map((kind) => causes.split(`, in ${kind};`)[1]?.split("\n\n")[0] ?? "");
   const [, said] = new RegExp(`^  ${cause} +((?:.|\n {12})+)`, "m").exec(parts.join("\n")) ?? [];
   return said === undefined ? null : said[0].toLowerCase() + said.slice(1).replace(/\n +/g, " ").replace(/\.( .*)?$/, "");
 }

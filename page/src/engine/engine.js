@@ -93,14 +93,14 @@ export function engineClass(firstRoom) {
 }
 export const Engine = engineClass(FIRST_ROOM);
 
-// Returns what a stream makes of some bytes.
+// Returns the bytes after they have passed through a stream.
 export async function passed(bytes, stream) {
   return new Uint8Array(await new Response(new Blob([bytes]).stream().pipeThrough(stream)).arrayBuffer());
 }
 
 export const bytesOf = (base64) => Uint8Array.from(atob(base64), (letter) => letter.charCodeAt(0));
 
-// Compiles the module: its bytes are packed in engine.js, a third of listset.wasm. A browser that cannot unpack fetches them as they are.
+// Compiles the module. Its packed bytes are in engine.js, a third of listset.wasm. A browser that cannot unpack them fetches listset.wasm.
 async function engineModule() {
   if (typeof DecompressionStream === "undefined") return WebAssembly.compile(await (await fetch("listset.wasm")).arrayBuffer());
   if (typeof ENGINE === "undefined") {

@@ -87,7 +87,7 @@ export function placeParts() {
   place();
 }
 
-// ---- the list of examples and works, and the question of the current example
+// ---- The list of examples and works, and the question of the current example.
 const WORK = "work: ";
 
 export function fillWorks() {

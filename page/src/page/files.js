@@ -8,7 +8,7 @@ import { scheduleOfTrace } from "../run/schedule_text.js";
 import { isTrace, Trace } from "../run/trace.js";
 import { byId } from "./dom.js";
 import { askLong, LONG_TEXT } from "./long_run.js";
-import { announce, askNow, dispatch, held, NO_ENGINE, now, takeScheduleOfTrace, takeTrace, tellTrouble } from "./now.js";
+import { announce, askNow, dispatch, held, NO_ENGINE, now, takeScheduleOfTrace, takeTrace, sayError } from "./now.js";
 import { beginTask, openTask, ownTask } from "./work.js";
 
 const REPLY_WIDTH = 60; // of a call in the picture of a report: what stands right of its bar
@@ -53,8 +53,8 @@ export function comparedTrace(ask, trace) {
 export async function openFile(text, name) {
   const kind = kindOfFile(text);
   const isJudged = kind === "report" || kind === "calls";
-  tellTrouble("");
-  if ((isJudged || kind === "course") && held.engine === null) return tellTrouble(NO_ENGINE);
+  sayError("");
+  if ((isJudged || kind === "course") && held.engine === null) return sayError(NO_ENGINE);
   if (kind === "course") return announce("course", text);
   if (kind === "calls") return announce("recorded", text);
   if (kind === "report") {
@@ -68,7 +68,7 @@ export async function openFile(text, name) {
 
 function openTrace(text, task) {
   const fault = faultOfTrace(text);
-  if (fault !== null) return tellTrouble(`this is no trace: ${fault}`);
+  if (fault !== null) return sayError(`this is not a trace: ${fault}`);
   beginTask(task);
   takeTrace(new Trace(text), 0, "a trace from a file");
   takeScheduleOfTrace();
@@ -138,7 +138,7 @@ export function refreshReport() {
   if (byId("report-box").open && held.engine !== null) showOwnReport(now.run.text);
 }
 
-// ---- saving the list and the history as one picture
+// ---- Saves the list and the history as one picture.
 const DRAWN_BY = ["fill", "stroke", "stroke-width", "stroke-dasharray", "fill-opacity", "stroke-opacity", "opacity", "font-family",
   "font-size", "font-weight", "font-style", "text-anchor", "paint-order", "text-decoration-line"];
 

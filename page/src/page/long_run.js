@@ -2,7 +2,7 @@
 import { engineClass, FIRST_ROOM } from "../engine/engine.js";
 import { eventsAsked } from "../run/schedule_text.js";
 import { byId } from "./dom.js";
-import { askNow, held, now, tellFault } from "./now.js";
+import { askNow, held, now, sayFault } from "./now.js";
 
 export const MANY_EVENTS = 20000; // so many run beside the page, with a button to cancel that
 export const LONG_TEXT = 200000; // characters of a report that has no picture here
@@ -27,12 +27,12 @@ export async function askLong(name, text, isOfRun = true) {
 export async function runLong(text, asked, take) {
   stopLong();
   const begun = Date.now();
-  const tellTime = () => {
+  const sayTime = () => {
     const seconds = Math.round((Date.now() - begun) / 1000);
     byId("long-said").textContent = `running ${asked.toLocaleString("en")} events: ${seconds} s`;
   };
-  tellTime();
-  longRun.timer = setInterval(tellTime, 1000);
+  sayTime();
+  longRun.timer = setInterval(sayTime, 1000);
   byId("long").hidden = false;
   const answer = await askLong("listset_trace", text);
   if (now.run.text !== text || byId("long").hidden) return;
@@ -50,7 +50,7 @@ export function stopLong() {
 
 export function cancelLong() {
   stopLong();
-  tellFault(null, "", "The run was cancelled. Run begins it again.");
+  sayFault(null, "", "The run was cancelled. Run begins it again.");
 }
 
 // ---- The engine in a worker, which can be terminated. The page stays usable during a long run.

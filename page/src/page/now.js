@@ -6,9 +6,9 @@ import { State } from "../run/state.js";
 import { byId } from "./dom.js";
 import { exampleIn, reduce, stateAtFirst } from "./reducer.js";
 
-export const NO_ENGINE = "The replayer does not run in this browser: no schedule can be run, no report checked. A file of listset trace can be opened.";
+export const NO_ENGINE = "The replayer does not run in this browser: it cannot run a schedule or check a report. You can still open a file of listset trace.";
 export const now = stateAtFirst();
-/** The engine, or null; `hasEngine` until it is known that there is none. @type {{ engine: any, hasEngine: boolean, render: () => void }} */
+/** The engine, or null. `hasEngine` is false once the engine has failed to start. @type {{ engine: any, hasEngine: boolean, render: () => void }} */
 export const held = { engine: null, hasEngine: true, render: () => {} };
 
 // Applies an action without drawing.
@@ -23,7 +23,8 @@ export function dispatch(type, given) {
   show();
 }
 
-// Listeners: `taken`, with a trace, before it is drawn; `ran`, after a text has run; `kept`, after the works changed; `recorded` and `course`, with a file's text.
+// The listeners of each occasion: `taken` gets a trace before the trace is drawn, `ran` follows a run of a text, `kept` a change of the works;
+// `recorded` and `course` get a file's text.
 const listeners = { taken: [], ran: [], kept: [], recorded: [], course: [] };
 export const on = (what, ...deeds) => listeners[what].push(...deeds);
 
@@ -38,25 +39,25 @@ export const hiddenOutcomes = () => (isJudging() ? LEVELS[now.exercise.level].hi
 export const exampleShown = () => exampleIn(now);
 
 export function goTo(count) {
-  tell("");
+  say("");
   dispatch("count", { count });
 }
 
 // Shows one line about the last action, until the next event is shown. A line that is already there is not announced again.
-export function tell(text) {
-  if (told.text === text && byId("told").innerHTML === told.html) return;
-  byId("told").innerHTML = text;
-  Object.assign(told, { text, html: byId("told").innerHTML });
+export function say(text) {
+  if (last.text === text && byId("said").innerHTML === last.html) return;
+  byId("said").innerHTML = text;
+  Object.assign(last, { text, html: byId("said").innerHTML });
 }
-const told = { text: "", html: "" };
+const last = { text: "", html: "" };
 
 // Shows a trace at an event; `at` is its number, or a function of the trace.
 export function takeTrace(trace, at, source) {
   const { refused } = trace;
   change("trace", { trace, state: new State(trace), source, count: typeof at === "function" ? at(trace) : at });
   announce("taken", trace);
-  tellFault(now.run.faultLine, refused?.cause ?? "", refused === null ? "" : `line ${refused.line}: ${refused.cause}`, false);
-  tell("");
+  sayFault(now.run.faultLine, refused?.cause ?? "", refused === null ? "" : `line ${refused.line}: ${refused.cause}`, false);
+  say("");
   show();
 }
 
@@ -77,7 +78,7 @@ export function askNow(name, ...texts) {
   }
 }
 
-export function tellFault(line, cause, said, isOld = true) {
+export function sayFault(line, cause, said, isOld = true) {
   change("run", { faultLine: line, isRun: !isOld });
   byId("stage").classList.toggle("old", isOld);
   byId("old").hidden = !isOld;
@@ -86,12 +87,12 @@ export function tellFault(line, cause, said, isOld = true) {
   if (said !== "") byId("schedule-box").open = true; // the error stands beside the text
 }
 
-export function tellTrouble(said) {
+export function sayError(said) {
   byId("fault").textContent = said;
   if (said !== "") byId("schedule-box").open = true;
 }
 
-export function tellLine(text) {
+export function sayErrorLine(text) {
   const { line, cause } = readFault(text);
-  tellFault(line, cause ?? "", text);
+  sayFault(line, cause ?? "", text);
 }

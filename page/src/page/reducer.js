@@ -1,12 +1,11 @@
-// The state of the page, one value with five parts, and its reducer. Uses nothing of the browser.
+// The state of the page, one value with six parts, and its reducer. Uses nothing of the browser.
 //
 // @ts-check
 /**
- * A place is a scene or the bench (its activity is "watch" or "judge"). A scene has the id of what is shown there, and `given`, what
- * else its address says; how far one is in it: the answer that was pressed (-1 where it was to be shown), the schedule of its run where
- * the address has it, and the branch that is shown. A run has the text, its trace, the check that its list lacks, and the state after
- * `count` events; `isRun`: the trace is that of the text. A task is what the run is for: tries are kept under the name `work`, `begun` is
- * the text with which it begins.
+ * A place is a scene or the bench (its activity is "watch" or "judge"). A scene has the id of what is shown, and `given`, the other parts of its
+ * address. The state of a scene has the answer that was pressed (-1 if the page showed the answer), the schedule of its run if the address has one,
+ * and the branch that is shown. A run has the text, its trace, the check that its list lacks, and the state after `count` events; `isRun` says that
+ * the trace belongs to the text. A task is the purpose of the run: attempts are stored under the name `work`, and `begun` is the first text.
  * @typedef {"lecture" | "embed" | "list" | "history" | null} PageView
  * @typedef {{ activity: string, screen: "stage" | "scene", id: string, given: Record<string, string>, view: PageView, slide: number }} Place
  * @typedef {"" | "task" | "again" | "guess" | "playing" | "moment" | "done"} Stage
@@ -33,13 +32,13 @@ export const stateAtFirst = () => ({
   prefs: { hides: true, allThreads: false, letters: true },
 });
 
-/** The activity to which a run belongs. @param {State} state */
+/** Returns the activity to which a run belongs. @param {State} state */
 const activityOfRun = ({ exercise }) => (exercise !== null ? "judge" : "watch");
 
-/** The example that is shown, or "". @param {State} state */
+/** Returns the name of the example that is shown, or "". @param {State} state */
 export const exampleIn = ({ task }) => (task.kind === "example" ? task.id : "");
 
-/** A run has the stage of its activity. @param {State} state @returns {State} */
+/** Returns a state whose run is on the stage of its activity. @param {State} state @returns {State} */
 const onStage = (state) => ({ ...state, place: { ...state.place, activity: activityOfRun(state), screen: "stage", id: "", given: {} } });
 const within = (count, { total }) => Math.max(0, Math.min(total, count));
 
@@ -65,14 +64,14 @@ const MAKES = {
   prefs: (state, { type, ...given }) => ({ ...state, prefs: { ...state.prefs, ...given } }),
 };
 
-/** What an action makes of a state. @param {State} state @param {Action} action @returns {State} */
+/** Returns the state after an action. @param {State} state @param {Action} action @returns {State} */
 export function reduce(state, action) {
   const make = MAKES[action.type];
   if (make === undefined) throw new Error(`no action is called "${action.type}"`);
   return make(state, action);
 }
 
-/** What an entry of the browser's history is: a place or a task, and not a step of its run. @param {State} state */
+/** Returns the key of an entry of the browser's history. A place or a task has an entry of its own, a step of a run has none. @param {State} state */
 export function entryOf({ place, task, exercise }) {
   const ofRun = place.screen === "stage" ? [task.kind, task.id, exercise !== null] : [place.id, JSON.stringify(place.given)];
   return [place.activity, place.screen, place.view, place.slide, ...ofRun].join("\n");

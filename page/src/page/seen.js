@@ -15,7 +15,7 @@ const isSlide = ({ view }) => view === "lecture";
 const isFree = ({ isClaim }) => !isClaim; // of a claim there is no run to step through
 
 export const SEEN = {
-  ...Object.fromEntries(["top", "told", "order"].map((id) => [id, isFull])),
+  ...Object.fromEntries(["top", "said", "order"].map((id) => [id, isFull])),
   leave: ({ view }) => view !== null && view !== "embed",
   scene: ({ screen }) => screen === "scene",
   bench: ({ screen }) => screen !== "scene",
@@ -24,7 +24,7 @@ export const SEEN = {
   workshop: (facts) => isStage(facts) && isFull(facts),
   "question-box": ({ kind, isJudging }) => kind === "example" && !isJudging,
   "own-head": ({ kind }) => kind === "own",
-  "seed-box": ({ kind }) => kind === "seed",
+  "seed-box": ({ kind, isJudging }) => kind === "seed" && !isJudging,
   "judge-head": ({ activity }) => activity === "judge",
   "go-on-here": (facts) => facts.activity !== "judge" && isFull(facts) && facts.hasEngine,
   past: ({ isJudging, view }) => !isJudging && view !== "list",

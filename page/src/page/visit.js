@@ -8,7 +8,7 @@ import { startOfLacking } from "../run/broken.js";
 import { escaped, inLetters } from "../run/markup.js";
 import { eventsAsked } from "../run/schedule_text.js";
 import { HERE, keepUnder, keepWork } from "./kept.js";
-import { now, tell } from "./now.js";
+import { now, say } from "./now.js";
 import { entryOf } from "./reducer.js";
 
 const MOMENT = 400; // milliseconds: the bar follows once nothing has moved for so long, since browsers refuse quick changes of it
@@ -50,17 +50,17 @@ export const linkTo = (address) => location.href.replace(/#.*$/, "") + address;
 
 export async function copyLink() {
   const address = now.run.isRun ? addressHere() : null;
-  if (address === null) return tell("This schedule has no link: it is refused, or too long for an address. Save it as a file.");
+  if (address === null) return say("This schedule has no link: it is refused, or too long for an address. Save it as a file.");
   const link = linkTo(address);
   const shown = `<code>${escaped(link)}</code>${warningOf(link)}`;
-  tell(`Copy this link: ${shown}`);
-  if (await copied(link)) tell(`The link is copied: ${shown}`);
+  say(`Copy this link: ${shown}`);
+  if (await copied(link)) say(`The link is copied: ${shown}`);
 }
 
 // Copies a text. Returns whether the browser allowed it.
 export const copied = async (text) => navigator.clipboard?.writeText(text).then(() => true, () => false) ?? false;
 
-// ---- the addresses of the scenes
+// ---- The addresses of the scenes.
 const SCENES = ["assignment", "story", "ask", "code", "teachers", "notes", "handout"]; // run/address.js reads the others, with their schedules
 const SCENE_VIEWS = ["lecture", "embed"];
 
@@ -68,7 +68,7 @@ export function sceneOfHash(hash) {
   const { view = null, ...parts } = Object.fromEntries(new URLSearchParams(hash.replace(/^#/, "")));
   const activity = SCENES.find((name) => name in parts);
   if (activity === undefined) return null;
-  if (view !== null && !SCENE_VIEWS.includes(view)) throw new AddressFault(`"${view.slice(0, 60)}" is no view of a page`);
+  if (view !== null && !SCENE_VIEWS.includes(view)) throw new AddressFault(`"${view.slice(0, 60)}" is not a view`);
   const { [activity]: id, ...given } = parts;
   return { activity, id, given, view };
 }

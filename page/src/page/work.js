@@ -7,7 +7,7 @@ import { eventsInCommon, isTrace, Trace } from "../run/trace.js";
 import { byId } from "./dom.js";
 import { keepWork, works } from "./kept.js";
 import { MANY_EVENTS, runLong, stopLong } from "./long_run.js";
-import { announce, askNow, change, held, NO_ENGINE, now, takeScheduleOfTrace, takeTrace, tell, tellFault, tellLine } from "./now.js";
+import { announce, askNow, change, held, NO_ENGINE, now, say, sayErrorLine, sayFault, takeScheduleOfTrace, takeTrace } from "./now.js";
 import { stopPlay } from "./play.js";
 
 // Begins a task. Later texts are stored for it, once they differ from its first text.
@@ -16,9 +16,9 @@ export function beginTask(task, lacks = null) {
   change("task", { task, lacks });
 }
 
-export function openTask(task, text, at, told = "", lacks = null) {
+export function openTask(task, text, at, says = "", lacks = null) {
   beginTask({ begun: text, ...task }, lacks);
-  runText(text, at, told);
+  runText(text, at, says);
 }
 
 export const ownTask = (name) => ({ kind: "own", id: "", work: works.newName(name) });
@@ -41,7 +41,7 @@ export const newSchedule = (list, threads, quota) =>
 export function runBox() {
   const box = byId("schedule").value;
   const { text, fault } = scheduleOfDraft(askNow, box === "" || box.endsWith("\n") ? box : `${box}\n`, now.run.lacks);
-  if (fault !== null) return tellLine(fault);
+  if (fault !== null) return sayErrorLine(fault);
   const { trace, count } = now.run;
   if (now.task.kind !== "own" && text !== now.run.text) leaveTask(text);
   const at = (made) => (made.refused === null ? Math.min(count, eventsInCommon(trace, made)) : made.total);
@@ -67,28 +67,28 @@ export function showHeader(trace) {
   byId("new-quota").value = trace.quota;
 }
 
-function runText(text, at, told = "") {
+function runText(text, at, says = "") {
   stopPlay();
   change("run", { text });
   byId("schedule").value = text;
   byId("opening").value = openingIn(text).join(" ");
-  if (held.engine === null) return tellFault(null, "", NO_ENGINE);
+  if (held.engine === null) return sayFault(null, "", NO_ENGINE);
   const asked = eventsAsked(text);
-  if (asked >= MANY_EVENTS && now.run.lacks === null) return runLong(text, asked, (answer) => takeAnswer(answer, text, at, told));
+  if (asked >= MANY_EVENTS && now.run.lacks === null) return runLong(text, asked, (answer) => takeAnswer(answer, text, at, says));
   stopLong();
-  takeAnswer(askList(askNow, "listset_trace", now.run.lacks, text), text, at, told);
+  takeAnswer(askList(askNow, "listset_trace", now.run.lacks, text), text, at, says);
 }
 
-function takeAnswer(answer, text, at, told) {
+function takeAnswer(answer, text, at, says) {
   const source = now.run.lacks === null ? "run by the proved replayer" : "a run of a broken list";
   if (isTrace(answer.text)) takeTrace(new Trace(answer.text, versionOf(text)), at, source);
-  else tellLine(answer.text.trim());
-  tell(works.isKept ? told : `${told} This browser keeps nothing: save the schedule before you leave the page.`);
+  else sayErrorLine(answer.text.trim());
+  say(works.isKept ? says : `${says} This browser stores nothing: save the schedule before you leave the page.`);
   announce("ran");
 }
 
 // ---- The examples by name. Without an engine they are shown from stored traces (more.js).
-const KEPT_BESIDE = "a trace that is kept beside the page";
+const KEPT_BESIDE = "a stored trace";
 const known = { examples: null };
 
 export function examples() {

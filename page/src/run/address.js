@@ -1,5 +1,5 @@
-// Addresses, as page/README.md lists them. A broken list is written by its number, since its name would tell too much. An address is made a
-// text again; whether that is a schedule says the engine.
+// Reads and writes addresses; page/README.md lists their forms. An address names a broken list by its number, since the name would reveal the missing
+// check. Whether the text of an address is a schedule is decided by the engine.
 import { LACKING } from "../../made/classics.js";
 import { LISTS } from "../../made/rows.js";
 import { scheduleText, versionOf } from "./schedule_text.js";
@@ -144,13 +144,13 @@ export function scheduleOfSeed(ask, seed) {
   return joined(text);
 }
 
-// Whether a schedule is worth a look: a key is added and removed, and a call returns during another thread's call, or changes nothing while that one changes the set.
+// Decides whether a schedule is worth a look: a key is added and removed, and either a contains or a false reply overlaps a call of the other thread.
 function isWorthIt({ calls, changes, total }) {
   const puts = changes.some(({ put }) => put !== undefined) && changes.some(({ took }) => took !== undefined);
   const isBeside = (one, other) => one.thread !== other.thread && one.begun < other.ended && other.begun < one.ended;
   const beside = calls.filter((one) => calls.some((other) => isBeside(one, other)));
-  const isTold = beside.some(({ changes: own, operation, reply }) => !own && (operation === "contains" || reply === "false"));
-  return puts && isTold && total <= MOST_SEEN && calls.every(({ ended }) => ended !== null);
+  const isInstructive = beside.some(({ changes: own, operation, reply }) => !own && (operation === "contains" || reply === "false"));
+  return puts && isInstructive && total <= MOST_SEEN && calls.every(({ ended }) => ended !== null);
 }
 
 function joined(text) {

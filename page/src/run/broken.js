@@ -1,5 +1,5 @@
-// Broken lists: each lacks one check. One proved function judges the order by the moments that the table names, another all other orders: that
-// this one order is refused does not say that there is none.
+// Broken lists, each without one check. One proved function judges the order by the linearization points, another all other orders: if the first
+// order is refused, another one can still explain the calls.
 import { LACKING } from "../../made/classics.js";
 import { readReport, readVerdict } from "../engine/answers.js";
 import { nameOfCall } from "./judged.js";
@@ -13,7 +13,7 @@ const UNKNOWN = "Whether another order explains these replies is not known.";
 const UNEXPLAINED = "No order of these calls explains that (proved).";
 export const TO_BREAK = "No order explains the calls and the keys left (proved)."; // the condition of a lesson
 
-// LazyList's `contains` without the mark: no history is known that no order explains, and it is no task.
+// LazyList's `contains` without the mark. No run of it is known that no order explains, so it is no task.
 export const NO_TASK = "mark-in-contains";
 export const isTaskDone = (lacks, { kind }) => kind === "broken" && lacks !== NO_TASK;
 
@@ -57,10 +57,10 @@ function isLost({ calls, opening, keys }, key) {
   return count("add") === 1 && count("remove") === 0 && !isThere;
 }
 
-// Returns the report's call for a call of a refusal. The judge reads a ceiling, and an add that returned full, as looks at a key.
+// Returns the report's call for a call of a refusal. The judge reads a ceiling, and an add that returned full, as a look at a key.
 function callInWords({ calls }, { thread, begun }) {
   const call = calls.find((one) => one.thread === thread && one.begun === Number(begun));
-  return `${nameOfCall(call)} ${call.ended === null ? "is open" : `answers ${call.reply}`}`;
+  return `${nameOfCall(call)} ${call.ended === null ? "is pending" : `answers ${call.reply}`}`;
 }
 
 export function departureOf(ask, trace) {

@@ -1,4 +1,5 @@
-// Whether a text from a file is a trace: the first line that is none (docs/TEXTS.md) is named, or the first event that cannot come there.
+// Decides whether a text from a file is a trace (docs/TEXTS.md). Names the first line that is wrong, or the first event that is impossible at its
+// place.
 import { LACKING } from "../../made/classics.js";
 import { LISTS } from "../../made/rows.js";
 import { State } from "./state.js";
@@ -8,7 +9,7 @@ const NUMBER = "(?:0|[1-9]\\d{0,9})";
 const NODE = `(?:head|tail|n${NUMBER})`;
 const KEY = `(?:[-+]inf|${NUMBER})`;
 const REPLY = `(?:true|false|full|nothing|at-${NUMBER})`;
-// The words of the table by their last part, with the values that each can have.
+// The memory words by their last part, with a pattern of their values.
 const VALUES = { lock: `(?:free|t${NUMBER})`, key: KEY, link: `${NODE}\\*?`, threads: NUMBER, quota: NUMBER };
 
 function accessOf([field, value]) {
@@ -33,7 +34,7 @@ const HEAD = [
   (line) => /^quota (0|[1-9]\d{0,4})$/.test(line),
 ];
 
-// The first line that is none where it stands, from 0, or where the text goes on behind its end; -1 if all are.
+// Returns the index of the first line that is wrong at its place, or of the first line after the end; -1 if all lines are right.
 function wrongLine(lines) {
   const head = lines[2]?.startsWith("lacks ") ? HEAD : HEAD.filter((_, at) => at !== 2);
   const wrong = head.findIndex((isLine, at) => !isLine(lines[at] ?? "", lines[1]));
@@ -66,7 +67,7 @@ function wrongEvent(text) {
 export function faultOfTrace(text) {
   const lines = text.split("\n");
   const at = wrongLine(lines);
-  if (at !== -1) return `line ${at + 1}: "${(lines[at] ?? "").slice(0, 80)}" is no line of a trace here`;
+  if (at !== -1) return `line ${at + 1}: "${(lines[at] ?? "").slice(0, 80)}" is not a line of a trace at this place`;
   const event = wrongEvent(text);
   return event === null ? null : `event ${event} cannot come here`;
 }

@@ -1,5 +1,5 @@
-// Judge yourself: the calls and the keys are those of the run, the order and the replies in it the reader's. So the proved `check` says ok if
-// the reader's order explains what the run did, also where it is not the replayer's.
+// Judge yourself. The calls and the keys are those of the run; the order and the replies are the reader's. The proved `check` accepts every order
+// that explains the run, not only the replayer's.
 import { readReport, readVerdict } from "../engine/answers.js";
 import { callText, letterOf, openReply } from "./markup.js";
 
@@ -55,7 +55,7 @@ export class OwnAnswer {
     this.points.delete(call.id);
   }
 
-  say(call, reply) {
+  setReply(call, reply) {
     this.replies.set(call.id, reply);
   }
 
@@ -98,7 +98,7 @@ export function verdictOn(ask, answer) {
   return { isRight: false, clash, report, says: faultInWords(answer, order) };
 }
 
-// Judges the claim that no order exists by the proved judge, without a search.
+// Judges the claim that no order exists. Asks the proved judge; the page does not search.
 function verdictOnClaim(ask, { isWhole, reportText }) {
   const said = (isRight, says) => ({ isRight, clash: null, report: null, says });
   const there = "There is one: this is a run of a correct list, and each of those has an order (proved). Find it.";
@@ -129,7 +129,7 @@ function faultInWords(answer, { fault, call, place, reply, set, answer: due, beg
     return `${named(call)} begins at event ${begun}, and in your order it comes before ${named(other)}, which ended at event ${ended}.`;
   }
   if (fault === "WrongSet") return `Your order leaves the set ${set}; at the end of this run it is {${answer.exercise.keys.join(", ")}}.`;
-  return `This is no order of the calls of this run (${fault}).`;
+  return `This is not an order of the calls of this run (${fault}).`;
 }
 
 // Returns the last word of a line to hand in, as in `judge read-in-anothers-step replies 0-true,2-true,1-false,3-true`, or "".
@@ -146,7 +146,7 @@ export function answerOfWord(exercise, word) {
     if (call === undefined || answer.points.has(call.id)) return null;
     at = Math.max(at, call.begun);
     answer.points.set(call.id, { at, turn: answer.turn++ });
-    answer.say(call, reply);
+    answer.setReply(call, reply);
   }
   return answer;
 }

@@ -20,7 +20,7 @@ export const letterOf = (thread) => (thread < 26 ? String.fromCharCode(65 + Numb
 export const chipOf = (thread) => tag("span", { class: `who ${colourOf(thread)}` }, letterOf(thread));
 export const holderOf = (lock) => letterOf(Number(lock.slice(1)));
 export const keyText = (key) => String(key).replace("-inf", "−∞").replace("+inf", "+∞");
-export const said = (value) => (value.endsWith("*") ? `${value.slice(0, -1)}, marked` : keyText(value));
+export const valueText = (value) => (value.endsWith("*") ? `${value.slice(0, -1)}, marked` : keyText(value));
 export const counted = (count, word) => `${count} ${word}${count === 1 ? "" : "s"}`;
 export const callText = (call) => `${call.operation}(${call.key})`;
 export const openReply = "true"; // an open call that stands in the order has changed the set

@@ -1,6 +1,6 @@
 // The effects of an event, as parts of its sentence.
 import { LISTS } from "../../made/rows.js";
-import { chipOf, keyText, said } from "./markup.js";
+import { chipOf, keyText, valueText } from "./markup.js";
 import { keyNumber, keysInChain, linkTarget, ownerOf } from "./state.js";
 import { firstOpeningNode } from "./trace.js";
 
@@ -71,7 +71,7 @@ export const OUTCOMES = {
   validation({ event, held, row }) {
     if (row?.invalid === undefined || held.pc !== row.invalid || held.reply !== "none") return "";
     const owner = ownerIn(event.word);
-    let reason = `${owner} leads to ${said(event.saw)} now, not to ${held.curr}`;
+    let reason = `${owner} leads to ${valueText(event.saw)} now, not to ${held.curr}`;
     if (event.saw.endsWith("*")) reason = `${owner} is marked`;
     if (event.word.endsWith(".key")) reason = `the second walk is past the key of ${held.pred} and has not found it`;
     return `<b>The validation fails:</b> ${reason}. It will unlock both nodes and start again.`;

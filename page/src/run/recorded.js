@@ -30,14 +30,14 @@ function remarksOn({ count, overlapped, isCutOff }) {
   return [
     `${overlapped} of them overlap a change of their key.`,
     ...(20 * overlapped < count ? [few] : []),
-    ...(isCutOff ? ["The recording was cut off: some keys left fit, and those that were left are not known."] : []),
+    ...(isCutOff ? ["The recording was cut off: some final keys fit; the real ones are not known."] : []),
     ...(count > MOST_DRAWN ? [`The first ${MOST_DRAWN} calls are drawn.`] : []),
   ];
 }
 
 const stateInWords = (isPresent) => (isPresent ? "present" : "absent");
 
-// Whether two calls overlap, and so contradict each other in both orders.
+// Decides whether two calls overlap. If they do, they contradict each other in both orders.
 const overlap = (first, second) => first !== null && second !== null && BigInt(second.begun) < BigInt(first.ended);
 
 function clashInWords(key, { isPresent, first, second }) {
@@ -50,7 +50,7 @@ function clashInWords(key, { isPresent, first, second }) {
 
 export function reasonsOf({ key, moment, clash, noSuchReply }) {
   if (noSuchReply !== null) return [`No set returns the reply of call ${noSuchReply} to such a call.`];
-  if (key === null) return ["No order leaves these keys, which do not increase."];
+  if (key === null) return ["No order leaves these final keys: they do not increase."];
   const upto = moment === null ? "and leaves it as it was left" : `up to moment ${moment}`;
   const said = `No order explains the calls of key ${key} ${upto}.`;
   return [said, ...(clash === null ? [] : clashInWords(key, clash))];

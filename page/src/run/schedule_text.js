@@ -45,7 +45,7 @@ export function eventsAsked(text) {
   return count;
 }
 
-// ---- drafts
+// ---- Drafts.
 const MOST_TRIED = 1000; // steps of a thread that does not come to where it is sent, to see for what it waits
 const DRAFT_LINE = /^go \d+ (?:out|to \d+)$/m;
 

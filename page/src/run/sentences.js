@@ -1,6 +1,6 @@
 // Writes one sentence about an event: what it did, and its effect.
 import { LISTS } from "../../made/rows.js";
-import { callText, chipOf, holderOf, letterOf, said } from "./markup.js";
+import { callText, chipOf, holderOf, letterOf, valueText } from "./markup.js";
 import { hasInChain, isFailed, isLock, mono, OUTCOMES, ownerIn, setsMark } from "./outcomes.js";
 
 const lockedBy = (word) => (word === "list.lock" ? "the list" : mono(ownerIn(word)));
@@ -9,13 +9,13 @@ const lockedBy = (word) => (word === "list.lock" ? "the list" : mono(ownerIn(wor
 function deedText(event, row) {
   const word = event.word && mono(event.word);
   if (event.deed === "begin") return `begins ${callText(event.call)}.`;
-  if (event.deed === "load") return `reads ${word}: ${said(event.saw)}.`;
+  if (event.deed === "load") return `reads ${word}: ${valueText(event.saw)}.`;
   if (isLock(event.word)) return lockText(event, row);
-  const change = event.deed === "store" ? `${word} := ${said(event.to)}` : `${word}: ${said(event.from)} → ${said(event.to)}`;
-  const finds = isFailed(event) ? `, but finds ${said(event.saw)}` : "";
+  const change = event.deed === "store" ? `${word} := ${valueText(event.to)}` : `${word}: ${valueText(event.from)} → ${valueText(event.to)}`;
+  const finds = isFailed(event) ? `, but finds ${valueText(event.saw)}` : "";
   if (setsMark(event)) return `${isFailed(event) ? "tries to mark" : "marks"} ${mono(ownerIn(event.word))} (${change})${finds}.`;
-  if (event.deed === "store") return `sets ${word} to ${said(event.to)}.`;
-  return `${isFailed(event) ? "tries to change" : "changes"} ${word} from ${said(event.from)} to ${said(event.to)}${finds}.`;
+  if (event.deed === "store") return `sets ${word} to ${valueText(event.to)}.`;
+  return `${isFailed(event) ? "tries to change" : "changes"} ${word} from ${valueText(event.from)} to ${valueText(event.to)}${finds}.`;
 }
 
 function lockText(event, row) {
@@ -64,8 +64,8 @@ export function sentenceOf(moment, hidden = []) {
   const { trace, event } = moment;
   if (event === null) return `${openingText(trace)}${trace.total === 0 ? " Let one begin a call." : ""}`;
   if (event.deed === "begin") return `${chipOf(event.thread)} ${deedText(event)}`;
-  const told = Object.keys(OUTCOMES).filter((name) => !hidden.includes(name));
-  const outcomes = told.map((name) => OUTCOMES[name](moment));
+  const shown = Object.keys(OUTCOMES).filter((name) => !hidden.includes(name));
+  const outcomes = shown.map((name) => OUTCOMES[name](moment));
   const parts = [chipOf(event.thread), deedText(event, moment.before.pc), ...outcomes, effectText(moment, hidden)];
   return parts.filter((text) => text !== "").join(" ");
 }

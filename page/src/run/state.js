@@ -1,7 +1,7 @@
 // The memory words, the threads and the chain after a number of events, as recorded in the trace.
 import { firstOpeningNode } from "./trace.js";
 
-// A call that has just begun: the row that it made last (`came`, 0: none), and its registers.
+// A call that has just begun: the last row that it made (`came`, 0 for none), and its registers.
 const BEGUN = { came: 0, pred: "head", curr: "head", succ: "head", node: "head", pkey: "-inf", ckey: "-inf", reply: "none" };
 const AT_REST = { pc: 0, used: 0, call: null, ...BEGUN };
 export const linkTarget = (link) => link.replace("*", "");
@@ -99,7 +99,7 @@ const newNode = () => ({ key: "-inf", link: "head", lock: "free", reached: false
 export const isWritten = (node) => node.key !== "-inf" || node.link !== "head" || node.lock !== "free";
 export const ownerOf = (trace, name) => Math.floor((Number(name.slice(1)) - 2) / trace.quota);
 
-// The contents of the set from event `first` to `last`: the keys, rising, and the events from which and up to which they stand.
+// Returns the contents of the set from event `first` to `last`: the keys in increasing order, with the first and last event of each content.
 export function contentsIn(trace, first, last) {
   const keys = new Set(trace.opening);
   const part = (from) => ({ from, to: last + 1, keys: [...keys].sort((one, other) => one - other) });
@@ -116,7 +116,7 @@ export function contentsIn(trace, first, last) {
   return parts;
 }
 
-// The keys that are in the set at the end of a run by the points of its calls, and those of the nodes without a mark in the chain of a state.
+// The keys in the set at the end of a run by the points of its calls; below, the keys of the unmarked nodes in the chain of a state.
 export const promisedKeys = (trace) => contentsIn(trace, trace.total + 1, trace.total + 1)[0].keys;
 
 export function keysInChain(state) {

@@ -22,7 +22,7 @@ export class Trace {
     this.calls = [];
     this.callsOf = Array.from({ length: this.threads }, () => []);
     this.changes = []; // the events that change the set
-    this.starred = []; // the numbers of those whose line tells of a mark
+    this.starred = []; // the numbers of those whose line has a mark
     this.refused = null;
     this.scan();
     if (this.opening.length > 0) this.version = 2;
@@ -91,7 +91,7 @@ export class Trace {
     if (event.deed !== "begin") event.word = pieces[7];
     if (event.deed === "store") event.to = pieces[at++];
     for (; pieces[at] !== "pc"; at += 2) event[pieces[at]] = pieces[at + 1];
-    for (; at < pieces.length; at += 2) tellIn(event, pieces[at], pieces[at + 1]);
+    for (; at < pieces.length; at += 2) takeValue(event, pieces[at], pieces[at + 1]);
     return event;
   }
 
@@ -100,7 +100,7 @@ export class Trace {
   }
 }
 
-function tellIn(event, name, value) {
+function takeValue(event, name, value) {
   if (name === "answer") event.answer = value;
   else if (name === "put" || name === "took" || name === "at") event[name] = Number(value);
   else if (name === "pc" || name === "used") event.changes[name] = Number(value);

@@ -2,12 +2,12 @@
 import { callOfRecording } from "../engine/answers.js";
 
 /**
- * A call of the key that shows the bug has a mark: the answer that was expected, the state that it leaves or finds, or that either was allowed.
+ * A call of the key that shows the bug has a mark: the expected answer, the state that the call leaves, or a note that either answer was allowed.
  * @typedef {ReturnType<typeof callOfRecording> & { mark: string }} CallOfBug
  * @typedef {{ headline: string, calls: CallOfBug[], also: CallOfBug[], facts: string[], likely: string | null, because: string | null }} Diagnosis
  */
 
-/** The diagnosis of a record, or null if the program has none. @param {string} text @returns {Diagnosis | null} */
+/** Returns the diagnosis of a record, or null if the record has none. @param {string} text @returns {Diagnosis | null} */
 export function diagnosisIn(text) {
   const lines = text.split("\n").filter((line) => line !== "").map((line) => ({ word: line.split(" ")[0], rest: line.slice(line.indexOf(" ") + 1) }));
   const all = (word) => lines.filter((line) => line.word === word).map(({ rest }) => rest);

@@ -129,7 +129,7 @@ function fixedWords({ lacks }, isBroken) {
   return `<b>${isBroken ? broken : "Not broken yet."}</b> ${which} ${isBroken ? proved : "The calls so far do not show it."}`;
 }
 
-export function talkOfBranch(branch) {
+export function promptOfBranch(branch) {
   const { run } = scene.figure;
   const isBroken = run.isBroken();
   const ledger = isBroken && isOddRun(run) ? drawLedger(run) : "";

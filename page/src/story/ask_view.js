@@ -2,10 +2,10 @@
 import { slideAddress } from "../data/lecture.js";
 import { isLecture, now } from "../page/now.js";
 import { QUESTIONS } from "./ask.js";
-import { ALL, CHECK_WORDS, drawBranches, goBack, isEmbed, itemOf, openBranch, seeAgain, takeBranch, talkOfBranch, whatIf, withoutCheck } from "./ask_branches.js";
+import { ALL, CHECK_WORDS, drawBranches, goBack, isEmbed, itemOf, openBranch, seeAgain, takeBranch, promptOfBranch, whatIf, withoutCheck } from "./ask_branches.js";
 import { keepStory, keptStory } from "./progress.js";
 import { LiveRun } from "./live_run.js";
-import { drawOn, onStage, head, LIST_WORDS, numberOfKey, openScene, optionButtons, part, replyTo, scene, setScene, talk, threadOfKey } from "./scene.js";
+import { drawOn, onStage, head, LIST_WORDS, numberOfKey, openScene, optionButtons, part, replyTo, scene, setScene, showPrompt, threadOfKey } from "./scene.js";
 
 const here = () => itemOf(now.place);
 
@@ -63,14 +63,14 @@ async function goes(by) {
   return true;
 }
 
-function talkOf({ stage, chosen, at, branches }) {
+function promptOf({ stage, chosen, at, branches }) {
   const item = here();
   const reply = replyTo(item.options, chosen, stage === "playing");
   if (stage === "guess") return optionButtons(item.options.map(({ text }) => text));
   if (stage === "playing") return at === 0 ? reply || '<p class="you">Let us see.</p>' : '<p class="you">Now on a list without its check.</p>';
-  if (at > 0) return talkOfBranch(branches[at]);
+  if (at > 0) return promptOfBranch(branches[at]);
   if (stage === "task") {
-    return `<p class="ask">This was the question. Go to any moment with the slider, and let the other thread go on.</p>
+    return `<p class="ask">This was the question. Go to any moment with the slider, and try another order from there.</p>
       <p class="line"><button data-do="home">← Back to the example</button></p>`;
   }
   const without = item.lacks === undefined ? "" : `<button data-do="without">And if ${CHECK_WORDS[item.lacks]}?</button>`;
@@ -80,7 +80,7 @@ function talkOf({ stage, chosen, at, branches }) {
 
 function draw(state) {
   if (state.stage === "") return;
-  talk(talkOf(state));
+  showPrompt(promptOf(state));
   drawBranches(state);
   part("#show-me").hidden = state.stage !== "guess";
   drawOn(state.stage !== "guess" && state.stage !== "playing", "Next question →");

@@ -1,4 +1,4 @@
-// An assignment is its address, #assignment=Week+3&learn=one-lock.lost-pred&break=6.7&judge=lazy.2.5.2.17. It is stored nowhere else.
+// Assignments. An assignment is its address and is stored nowhere else: #assignment=Week+3&learn=one-lock.lost-pred&break=6.7&judge=lazy.2.5.2.17.
 import { BOOK, BOOK_NAME } from "../../made/book.js";
 import { LACKING } from "../../made/classics.js";
 import { LISTS } from "../../made/rows.js";
@@ -65,6 +65,12 @@ export function wayOn({ activity, id }, own) {
   return next === undefined ? { href: addressOfAssignment(homework), words: "All tasks →" } : { href: next.href, words: "Next task →" };
 }
 
+// Returns the link that leads back from a place: to the assignment if the place is one of its tasks, else the place's own.
+export function wayBack(place, own, task = undefined) {
+  const homework = homeworkOf(place, task);
+  return homework === null ? own : { href: addressOfAssignment(homework), words: `← ${titleOfAssignment(homework)}` };
+}
+
 export function tasksOf(given) {
   const unknown = [];
   const taken = (words, taskOf, what) =>
@@ -78,7 +84,7 @@ export function tasksOf(given) {
   return { tasks: [...learn, ...levels, ...taken(wordsIn(given.judge, ","), seedTask, "run")], unknown };
 }
 
-// ---- the progress in this browser: solved lessons, broken levels, judged runs
+// ---- The progress in this browser: solved lessons, broken levels, judged runs.
 export function taskOfJudged(line, tasks) {
   const [, run = "", level] = line.split(" ");
   if (level === "claim") return null;
@@ -118,7 +124,7 @@ const HAND = ({ student, number }, count) => `<section class="panel hand" id="ha
   <label>Student number <input id="hand-number" inputmode="numeric" value="${escaped(number)}"></label>
   <button data-do="copy">Copy the text</button><button data-do="save">Save as a file</button>
   <button class="quiet" data-do="afresh">Start afresh on this computer</button></div>
-  <p class="small" id="scene-told" role="status">${count === 0 ? "No task is solved yet. Solved tasks are added to this text, and your teacher’s page runs each of them again." : `The text has your ${counted(count, "solution")}. Your teacher’s page runs ${count === 1 ? "it" : "each of them"} again.`}</p>
+  <p class="small" id="scene-said" role="status">${count === 0 ? "No task is solved yet. Solved tasks are added to this text, and your teacher’s page runs each of them again." : `The text has your ${counted(count, "solution")}. Your teacher’s page runs ${count === 1 ? "it" : "each of them"} again.`}</p>
   <details><summary>See the text</summary><pre id="hand-text"></pre></details></section>`;
 
 function html(place) {
@@ -154,12 +160,12 @@ const fill = () => (part("#hand-text").textContent = textNow());
 
 function isNamed() {
   if (part("#hand-student").value.trim() !== "") return true;
-  part("#scene-told").textContent = "Please enter your name first.";
+  part("#scene-said").textContent = "Please enter your name first.";
   part("#hand-student").focus();
   return false;
 }
 
-// joerg-mueller-4711-week-3.txt
+// Returns a name such as joerg-mueller-4711-week-3.txt.
 function fileName() {
   const { student, number } = keptStory();
   const letters = { ä: "ae", ö: "oe", ü: "ue", ß: "ss" };
@@ -170,7 +176,7 @@ function fileName() {
 function save() {
   if (!isNamed()) return;
   saveText(fileName(), textNow());
-  part("#scene-told").textContent = `Saved: ${fileName()}. Hand in this file.`;
+  part("#scene-said").textContent = `Saved: ${fileName()}. Hand in this file.`;
 }
 
 export const assignmentView = {

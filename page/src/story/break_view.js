@@ -5,10 +5,10 @@ import { BREAK_LEVELS, TEN, levelOfNumber, numberOfLevel, whyWrong } from "../da
 import { askNow, now } from "../page/now.js";
 import { addressOf } from "../run/address.js";
 import { departureOf, isTaskDone, NO_TASK } from "../run/broken.js";
-import { wayOn } from "./assignment.js";
+import { wayBack, wayOn } from "./assignment.js";
 import { isBrokenOnce, isNamed, keepBrokenLine, keepNamed } from "./progress.js";
 import { runOfText } from "./live_run.js";
-import { drawHintAndOn, drawLedger, onStage, foot, head, hintAndOn, isOddRun, LACKS_ONE, numberOfKey, optionButtons, pressThread, scene, setScene, takeFreeFigure, talk } from "./scene.js";
+import { backLink, drawHintAndOn, drawLedger, onStage, foot, head, hintAndOn, isOddRun, LACKS_ONE, numberOfKey, optionButtons, pressThread, scene, setScene, takeFreeFigure, showPrompt } from "./scene.js";
 
 const HINTS = 3;
 const levelOf = ({ id }) => levelOfNumber(id);
@@ -20,7 +20,7 @@ function html(place) {
   const next = TEN[(at + 1) % TEN.length];
   const kicker = `<a href="#break">Break it</a> · level ${numberOfLevel(name)} · ${LISTS[LACKING[name]].name} without one check`;
   return `${onStage(head(kicker, BREAK_LEVELS[name].story))}
-    ${foot('<a class="button quiet" href="#break">All lists</a>', hintAndOn(wayOn(place, { href: `#break=${numberOfLevel(next)}`, words: "Next list →" })))}`;
+    ${foot(backLink(wayBack(place, { href: "#break", words: "All lists" })), hintAndOn(wayOn(place, { href: `#break=${numberOfLevel(next)}`, words: "Next list →" })))}`;
 }
 
 function begin(place) {
@@ -35,7 +35,7 @@ function begin(place) {
   if (place.given.text !== undefined) looked();
 }
 
-// Whether the broken run was opened from a link, and so was not found by the reader.
+// Decides whether the broken run came with the link, so that the reader has not found it.
 const isShown = (run) => now.place.given.text !== undefined && run.lines.join() === run.first.join() && !isBrokenOnce(nameNow());
 
 function looked() {
@@ -52,7 +52,7 @@ function looked() {
   setScene({ stage: "done", note: whyOf(verdict, wasShown) });
 }
 
-// Says what is left to do if a key is outside the list, else why the run is not broken although it looks so.
+// Returns what is left to do if a key is outside the list, or why a run that looks broken is not.
 function notYet(run, { kind, isExplained }) {
   const lost = run.promised().filter((key) => !run.has().includes(key));
   if (run.trace.calls.some(({ ended }) => ended === null)) return lost.length === 0 ? "" : `${lost.join(" and ")} is no longer in the list. Now let each call return.`;
@@ -64,7 +64,7 @@ function notYet(run, { kind, isExplained }) {
 
 const whyOf = ({ why }, wasShown) => {
   const ofList = why.replace(/the set (has|does not have) it/, "the list $1 it"); // no set is this
-  return `${ofList}. No order of the calls explains that. This verdict comes from the proved checker.${wasShown ? " This run was shown to you: find one of your own." : ""}`;
+  return `${ofList}. No order of the calls explains that. (Checked by a proved program.)${wasShown ? " This run was shown to you: find one of your own." : ""}`;
 };
 
 const NOBODY_KNOWS = "No run is known that breaks this list. Try it, and say why.";
@@ -87,7 +87,7 @@ function wonHtml({ note, wrong }) {
   const asked = `<p class="ask">What does this list do wrong?</p>${optionButtons(optionsOf(name), wrong)}<p role="status">${reply}</p>`;
   const { total } = run.trace;
   const known = total > shortest[0] ? ` A run with ${shortest[0]} steps is known.` : "";
-  const named = `<p><b class="yes">✓ ${lacks}</b> The code shows it struck out. <span class="small">Your run has ${total} steps (one press can make several).${known}</span></p>
+  const named = `<p><b class="yes">✓ ${lacks}</b> In the code, the missing part is struck out. Your run is shown again from the step at which the correct list differs. <span class="small">Your run has ${total} steps (one press can make several).${known}</span></p>
     <p class="line"><button data-do="replay">See your run again</button> <button data-do="afresh" class="quiet">Break it in another way</button></p>`;
   const ledger = isOddRun(run) ? drawLedger(run) : "";
   return `<div class="reveal won">${ledger}<div><p class="why"><b>Broken.</b> ${note}</p>${isDone ? named : asked}</div></div>`;
@@ -96,7 +96,7 @@ function wonHtml({ note, wrong }) {
 function draw(state) {
   if (state.stage === "") return;
   const isDone = state.stage === "done";
-  if (!isDone || !scene.figure.isBusy) talk(isDone ? wonHtml(state) : taskHtml(state));
+  if (!isDone || !scene.figure.isBusy) showPrompt(isDone ? wonHtml(state) : taskHtml(state));
   drawHintAndOn(isDone, state.hints === 0 ? "Hint" : state.hints < HINTS ? "Another hint" : "Start over");
   if (isDone && isNamed(nameNow())) strike();
 }

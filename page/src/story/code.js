@@ -4,9 +4,9 @@ import { chipOf, colourOf, escaped, letterOf, tag } from "../run/markup.js";
 const WORDS = /\b(while|if|else|return|start again|loop|until|unlock|lock|find|validate|CAS|new)\b/g;
 
 /**
- * Shown are the lines of the calls `operations`, without the rows `hides`, with `instead` in place of a row's words; `fresh` rows are new in
- * this list (0: the lines without a row), of a row a part may be `struck` out. `next` has the rows that threads make next, `made` the one that was just made; `active`
- * runs to a line where no thread stands.
+ * Shows the lines of the calls `operations`, without the rows `hides`, and with `instead` in place of a row's text. `fresh` rows are new in this
+ * list (0: the lines without a row); of a `struck` row one part is struck out. `next` has the rows that threads make next, `made` the last row made;
+ * thread `active` runs to a line at which no thread is.
  * @typedef {{ thread: number, row: number }} At
  * @typedef {{ list: string, operations: string[], plain?: boolean, fresh?: number[], hides?: number[], instead?: Record<number, string>,
  *   struck?: { row: number, part: string }[], next: At[], made: At | null, canStep: boolean, active: number }} CodeSpec

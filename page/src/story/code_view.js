@@ -17,28 +17,28 @@ const openingOf = ({ given: { opening, s } }) => (opening === undefined ? (s ===
 function html(place) {
   const list = listOf(place);
   const tab = ([kind, name]) => tag("button", { class: "small", "data-do": "list", "data-list": kind, "aria-pressed": kind === list }, name);
-  const prose = `<p class="prose">Each thread’s letter stands at the line that it executes next. Press that line to execute it; press another line, and
-    the thread runs there. Let an idle thread begin any call.</p>`;
+  const prose = `<p class="prose">Each thread’s letter marks the line that the thread executes next. Press that line to execute it. Press another line, and
+    the thread runs to it. Let an idle thread begin any call.</p>`;
   return `${onStage(`${head("", "Press a line, and its thread executes it.", prose)}
     <div class="line"><span class="branches">${Object.entries(LIST_WORDS).map(tab).join("")}</span>
     <label class="small">begins with <input id="code-opening" value="${openingOf(place).join(" ")}" size="8"></label></div>
-    <p id="code-told" class="again" role="status" hidden></p>`)}
-    <footer class="foot"><span class="small" id="scene-told" role="status"></span><span class="spread"></span>
+    <p id="code-said" class="again" role="status" hidden></p>`)}
+    <footer class="foot"><span class="small" id="scene-said" role="status"></span><span class="spread"></span>
     <button class="quiet" data-do="copy">Copy link</button><button class="primary" data-do="step">Step</button></footer>`;
 }
 
 function figureOf(place, lines) {
   const list = listOf(place);
   const chosen = { 0: ["add", 5], 1: [list === "coarse" ? "contains" : "remove", 7] };
-  return takeFreeFigure(list, { lines, opening: openingOf(place), ...setOfPlace(place), chosen, opensCode: true, talk: false });
+  return takeFreeFigure(list, { lines, opening: openingOf(place), ...setOfPlace(place), chosen, opensCode: true, prompt: false });
 }
 
 function begin(place) {
   let figure = figureOf(place, linesOfCode(place.given.s ?? ""));
   if (figure.run.trace.refused !== null) {
     figure = figureOf(place, []);
-    part("#code-told").hidden = false;
-    part("#code-told").textContent = "These steps cannot be made on this list; it begins anew.";
+    part("#code-said").hidden = false;
+    part("#code-said").textContent = "This list cannot make these steps, so it starts afresh.";
   }
   figure.onStep = () => setScene({ text: addressOfCode(listOf(place), openingOf(place), figure.run.lines, setOfPlace(place)) });
   figure.onStep();

@@ -4,7 +4,8 @@ import { drawContents } from "../draw/tables.js";
 import { drawCalls, HISTORY_LEFT, scaleOf } from "../draw/history.js";
 import { redraw, setHtml } from "../page/dom.js";
 import { isLecture } from "../page/now.js";
-import { answerText, phaseText } from "./tale.js";
+import { phaseText } from "./presses.js";
+import { answerText } from "./said.js";
 
 const AGAIN = `<span class="again"><button data-undo class="quiet small" title="undo the last press">↶ Undo</button>
   <button data-again class="quiet small">↺ Start over</button></span>`;
@@ -66,7 +67,7 @@ export function showStrip(figure) {
   figure.part("strip").style.setProperty("--zoom", String(zoomOf(figure)));
   setHtml(figure.part("strip"), tag("div", { class: "calls" }, drawCalls(run.trace, scale)) + drawContents(run.trace, scale) + LEGEND);
 }
-const isLow = () => innerHeight < 760 || innerWidth < 761 || isLecture();
+const isLow = () => innerHeight < 760 || isLecture();
 // The path draws its bars larger, and aligns the list with them.
 const zoomOf = ({ spec, stripWide }) => (isLecture() ? innerHeight / 450 : !spec.isPath ? 1 : stripWide < 600 ? 1.34 : stripWide < 1500 ? 1.35 : 1.55);
 export const barEnds = (figure) => [(HISTORY_LEFT - 6) * zoomOf(figure), 16 * zoomOf(figure)];
@@ -94,7 +95,7 @@ export function showScrub(figure) {
   }
   const slider = box.querySelector("input");
   Object.assign(slider, { max: trace.total, value: count });
-  slider.setAttribute("aria-valuetext", `step ${count} of ${trace.total}: ${figure.part("tale").textContent}`);
+  slider.setAttribute("aria-valuetext", `step ${count} of ${trace.total}: ${figure.part("said").textContent}`);
   box.querySelector(".count").textContent = `${count} of ${trace.total}`;
   box.hidden = !figure.isOpen;
 }
@@ -122,7 +123,7 @@ function pressLine(figure, button) {
   const here = (button.dataset.threads ?? "").split(" ").filter((text) => text !== "").map(Number);
   const thread = here.length === 0 || here.includes(figure.active) ? figure.active : here[0];
   const isIdle = figure.run.isIdle(thread);
-  if (isIdle && figure.left(thread).length === 0) return figure.tell(`${chipOf(thread)} has no pending call.`);
+  if (isIdle && figure.left(thread).length === 0) return figure.say(`${chipOf(thread)} has no pending call.`);
   figure.leaves();
   const from = figure.run.trace.total;
   if (isIdle) figure.run.begin(thread, figure.left(thread)[0]);
@@ -138,7 +139,7 @@ export function chooseCall(figure, row) {
 
 // Asks the reader which call an idle thread begins, and focuses its fields.
 export function askCall(figure, thread) {
-  figure.tell(`Which call is ${chipOf(thread)} to begin? Choose its operation and its number, then press <b>begin</b>.`);
+  figure.say(`Which call should ${chipOf(thread)} begin? Choose an operation and a number, then press <b>begin</b>.`);
   figure.box.querySelector(`[data-thread="${thread}"] select`)?.focus();
 }
 
@@ -146,7 +147,7 @@ export function beginOwn(figure, thread) {
   if (figure.isBusy || !figure.canStep) return;
   chooseCall(figure, figure.box.querySelector(`[data-thread="${thread}"]`));
   const [operation, key] = figure.chosen[thread];
-  if (!/^\d+$/.test(key) || Number(key) > MOST_KEY) return figure.tell(`A number from 0 to ${MOST_KEY}, please.`);
+  if (!/^\d+$/.test(key) || Number(key) > MOST_KEY) return figure.say(`A number from 0 to ${MOST_KEY}, please.`);
   figure.leaves();
   figure.active = thread;
   figure.run.begin(thread, [operation, Number(key)]);

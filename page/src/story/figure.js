@@ -5,14 +5,14 @@ import { drawFigure, frameOf, markLostNodes } from "./figure_parts.js";
 import { askCall, beginOwn, chooseCall, pressed } from "./dock.js";
 import { LiveRun } from "./live_run.js";
 
-const BIT = 300; // milliseconds between two steps of one press
+const BIT = 400; // milliseconds between two steps of one press
 const BETWEEN = 450; // and between two presses that the page makes
 const sleep = (time) => new Promise((done) => setTimeout(done, time));
 const made = { count: 0 };
-const tellBusy = (isBusy) => (document.body.dataset.busy = isBusy ? "yes" : "no");
+const markBusy = (isBusy) => (document.body.dataset.busy = isBusy ? "yes" : "no");
 
 // A spec describes a run, the `calls` of each thread, the threads with a button (`shown`), and the parts beside the list.
-export const STILL = { dock: false, names: true, strip: true, talk: false, again: false }; // of a run that is made elsewhere
+export const STILL = { dock: false, names: true, strip: true, prompt: false, again: false }; // of a run that is made elsewhere
 
 export class Figure {
   id = `f${made.count++}`;
@@ -24,7 +24,7 @@ export class Figure {
   isOpen = true; // the reader may step
   hidesDock = false;
   isPlayed = false; // the page steps, and not the reader
-  isGuess = false; // what would tell the answer is not shown
+  isGuess = false; // what would give away the answer is not shown
   isLost = false; // the nodes that are lost are lit
   isSlow = false; // a node falls out of the chain, in slow motion
   hides = true; // of the history, what comes later
@@ -33,7 +33,7 @@ export class Figure {
   tall = 0;
   stripWide = 0;
   scroll = 0;
-  told = null;
+  said = null; // the sentence shown in place of that of the step
   onStep = null;
   onFork = null;
 
@@ -43,6 +43,7 @@ export class Figure {
     this.spec = spec;
     this.run = spec.run ?? new LiveRun(spec);
     this.shown = spec.shown ?? this.run.state.threads.map((_, thread) => thread);
+    this.said = spec.says ?? null;
     this.chosen = spec.chosen ?? {}; // of an idle thread, the call that stands in its fields
     frameOf(this);
     box.addEventListener("click", (event) => this.isEnded || pressed(this, event)); // the box may be the next one's by then
@@ -65,7 +66,7 @@ export class Figure {
   end() {
     this.stretch.disconnect();
     this.isEnded = true;
-    tellBusy(false);
+    markBusy(false);
   }
 
   part(name) {
@@ -129,20 +130,20 @@ export class Figure {
   async showSteps(from, total) {
     this.isBusy = true;
     this.isHurried = false;
-    tellBusy(true);
+    markBusy(true);
     for (let count = Math.min(from + 1, total); count <= total; count++) {
       if (this.isEnded) return;
       const isOfLock = this.spec.plain === true && this.run.trace.event(count).word === "list.lock"; // which this list ignores
       if (count < total && (this.isHurried || wantsStill() || isOfLock)) continue;
       this.run.moveTo(count);
-      this.part("tale").setAttribute("aria-live", count < total ? "off" : "polite"); // of a play only the last sentence is read out
+      this.part("said").setAttribute("aria-live", count < total ? "off" : "polite"); // of a play only the last sentence is read out
       this.isBusy = count < total;
       this.draw(true);
       if (this.isSlow) await sleep(fallTime()); // what is lost is seen before it is said
       if (count < total) await sleep(BIT);
     }
     this.isBusy = false;
-    tellBusy(false);
+    markBusy(false);
   }
 
   async replay(from = 0) {
@@ -154,13 +155,14 @@ export class Figure {
 
   // Waits between two presses that the page makes.
   async rest() {
-    tellBusy(true);
+    markBusy(true);
     await sleep(wantsStill() ? 0 : BETWEEN);
-    tellBusy(false);
+    markBusy(false);
   }
 
   undo() {
     if (this.isBusy || this.past.length === 0) return;
+    if (this.spec.restart !== undefined) return this.spec.restart();
     this.run.take(this.past.pop());
     this.isLost = false;
     this.draw(true);
@@ -169,8 +171,9 @@ export class Figure {
 
   again() {
     if (this.isBusy) return;
+    if (this.spec.restart !== undefined) return this.spec.restart();
     this.run.take(this.run.first);
-    Object.assign(this, { past: [], told: null, isLost: false });
+    Object.assign(this, { past: [], said: this.spec.says ?? null, isLost: false });
     Object.assign(this.drawn, { slots: 0, tight: 0 });
     this.draw();
     this.onStep?.(this);
@@ -183,13 +186,13 @@ export class Figure {
     this.draw(isNear, moment);
   }
 
-  tell(text) {
-    this.told = text;
-    this.part("tale").innerHTML = text;
+  say(text) {
+    this.said = text;
+    this.part("said").innerHTML = text;
   }
 
   draw(isNear = false, moment = momentAt(this.run.state, this.run.count)) {
-    if (isNear) this.told = null;
+    if (isNear) this.said = null;
     drawFigure(this, moment, isNear);
     if (this.isLost && this.run.count === this.run.trace.total) markLostNodes(this);
   }
@@ -197,6 +200,7 @@ export class Figure {
   moveTo(count) {
     if (this.isBusy) return;
     const isNear = Math.abs(count - this.run.count) <= 1;
+    this.said = null;
     this.run.moveTo(count);
     this.draw(isNear);
   }

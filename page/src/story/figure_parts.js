@@ -8,7 +8,7 @@ import { momentAt } from "../run/sentences.js";
 import { scrollToLine, setHtml } from "../page/dom.js";
 import { drawOwnCode } from "./code.js";
 import { barEnds, scrollToLane, showDock, showScrub, showStrip } from "./dock.js";
-import { taleOf } from "./tale.js";
+import { saidOf } from "./said.js";
 
 export const NARROW = "(max-width: 760px)";
 const ROOMY = "(min-width: 1500px)"; // beside the list the code has room too
@@ -16,15 +16,15 @@ export const isNarrow = () => matchMedia(NARROW).matches;
 const opensCode = ({ opensCode: isAsked }) => !isNarrow() && !isLecture() && (isAsked === true || matchMedia(ROOMY).matches);
 
 const CAS = "CAS x: a → b makes x point to b if x still points to a. succ is the node after curr.";
-const LETTERS = "The letter shows the thread’s next line. Click that line to execute it, or another line to run to it.";
+const LETTERS = "Once a thread has begun, its letter shows its next line. Click that line to execute it, or another line to run to it.";
 const codeBox = (spec) => `<details class="codebox" ${opensCode(spec) ? "open" : ""}><summary>code<span>: <b>${spec.codeTitle}</b></span></summary>
     <p class="small code-note" ${spec.codeNote ? "" : "hidden"}>${spec.codeNote ?? ""}</p><span class="runs"></span><div class="lines"></div>
     <p class="small hint">${spec.list === "lock-free" && !spec.isPath ? CAS : LETTERS}</p></details>`;
 
 export function frameOf({ box, spec }) {
-  const talk = spec.talk === false ? "" : '<div id="talk" class="talk" aria-live="polite"></div>';
+  const prompt = spec.prompt === false ? "" : '<div id="prompt" class="prompt" aria-live="polite"></div>';
   box.innerHTML = `<div class="stage"><div class="list" tabindex="0" role="group" aria-label="the list"></div>
-    <p class="tale" aria-live="polite"></p><div class="strip"></div><div class="scrub"></div>${talk}<div class="dock"></div></div>
+    <p class="said" aria-live="polite"></p><div class="strip"></div><div class="scrub"></div>${prompt}<div class="dock"></div></div>
     ${spec.code === false ? "" : codeBox(spec)}`;
   box.classList.add("fig");
   box.classList.toggle("plain", spec.plain === true);
@@ -32,13 +32,12 @@ export function frameOf({ box, spec }) {
   box.classList.toggle("undoes", spec.again !== false && spec.dock !== false);
 }
 
-// Reads no layout while drawing: each read would lay out the whole page again.
+// Draws a figure without reading its layout: each read would lay out the whole page again.
 export function drawFigure(figure, moment, isNear) {
   const { run, spec, box } = figure;
   placeTheList(figure, moment, isNear);
-  const tale = figure.told ?? taleHere(figure, moment);
-  const words = tale === "" ? (spec.tale ?? "") : tale;
-  if (figure.part("tale").innerHTML !== words) figure.part("tale").innerHTML = words;
+  const said = figure.said ?? saidHere(figure, moment);
+  if (figure.part("said").innerHTML !== said) figure.part("said").innerHTML = said;
   box.classList.toggle("at-end", run.count === run.trace.total);
   box.classList.toggle("shut", !figure.canStep);
   showCode(figure, moment);
@@ -59,13 +58,13 @@ function scrollSoon(figure, moved) {
   });
 }
 
-function taleHere({ run, spec }, moment) {
+function saidHere({ run, spec }, moment) {
   if (spec.sentence) return spec.sentence(moment);
-  if (moment.event === null) return "";
+  if (moment.event === null) return spec.says ?? "";
   const isOfLock = spec.plain === true && moment.event.word === "list.lock";
-  if (!isOfLock || moment.event.answer === undefined) return taleOf(moment, spec);
+  if (!isOfLock || moment.event.answer === undefined) return saidOf(moment, spec);
   const { answer, call } = moment.event;
-  const before = taleOf(momentAt(run.state, run.count - 1), spec);
+  const before = saidOf(momentAt(run.state, run.count - 1), spec);
   run.state.moveTo(run.count);
   return `${before} <b>${callText(call)} returns ${answer}.</b>`;
 }
@@ -73,9 +72,10 @@ function taleHere({ run, spec }, moment) {
 const HIDDEN = { false: ["succ"], true: [] }; // a reader of the path has two hands to follow; the code of the lock-free list names a third
 export const lockShown = ({ list, plain, locks = true }) => (!locks || plain ? "" : list === "coarse" ? "list" : list === "lock-free" ? "" : "nodes");
 
-function placeTheList(figure, { state, event }, isNear) {
+function placeTheList(figure, { state, event: made }, isNear) {
   const { id, run, spec, wide, tall, drawn } = figure;
   if (wide === 0) return;
+  const event = made !== null && figure.shown.includes(made.thread) ? made : null; // what a thread without a button did is not lit
   const box = figure.part("list");
   const { names = false, slots = 4, flat, strip, isPath = false } = spec;
   const hides = HIDDEN[String(names || (spec.list === "lock-free" && !isPath))];
@@ -121,7 +121,7 @@ function showCode(figure, { state, event, before }) {
   const box = figure.part("lines");
   if (box === null) return;
   const { spec, run, canStep, isGuess } = figure;
-  const { list, plain, fresh, struck, hides, instead } = Object.assign({}, spec, isGuess ? spec.hidden : {}); // some is not told before it
+  const { list, plain, fresh, struck, hides, instead } = Object.assign({}, spec, isGuess ? spec.hidden : {}); // some is shown only after it
   const isAble = (thread) => !run.isIdle(thread) || figure.left(thread).length > 0;
   if (!isAble(figure.active)) figure.active = figure.shown.find(isAble) ?? figure.active;
   const { active } = figure;

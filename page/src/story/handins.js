@@ -1,4 +1,4 @@
-// Checks what a class handed in: the texts of many files, as a table of students and tasks. check_lessons.js prints the same table.
+// Checks the hand-ins of a class: makes a table of students and tasks from the texts of many files. check_lessons.js prints the same table.
 import { LISTS } from "../../made/rows.js";
 import { judgedPart, readHandIn, textsIn } from "../course/hand_in.js";
 import { triedCourse } from "../course/lesson.js";
@@ -21,13 +21,13 @@ function studentOf(text, file) {
 export function assignmentOfLink(link) {
   const { assignment: title, ...given } = Object.fromEntries(new URLSearchParams(link.replaceAll("&amp;", "&").replace(/^[^#]*#?/, "")));
   const { tasks, unknown } = tasksOf(given);
-  if (title === undefined) return { fault: "This is no link of an assignment: “#assignment=” is missing." };
+  if (title === undefined) return { fault: "This is not the link of an assignment: “#assignment=” is missing." };
   if (unknown.length > 0) return { fault: `This link names tasks that do not exist: ${unknown.join(", ")}.` };
   return tasks.length === 0 ? { fault: "The assignment of this link has no task." } : { title, tasks };
 }
 
 // Returns the rows of the table, one for each student. A file is { name, text }. Without an `assignment` the columns are all tasks that were handed in.
-export async function checkAll(files, assignment, tellProgress = (_at, _of) => {}) {
+export async function checkAll(files, assignment, sayProgress = (_at, _of) => {}) {
   const found = files.flatMap(({ name, text }) => textsIn(text).map((one) => ({ ...one, file: name })));
   const without = files.filter(({ name }) => !found.some(({ file }) => file === name));
   const empty = without.map(({ name, text }) => (text.startsWith("PK\u0003\u0004") ? `${name} (unpack it first)` : name));
@@ -36,7 +36,7 @@ export async function checkAll(files, assignment, tellProgress = (_at, _of) => {
   const students = new Map();
   for (const [index, text] of handed.entries()) {
     takeText(students, text, courses, assignment);
-    tellProgress(index + 1, handed.length);
+    sayProgress(index + 1, handed.length);
     if (index % 3 === 2) await new Promise((done) => setTimeout(done));
   }
   const rows = [...students.values()].sort((one, other) => one.name.localeCompare(other.name));
@@ -66,10 +66,10 @@ function takeText(students, text, courses, assignment) {
   for (const { line } of isOther ? [] : read.solutions) judgePart(own, course?.lessons ?? [], line, assignment?.tasks ?? null, odd);
   const [others, answers] = [odd.others, odd.answers].map((some) => [...some].map((task) => titleOf(task, courses)));
   if (others.length > 0) own.notes.push(`${counted(others.length, "solution")} of tasks not asked: ${others.join("; ")}`);
-  if (answers.length > 0) own.notes.push(`the very answer of the lesson: ${answers.join("; ")}`);
+  if (answers.length > 0) own.notes.push(`the lesson’s own answer: ${answers.join("; ")}`);
 }
 
-// `odd`: solutions of tasks that are not in the assignment, and solutions that are the lesson's own answer.
+// Judges one solution. `odd` collects the tasks that are not in the assignment, and the solutions that equal the lesson's own answer.
 function judgePart(own, lessons, line, tasks, odd) {
   const verdict = judgedPart(askNow, lessons, line);
   const task = (line.startsWith("judge ") ? taskOfJudged(line, tasks ?? [])?.id : undefined) ?? verdict.task;
@@ -83,7 +83,7 @@ function judgePart(own, lessons, line, tasks, odd) {
     own.notes.push(`${title}: ${inLetters(verdict.says)}`);
   }
   if (verdict.isVeryAnswer) odd.answers.add(task);
-  if (verdict.ofExample) own.notes.push(`${title}: the very run of the example ${verdict.ofExample}`);
+  if (verdict.ofExample) own.notes.push(`${title}: exactly the run of the example ${verdict.ofExample}`);
 }
 
 // Returns the title of a task: a lesson, a level, or a judged run.
@@ -111,8 +111,8 @@ function notesOnNames(row, rows) {
 // Returns the steps of a schedule, one on each line, so that differently grouped texts compare equal.
 const oneByOne = (schedule) => schedule.replace(/^go (\d+) (\d+)$/gm, (_, thread, count) => Array(Number(count)).fill(`go ${thread}`).join("\n"));
 
-// Of each row with whom it shares schedules, step by step: { count, of, isTold, rows }. Schedules that many have are no sign, and named; one
-// other alone may be chance, and is not told where there could be more.
+// Adds to each row the students who have the same schedules, step by step: { count, of, isListed, rows }. A schedule that many students have is no
+// sign of copying, and is returned. A single shared schedule can be chance, so it is listed only if the student has no other rare one.
 function noteCopies(rows) {
   const byText = new Map();
   const own = new Map(rows.map((row) => [row, [...row.solved].filter(([, schedule]) => schedule !== null).map((entry) => entry.join("\n"))]));
@@ -124,12 +124,12 @@ function noteCopies(rows) {
     const rare = keys.filter(isRare);
     for (const other of new Set(rare.flatMap((key) => byText.get(key)).filter((one) => one !== row))) {
       const shared = keys.filter((key) => own.get(other).includes(key));
-      const isTold = shared.filter(isRare).length >= Math.min(2, rare.length);
-      const group = row.copies.find((one) => one.count === shared.length && one.isTold === isTold);
-      if (group === undefined) row.copies.push({ count: shared.length, of: keys.length, isTold, rows: [other] });
+      const isListed = shared.filter(isRare).length >= Math.min(2, rare.length);
+      const group = row.copies.find((one) => one.count === shared.length && one.isListed === isListed);
+      if (group === undefined) row.copies.push({ count: shared.length, of: keys.length, isListed, rows: [other] });
       else group.rows.push(other);
     }
-    row.copies.sort((one, other) => Number(other.isTold) - Number(one.isTold) || other.count - one.count);
+    row.copies.sort((one, other) => Number(other.isListed) - Number(one.isListed) || other.count - one.count);
   }
   return [...new Set([...byText.keys()].filter((key) => !isRare(key)).map((key) => key.split("\n")[0]))];
 }
@@ -137,15 +137,15 @@ function noteCopies(rows) {
 // Returns "3 of 3 with David Maier, Vera Peters". With `all`, also pairs that the page does not report (for the spreadsheet).
 export function copiesText({ copies }, all = false) {
   const nameOf = ({ name, number }) => (number === "" ? name : `${name} (${number})`);
-  const groups = copies.filter(({ isTold }) => all || isTold);
+  const groups = copies.filter(({ isListed }) => all || isListed);
   return groups.map(({ count, of, rows }) => `${count} of ${of} with ${rows.map(nameOf).join(", ")}`).join("; ");
 }
 
 // Counts for each task the students who solved it.
 export const sumsOf = ({ rows, columns }) => columns.map(({ id }) => rows.filter(({ solved }) => solved.has(id)).length);
 
-// A table for a spreadsheet, whose cells are `parted` as its language wants: German and French ones by semicolons. A cell that a spreadsheet would
-// compute is made a plain text.
+// Returns a table for a spreadsheet. `parted` separates the cells: German and French spreadsheets need semicolons. A cell that a spreadsheet would
+// compute becomes plain text.
 export function csvOf({ rows, columns }, parted = ",") {
   const cell = (value) => {
     const text = String(value).replace(/^[=+\-@\t\r]/, "'$&");

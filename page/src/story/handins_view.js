@@ -19,7 +19,7 @@ export const handInsHtml = () => `<section class="panel" id="handins"><h2>What t
     <input id="in-link" placeholder="${escaped(linkTo("#assignment=…"))}"></label>
   <label class="drop" id="in-drop"><input type="file" multiple id="in-files"><b>Drop files or a folder here</b>
     <span class="small">or press to choose them</span></label>
-  <progress id="in-progress" hidden aria-label="files checked"></progress><p id="in-told" role="status"></p>
+  <progress id="in-progress" hidden aria-label="files checked"></progress><p id="in-said" role="status"></p>
   <div id="in-table" class="scroll" tabindex="0" role="group" aria-label="what was handed in"></div>
   <p class="line" id="in-save" hidden><button class="primary" data-do="csv">Save as CSV</button>
   <button data-do="csv" data-parted=";">Save with semicolons (German, French)</button>
@@ -34,7 +34,7 @@ async function check() {
   const assignment = link === "" ? null : assignmentOfLink(link);
   if (assignment?.fault !== undefined) return showNothing(assignment.fault);
   Object.assign(piece("progress"), { hidden: false, max: 1, value: 0 });
-  piece("told").textContent = `${given.files.length} files …`;
+  piece("said").textContent = `${given.files.length} files …`;
   const isNow = () => turn === given.turn && piece("progress") !== null; // another place may be opened meanwhile
   const result = await checkAll(given.files, assignment, (value, max) => isNow() && Object.assign(piece("progress"), { value, max }));
   if (!isNow()) return;
@@ -103,7 +103,7 @@ function drawResult({ rows, columns, empty, common }) {
   const wrong = odd.filter(([, names]) => names.length > 0).map(([what, names]) => tag("span", { class: "odd" }, `${what}: ${escaped(names.join(", "))}.`));
   const merged = rows.reduce((sum, { files }) => sum + files.length - 1, 0);
   const files = `${counted(given.files.length + given.tooLong.length, "file")}: <b>${counted(rows.length, "student")}</b>`;
-  piece("told").innerHTML = `${files}, ${merged} merged, ${empty.length} without a hand-in. ${full} with all ${columns.length} tasks. ${wrong.join(" ")}`;
+  piece("said").innerHTML = `${files}, ${merged} merged, ${empty.length} without a hand-in. ${full} with all ${columns.length} tasks. ${wrong.join(" ")}`;
   const head = (name, at) => tag("th", { scope: "col" }, tag("button", { "data-do": "sort", "data-at": at }, escaped(name)));
   const heads = ["Student", "Number", ...columns.map(({ title }) => title), "Solved", "Same schedules", "Notes"].map(head);
   const body = rows.map((row) => drawRow(row, columns)).join("");
@@ -114,9 +114,9 @@ function drawResult({ rows, columns, empty, common }) {
   piece("save").hidden = false;
 }
 
-function showNothing(told) {
+function showNothing(says) {
   piece("table").innerHTML = "";
-  piece("told").textContent = told;
+  piece("said").textContent = says;
   piece("save").hidden = piece("progress").hidden = true;
 }
 
@@ -131,7 +131,7 @@ export const handInDeeds = {
   clear,
   sort({ dataset: { at } }) {
     const body = piece("table").querySelector("tbody");
-    const sign = at > given.result.columns.length + 2 ? -1 : 1; // of what is told most comes first
+    const sign = at > given.result.columns.length + 2 ? -1 : 1; // of counts and notes the largest comes first
     const compared = (one, other) => sign * one.cells[at].innerText.localeCompare(other.cells[at].innerText, undefined, { numeric: true });
     body.append(...[...body.rows].sort(compared));
   },

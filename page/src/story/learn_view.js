@@ -1,13 +1,13 @@
-// Solve it, one lesson. After each step the conditions that hold get a tick. The answer is shown on request only.
+// Solve it: one lesson. After each step the conditions that hold get a tick. The answer is shown only on request.
 import { conditionTexts } from "../course/lesson.js";
 import { setHtml } from "../page/dom.js";
 import { now } from "../page/now.js";
 import { versionOf } from "../run/schedule_text.js";
 import { escaped, inLetters, tag } from "../run/markup.js";
-import { wayOn } from "./assignment.js";
+import { wayBack, wayOn } from "./assignment.js";
 import { learning } from "./learning.js";
 import { linesOf, runOfText } from "./live_run.js";
-import { drawHintAndOn, onStage, foot, head, hintAndOn, LACKS_ONE, LIST_WORDS, part, pressThread, scene, setScene, takeFreeFigure, talk } from "./scene.js";
+import { backLink, drawHintAndOn, onStage, foot, head, hintAndOn, LACKS_ONE, LIST_WORDS, part, pressThread, scene, setScene, takeFreeFigure, showPrompt } from "./scene.js";
 
 const HINT = 1; // of `hints`, in the scene: the hint is shown; the answer is shown
 const ANSWER = 2;
@@ -25,7 +25,7 @@ function html(place) {
   const asked = `<p class="asked">${escaped(inLetters(lesson.question))}</p>`;
   const goal = '<div class="goal"><p class="kicker">A solution shows</p><div id="goal" aria-live="polite"></div></div>';
   return `${onStage(`<div class="two">${head(kicker, escaped(lesson.title), asked)}${goal}</div>`)}
-    ${foot('<a class="button quiet" href="#learn">All lessons</a>', hintAndOn(wayOn(place, own)))}`;
+    ${foot(backLink(wayBack(place, { href: "#learn", words: "All lessons" })), hintAndOn(wayOn(place, own)))}`;
 }
 
 function begin({ id, given }) {
@@ -84,7 +84,7 @@ function taskHtml({ hints }) {
     isSolved && isShown ? "This is the answer that was shown to you. Find another one." : "",
     deadEnd === null ? "" : inLetters(deadEnd),
     reason ?? "",
-    isKept ? "" : "This browser keeps nothing: hand in before you leave the page.",
+    isKept ? "" : "This browser stores nothing: hand in before you leave the page.",
   ].filter((note) => note !== "");
   const hint = hints >= HINT && lesson.hint !== "" ? `<p><b>Hint.</b> ${escaped(inLetters(lesson.hint))}</p>` : "";
   const answer = hints >= ANSWER ? '<p class="line">There is more than one answer. <button data-do="answer">See one of them</button></p>' : "";
@@ -103,7 +103,7 @@ function draw(state) {
   if (state.stage === "" || shown.verdict === null) return;
   const isDone = state.stage === "done";
   setHtml(part("#goal"), conditionsHtml());
-  talk(isDone ? solvedHtml() : taskHtml(state));
+  showPrompt(isDone ? solvedHtml() : taskHtml(state));
   const { lesson } = learning.panel;
   const last = lesson.answer.length > 0 ? ANSWER : HINT;
   drawHintAndOn(isDone, lesson.hint !== "" && state.hints < HINT ? "Hint" : state.hints < last ? "Show an answer" : "Start over");
@@ -128,7 +128,7 @@ async function seeAnswer() {
 
 export const learnView = {
   kind: "ask-one",
-  fault: ({ id }) => (learning.panel.lessonNamed(id) === undefined ? `no course that is kept here has a lesson "${id}"` : null),
+  fault: ({ id }) => (learning.panel.lessonNamed(id) === undefined ? `no stored course has a lesson "${id}"` : null),
   title: ({ id }) => `Solve it: ${learning.panel.lessonNamed(id).title}`,
   html, begin, draw, press: pressThread,
   deeds: { hint, answer: seeAnswer, replay: () => scene.figure.replay(), afresh: () => scene.figure.again() },

@@ -85,7 +85,7 @@ class Learning {
   }
 }
 
-// Created on first use, since checking its lessons takes the engine a while.
+// The panel is created on first use: checking its lessons takes the engine a while.
 export const learning = {
   get panel() {
     return (made.panel ??= new Learning());

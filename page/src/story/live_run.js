@@ -5,7 +5,7 @@ import { openingIn, scheduleOfDraft, scheduleOfTrace, scheduleText } from "../ru
 import { isFailed, isLock } from "../run/outcomes.js";
 import { keysInChain, promisedKeys, State } from "../run/state.js";
 import { isTrace, Trace } from "../run/trace.js";
-import { joinedRows, phaseAt } from "./tale.js";
+import { joinedRows, phaseAt } from "./presses.js";
 
 const MOST_STEPS = 80; // of one call, in the short lists of the story
 export const linesOf = (schedule) => schedule.split("\n").filter((line) => /^(begin|go) /.test(line));
@@ -45,8 +45,8 @@ export class ShownRun {
 }
 
 /**
- * `lines` are the schedule's first lines, also those of a draft. In a `free` run the reader may begin any call, and stop before each look; of
- * a `plain` one the list's lock is ignored, and nothing is told of it. `joined` are rows that belong to the press before them.
+ * `lines` are the schedule's first lines; a draft's lines are allowed. In a `free` run the reader can begin any call, and can stop before each look.
+ * A `plain` run ignores the list's lock and does not show it. `joined` rows belong to the press before them.
  * @typedef {{ list: string, lacks?: string | null, threads?: number, quota?: number, opening?: number[], lines?: string[], version?: number,
  *   free?: boolean, plain?: boolean, joined?: number[] }} RunSpec
  */
@@ -96,8 +96,8 @@ export class LiveRun extends ShownRun {
     this.state.moveTo(this.count);
   }
 
-  // What a thread would do next, up to where something else begins: the number of its steps, its phase, and for whom it waits. That
-  // it waits it knows once it has tried.
+  // Returns the next press of a thread: the number of its steps, its phase, and the thread for whose lock it waits. A thread knows that it waits once
+  // it has tried.
   nextOf(thread, call = null) {
     const asked = [thread, this.state.threads[thread].pc, call].join();
     return (this.nexts[asked] ??= this.newNextOf(thread, call));
@@ -182,7 +182,7 @@ function placeOf({ state: { nodes, lock, threads }, trace }) {
 }
 
 /**
- * The fewest presses that lead on from the lines of a run to a broken one, as threads, or null if none do. `calls` are those of each thread.
+ * Returns the fewest presses that continue a run to a broken one, as thread numbers, or null if no presses do. `calls` has the calls of each thread.
  * @param {RunSpec} spec @param {string[]} lines @param {Record<number, any[]>} calls @returns {number[] | null}
  */
 export function waysOn(spec, lines, calls) {

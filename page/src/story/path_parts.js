@@ -7,7 +7,7 @@ import { drawLedger, drawOn, optionButtons, part, replyTo } from "./scene.js";
 
 export const HERO = `<div class="hero"><p class="kicker">Concurrent lists, from nothing</p><p class="title">Why not just one lock?</p>
   <p class="lead">Two threads share one list. Each press makes one thread take a step. <span class="roomy">In twenty minutes you break it, mend it, and meet
-  the five list sets of Herlihy and Shavit.</span> You need no book.</p></div>`;
+  the five list sets of Herlihy and Shavit.</span></p></div>`;
 
 export function dots(number, done) {
   const names = [...SCREENS.map(({ nav }) => nav), "And now?"];
@@ -33,7 +33,7 @@ export function welcome(done) {
 
 const asked = (text, note = "") => `<p class="ask">${text}</p>${note === "" ? "" : `<p class="again">${note}</p>`}`;
 
-export function talkOf(screen, { stage, chosen, note }, figure) {
+export function promptOf(screen, { stage, chosen, note }, figure) {
   const reply = replyTo(screen.options, chosen, stage !== "done");
   if (stage === "guess") return asked(screen.ask) + optionButtons(screen.options.map(({ text }) => text));
   const ledger = screen.ledger ? drawLedger(figure.run) : "";
@@ -72,7 +72,7 @@ export function openContents(figure, press) {
   });
 }
 
-// ---- the last screen: a summary, and where to go next
+// ---- The last screen: a summary, and where to go next.
 export const LAST = SCREENS.length + 1; // the number of the last screen
 
 const WAYS = [
@@ -83,15 +83,18 @@ const WAYS = [
   ["#teachers", "Teach it", "A lecture of 45 minutes, homework in one link, hand-ins checked."],
 ];
 
-const TRUTH = `<details class="truth"><summary>How true is this?</summary><p>Each step that you saw was computed by a program that is proved by
-  machine to run these lists step by step. “Lost” is said only if a proved judge finds that no order of the calls explains their answers and
+const TRUTH = `<details class="truth"><summary>How true is this?</summary><p>Each step that you saw was computed by a program. A machine has
+  checked the proof that this program runs the lists step by step. “Lost” is said only if a proved judge finds that no order of the calls explains their answers and
   what is left. The list of screens 1 and 2 is CoarseList, with its lock ignored; that of “Why two locks?” is FineList, whose remove
-  locks only pred; that of screen 5 is OptimisticList without its second walk.
+  does not lock the node that it takes out; that of screen 5 is OptimisticList without its second walk.
   That the page draws what the program says is only tested. <a href="#read">More</a></p></details>`;
+
+const TREE = ["A balanced tree, one lock", "", "", "", "", 9.1, 4.1];
+const rowOf = (name, ...cells) => tag("tr", {}, tag("th", { scope: "row" }, name), ...cells.map((text) => tag("td", {}, text)));
 
 function rowOfList([name, list, waits, needs, id]) {
   const number = SCREENS.findIndex((screen) => screen.id === id) + 1;
-  return `<tr><th scope="row"><a href="#story=${number}">${name}</a> <span class="small">${list}</span></th><td>${waits}</td><td>${needs}</td></tr>`;
+  return rowOf(`<a href="#story=${number}">${name}</a> <span class="small">${list}</span>`, waits, needs);
 }
 
 export function endHtml(done) {
@@ -100,13 +103,15 @@ export function endHtml(done) {
   return `<section class="screen end"><h1 class="title" tabindex="-1">So, why not just one lock?</h1>
     <p class="lead">Because while one thread works, all others wait. Each list removes some of that waiting, and pays for it with one more
     check. Without the check, numbers get lost.</p>
-    <table class="five"><thead><tr><th>The list</th><td>Who waits?</td><td>What does it need for that?</td></tr></thead>
+    <table class="five"><thead><tr><th>The list</th><td>Who waits?</td><td>What does it pay for that?</td></tr></thead>
     <tbody>${LISTS_AT_END.map(rowOfList).join("")}</tbody></table>
     <h2>You have done ${count} of ${SCREENS.length}. And now?</h2><div class="ways">${ways.join("")}</div>
     <h2>When is one lock enough?</h2>
-    <p class="prose">While calls are short. With four threads and 16 numbers, the list with one lock made 11.9 million calls a second, hand over hand
-    2.8, optimistic 3.9, lazy 6.4; only lock-free made more, 16.6. With 1,000 numbers, calls are long: 0.8 million with one lock, 1.2 lazy, 1.6
-    lock-free. And a balanced tree behind one lock made 4.1. (Measured on four processors, a third of the calls of each kind.)</p>${TRUTH}</section>
+    <p class="prose">While calls are short. With 16 numbers, the extra locks and checks cost more than the waiting that they save, and only lock-free
+    was faster. With 1,000 numbers calls are long: lazy and lock-free win. But a balanced tree behind one lock beat them all.</p>
+    <table class="five"><caption>Millions of calls a second, measured with four threads on four processors, a third of the calls of each kind</caption>
+    <thead><tr><th>The list</th><td>16 numbers</td><td>1,000 numbers</td></tr></thead>
+    <tbody>${[...LISTS_AT_END, TREE].map(([name, , , , , few, many]) => rowOf(name, few, many)).join("")}</tbody></table>${TRUTH}</section>
     <footer class="foot"><button class="quiet" data-do="back">← Back</button><span class="spread"></span>
-    <button class="quiet" data-do="afresh">Start afresh</button><a class="button primary" href="#ask">Guess, then see →</a></footer>`;
+    <button class="quiet" data-do="afresh">Delete my answers</button><a class="button primary" href="#ask">Guess, then see →</a></footer>`;
 }

@@ -5,8 +5,8 @@ import { Figure } from "./figure.js";
 import { keepStory, keptStory, startAfresh } from "./progress.js";
 import { waysOn } from "./live_run.js";
 import { SCREENS } from "./path.js";
-import { barHtml, dots, drawBar, endHtml, GONE, HERO, LAST, openContents, talkOf, welcome } from "./path_parts.js";
-import { head, numberOfKey, onStage, openScene, part, pressThread, scene, setScene, takeFigure, talk, threadOfKey } from "./scene.js";
+import { barHtml, dots, drawBar, endHtml, GONE, HERO, LAST, openContents, promptOf, welcome } from "./path_parts.js";
+import { head, numberOfKey, onStage, openScene, part, pressThread, scene, setScene, takeFigure, showPrompt, threadOfKey } from "./scene.js";
 import { toSlide } from "./slide.js";
 
 // The address names a screen and its part: #story=4 is the first part of screen 4, #story=4.2 the next.
@@ -52,17 +52,17 @@ function begin(place) {
   const screen = screenOf(place);
   if (screen === null) return;
   const isGuess = screen.ask !== undefined;
-  const figure = takeFigure(new Figure(part("#figure"), { ...screen.figure, isPath: true }));
+  const figure = takeFigure(new Figure(part("#figure"), { ...screen.figure, isPath: true, restart: screen.play && (() => openScene(now.place)) }));
   figure.onStep = looked;
   figure.box.classList.toggle("hides-points", screen.figure.hidesPoints === true);
   setScene({ stage: isGuess ? "guess" : "task" });
-  if (isGuess) figure.set({ isOpen: false, isGuess: true, told: screen.figure.told ?? null });
+  if (isGuess) figure.set({ isOpen: false, isGuess: true });
 }
 
 function draw(state) {
   const screen = here();
   if (screen === null || state.stage === "") return;
-  if (state.stage !== "done" || part(".reveal") === null) talk(talkOf(screen, state, scene.figure)); // the reader may go on after it
+  if (state.stage !== "done" || part(".reveal") === null) showPrompt(promptOf(screen, state, scene.figure)); // the reader may go on after it
   drawBar(state.stage, placeIn(now.place).number, screen.onWords);
   byId("scene").dataset.stage = state.stage;
 }

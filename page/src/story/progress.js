@@ -12,7 +12,7 @@ const NOTHING = { at: 1, done: {}, asks: {}, student: "", number: "", homework: 
 /** @returns {{ at: number, done: Record<string, boolean>, asks: Record<string, string>, student: string, number: string, homework: any }} */
 export const keptStory = () => ({ ...NOTHING, ...keptUnder(STORY) });
 export const keepStory = (change) => keepUnder(STORY, { ...keptStory(), ...change });
-// The lines of orders that were right, by run and level.
+// The lines of the orders that were judged right, by run and level.
 const JUDGED = "listset-judged";
 export const judgedLines = () => Object.fromEntries(textsKept(keptUnder(JUDGED)));
 export const keepJudged = (run, line) => keepUnder(JUDGED, { ...keptUnder(JUDGED), [run]: line });
@@ -27,20 +27,20 @@ export const keepNamed = (name) => keepUnder(NAMED, [...new Set([...(keptUnder(N
 export function startAfresh(button) {
   if (button.dataset.isSure !== "yes") {
     button.dataset.isSure = "yes";
-    button.textContent = "Press again: answers, solutions and names kept here go";
+    button.textContent = "Press again to delete";
     return;
   }
   change("run", { text: "" }); // and is not kept anew
   try {
     for (const name of Object.keys(localStorage)) if (name.startsWith("listset-")) localStorage.removeItem(name);
   } catch {
-    // this browser stores nothing
+    // This browser stores nothing.
   }
   location.hash = "#story=1&gone=yes"; // the first screen says so
   location.reload();
 }
 
-// ---- opened courses, solutions of lessons, and lessons whose answer was looked at
+// ---- Opened courses, solutions of lessons, and lessons whose answer was shown.
 const LESSONS_KEPT = "listset-lessons-2";
 const textsKept = (kept) => Object.entries(kept ?? {}).filter(([, text]) => isText(text));
 const namesKept = (kept) => (Array.isArray(kept) ? kept.filter(isText) : []);

@@ -3,21 +3,21 @@ import { change, dispatch, now } from "../page/now.js";
 import { byId, setHtml } from "../page/dom.js";
 import { copied } from "../page/visit.js";
 import { warningOf } from "../run/address.js";
-import { chipOf, tag } from "../run/markup.js";
+import { chipOf, escaped, tag } from "../run/markup.js";
 import { Figure } from "./figure.js";
 import { NARROW } from "./figure_parts.js";
 
 /**
- * A view has the class of its place (`kind`) and its parts as text; `fault` says why there is no such place, `begin` makes the figure once the
- * parts are there, `draw` shows how far one is, `end` comes before the parts go; `deeds` are done by buttons, `press` by a key; `goes` on or
- * back on a slide, and says whether it did.
+ * A view has the class of its place (`kind`) and its parts as text. `fault` returns why there is no such place, or null. `begin` makes the figure
+ * after the parts are in the page, `draw` shows the progress, `end` is called before the parts are removed. Buttons run `deeds`, a key calls
+ * `press`. `goes` moves on or back on a slide, and returns whether it did.
  * @typedef {import("../page/reducer.js").Place} Place
  * @typedef {{ kind: string, title: (place: Place) => string, html: (place: Place) => string, fault?: (place: Place) => string | null,
  *   begin?: (place: Place) => void, draw?: (scene: import("../page/reducer.js").Scene) => void, end?: () => void,
  *   deeds?: Record<string, (target: any) => any>, press?: (event: KeyboardEvent) => any, goes?: (by: number) => any }} View
  */
 
-/** @type {Record<string, View>} of an activity, or of one without an id its map */
+/** The views by activity; the overview of an activity is `ACTIVITY map`. @type {Record<string, View>} */
 export const VIEWS = {};
 export const scene = { key: "", view: null, figure: null, isFirst: true };
 export const part = (selector) => byId("scene").querySelector(selector);
@@ -28,11 +28,11 @@ export const isScene = ({ place }) => place.screen === "scene";
 export const setScene = (given) => dispatch("scene", given);
 
 export async function copyText(text, words) {
-  part("#scene-told").textContent = ((await copied(text)) ? words : `Copy this by hand: ${text}`) + warningOf(text);
+  part("#scene-said").textContent = ((await copied(text)) ? words : `Copy this by hand: ${text}`) + warningOf(text);
 }
 
-// Shows text on the stage, above the threads' buttons. Its space is reserved, so nothing scrolls.
-export const talk = (html) => setHtml(part("#talk"), html);
+// Shows the task, the question or the reply above the threads' buttons. The space is reserved, so nothing scrolls.
+export const showPrompt = (html) => setHtml(part("#prompt"), html);
 
 export function takeFigure(figure) {
   scene.figure?.end();
@@ -84,6 +84,8 @@ export const head = (kicker, title, more = "", kind = "") =>
 // Returns a screen whose figure takes the remaining height.
 export const onStage = (head, kind = "") => `<section class="screen on-stage ${kind}">${head}<div id="figure"></div></section>`;
 
+export const backLink = ({ href, words }) => tag("a", { class: "button quiet back", href }, escaped(words));
+
 export const hintAndOn = ({ href, words }) =>
   `<button id="hint" class="quiet" data-do="hint"></button>${tag("a", { id: "go-on", class: "button quiet", href, "data-words": words }, "Skip →")}`;
 
@@ -120,9 +122,9 @@ const lowered = (text) => text[0].toLowerCase() + text.slice(1);
 export function replyTo(options, chosen, isToCome) {
   const option = options?.[chosen];
   if (option === undefined) return "";
-  const { text, say, right = false } = option;
-  const said = `You said: ${lowered(text)}${text.endsWith("?") ? "" : "."}`;
-  return `<p class="you ${right ? "right" : "wrong"}"><b>${said}</b> ${say || (right && isToCome ? "Let us see." : "")}</p>`;
+  const { text, says, right = false } = option;
+  const said = right && !isToCome ? "Right." : `You said: ${lowered(text)}${text.endsWith("?") ? "" : "."}`;
+  return `<p class="you ${right ? "right" : "wrong"}"><b>${said}</b> ${right ? (isToCome ? says || "Let us see." : "") : says}</p>`;
 }
 
 export function drawLedger(run) {
@@ -133,7 +135,7 @@ export function drawLedger(run) {
     return tag("td", { class: isIn ? (others.includes(key) ? "" : "odd") : "gap" }, isIn ? key : "");
   };
   const row = (name, keys, others) => tag("tr", {}, tag("th", { scope: "row" }, name), ...all.map(cell(keys, others)));
-  return tag("table", { class: "ledger" }, row("answers promise", promised, has), row("list has", has, promised));
+  return tag("table", { class: "ledger" }, row("should have", promised, has), row("list has", has, promised));
 }
 
 export const isOddRun = (run) => run.promised().join() !== run.has().join();
@@ -151,7 +153,7 @@ export function pressThread(event) {
   if (thread === -1 || figure === null) return;
   const { run, spec, isBusy } = figure;
   const isAnswered = spec.free && !isBusy && run.isIdle(thread) && run.trace.calls.some((call) => call.thread === thread);
-  if (isAnswered) figure.tell(`${chipOf(thread)} has returned. Press <b>begin</b> for its next call.`);
+  if (isAnswered) figure.say(`${chipOf(thread)} has returned. Press <b>begin</b> for its next call.`);
   else figure.press(thread);
 }
 

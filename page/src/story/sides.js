@@ -10,14 +10,14 @@ export function readProgram(text) {
   for (const line of text.split("\n").filter((one) => one.trim() !== "")) {
     const [, number, letter, calls] = /^\s*(?:t?(\d+)|([A-Z]))\s*:\s*(.+?)\s*$/i.exec(line) ?? [];
     const thread = Number(number ?? letter?.toUpperCase().charCodeAt(0) - "A".charCodeAt(0));
-    if (!(thread < 64)) throw new RunFault(`"${line.slice(0, 60)}" is no line as "A: add 5, remove 5"`);
+    if (!(thread < 64)) throw new RunFault(`"${line.slice(0, 60)}" is not a line like "A: add 5, remove 5"`);
     for (const call of calls.split(",").map((one) => one.trim())) {
       const [, operation, key] = /^(add|remove|contains|ceiling) (0|[1-9]\d{0,9})$/.exec(call) ?? [];
-      if (key === undefined || Number(key) > MOST_NUMBER) throw new RunFault(`"${call.slice(0, 40)}" is no call as "add 5"`);
+      if (key === undefined || Number(key) > MOST_NUMBER) throw new RunFault(`"${call.slice(0, 40)}" is not a call like "add 5"`);
       (program[thread] ??= []).push(`${operation} ${key}`);
     }
   }
-  if (program.length === 0) throw new RunFault('a program has lines as "A: add 5, remove 5"');
+  if (program.length === 0) throw new RunFault('a program has lines like "A: add 5, remove 5"');
   return Array.from(program, (calls) => calls ?? []);
 }
 
@@ -30,11 +30,11 @@ export class Sides {
   constructor(kinds, { program, quota, opening }) {
     this.program = program;
     this.turns = [];
-    // `counts`: how many events a side has after each turn
+    // `counts` has the number of events of a side after each turn.
     this.sides = kinds.map((list) => ({ run: new LiveRun({ list, threads: program.length, quota, opening }), counts: [0] }));
   }
 
-  // Returns what a turn makes in each list: a schedule line, or null if that list waits. Returns null if both are done.
+  // Returns the schedule line that a turn makes in each list, or null for a list that waits. Returns null if both lists are done.
   linesOf(thread) {
     if (thread >= this.program.length) return null;
     const isIdle = this.sides.map(({ run }) => run.isIdle(thread));

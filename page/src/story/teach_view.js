@@ -62,7 +62,7 @@ question
 goal
   call C of 0: contains, key 5, answers false
   call R of 1: remove, key 5, answers true, begins after C, ends during C
-  say A contains of thread 0 answers false; a remove of thread 1 begins after it, and answers true while it is open.
+  say A contains of thread 0 answers false; a remove of thread 1 begins after it, and answers true while it is pending.
 `;
 
 // ---- Homework: ticked lessons, levels and numbered runs become one link.
@@ -153,7 +153,7 @@ function html() {
   const lead = `<p class="lead">A lecture of 45 minutes, figures for your own pages, homework as a single link, and automatic checking of what is handed in.
     No account, no server: all of it happens in the browser.</p><p class="jump">${Object.entries(PANELS).map(jump).join("")}</p>`;
   return `${head("", "For teachers", lead, "title")}${lectureHtml()}${embedHtml()}${homeworkHtml()}${handInsHtml()}${OWN}
-    <footer class="foot"><span id="scene-told" class="small" role="status"></span><span class="spread"></span>
+    <footer class="foot"><span id="scene-said" class="small" role="status"></span><span class="spread"></span>
     <button class="quiet" data-do="jump" data-panel="homework">Homework</button><button class="quiet" data-do="jump" data-panel="handins">Hand-ins</button></footer>`;
 }
 

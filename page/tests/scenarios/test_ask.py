@@ -2,7 +2,7 @@
 
 
 def hurried(visitor):
-    """Shows the run to its end at once, with a key."""
+    """Shows the run to its end at once, by a key."""
     visitor.press("Right")
     visitor.revealed()
 
@@ -15,7 +15,7 @@ def test_each_question_can_be_answered_shown_changed_and_left(visitor):
         visitor.open(f"#ask={name}")
         visitor.click("[data-option]")
         hurried(visitor)
-        assert visitor.text(".reveal .you").startswith("You said: ") and len(visitor.text(".reveal .why")) > 40, name
+        assert visitor.text(".reveal .you").startswith(("You said: ", "Right.")) and len(visitor.text(".reveal .why")) > 40, name
         if visitor.is_seen("[data-do=without]"):
             assert visitor.text("[data-do=without]").startswith("And if "), name
             visitor.click("[data-do=without]")
@@ -66,7 +66,7 @@ def test_a_question_works_in_a_frame_of_another_page(visitor):
     assert visitor.script(seen) == [True, True, True, True, False, True]
     visitor.script("document.querySelector('iframe').contentDocument.querySelectorAll('[data-option]')[1].click()")
     visitor.wait("return document.querySelector('iframe').contentDocument.querySelector('.reveal') !== null")
-    assert visitor.script("return document.querySelector('iframe').contentDocument.querySelector('.you').innerText").startswith("You said: ")
+    assert visitor.script("return document.querySelector('iframe').contentDocument.querySelector('.you').innerText").startswith(("You said: ", "Right."))
     leaves = "it.getClientRects().length > 0 && it.target !== '_blank'"
     links = f"return [...document.querySelector('iframe').contentDocument.links].filter((it) => {leaves}).length"
     assert visitor.script(links) == 0  # no link leads out of the frame
@@ -82,15 +82,15 @@ def test_old_addresses_open_the_questions(visitor):
     assert visitor.is_seen(".list svg") and visitor.event() == 17
 
 
-def test_each_event_of_the_examples_has_complete_sentences(visitor):
-    """Checks the sentence at each event of each example."""
+def test_sentences_are_whole(visitor):
+    """Each event of each example has a whole sentence."""
     visitor.open("#ask")
-    told = visitor.inside("""const { LiveRun, QUESTIONS, APPENDIX, taleOf, momentAt } = listsets;
+    told = visitor.inside("""const { LiveRun, QUESTIONS, APPENDIX, saidOf, momentAt } = listsets;
         return [...QUESTIONS, ...APPENDIX].flatMap(({ list, opening, threads = 2, quota = 4, lines, rest }) => {
           const run = new LiveRun({ list, opening, threads, quota, lines: [...lines, ...rest] });
           return Array.from({ length: run.trace.total }, (_, at) => {
             run.moveTo(at + 1);
-            return taleOf(momentAt(run.state, run.count)).replace(/<[^>]*>/g, "");
+            return saidOf(momentAt(run.state, run.count)).replace(/<[^>]*>/g, "");
           });
         })""")
     assert len(told) > 300 and not [it for it in told if "undefined" in it or not it.endswith(".") or len(it) < 10]

@@ -1,6 +1,4 @@
-"""Tests the levels with broken lists: each is won, its answer is not given away, the contradiction is visible, and the
-missing check is struck out.
-"""
+"""Break: each level is won, its answer is not revealed, the contradiction is visible, and the missing check is struck out."""
 
 import pathlib
 
@@ -8,7 +6,7 @@ SCHEDULES = pathlib.Path(__file__).resolve().parents[3] / "examples/schedules/la
 
 
 def won(visitor):
-    """Wins level 1 with its hints: both threads traverse, B makes its whole add, and A ends."""
+    """Wins level 1 by its hints: both walk, B makes its whole add, A ends."""
     visitor.open("#break=1")
     for key in "aaabbbbbbaa":
         if not visitor.is_seen(".reveal"):
@@ -38,7 +36,7 @@ def test_the_contradiction_is_visible_on_a_phone(visitor):
 def test_a_wrong_answer_gets_a_reply_and_the_right_one_strikes_out_the_line(visitor):
     won(visitor)
     visitor.click("[data-option]", "releases the lock")
-    assert "No: it releases the lock only after that." in visitor.text("#talk")
+    assert "No: it releases the lock only after that." in visitor.text("#prompt")
     assert not visitor.is_seen(".steps del")
     visitor.click("[data-option]", "continues")
     visitor.idle()
@@ -55,7 +53,7 @@ def test_a_won_level_can_be_explored_further(visitor):
     won(visitor)
     visitor.press("a")
     visitor.idle()
-    assert "returns true" in visitor.text(".tale")
+    assert "returns true" in visitor.text(".said")
     visitor.settle()
     assert visitor.hash.startswith("#break=1&list=coarse")
     where = visitor.hash
@@ -111,12 +109,12 @@ def test_a_self_loop_does_not_cross_its_key(visitor):
 def test_a_run_that_does_not_break_the_list_is_reported(visitor):
     visitor.open("#break=2")
     visitor.step("aaabbbababab")
-    assert "not broken this time" in visitor.text("#talk") and visitor.is_seen("[data-again]")
+    assert "not broken this time" in visitor.text("#prompt") and visitor.is_seen("[data-again]")
 
 
 def test_a_level_has_the_same_number_everywhere(visitor):
     visitor.open("#break")
-    assert visitor.text(".card[href='#break=7'] i").startswith("level 7 ")
+    assert visitor.text(".card[href='#break=7'] i").endswith(" level 7")
     visitor.open("#break=7")
     assert visitor.is_seen("#figure") and "level 7" in visitor.script("return document.querySelector('.kicker').textContent")
 
@@ -124,6 +122,6 @@ def test_a_level_has_the_same_number_everywhere(visitor):
 def test_a_key_does_not_begin_a_second_call(visitor):
     visitor.open("#break=1")
     visitor.step("aaaaaaaaa")
-    assert "Press begin" in visitor.text(".tale") and visitor.text("[data-begin='0']") == "begin"
+    assert "Press begin" in visitor.text(".said") and visitor.text("[data-begin='0']") == "begin"
     visitor.click("[data-begin='0']")
     assert not visitor.is_seen("[data-begin='0']")

@@ -1,4 +1,4 @@
-"""Tests Judge, Compare and files, and what the page says about wrong files."""
+"""Judge, Compare, files, and the messages about wrong ones."""
 
 from test_stage import fit
 
@@ -100,9 +100,9 @@ def test_two_lists_can_be_compared_with_keys_in_both_directions(visitor):
 
 def test_a_wrong_address_is_reported(visitor):
     visitor.open("#example=nothing")
-    assert "nothing" in visitor.text("#told")
+    assert "nothing" in visitor.text("#said")
     visitor.open("#list=lazy&threads=2&quota=x")
-    assert "quota" in visitor.text("#told")
+    assert "quota" in visitor.text("#said")
 
 
 def test_without_webassembly_the_stored_examples_work(visitor):

@@ -1,6 +1,4 @@
-"""Tests the lessons: one is tried, solved and explored further; and a teacher's course is passed from one profile to
-another.
-"""
+"""Solve: a lesson is tried, solved and changed; a teacher's course is passed from profile to profile."""
 
 COURSE = """listset-course 1
 course Monday
@@ -15,7 +13,7 @@ question
 goal
   call C of 0: contains, key 5, answers false
   call R of 1: remove, key 5, answers true, begins after C, ends during C
-  say A contains of thread 0 answers false; a remove of thread 1 begins after it, and answers true while it is open.
+  say A contains of thread 0 answers false; a remove of thread 1 begins after it, and answers true while it is pending.
 """
 
 
@@ -32,7 +30,7 @@ def courses(visitor):
 
 
 def solved(visitor):
-    """Solves the course's lesson as a student would: A walks to the node of 5, B removes it, and A looks at the mark."""
+    """Solves the course's lesson as a student does: A walks to the node of 5, B removes the node, A looks at the mark."""
     begin(visitor, 0, "contains", 5)
     visitor.step("a")
     begin(visitor, 1, "remove", 5)
@@ -79,7 +77,7 @@ def test_three_threads_and_the_goal_are_visible(visitor):
 def test_a_key_asks_which_call_to_begin(visitor):
     visitor.open("#learn=marked-in-chain")
     visitor.press("a")
-    assert "Which call" in visitor.text(".tale") and visitor.script("return document.activeElement.dataset.call") == "0"
+    assert "Which call" in visitor.text(".said") and visitor.script("return document.activeElement.dataset.call") == "0"
     assert not visitor.is_seen("[data-step='0']")
 
 
@@ -87,10 +85,10 @@ def test_the_last_attempt_is_restored(visitor):
     visitor.open("#learn=one-lock")
     visitor.step("ab")
     visitor.settle()
-    tale, where = visitor.text(".tale"), visitor.hash
+    tale, where = visitor.text(".said"), visitor.hash
     visitor.open("#learn=hand-over-hand")
     visitor.open("#learn=one-lock")
-    assert visitor.text(".tale") == tale
+    assert visitor.text(".said") == tale
     visitor.click("[data-again]")
     visitor.settle()
     assert visitor.hash == "#learn=one-lock" and where.startswith("#learn=one-lock&list=coarse")
@@ -100,10 +98,10 @@ def test_no_answer_is_shown_before_it_is_requested(visitor):
     visitor.open("#learn=lost-pred")
     before = visitor.text("main")
     visitor.click("#hint")
-    assert "Hint." in visitor.text("#talk") and "See one of them" not in before
+    assert "Hint." in visitor.text("#prompt") and "See one of them" not in before
     visitor.click("#hint")
     visitor.click("[data-do=answer]")
-    visitor.wait("return document.querySelector('#talk').innerText.includes('shown to you')")
+    visitor.wait("return document.querySelector('#prompt').innerText.includes('shown to you')")
     assert not visitor.is_seen(".reveal")
 
 

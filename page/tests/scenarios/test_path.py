@@ -42,9 +42,9 @@ def test_each_way_to_lose_a_number_is_shown(visitor, keys, lost):
 def test_a_run_without_a_loss_is_reported_and_can_be_undone(visitor):
     visitor.open("#story=2")
     visitor.step("aaabbb")
-    assert "nothing is lost" in visitor.text("#talk") and visitor.text("#show-me") == "Start over"
+    assert "nothing is lost" in visitor.text("#prompt") and visitor.text("#show-me") == "Start over"
     visitor.click("[data-undo]")
-    assert "nothing is lost" not in visitor.text("#talk")
+    assert "nothing is lost" not in visitor.text("#prompt")
 
 
 def test_the_last_press_focuses_the_next_button_and_can_be_undone(visitor):
@@ -54,7 +54,7 @@ def test_the_last_press_focuses_the_next_button_and_can_be_undone(visitor):
         visitor.idle()
     assert visitor.focus() == "BUTTON go-on"
     visitor.click("[data-undo]")
-    assert not visitor.is_seen(".reveal") and "Press the blue button" in visitor.text("#talk")
+    assert not visitor.is_seen(".reveal") and "Press the blue button" in visitor.text("#prompt")
 
 
 def test_buttons_do_not_move(visitor):
@@ -113,18 +113,18 @@ def test_show_a_step_continues_from_the_current_event(visitor):
     visitor.open("#story=5")
     visitor.step("aabb")  # A holds its locks before B has removed anything, so no key can be lost any more
     visitor.click("#show-me")
-    assert "Start over" in visitor.text("#talk") and visitor.text("#show-me") == "Start over"
+    assert "Start over" in visitor.text("#prompt") and visitor.text("#show-me") == "Start over"
     visitor.click("#show-me")
     assert not visitor.is_seen("[data-undo]") and visitor.text("#show-me") == "Show a step"
 
 
-def test_a_mark_warns_an_add_and_another_thread_helps(visitor):
-    for address, told, word in (("#story=7.2", "sees a mark on its pred", "the mark warned A"), ("#story=9.2", "5 is unlinked", "Neither.")):
+def test_a_mark_warns_an_add_and_a_thread_helps(visitor):
+    for address, told, word in (("#story=7.2", "sees a mark on its pred", "the mark warned A"), ("#story=9.2", "5 is unlinked", "6 is not lost")):
         visitor.open(address)
         seen = ""
         while not visitor.is_seen(".reveal"):
             visitor.step("a")
-            seen += visitor.text(".tale")
+            seen += visitor.text(".said")
         assert told in seen and word in visitor.text(".why b"), address
 
 
@@ -179,7 +179,7 @@ def test_the_reader_finds_the_moment_before_it_is_shown(visitor):
     for at in (0, 2):
         visitor.script("document.querySelectorAll('.content')[arguments[0]].focus()", at)
         visitor.press("Enter")
-        assert "5 was in the set" in visitor.text("#talk")
+        assert "5 was in the set" in visitor.text("#prompt")
     visitor.script("document.querySelectorAll('.content')[1].focus()")
     visitor.press("Enter")
     visitor.revealed()
@@ -207,18 +207,18 @@ def test_steps_follow_the_code(visitor):
     for _ in range(2):
         visitor.click(".steps button.row", "lock pred")
         visitor.idle()
-    assert "takes the lock of 3" in visitor.text(".tale")
+    assert "takes the lock of 3" in visitor.text(".said")
     visitor.click("[data-active='0']")
     visitor.click(".steps button.row", "validate")
     visitor.idle()
-    assert "It waits." in visitor.text(".tale")
+    assert "It waits." in visitor.text(".said")
     visitor.settle()
     where = visitor.hash
     assert where.startswith("#code=lazy&opening=3.7&s=b0.add.5")
     visitor.open(where)
-    assert "It waits." in visitor.text(".tale")
+    assert "It waits." in visitor.text(".said")
     visitor.open("#code=lazy&s=g0.4")
-    assert "cannot be made" in visitor.text("#code-told")
+    assert "cannot make these steps" in visitor.text("#code-said")
 
 
 def test_letters_can_be_switched_off(visitor):
@@ -237,7 +237,7 @@ def test_live_regions_of_a_step_say_a_sentence_once(visitor):
             if (isLive(it)) window.said.push(it.closest("[aria-live], [role=status]").className); }))
             .observe(document.body, { subtree: true, childList: true, characterData: true })""")
     visitor.step("a")
-    assert visitor.script("return window.said") == ["tale"]
+    assert visitor.script("return window.said") == ["said"]
 
 
 @pytest.mark.parametrize("number", [1, 2, 4, 8, 10])
@@ -249,7 +249,7 @@ def test_the_path_works_on_a_phone(visitor, number):
     if number < 3:
         visitor.touch("[data-step='0']")
         visitor.idle()
-        assert visitor.text(".tale") != ""
+        assert visitor.text(".said") != ""
     if number == 4:
         visitor.touch("[data-option='1']")
         visitor.revealed()
@@ -272,4 +272,4 @@ def test_a_slide_follows_a_presenters_keys(visitor):
 def test_wrong_addresses_are_reported(visitor):
     for address, word in (("#story=77", "77"), ("#ask=nothing", "nothing"), ("#break=99", "99"), ("#story=2&view=small", "small"), ("#story=4.7", "4.7"), ("#story=2.2", "2.2")):
         visitor.open(address)
-        assert word in visitor.text("#told"), address
+        assert word in visitor.text("#said"), address

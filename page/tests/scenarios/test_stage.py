@@ -28,7 +28,7 @@ for (const list of all(".list:has(svg)")) {
 }
 if (isStage) {
   if (document.documentElement.scrollHeight > innerHeight + 1) found.push("the page scrolls");
-  for (const it of all("#scene :is(.stage, .list, .talk, .tale)")) if (it.scrollHeight > it.clientHeight + 3) found.push(`scrolls: ${nameOf(it)}`);
+  for (const it of all("#scene :is(.stage, .list, .prompt, .said)")) if (it.scrollHeight > it.clientHeight + 3) found.push(`scrolls: ${nameOf(it)}`);
   for (const it of all(".stage > *")) if (boxOf(it).bottom > boxOf(it.parentElement).bottom + 1) found.push(`leaves the stage: ${nameOf(it)}`);
   for (const it of all(".on-stage :is(p, h1, li, button, a, select, input, summary, td, th)")) {
     if (it.closest("svg, .lines, .codebox:not([open]) > :not(summary), #sides-presets, .unseen")) continue;
@@ -156,7 +156,7 @@ def test_slides_are_readable(visitor, size):
     walk = Walk(visitor, size)
     for number in range(1, 12):
         walk.go(f"#lecture={number}")
-        small = visitor.script("""return [...document.querySelectorAll("h1, .ask, .prose, .option, .tale, .legend, .codebox[open] code, .why, .foot button, .step")]
+        small = visitor.script("""return [...document.querySelectorAll("h1, .ask, .prose, .option, .said, .legend, .codebox[open] code, .why, .foot button, .step")]
             .filter((it) => it.getClientRects().length > 0 && parseFloat(getComputedStyle(it).fontSize) < .033 * innerHeight).map((it) => it.className || it.tagName)""")
         assert small == [], number
         visitor.press("PageDown")

@@ -24,11 +24,11 @@ def test_homework_is_one_permanent_link(visitor, another):
     assert student.text("h1") == "Week 3"
     student.click(".task[href='#break=6']")
     student.wait("return location.hash === '#break=6'")
-    assert student.text("#home") == "← Back to Week 3"
+    assert student.text(".foot .back") == "← Week 3"
     student.open("#break=7")
-    assert not student.is_seen("#home")
+    assert student.text(".foot .back") == "All lists"
     student.open("#break=6")
-    student.click("#home")
+    student.click(".foot .back")
     student.wait("return document.querySelector('h1').innerText === 'Week 3'")
 
 
@@ -62,7 +62,7 @@ def test_completed_tasks_are_ticked_and_handed_in(visitor):
     visitor.open(LINK)
     assert "5 tasks, 2 done" in visitor.text(".lead") and visitor.is_seen(".tasks .done")
     visitor.click("[data-do=copy]")
-    assert visitor.text("#scene-told") == "Please enter your name first." and visitor.focus() == "INPUT hand-student"
+    assert visitor.text("#scene-said") == "Please enter your name first." and visitor.focus() == "INPUT hand-student"
     visitor.type("#hand-student", "Ada Lovelace")
     visitor.type("#hand-number", "4711000")
     visitor.unfold("#hand details")
@@ -70,7 +70,7 @@ def test_completed_tasks_are_ticked_and_handed_in(visitor):
     assert "student Ada Lovelace (4711000)" in text and "one-lock #list=coarse" in text and "break second-walk #" in text
     assert "assignment Week 3\n" in text
     visitor.click("[data-do=save]")
-    assert visitor.text("#scene-told") == "Saved: ada-lovelace-4711000-week-3.txt. Hand in this file."
+    assert visitor.text("#scene-said") == "Saved: ada-lovelace-4711000-week-3.txt. Hand in this file."
 
 
 def dropped(visitor, files):
@@ -84,7 +84,7 @@ BROKEN = "break lock #list=coarse&threads=2&quota=2&opening=3.7&s=b0.add.5,b1.ad
 
 
 def marked(number):
-    """Returns a solution that no other number has: before it, A has looked for other keys."""
+    """Returns a solution that no other number has: A looks for other keys first."""
     return MARKED.format("".join(f"b0.contains.{1 + int(digit)},g0.2," for digit in f"{number:05b}"))
 
 
@@ -101,7 +101,7 @@ def test_hand_ins_of_a_class_are_checked(visitor):
     assert visitor.script("return document.getElementById('in-link').value") == visitor.text("#hw-link")
     dropped(visitor, [*files, *more])
     visitor.wait("return document.querySelectorAll('.class tbody tr').length === 33", seconds=60)
-    told = visitor.text("#in-told")
+    told = visitor.text("#in-said")
     assert "34 files: 33 students, 0 merged, 1 without a hand-in. 31 with all 2 tasks." in told and "notes.txt" in told
     assert "too many students have the same one: Level 1, CoarseList" in told
     row = lambda name: visitor.script("return [...document.querySelectorAll('.class tbody tr')].find((it) => it.innerText.includes(arguments[0])).innerText", name)
@@ -115,7 +115,7 @@ def test_hand_ins_of_a_class_are_checked(visitor):
     visitor.click(".class thead button", "Same schedules")
     assert "2 of 2 with" in visitor.text(".class tbody tr")
     visitor.type("#in-link", "http://example.org/foo")
-    assert visitor.text("#in-told") == "This is no link of an assignment: “#assignment=” is missing." and not visitor.is_seen(".class")
+    assert visitor.text("#in-said") == "This is not the link of an assignment: “#assignment=” is missing." and not visitor.is_seen(".class")
 
 
 def test_hand_ins_with_the_same_number_are_one_student(visitor):
@@ -123,7 +123,7 @@ def test_hand_ins_with_the_same_number_are_one_student(visitor):
     visitor.open("#teachers")
     dropped(visitor, [[f"{at}.txt", HAND_IN.format("x", name, BROKEN)] for at, name in enumerate(names)])
     visitor.wait("return document.querySelectorAll('.class tbody tr').length === 4")
-    assert "5 files: 4 students, 1 merged, 0 without a hand-in." in visitor.text("#in-told")
+    assert "5 files: 4 students, 1 merged, 0 without a hand-in." in visitor.text("#in-said")
     assert visitor.text(".class tbody").count("two names for one number: Anna Abel, Hana Gök") == 2
     assert "merged from 2.txt, 3.txt" in visitor.text(".class tbody")
 
@@ -183,7 +183,7 @@ def test_one_key_leads_through_the_lecture(visitor):
     visitor.press("Escape")
     visitor.wait("return location.hash === '#teachers'")
     visitor.open("#lecture=99")
-    assert "the slides 1 to 11" in visitor.text("#told")
+    assert "the slides 1 to 11" in visitor.text("#said")
 
 
 def test_a_slide_accepts_every_key_and_stops_at_the_decision(visitor):
@@ -201,9 +201,9 @@ def test_a_slide_accepts_every_key_and_stops_at_the_decision(visitor):
     visitor.open("#lecture=5")
     visitor.press("PageDown")
     visitor.revealed()
-    assert "pred is no longer in the list" in visitor.text(".tale") and "No." in visitor.text(".why")
+    assert "pred is no longer in the list" in visitor.text(".said") and "No." in visitor.text(".why")
     visitor.press("PageDown")
-    visitor.wait("return document.querySelector('.tale').innerText.includes('returns true')")
+    visitor.wait("return document.querySelector('.said').innerText.includes('returns true')")
 
 
 def test_a_slide_adapts_to_its_window(visitor):

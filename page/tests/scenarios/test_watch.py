@@ -1,14 +1,14 @@
-"""Tests the bench: a run step by step, the reader's own choices, keys, the player, and the browser's history."""
+"""The bench: a run step by step, the reader's own choice, keys, the play, the browser's history."""
 
 
 def test_the_code_continues_from_the_current_event(visitor):
     visitor.open("#example=marked-in-chain&event=20")
     visitor.click("#go-on-here")
     visitor.wait("return location.hash.startsWith('#code=lazy&quota=4&opening=&s=')")
-    assert "marks 5" in visitor.text(".tale")
+    assert "marks 5" in visitor.text(".said")
     visitor.press("b")
     visitor.idle()
-    assert "5 is unlinked" in visitor.text(".tale")
+    assert "5 is unlinked" in visitor.text(".said")
     visitor.back()
     visitor.wait("return document.getElementById('question-box').getClientRects().length > 0")
     assert visitor.event() == 20
@@ -46,10 +46,10 @@ def test_reload_shows_the_same_run(visitor):
     visitor.open("#example=snip")
     visitor.press("Right", "Right")
     visitor.settle()
-    where, said = visitor.text("#where"), visitor.text(".tale")
+    where, said = visitor.text("#where"), visitor.text(".said")
     visitor.reload()
     visitor.wait("return document.body.dataset.ready === 'yes'")
-    assert (visitor.text("#where"), visitor.text(".tale")) == (where, said)
+    assert (visitor.text("#where"), visitor.text(".said")) == (where, said)
 
 
 def test_a_direct_link_says_who_ran_it(visitor):
@@ -73,7 +73,7 @@ def test_keys_and_the_slider_move_through_the_run(visitor):
     visitor.press("Right")
     assert visitor.event() == 1
     visitor.press("End")
-    assert visitor.event() == 39 and "it took effect at event 23, a step of B" in visitor.text(".tale")
+    assert visitor.event() == 39 and "it took effect at event 23, a step of B" in visitor.text(".said")
     visitor.press("Shift+Left", "Home", "?")
     assert visitor.event() == 0 and visitor.is_seen("#key-help")
     visitor.press("?", "p", "p")
@@ -81,7 +81,7 @@ def test_keys_and_the_slider_move_through_the_run(visitor):
 
 
 def test_live_regions_say_a_sentence_once(visitor):
-    """A screen reader hears only the sentence of a step, once: on the bench, and for two lists at most one from each."""
+    """A screen reader hears only the sentence of a step, once: on the bench, and at most once for each of two lists."""
     for address, key, most in (("#example=snip", "Right", 1), ("#compare", "Left", 2)):
         visitor.open(address)
         visitor.script("""window.said = []; const isLive = (it) => it?.closest("[aria-live=polite], [role=status], [role=alert], output") ?? null;
@@ -90,7 +90,7 @@ def test_live_regions_say_a_sentence_once(visitor):
         visitor.press(key)
         visitor.settle()
         heard = visitor.script("return window.said.filter((it) => it !== null && it.getClientRects().length > 0 && it.innerText !== '').map((it) => it.className)")
-        assert set(heard) == {"tale"} and len(heard) <= most, address
+        assert set(heard) == {"said"} and len(heard) <= most, address
 
 
 def test_printing_shows_only_the_run(visitor):

@@ -123,7 +123,7 @@ def test_the_readers_order_is_judged(visitor):
 
 def test_a_schedule_of_a_broken_list_opens_its_level(visitor):
     visitor.open("#list=coarse&threads=2&quota=2&opening=3.7&s=b0.add.5,g0.3&event=4&lacks=1")
-    assert visitor.text("h1").startswith("One thread at a time") and "too big" in visitor.text(".tale") or "reads" in visitor.text(".tale")
+    assert visitor.text("h1").startswith("One thread at a time") and "too big" in visitor.text(".said") or "reads" in visitor.text(".said")
 
 
 def test_a_numbered_run_is_the_same_for_everyone(visitor, another):
@@ -133,11 +133,11 @@ def test_a_numbered_run_is_the_same_for_everyone(visitor, another):
     assert another.inside("return listsets.now.run.text") == text and another.is_seen("#judge-ask")
 
 
-def test_the_page_works_before_the_engine_has_loaded(visitor):
-    """If the engine loads late, the example is already there from its stored trace, and the page says who ran it."""
+def test_a_slow_network(visitor):
+    """The engine comes late: the example is shown from its stored trace first, and the page says who ran it."""
     visitor.go(f"{visitor.place}/slow.html#example=snip&event=3")
     visitor.wait("return document.body.dataset.ready === 'soon'")
-    assert visitor.event() == 3 and "kept beside the page" in visitor.text("#source")
+    assert visitor.event() == 3 and "a stored trace" in visitor.text("#source")
     visitor.press("Right")
     assert visitor.event() == 4
     visitor.wait("return document.body.dataset.ready === 'yes'")

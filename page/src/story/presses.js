@@ -1,0 +1,53 @@
+// Groups the rows of the tables into the presses of a thread's button, and names each press.
+
+const walkers = (...rows) => Object.fromEntries(rows.map((row) => [row, "walk"]));
+
+const PHASES = {
+  plain: { ...walkers(1, 2, 3, 4), 5: "make", 6: "make", 7: "link", 8: "unlink", 9: "unlink", 10: "answer" },
+  coarse: { 1: "lock", ...walkers(2, 3, 4), 5: "make", 6: "make", 7: "link", 8: "unlink", 9: "unlink", 10: "unlock" },
+  fine: {
+    1: "first", 2: "next", 3: "next", 4: "next", 5: "letgo", 6: "next", 7: "make", 8: "make", 9: "link", 10: "unlink", 11: "unlink",
+    12: "unlock", 13: "unlock",
+  },
+  optimistic: {
+    ...walkers(1, 2, 3), 4: "locks", 5: "locks", 6: "again", 7: "again", 8: "again", 9: "make", 10: "make", 11: "link", 12: "unlink",
+    13: "unlink", 14: "unlock", 15: "unlock",
+  },
+  lazy: {
+    ...walkers(1, 2, 3, 20, 21, 23, 24), 25: "look", 4: "locks", 5: "locks", 6: "check", 7: "check", 8: "make", 9: "make", 10: "link", 11: "mark",
+    12: "tidy", 13: "unlock", 14: "unlock", 22: "look",
+  },
+  "lock-free": {
+    ...walkers(1, 2, 4, 8, 20, 21, 23, 24), 25: "look", 3: "snip", 5: "make", 6: "make", 7: "swing", 9: "marktry", 10: "tidytry", 22: "look",
+  },
+};
+
+export const phaseAt = (list, row, plain) => PHASES[plain ? "plain" : list][row] ?? "answer";
+// Rows that always belong to the press before them.
+export const joinedRows = (list, plain) => (plain ? [10] : list === "lock-free" || list === "lazy" ? [22, 25] : []);
+
+const WORDS = {
+  walk: ({ key }) => `walk to the place of ${key}`,
+  make: ({ key }) => `make a node for ${key}`,
+  link: ({ key }) => `link ${key} in`,
+  unlink: ({ key }) => `unlink ${key}`,
+  answer: () => "return",
+  lock: () => "take the lock",
+  unlock: () => "release, and return",
+  restart: () => "release, and start again",
+  first: () => "lock the head",
+  next: () => "lock the next node",
+  letgo: () => "release pred",
+  locks: () => "lock pred and curr",
+  again: () => "walk again",
+  check: () => "check the marks",
+  mark: ({ key }) => `mark ${key}: removed`,
+  tidy: ({ key }) => `unlink ${key}`,
+  look: () => "read the mark",
+  snip: () => "unlink the marked node",
+  swing: ({ key }) => `try to link ${key} in`,
+  marktry: ({ key }) => `try to mark ${key}`,
+  tidytry: ({ key }) => `try to unlink ${key}`,
+};
+
+export const phaseText = (phase, call) => WORDS[phase](call);
