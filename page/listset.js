@@ -20,13 +20,13 @@ const LONGEST = 67108864; // bytes of an input that is no recording; what is lon
 const WRONG = 2; // the status of wrong words, and of a wrong value
 const MORE = "For more information, try '--help'.";
 
-// What the program prints of itself, by --help, --version and command.
+// The program's help and version texts, by --help, --version and command.
 const HELP = require("./help.json");
 
 const ORIGIN = `commit ${"0".repeat(40)}\nproof unknown\n`; // as of a program of which neither is known
 
-// Of each command its flag and its options, the engine's function without the flag and with it, or that the judge reads the input in
-// pieces; whether its value is a file, and how many values it takes at most.
+// For each command: its flag and options, the engine's function without and with the flag (or that the judge reads the input in pieces), whether
+// its argument is a file, and the maximum number of arguments.
 const COMMANDS = {
   replay: { options: ["--lacks"], functions: ["listset_replay"], isOfFile: true },
   judge: { flag: "--brief", options: ["--only"], isJudge: true, isOfFile: true },
@@ -47,7 +47,7 @@ const COMMANDS = {
   explain: { isExplain: true, isOfFile: true },
 };
 
-// What is printed instead of an answer of the engine: a text and a status.
+// A text and an exit status that are printed instead of an answer of the engine.
 class Printed extends Error {
   constructor(text, status) {
     super(text);
@@ -57,7 +57,7 @@ class Printed extends Error {
 
 const usageOf = (name) => /^Usage: (.*)$/m.exec(HELP[name] ?? "")?.[1] ?? `listset ${name} [CAUSE]`;
 
-// Wrong words of a command, in the program's form.
+// Reports wrong arguments of a command, in the program's format.
 function wrongWords(error, usage, tip) {
   const parts = [`error: ${error}`, ...(tip ? [`  tip: ${tip}`] : []), ...(usage ? [`Usage: ${usage}`] : []), MORE];
   return new Printed(`${parts.join("\n\n")}\n`, WRONG);
@@ -75,8 +75,8 @@ function parts() {
   }
 }
 
-// What the words ask for: the command, whether its flag is on, the texts of its options by their names without hyphens, and its
-// values, which a word -- may stand before.
+// Parses the arguments: the command, whether its flag is set, its options by name without hyphens, and its values. A `--` can precede the
+// values.
 function asked([name = "replay", ...words]) {
   answerFirst(name, words);
   if (!Object.hasOwn(COMMANDS, name)) throw unknownCommand(name);
@@ -86,7 +86,7 @@ function asked([name = "replay", ...words]) {
   return found;
 }
 
-// Answers what is asked of the program itself: help and the version.
+// Answers --help and --version.
 function answerFirst(name, words) {
   if (name === "--help" || name === "-h") throw helpOf("--help");
   if (name === "--version" || name === "-V") {
@@ -106,7 +106,7 @@ function unknownCommand(word) {
   return wrongWords(`unrecognized subcommand '${word}'`, "listset [COMMAND]", alike.length > 0 ? tip : undefined);
 }
 
-// How many letters have to be changed, put in, left out or exchanged with the next one.
+// Returns the edit distance of two words: letters changed, inserted, deleted or swapped with the next one.
 function distance(one, other) {
   const rows = Array.from({ length: one.length + 1 }, (_, at) => [at]);
   for (let to = 1; to <= other.length; to += 1) rows[0][to] = to;
@@ -133,7 +133,7 @@ const unexpected = (name, word) => wrongWords(`unexpected argument '${word}' fou
 
 const VALUE_NAMES = { "--lacks": "NAME", "--only": "KEY", "--from": "M", "--to": "M", "--width": "N" };
 
-// Takes the first of the words, and with an option its text.
+// Removes the first argument, and the value of an option with it.
 function take(found, words) {
   const word = words.shift();
   const [name, ...behind] = word.split("=");
@@ -165,10 +165,10 @@ function textBehind(shown, words, name) {
   return words.shift();
 }
 
-// The file, or standard input where that is meant.
+// Returns the file, or standard input if none is named.
 const opened = (file = "-") => (file === "-" ? 0 : fs.openSync(file, "r"));
 
-// The bytes of an input, up to one more than it may have.
+// Returns the bytes of an input, at most one more than the limit.
 function bytesOf(input) {
   const pieces = [];
   let length = 0;
@@ -182,7 +182,7 @@ function bytesOf(input) {
   return Buffer.concat(pieces).subarray(0, LONGEST + 1);
 }
 
-// Waits for an input that has nothing yet, as a terminal may.
+// Waits for an input that has no data yet, such as a terminal.
 function readSome(input, piece) {
   for (;;) {
     try {
@@ -194,7 +194,7 @@ function readSome(input, piece) {
   }
 }
 
-// Reads for the engine, which tells the trouble itself.
+// Reads for the engine, which reports read errors itself.
 function readForEngine(input, piece) {
   try {
     return readSome(input, piece);
@@ -203,7 +203,7 @@ function readForEngine(input, piece) {
   }
 }
 
-// The few calls of one key of a recording that show its refusal.
+// Returns the few calls of one key of a recording that show its refusal.
 function keyed(engine, only, file) {
   const bad = { status: WRONG, bytes: Buffer.from("listset: bad KEY\n") };
   if (!/^(0|[1-9][0-9]{0,9})$/.test(only) || Number(only) >= 2 ** 32) return bad;
@@ -219,7 +219,7 @@ const REFUSED = "not linearizable\n";
 const OF_A_FILE = "\nlistset judge FILE, with a file, also says what is wrong\n";
 const NOT_TOLD = "\nwhat is wrong is not told: memory ran out, or the file has changed since it was judged\n";
 
-// The lines of a verdict without advice and without a clash.
+// Returns the lines of a verdict without the advice and without the contradiction.
 const BRIEF = /^(ok |\d+ of them |the recording was cut off|not linearizable|no order explains )/;
 
 function briefly(verdict) {
@@ -228,7 +228,8 @@ function briefly(verdict) {
   return { ...verdict, bytes: Buffer.from(lines.filter((line) => line === "" || BRIEF.test(line)).join("\n")) };
 }
 
-// The verdict on a recording, or the calls of one key; and, of a refusal, what is wrong: a file is read once more for that, and a pipe is not.
+// Returns the verdict on a recording, or the calls of one key. After a refusal it also returns what is wrong: a file is read again for that, a
+// pipe is not.
 function judged(engine, isBrief, only, file = "-") {
   if (only !== undefined) return keyed(engine, only, file);
   const verdict = engine.judgeFrom(opened(file));
@@ -238,7 +239,7 @@ function judged(engine, isBrief, only, file = "-") {
   return { ...verdict, bytes: Buffer.concat([verdict.bytes, more]) };
 }
 
-// What is wrong in the recording in a file, below so many lines; one line if that fails, which changes no verdict.
+// Returns what is wrong in the recording in a file, or one line if that fails. The verdict has `used` lines.
 function whatIsWrong(engine, file, used) {
   try {
     const { status, bytes } = engine.whyFrom(opened(file), used);
@@ -249,7 +250,7 @@ function whatIsWrong(engine, file, used) {
   return Buffer.from(NOT_TOLD);
 }
 
-// What the engine answers to the words. Options are looked at before the file is opened.
+// Returns the engine's answer to the arguments. Options are checked before the file is opened.
 function answerTo(engine, { name, functions, isJudge, isExplain, isOn, texts: { lacks, only, ...texts }, isOfFile, values }) {
   if (isJudge) return judged(engine, isOn, only, values[0]);
   if (isExplain) return explained(engine, values[0]);
@@ -264,7 +265,7 @@ function answerTo(engine, { name, functions, isJudge, isExplain, isOn, texts: { 
   return tried.status === WRONG ? tried : ask(bytesOf(opened(values[0])));
 }
 
-// What explain prints of a file, also of one that is not read.
+// Returns what explain prints about a file, also about an unreadable one.
 function explained(engine, file = "-", name = file === "-" ? "FILE" : file) {
   try {
     return engine.askBytes("listset_explain", Buffer.from(name), bytesOf(opened(file)));
@@ -291,8 +292,8 @@ function answerOrTrouble(engine, words) {
   }
 }
 
-// Whether standard output was closed. Node then puts /dev/null there, for reading and writing, as no shell's > opens it; Python's
-// DEVNULL and node's own "ignore" do, and cannot be told from it. Linux alone shows how it is open.
+// Decides whether standard output was closed. Node then opens /dev/null in its place, for reading and writing, which no shell's > does; Python's
+// DEVNULL and Node's own "ignore" do, and look the same. Only Linux shows how a file is open.
 function isOutputClosed() {
   try {
     const [, flags] = /^flags:\s*(\d+)/m.exec(fs.readFileSync("/proc/self/fdinfo/1", "latin1"));
@@ -303,7 +304,7 @@ function isOutputClosed() {
   }
 }
 
-// Writes the answer on standard output, or the line about an error, which begins as no answer does, on the other.
+// Writes an answer to standard output, or an error to standard error.
 function write({ status, bytes }, hint) {
   const text = Buffer.from(bytes);
   process.exitCode = status;
@@ -314,7 +315,7 @@ function write({ status, bytes }, hint) {
   if (status === 1 && process.stderr.isTTY && hint) process.stderr.write(hint("", bytes));
 }
 
-// Writes an error, and at a terminal what helps.
+// Writes an error, and a hint if standard error is a terminal.
 function tellError(text, hint = noHint) {
   if (process.exitCode === 0) process.exitCode = 1;
   process.stderr.write(process.stderr.isTTY ? `${text}${hint(text.toString())}` : text);
@@ -322,7 +323,7 @@ function tellError(text, hint = noHint) {
 
 const noHint = () => "";
 
-// A line that helps with an error of these words, or with a refusal of the answer `bytes`; nothing if none does.
+// Returns a hint for an error of these arguments, or for the refusal in `bytes`; an empty text if there is none.
 function hintOn(engine, words) {
   return (said, bytes) => {
     const hint = asCalled(said === "" ? keysHint(words, bytes) : hintOf(engine, words, said));
@@ -330,7 +331,7 @@ function hintOn(engine, words) {
   };
 }
 
-// What helps with an error.
+// Returns a hint for an error.
 function hintOf(engine, { name, isOfFile, texts, values }, said) {
   const [file = "-"] = values;
   const [, value] = /^listset: bad (\w+)\n/.exec(said) ?? [];
@@ -358,20 +359,20 @@ const KINDS = [
 
 const READS = { replay: "a schedule", trace: "a schedule", check: "a report", draft: "a draft", judge: "recorded calls", show: "a schedule or a report" };
 
-// A file's name as a command line of a shell has it.
+// Quotes a file name for a shell's command line.
 function quoted(file) {
   const name = file.startsWith("-") ? `./${file}` : file;
   return /^[\w./+:=@%,\u0080-\uffff-]+$/.test(name) ? name : `'${name.replaceAll("'", "'\\''")}'`;
 }
 
-// The kind of a file, and what to do with it; null of another file.
+// Returns the kind of a file, and what to do with it; null for a file of no known kind.
 function kindOf(file) {
   const first = lineOf(file, 1);
   const found = KINDS.find(([title]) => first.startsWith(title));
   return found ? { is: `${quoted(file)} ${found[1]}`, use: found[2].replaceAll("FILE", quoted(file)) } : null;
 }
 
-// The first 100 bytes of a line of a file, in visible characters.
+// Returns the first 100 bytes of a file's line, in visible characters.
 function lineOf(file, number) {
   const input = fs.openSync(file, "r");
   let [line, at] = ["", 1];
@@ -387,7 +388,7 @@ function lineOf(file, number) {
   return line.slice(0, 100).replace(/[^ -~]/g, (byte) => `\\x${byte.charCodeAt(0).toString(16).padStart(2, "0")}`);
 }
 
-// What is wrong in a file, and what to do.
+// Returns what is wrong in a file, and what to do.
 function fileHint(engine, name, file, number, cause) {
   const isLong = fs.existsSync(file) && fs.statSync(file).size > LONGEST;
   if (isLong && name === "judge" && cause) return longHint(engine, file, number, cause);
@@ -397,7 +398,7 @@ function fileHint(engine, name, file, number, cause) {
   return Buffer.from(explained(engine, file, "FILE").bytes).toString().trimEnd().split("\n").at(-1).replaceAll("FILE", quoted(file));
 }
 
-// A refused line of recorded calls that are too long for explain, and its cause.
+// Returns the refused line of a recording that is too long for explain, and its cause.
 function longHint(engine, file, number, cause) {
   const [, part] = engine.ask("listset_fault", cause).text.split(", in recorded calls; exit status 1\n");
   const [why] = part.split("\n\n");
@@ -407,7 +408,7 @@ function longHint(engine, file, number, cause) {
   return `${line ? `Line ${number} is '${line}'. ` : ""}${shown}${advice}`;
 }
 
-// What helps if recorded calls without lines of final keys are refused for the final keys.
+// Returns a hint if a recording without `key` lines is refused for its final keys.
 function keysHint({ name, values: [file = "-"] }, bytes) {
   const verdict = Buffer.from(bytes).toString();
   if (name !== "judge" || file === "-" || !/^not linearizable\nno order .* and leaves it as it was left\n/.test(verdict)) return "";
@@ -421,7 +422,7 @@ function brokenExamples(engine) {
   return names.filter((it) => engine.ask("listset_broken_example", it).status === 0).sort();
 }
 
-// What an argument or an option has to be, by the help of its command.
+// Returns the range of an argument or option, from the help of its command.
 function valueHint(engine, { name, texts, values }, value) {
   const help = HELP[name] ?? "";
   const ofOption = new RegExp(`--${value.toLowerCase()} <[MN]> +(.*)`).exec(help)?.[1];
@@ -434,7 +435,7 @@ function valueHint(engine, { name, texts, values }, value) {
   return given === undefined ? `${value} is missing. Usage: ${usageOf(name)}` : `${value} '${given}' is wrong. ${range}`;
 }
 
-// The range of an option of show in the given file.
+// Returns the range of an option of show for the given file.
 function ofThisFile(engine, { texts, values: [file = "-"] }, value) {
   if (value === "TO") return `; here, ${texts.from ?? 1} or a later one`;
   if (value !== "FROM" || file === "-" || texts.lacks !== undefined) return "";
@@ -443,13 +444,13 @@ function ofThisFile(engine, { texts, values: [file = "-"] }, value) {
   return all || drawn ? `; of this file, 1 to ${all ?? drawn}` : "";
 }
 
-// A hint with the words that start this script in place of listset, the name of the program.
+// Returns a hint with the words that start this script in place of the program's name.
 function asCalled(hint) {
   const called = `node ${quoted(path.relative("", process.argv[1]))}`;
   return hint.replace(/\blistset (?=(replay|judge|check|show|trace|draft|example|gen|run|serve|faults|explain|help)\b)/g, `${called} `);
 }
 
-// A line that helps if a file was named without a command.
+// Returns a hint for a file that is named without a command.
 function wordHint([word = ""]) {
   const isFile = fs.existsSync(word) && fs.statSync(word).isFile();
   if (!isFile) return "";

@@ -4,11 +4,11 @@
 const ENOUGH = 16; // if a part of the calls is enough, the most that are printed
 const MOST_TRIED = 64; // the most calls that are tried as the first of a part
 
-// A part of the calls of a key: those before the one at `behind`, from the one at `first` on; whether the key is in the set before them,
-// and after them, `null` if the recording was cut off.
+// A part of a key's calls, from the one at `first` to the one before `behind`; and whether the key is in the set before and after the part,
+// `null` if the recording was cut off.
 /** @typedef {{ first: number, behind: number, opening: boolean, left: boolean | null }} Part */
 
-// The recording of a key by the text of all keys; `null` if no call is of this key. `verdictOn` is what the judge says of a text.
+// Returns the recording of a key, given the text of all keys; `null` if no call uses the key. `verdictOn` is the judge.
 function onlyKey(text, key, verdictOn) {
   const lines = text.split("\n");
   const calls = lines.filter((line) => line.startsWith("call ") && line.split(" ")[3] === key).map(callOf);

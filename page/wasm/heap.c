@@ -20,10 +20,11 @@ static int class_of(u64 count) {
     return k;
 }
 
-// Whether the memory has grown by so many pages. (Where it has not, the module that wasm-opt lowers to 32 bits gives 2^32 - 1.)
+// Grows the memory by a number of pages. Returns whether this succeeded. (After a failure, the module that wasm-opt lowers to 32 bits returns
+// 2^32 - 1.)
 static int has_grown(u64 pages) { return (unsigned)__builtin_wasm_memory_grow(0, pages) != ~0U; }
 
-// Makes room for so many bytes more at the end, by more pages than that needs where the memory may grow so far.
+// Adds at least `bytes` at the end of the memory, by more pages than needed if the memory can grow so far.
 static int grow(u64 bytes) {
     u64 needed = (bytes + PAGE - 1) / PAGE;
     u64 wanted = needed < PAGES_AT_ONCE ? PAGES_AT_ONCE : needed;
@@ -77,6 +78,6 @@ Tried rattle_realloc(char *block, u64 kept, u64 count, u64 alignment) {
     return tried;
 }
 
-// Blocks for the page itself, for the bytes that it hands in and for those that it gets back; 0 where memory is refused.
+// Allocates blocks for the page, for its inputs and outputs; returns 0 if an allocation fails.
 char *page_alloc(u64 count) { return rattle_alloc(count, HEAD).block; }
 void page_free(char *block) { if (block) rattle_dealloc(block); }

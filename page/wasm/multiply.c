@@ -1,5 +1,5 @@
-// The product of two numbers of 128 bits, for which clang calls this function on WebAssembly: std's hash maps fold a product of two of 64.
-// No proof covers this file.
+// Multiplies two 128-bit numbers. clang calls this function on WebAssembly, since std's hash maps fold a product of two 64-bit numbers. No proof
+// covers this file.
 typedef unsigned long long u64;
 typedef unsigned __int128 u128;
 

@@ -33,7 +33,7 @@ function wholeName({ trace, event }, name) {
 export const hasInChain = (state, key) => keysInChain(state).includes(Number(key));
 
 export const OUTCOMES = {
-  // In a broken list a node can be linked behind an unlinked one, a removed key can stay, and a key can be added twice.
+  // In a broken list a node can be linked after an unlinked one, a removed key can stay, and a key can be added twice.
   change({ trace, state, event, held, hadKey }) {
     const { put, took } = event;
     const had = trace.lacks !== null && hadKey;
