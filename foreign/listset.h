@@ -186,7 +186,7 @@ typedef struct listset_reply {
 
 /// Why a function refused its arguments.
 typedef enum LISTSET_BYTE listset_fault {
-  LISTSET_OK = 0,          ///< It did not refuse them.
+  LISTSET_OK = 0,          ///< The function refused nothing.
   LISTSET_BAD_SEATS = 10,  ///< The number of seats is not 1 to 64.
   LISTSET_BAD_QUOTA = 11,  ///< The quota is above 16,384.
   LISTSET_BAD_KEYS = 12,   ///< The keys are not in strictly increasing order, or are more than 1,048,576.

@@ -88,7 +88,7 @@ static int is_right(uint8_t list) {
   if (listset_close(&tasks[0].seat) != LISTSET_OK) return 0;
   size_t count = listset_keys(&tasks[0].seat, keys, KEYS);
   listset_drop(&tasks[0].seat);
-  // The correct text, and the text without one of the final keys.
+  // The second text lacks a final key.
   return is_judged(written(keys, count), LISTSET_OK, "ok 40000 calls\n") &&
          is_judged(written(keys, count - 1), LISTSET_WRONG_TEXT, "not linearizable\n");
 }

@@ -1,6 +1,6 @@
-// Sets that `renew` renews, and sets that renew themselves in eight threads, whose calls are recorded in the format of
-// docs/YOUR-SET.md and judged in this process. Arguments: a file for the recording, and the number of calls per thread;
-// optionally, to test one list only, the list (0 to 4) and the quota.
+// Tests `renew`, and sets that renew themselves. Eight threads call such a set. Their calls are recorded in the text of docs/YOUR-SET.md, and
+// judged in this process. Arguments: a file for the recording, and the number of calls of each thread. With two more, a list (0 to 4) and a
+// quota, only the calls of such a set are made and judged.
 #include "listset.hpp"
 
 #include <cstdio>
@@ -202,7 +202,7 @@ static void expect_reads_and_receipts(list kind) {
   expect(listset::most_reads(2, 3, 2) == 18 && listset::most_reads(65, 1, 1) == 0, "most_reads");
 }
 
-// Makes calls from one seat in two threads at the same time. Each call must be made or throw.
+// Calls one seat in two threads at once. Expects that each call is made or throws.
 static void expect_two_users() {
   seat mine = listset::open(list::coarse, 1, 16384);
   std::atomic<int> made{0}, refused{0}, ready{0};

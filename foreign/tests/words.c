@@ -86,7 +86,7 @@ int main(int count, char **words) {
   uint8_t status = 255;
   read_words(count - 2, words + 2);
   size_t length = asked(words[1], &status);
-  // No answer begins like a line about an error.
+  // Only an error begins with these bytes.
   fwrite(room, 1, length, length >= 9 && memcmp(room, "listset: ", 9) == 0 ? stderr : stdout);
   return status;
 }

@@ -34,8 +34,7 @@ unsafe impl GlobalAlloc for Own {
 #[global_allocator]
 static OWN: Own = Own;
 
-// For this thread: the number of its allocations so far, which of them fails (0 for none), and the number of its
-// blocks.
+// For each thread: how many allocations it has made, which of them fails (0: none), and how many blocks it has.
 thread_local! {
     static ASKED: Cell<usize> = const { Cell::new(0) };
     static REFUSED: Cell<usize> = const { Cell::new(0) };
