@@ -294,13 +294,6 @@ fn meet_new_key_end(
     ensures found { OnOk result (IfSome clash.new (IsFound (begun_by (event_as event) (facts_for states.old (key_of call.call).0)) call)) }
     ensures other_facts { OnOk result ((k : ℕ) → k ≢ (key_of call.call).0 → facts_for states.new k ≡ facts_for states.old k) }
 {
-    // (A key that was only seen absent needs no state.)
-    if matches!(event, Event::Looks(Presence::Absent, _)) {
-        return Ok(EndMet {
-            goes_on: true,
-            overlaps: false,
-        });
-    }
     let key = call.call.key().0;
     let mut state = KeyState::opened(Presence::Absent);
     let goes_on = state.meet_end(alloc, before, event, call, clash)?;
