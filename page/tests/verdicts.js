@@ -468,7 +468,7 @@ const OF_WHY = [
   [/^fact the first contradiction of the run: the calls of key (\d+) up to moment (\d+)$/, (it, [key, moment]) =>
     !hasOrder(ofKey(it, Number(key)).filter(({ begun }) => begun <= Number(moment)), Number(key), opens(it, Number(key)))],
   [/^(?:fact|because) at (\d+) of (\d+)(?: wrong answers)? no two calls overlapped(?:: perhaps one thread alone is enough)?$/, (it, [some, all]) => Number(some) <= Number(all) && isWrongAlone(it)],
-  [/^because (\d+) of (\d+) are two (add|remove)s that both returned true, and none are two (?:add|remove)s$/, (it, [some, all, operation]) => Number(some) <= Number(all) &&
+  [/^because (\d+) of (\d+) are two (add|remove)s that both returned true, \d+ are two (?:add|remove)s$/, (it, [some, all, operation]) => Number(some) <= Number(all) &&
     it.calls.some((one) => one.operation === operation && one.reply === "true" && it.calls.some((two) => two !== one && two.key === one.key && two.operation === operation && two.reply === "true"))],
   [/^because (\d+) of (\d+) are two calls that both returned true$/, (it, [some, all]) => Number(some) <= Number(all) &&
     it.calls.some((one) => isChange(one) && one.reply === "true" && it.calls.some((two) => two !== one && two.key === one.key && two.operation === one.operation && two.reply === "true"))],
@@ -497,6 +497,7 @@ const OF_WHY = [
     const finds = [...it.calls, ...it.padding].filter((call) => told !== null && call.operation === told.wrong[0].operation && call.reply === "true");
     return told !== null && finds.length > 0 && finds.every(({ key }) => told.wrong.every((call) => call.key !== key));
   }],
+  [/^because its wrong answers are of (\d+) keys?, and it is right about all others$/, (it, [keys], { told }) => told.isAll && new Set(told.wrong.map(({ key }) => key)).size === Number(keys)],
   [/^because before (\d+) of the (\d+) wrong answers the last call of the key by the same thread left it so$/, (it, [some, all], { told }) => {
     const lastOwn = (answer) => it.calls.filter((call) => call.key === answer.key && call.thread === answer.thread && call.begun < answer.begun).at(-1);
     const isSo = (answer) => lastOwn(answer) !== undefined && lastOwn(answer).ended !== null && leaves(lastOwn(answer)) === needsKey(answer);

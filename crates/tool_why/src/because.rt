@@ -63,7 +63,7 @@ fn put_because_of_missed(out: &mut String, odd: &Odd, cause: Cause) -> Result<()
 fn put_because_of_odd(out: &mut String, odd: &Odd, cause: Cause) -> Result<(), AllocError> {
     let (missed, wrong, adding) = (odd.missed, odd.wrong, odd.adding);
     let (active, apart, placed) = (odd.active, odd.apart, odd.placed);
-    let keys = if odd.keys == 1 { "key" } else { "keys" };
+    let (count, keys) = (odd.keys, if odd.keys == 1 { "key" } else { "keys" });
     match cause {
         Cause::MarkNotRead | Cause::TakenLater | Cause::ThreadCache | Cause::LateCopy => {
             put_because_of_found(out, odd, cause)
@@ -74,6 +74,10 @@ fn put_because_of_odd(out: &mut String, odd: &Odd, cause: Cause) -> Result<(), A
         Cause::OneKey => writeln!(
             out,
             "it never found the {keys} of its {wrong} wrong answers, and found others"
+        ),
+        Cause::SomeKeys => writeln!(
+            out,
+            "its wrong answers are of {count} {keys}, and it is right about all others"
         ),
         Cause::RemoveShortcut => writeln!(
             out,
@@ -97,6 +101,7 @@ fn put_because_of_calls(out: &mut String, tally: &Tally, cause: Cause) -> Result
     let (gone, both, places) = (tally.gone(), tally.both(), tally.places);
     let (silent, turned, begun) = (tally.silent, tally.turned, tally.begun);
     let (crossed, lost) = (tally.crossed, tally.lost);
+    let (adds, removes) = (tally.both_adds, tally.both_removes);
     match cause {
         Cause::FirstUse => writeln!(out, "all is among the first {begun} calls of a key"),
         Cause::GoesOn => writeln!(
@@ -117,11 +122,11 @@ fn put_because_of_calls(out: &mut String, tally: &Tally, cause: Cause) -> Result
         ),
         Cause::AddChecks => writeln!(
             out,
-            "{both} of {places} are two adds that both returned true, and none are two removes"
+            "{adds} of {places} are two adds that both returned true, {removes} are two removes"
         ),
         Cause::RemoveChecks => writeln!(
             out,
-            "{both} of {places} are two removes that both returned true, and none are two adds"
+            "{removes} of {places} are two removes that both returned true, {adds} are two adds"
         ),
         _ => writeln!(out, "they disagree as long as nothing changes the key"),
     }

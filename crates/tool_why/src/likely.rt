@@ -35,6 +35,8 @@ pub enum Cause {
     LateCopy,
     /// One key is treated differently from the others.
     OneKey,
+    /// Some keys are treated unlike others.
+    SomeKeys,
     /// `add` takes a removed node for a present one.
     AddSeesRemoved,
     /// `remove` takes a shortcut that returns false too early.
@@ -210,12 +212,14 @@ fn cause_of_add(odd: &Odd) -> Option<Cause> {
     }
 }
 
-/// Returns the likely cause if only one operation is wrong.
-fn cause_of_odd(odd: &Odd) -> Option<Cause> {
+/// Returns the likely cause if one operation alone is wrong, in a recording of `keys` keys.
+fn cause_of_odd(odd: &Odd, keys: u64) -> Option<Cause> {
     let is_often = odd.wrong >= odd.keys.saturating_mul(2);
+    let is_some = !is_least(odd.keys, keys, 75) && odd.wrong >= keys.saturating_mul(5);
     match odd.operation {
         Operation::Add => cause_of_add(odd),
         _ if odd.never_finds && is_often => Some(Cause::OneKey),
+        _ if is_some && odd.missed > 0 && odd.found > 0 => Some(Cause::SomeKeys),
         Operation::Remove => Some(cause_of_remove(odd)),
         Operation::Contains => cause_of_contains(odd),
     }
@@ -310,9 +314,11 @@ fn needs_no_race(tally: &Tally) -> bool {
     tally.gone() >= 2 * ENOUGH && tally.apart >= ENOUGH && is_share(tally.apart, tally.places, 10)
 }
 
-/// Returns whether no two calls are both true, and most losses are not beside a change that can have written back what it read.
+/// Returns whether the losses need no race, or no two calls are both true and most losses are not beside a change that can have written back
+/// what it read.
 fn is_displaced(tally: &Tally) -> bool {
-    tally.both() == 0 && !is_least(tally.fits, tally.made, 60)
+    let is_alone = !is_least(tally.fits, tally.made, 60);
+    needs_no_race(tally) || (tally.both() == 0 && is_alone)
 }
 
 /// Returns the likely cause if keys are lost while other keys change, and never come back.
@@ -370,9 +376,10 @@ const MANY_CALLS: u64 = 30;
 
 /// Returns which changes look first and then act.
 fn check_then_act(tally: &Tally) -> Cause {
-    if tally.both_removes == 0 && tally.both_adds >= ENOUGH {
+    let (adds, removes) = (tally.both_adds, tally.both_removes);
+    if adds >= ENOUGH && adds >= removes.saturating_mul(10) {
         Cause::AddChecks
-    } else if tally.both_adds == 0 && tally.both_removes >= ENOUGH {
+    } else if removes >= ENOUGH && removes >= adds.saturating_mul(10) {
         Cause::RemoveChecks
     } else if tally.both_adds > 0 && tally.both_removes > 0 {
         Cause::BothCheck
@@ -429,7 +436,7 @@ pub(crate) fn likely(evidence: &Evidence) -> Option<Cause> {
         return Some(Cause::TwoKeys);
     }
     if let Some(odd) = &evidence.odd {
-        return cause_of_odd(odd);
+        return cause_of_odd(odd, evidence.keys);
     }
     if evidence.split.is_some_and(|split| split.is_long()) {
         return Some(Cause::TwoPlaces);

@@ -338,6 +338,8 @@ fn answers_cause_text(cause: Cause) -> &'static str {
         Cause::LateCopy =>
             "contains reads a copy that is updated after add and remove return (a cache, a replica)",
         Cause::OneKey => "a hash, a comparison, a filter or a limit treats a key unlike others",
+        Cause::SomeKeys =>
+            "contains treats some keys unlike others (a hash, a key that is cut short, a limit)",
         Cause::AddSeesRemoved =>
             "add takes a removed node that is still linked for a present one (a mark not checked, an unlink that was lost)",
         Cause::AddGivesUp =>
