@@ -43,7 +43,7 @@ function drawKey(node, x, middle, width, hasSign, isBelowName) {
   const text = wordOf(node);
   const isNumber = /^\d/.test(text);
   const size = isBelowName ? 20 : text.length > 4 ? 18 : hasSign ? 24 : isNumber ? 30 : width > 110 ? 20 : width > 70 ? 18 : 16;
-  const spacing = !isNumber && width <= 70 ? ";letter-spacing:-.8px;font-weight:500;stroke-width:1.5" : ""; // a narrow node has just room for "head"
+  const spacing = !isNumber && width <= 80 ? ";letter-spacing:-.8px;font-weight:500;stroke-width:1.5" : ""; // a narrow node has just room for "head"
   const key = label({ class: "key", x, y: middle + (hasSign ? -1 : isBelowName ? 13 : isNumber ? 9.5 : 4), style: `font-size:${size}px${spacing}` }, text);
   return key + (hasSign ? label({ class: "sign", x, y: middle + 18.5 }, "marked") : "");
 }

@@ -111,7 +111,8 @@ export function endHtml(done) {
     was faster. With 1,000 numbers calls are long: lazy and lock-free win. But a balanced tree behind one lock beat them all.</p>
     <table class="five"><caption>Millions of calls a second, measured with four threads on four processors, a third of the calls of each kind</caption>
     <thead><tr><th>The list</th><td>16 numbers</td><td>1,000 numbers</td></tr></thead>
-    <tbody>${[...LISTS_AT_END, TREE].map(([name, , , , , few, many]) => rowOf(name, few, many)).join("")}</tbody></table>${TRUTH}</section>
+    <tbody>${[...LISTS_AT_END, TREE].map(([name, , , , , few, many]) => rowOf(name, few, many)).join("")}</tbody></table>${TRUTH}
+    <p class="line"><button class="quiet" data-do="afresh">Delete my answers</button></p></section>
     <footer class="foot"><button class="quiet" data-do="back">← Back</button><span class="spread"></span>
-    <button class="quiet" data-do="afresh">Delete my answers</button><a class="button primary" href="#ask">Guess, then see →</a></footer>`;
+    <a class="button primary" href="#ask">Guess, then see →</a></footer>`;
 }
