@@ -17,8 +17,8 @@ import version_stamp
 
 SECONDS_BETWEEN = 60  # between two lines about the crates in progress
 MINUTES_OF_A_CRATE = 3  # on one processor, on average
-# Patterns for the output of rt: a crate is done, and something is not proved.
-IS_DONE = re.compile(r"rt: (\w+) proved")
+# Patterns for the output of rt: a crate is done, and something is not proved. (An rt that stores proofs prints "is kept".)
+IS_DONE = re.compile(r"rt: (\w+) (?:proved|is kept: .*)")
 IS_ERROR = re.compile(r"(^|: )error[:[]|it is not proved that|^rt: \w+ NOT PROVED|^rt: .*FAILED")
 
 
@@ -106,7 +106,7 @@ def prove_below(room, names, tell):
             tell(f"{minutes_since(began)}: {found[1]} proved, {len(done)} of {len(names)}")
 
     tell(f"proving {len(names)} crates by rt ci, about {max(1, round(MINUTES_OF_A_CRATE * len(names) / processors))} minutes if no other work needs the "
-         f"{processors} processors; each run proves all of them anew, also after Ctrl-C")
+         f"{processors} processors; Ctrl-C ends it")
     with telling_each_minute(room, tell, began):
         status = prove(room, names, tell_done)
     if status:

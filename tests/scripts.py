@@ -273,7 +273,7 @@ def test_an_interrupted_proof_leaves_no_process_and_no_file(room, words):
     running.send_signal(signal.SIGINT)
     said, _ = running.communicate(timeout=SECONDS)
     assert (running.returncode, "Traceback" in said) == (130, False), said
-    assert "listset" not in words or re.search(r"proving \d+ crates by rt ci, about \d+ minutes .* \d+ processors; each run proves all of them anew, also after Ctrl-C\n", said), said
+    assert "listset" not in words or re.search(r"proving \d+ crates by rt ci, about \d+ minutes .* \d+ processors; Ctrl-C ends it\n", said), said
     comes(lambda: not is_running(int((room / "started").read_text())), "the end of what was started")
     assert [*(room / "temporary").iterdir()] == []
 
