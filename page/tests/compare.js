@@ -18,8 +18,8 @@ function check(result, name, isGood) {
   else result.failed.push(name);
 }
 
-// Checks that each trace is read, that its schedule is the given one, and that the state can go forward and back to
-// where it began. Some of the traces end ceilings.
+// Checks that each trace parses, has the given schedule, and can be stepped forward and back to the start. Some of the
+// traces end ceilings.
 function checkTraces(result, engine, cases) {
   const replies = new Set();
   for (const { texts } of cases.filter((wanted) => wanted.function === "listset_trace")) {

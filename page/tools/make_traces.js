@@ -1,5 +1,5 @@
-// node page/tools/make_traces.js: made/traces.js, which has what the page's engine says of the classic examples: the list of their
-// names, and the trace of each. A browser that cannot run the engine shows the examples from it.
+// node page/tools/make_traces.js: writes made/traces.js, the answers of the page's engine about the classic examples: the list of
+// their names, and the trace of each. Browsers that cannot run the engine show the examples from made/traces.js.
 "use strict";
 
 const fs = require("fs");
