@@ -41,8 +41,8 @@ def told(proof):
 
 
 def stamp(file, proof):
-    """Writes the last two lines into a program or its object file, at the place that crates/listset/src/main.rt reserves
-    for them. Returns how many such places were found.
+    """Writes the last two lines of the version text into a program or its object file, at the place that
+    crates/listset/src/main.rt reserves for them. Returns how many such places were found.
     """
     file, place = pathlib.Path(file), PLACE.format(NO_COMMIT, UNKNOWN).encode()
     content = file.read_bytes()

@@ -29,7 +29,7 @@
 
 namespace listset {
 
-/// Returns the four lines of `listset_version` about this library.
+/// Returns the library's version text of four lines, as `listset_version` does.
 inline std::string_view version() { return listset_version(); }
 
 /// The text that the program `listset` would print, and its exit status.

@@ -525,7 +525,7 @@ def continued(name, seed):
 
 
 def fits_nowhere(run, number):
-    """Returns whether a completed call that changes nothing has a reply that is not correct at any of its moments."""
+    """Returns whether call `number` completed, changed nothing, and has a reply that is wrong at every moment of the call."""
     it, (end, reply), (_, is_change) = run.calls[number], run.ends[number], run.points[number]
     return not is_change and reply != "full" and all(reply_of(it.word, it.key, run.sets[at]) != reply for at in range(it.begun, end + 1))
 

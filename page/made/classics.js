@@ -4,8 +4,8 @@
 export const CLASSICS = {
  "failed-tries": {
   "question": "Two threads add one key at the same time. Which of them adds it?",
-  "turnsOn": "The one that takes the lock. A failed attempt is a step too, and leaves the thread at its row. Thread 1 stays at row 1 until the lock is released, and then finds the key.",
-  "without": "Both walk over one old link, and the second write loses the node of the first (lock).",
+  "turnsOn": "The thread that takes the lock first. A failed attempt is a step too, and leaves the thread at its row. Thread 1 stays at row 1 until the lock is released, and then finds the key.",
+  "without": "Both threads read the same old link, and the second write loses the node of the first (lock).",
   "turns": [
    4,
    15
@@ -16,8 +16,8 @@ export const CLASSICS = {
  },
  "full": {
   "question": "A thread with one slot adds 5, removes it and adds 7. Is there a slot for 7?",
-  "turnsOn": "No: each slot is used once, so no thread ever reaches a node that holds another key than before. full changes nothing, and is correct from the begin of its call.",
-  "without": "A slot that is used again changes the key of a node at which other threads may be (new-slot).",
+  "turnsOn": "No: each slot is used once, so no thread ever reaches a node whose key has changed. full changes nothing, and is correct from the begin of its call.",
+  "without": "If a slot is used again, the key of a node changes while other threads may be at that node (new-slot).",
   "turns": [
    14,
    19
@@ -25,9 +25,9 @@ export const CLASSICS = {
   "lacks": []
  },
  "hand-over-hand": {
-  "question": "Thread 0 has locked the head and 9, to add 5 between them. Thread 1 wants to remove 9. How far does it get?",
-  "turnsOn": "Not even to the head, until thread 0 releases the head's lock. Then it goes hand over hand: it releases the head's lock only when it holds that of 5.",
-  "without": "A walk that holds no lock can be at an unlinked node, and lose the key that it adds behind that node (hand-over-hand). So can a walk beside a remove that locks only pred (second-lock).",
+  "question": "Thread 0 has locked the head and 9, to add 5 between them. Thread 1 wants to remove 9. How far does thread 1 get?",
+  "turnsOn": "Not even to the head, until thread 0 releases the head's lock. Then thread 1 goes hand over hand: it releases the head's lock only when it holds the lock of 5.",
+  "without": "A walk that holds no lock can be at an unlinked node, and lose the key that it adds after that node (hand-over-hand). A walk concurrent with a remove that locks only pred can lose a key too (second-lock).",
   "turns": [
    17,
    28
@@ -39,8 +39,8 @@ export const CLASSICS = {
  },
  "same-gap": {
   "question": "Both threads have walked without locks to the gap between head and tail. Thread 1 adds its key first. What does thread 0 do once it has its two locks?",
-  "turnsOn": "It looks at pred again: the head leads to the node of 7 now. So it releases its locks and walks again.",
-  "without": "If the validation finds pred, but does not compare its link, the add links 5 to the tail, and 7 is lost.",
+  "turnsOn": "Thread 0 looks at pred again: the head leads to the node of 7 now. So thread 0 releases its locks and walks again.",
+  "without": "If the validation finds pred but does not compare its link, the add links 5 to the tail, and 7 is lost.",
   "turns": [
    12,
    17
@@ -50,7 +50,7 @@ export const CLASSICS = {
  "stale-pred": {
   "question": "Thread 0 has found pred = 3 and curr = tail. Thread 1 removes 3, whose node still leads to the tail. May thread 0 write?",
   "turnsOn": "No: an unlinked node keeps its link. Thread 0 walks once more from the head, and gets past the key of pred without reaching pred.",
-  "without": "5 is added behind an unlinked node (second-walk). A walk that looks for the key of pred, and not for the node, may find another node with that key (same-node).",
+  "without": "5 is added after an unlinked node (second-walk). A walk that looks for the key of pred, and not for the node, may find another node with that key (same-node).",
   "turns": [
    24,
    30
@@ -62,8 +62,8 @@ export const CLASSICS = {
  },
  "marked-in-chain": {
   "question": "Thread 1 has marked the node of 5 and has not unlinked it yet. Thread 0 walks to that node. What does its contains(5) answer?",
-  "turnsOn": "false: the mark removes the key from the set. That the node is still in the chain does not matter. contains reads its link, sees the mark, and takes no lock for it.",
-  "without": "true is correct at none of its moments (mark-in-contains). But the remove is still pending, and an order with the contains before it explains both. No history of that broken list is known that no order explains.",
+  "turnsOn": "false: the mark removes the key from the set. That the node is still in the chain does not matter. contains reads the node's link without a lock, and sees the mark.",
+  "without": "A contains that ignores the mark answers true, which is correct at no moment of the call (mark-in-contains). But the remove is still pending, and an order with the contains before the remove explains both. No history of that broken list is known that no order explains.",
   "turns": [
    20,
    24
@@ -86,7 +86,7 @@ export const CLASSICS = {
  },
  "read-in-anothers-step": {
   "question": "Just after each of thread 0's own events, 5 is in the set. Its contains(5) answers false. Is that right?",
-  "turnsOn": "Yes: between two of its events thread 1 removed 5, and added it again in another node. The call takes effect at event 23, a step of thread 1.",
+  "turnsOn": "Yes: between two events of thread 0, thread 1 removed 5, and added it again in another node. The call takes effect at event 23, a step of thread 1.",
   "without": "A proof that looks for the linearization point among the call's own steps finds none, though the list is correct. check refuses the order that puts the contains last.",
   "turns": [
    23,
@@ -96,8 +96,8 @@ export const CLASSICS = {
   "lacks": []
  },
  "ceiling-in-anothers-step": {
-  "question": "Just after each of thread 0's own events, the smallest key from 6 on is 7, or there is none. Its ceiling(6) answers 9. Is that right?",
-  "turnsOn": "Yes: it was 9 from event 15 until event 38, and all events between are steps of thread 1. The walk was at the node of 5 when that was unlinked, and its link still leads to 9.",
+  "question": "Just after each of thread 0's own events, the smallest key from 6 on is 7, or there is no such key. Its ceiling(6) answers 9. Is that right?",
+  "turnsOn": "Yes: the smallest such key was 9 from event 15 until event 38, and all events between are steps of thread 1. The walk was at the node of 5 when that node was unlinked, and the node's link still leads to 9.",
   "without": "A ceiling that started again at each mark would answer 7 here, which is no better, and removes of smaller keys could send it back.",
   "turns": [
    15,
@@ -107,9 +107,9 @@ export const CLASSICS = {
   "lacks": []
  },
  "opens-with-keys": {
-  "question": "Two keys are there at the start, one is removed, one is added. Why does the last add answer full?",
+  "question": "Two keys are present at the start, one is removed, one is added. Why does the last add answer full?",
   "turnsOn": "The thread's one slot is n2. The opening keys have nodes of their own and count as nobody's adds, and a remove frees no slot.",
-  "without": "A set that counts opening keys as adds answers full to the add of 7; one that uses slots again adds 8. check refuses either reply.",
+  "without": "A set that counts opening keys as adds answers full to the add of 7, and a set that uses slots again adds 8. check refuses either reply.",
   "turns": [
    25,
    36
@@ -118,7 +118,7 @@ export const CLASSICS = {
  },
  "two-removers": {
   "question": "Two threads have found the node of 5, unmarked, and want to remove it. Which of them does?",
-  "turnsOn": "The one whose exchange sets the mark. The exchange of the other compares link and mark together, and fails. That thread walks again and answers false.",
+  "turnsOn": "The thread whose exchange sets the mark. The other thread's exchange compares link and mark together, and fails. That thread walks again and answers false.",
   "without": "A remove that marks a marked node answers true too, and 5 is removed twice (mark-in-remove).",
   "turns": [
    18,
@@ -129,9 +129,9 @@ export const CLASSICS = {
   ]
  },
  "snip": {
-  "question": "Thread 0 has marked the node of 5 and stops there. Thread 1 wants to add 7 behind it. Does it have to wait?",
-  "turnsOn": "No: thread 1 unlinks the marked node itself. The exchange of thread 0 fails then, and thread 0 still answers true, since it has set the mark.",
-  "without": "An add that ignores the mark links 7 behind the node of 5, and 7 is unlinked with it (mark-in-add). Without marks no add could know (mark).",
+  "question": "Thread 0 has marked the node of 5 and stops. Thread 1 wants to add 7 after that node. Does thread 1 have to wait?",
+  "turnsOn": "No: thread 1 unlinks the marked node itself. Then thread 0's exchange fails, and thread 0 still answers true, since it has set the mark.",
+  "without": "An add that ignores the mark links 7 after the node of 5, and 7 is unlinked with it (mark-in-add). Without marks no add could know that 5 was removed (mark).",
   "turns": [
    17,
    23
@@ -143,7 +143,7 @@ export const CLASSICS = {
  },
  "tries-again": {
   "question": "Both threads are at the gap between head and tail, each with a node ready. Thread 1 is first. What happens to thread 0's node?",
-  "turnsOn": "The exchange of thread 0 expects the tail, sees the node of 7, and fails. Thread 0 walks again and writes the same slot anew: no other thread has seen it, so it is not used up.",
+  "turnsOn": "The exchange of thread 0 expects the tail, sees the node of 7, and fails. Thread 0 walks again and writes the same slot anew: no other thread has seen the slot, so it is not used up.",
   "without": "With a store in place of the exchange, the head would lead to 5, and 7 would be lost.",
   "turns": [
    14,
@@ -153,8 +153,8 @@ export const CLASSICS = {
  },
  "left-in-chain": {
   "question": "Thread 1's remove of 5 has answered. Which nodes are in the chain, and what does a contains(5) answer that begins only then?",
-  "turnsOn": "The node of 5 is still there, marked: the head led to 3 when the remover tried to unlink it. The next add or remove that walks there unlinks it. contains sees the mark: false.",
-  "without": "It answers true (mark-at-key). The remove had ended before, and nobody adds 5 again, so no order explains these calls.",
+  "turnsOn": "The nodes of 3 and 5: the head led to 3 when thread 1 tried to unlink the marked node of 5. The next add or remove that walks there unlinks it. contains sees the mark and answers false.",
+  "without": "A contains that ignores the mark answers true (mark-at-key). The remove had ended before, and nobody adds 5 again, so no order explains these calls.",
   "turns": [
    21,
    27
@@ -164,9 +164,9 @@ export const CLASSICS = {
   ]
  },
  "ceiling-meets-mark": {
-  "question": "Thread 0's ceiling(3) has come to the node of 5. Before it looks at the mark, thread 1 removes 5. What does it answer, and when is that correct?",
-  "turnsOn": "The mark is looked at last (row 25). The call finds one, starts again at the head, and comes to the tail: nothing, which is correct from the mark on.",
-  "without": "Here 5 would be right too, since the remove began after the ceiling. In the next example it would not.",
+  "question": "Thread 0's ceiling(3) has come to the node of 5. Before it looks at the mark, thread 1 removes 5. What does the ceiling answer, and when is that correct?",
+  "turnsOn": "The ceiling looks at the mark last (row 25). It finds a mark, starts again at the head, and comes to the tail: it answers nothing, which is correct from the mark on.",
+  "without": "The answer 5 would be right here too, since the remove began after the ceiling. In the next example 5 would be wrong.",
   "turns": [
    18,
    20
@@ -175,8 +175,8 @@ export const CLASSICS = {
  },
  "ceiling-left-in-chain": {
   "question": "The remove of 5 has ended, and its node is still in the chain. What may a ceiling(4) answer, and how often may it walk?",
-  "turnsOn": "Not 5: the mark sends it back to the head, each time it comes to that node. Thread 1's walk unlinks the node; the second walk of the ceiling answers 7, which was added after the call had begun.",
-  "without": "It answers 5, which nobody adds again, so no order explains these calls. LazyList's ceiling needs the same look at the mark (mark-in-ceiling).",
+  "turnsOn": "Not 5: the mark sends the ceiling back to the head, each time it comes to that node. Thread 1's walk unlinks the node; the second walk of the ceiling answers 7, which was added after the call had begun.",
+  "without": "A ceiling that ignores the mark answers 5, which nobody adds again, so no order explains these calls. LazyList's ceiling needs to look at the mark too (mark-in-ceiling).",
   "turns": [
    27,
    33,
@@ -186,8 +186,8 @@ export const CLASSICS = {
  },
  "behind-the-walk": {
   "question": "Thread 0 has read the link of the head, which leads to 9. Thread 1 adds 5 in between. May the ceiling(3) of thread 0 answer 9?",
-  "turnsOn": "Yes: at the moment of that read there was no key between. The call takes effect at its begin, so before the add, although the add ended first.",
-  "without": "No broken list lacks this. Each node of the walk was in the chain, with the link that was read, at some moment of the call. Along other links the walk could miss a key that was always there.",
+  "turnsOn": "Yes: when thread 0 read the link, there was no key between 3 and 9. The call takes effect at its begin, so before the add, although the add ended first.",
+  "without": "No broken list lacks this. Each node of the walk was in the chain, with the link that was read, at some moment of the call. Along other links the walk could miss a key that was always present.",
   "turns": [
    9,
    16
@@ -196,8 +196,8 @@ export const CLASSICS = {
  },
  "nothing-in-anothers-step": {
   "question": "Just after each of thread 0's own events, 7 is in the set. Its ceiling(6) answers that there is no key. Is that right?",
-  "turnsOn": "Yes: between two of its events thread 1 removed 7 and then 5, and added 7 again. The link of the node of 5 led to the tail when the node was marked, and no exchange changes a marked link.",
-  "without": "No broken list lacks this either: the link beside the mark was in the chain during the call.",
+  "turnsOn": "Yes: between two events of thread 0, thread 1 removed 7 and then 5, and added 7 again. The link of the node of 5 led to the tail when the node was marked, and no exchange changes a marked link.",
+  "without": "No broken list lacks this either: the marked link was in the chain during the call.",
   "turns": [
    11,
    28

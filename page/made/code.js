@@ -4,7 +4,7 @@
 export const CODE = {
   "crates/lset_loops/src/coarse.rt": [
     { name: "walk", first: 15, steps: [{"line": 22, "rows": [2]}, {"line": 24, "rows": [3]}, {"line": 28, "rows": [4]}], calls: [], text: `
-/// Walks from the head to the first key that is not below the call's.
+/// Walks from the head to the first key that is not smaller than the call's.
 fn walk<P: Pause, N: Rounds>(caller: &Caller<CoarseList, P>, place: &mut TableSeat) -> Option<Found>
     requires { AtHead caller.now.origin caller.now.slots place.old }
     ensures { IfSome result (λ f. StopsAt caller.now.origin caller.now.slots f place.new) }
@@ -24,7 +24,7 @@ fn walk<P: Pause, N: Rounds>(caller: &Caller<CoarseList, P>, place: &mut TableSe
     None
 }` },
     { name: "act", first: 35, steps: [{"line": 46, "rows": [5, 6, 7]}, {"line": 50, "rows": [8]}, {"line": 51, "rows": [9]}], calls: [], text: `
-/// Adds, removes or only replies, at the key that the walk has found.
+/// Adds the key, removes it, or only replies, at the place where the walk has stopped.
 fn act<P: Pause>(
     caller: &Caller<CoarseList, P>,
     place: &mut TableSeat,
@@ -69,7 +69,7 @@ pub fn coarse_within<P: Pause, N: Rounds>(
   ],
   "crates/lset_loops/src/fine.rt": [
     { name: "walk", first: 16, steps: [{"line": 23, "rows": [2]}, {"line": 25, "rows": [3]}, {"line": 26, "rows": [4]}, {"line": 30, "rows": [5]}, {"line": 31, "rows": [6]}], calls: [], text: `
-/// Walks hand over hand from the locked head to the first key that is not below the call's.
+/// Walks hand over hand from the locked head to the first key that is not smaller than the call's.
 fn walk<P: Pause, N: Rounds>(caller: &Caller<FineList, P>, place: &mut TableSeat) -> Option<Found>
     requires { AtHead caller.now.origin caller.now.slots place.old }
     ensures { IfSome result (λ f. StopsAt caller.now.origin caller.now.slots f place.new) }
@@ -91,7 +91,7 @@ fn walk<P: Pause, N: Rounds>(caller: &Caller<FineList, P>, place: &mut TableSeat
     None
 }` },
     { name: "act", first: 38, steps: [{"line": 49, "rows": [7, 8, 9]}, {"line": 53, "rows": [10]}, {"line": 54, "rows": [11]}], calls: [], text: `
-/// Adds, removes or only replies, at the key that the walk has found, between two locked nodes.
+/// Adds the key, removes it, or only replies, between the two locked nodes at which the walk has stopped.
 fn act<P: Pause>(
     caller: &Caller<FineList, P>,
     place: &mut TableSeat,
@@ -113,9 +113,10 @@ fn act<P: Pause>(
         Decision::Answer(reply) => (caller.slots, reply),
     }
 }` },
-    { name: "fine_within", first: 61, steps: [{"line": 74, "rows": [1]}, {"line": 77, "rows": [12]}, {"line": 78, "rows": [13]}], calls: [[75, "walk"], [76, "act"]], text: `
-/// Makes a whole call: walks to the key, locking each node before it releases the one before, acts there, and releases both
-/// locks. (Herlihy and Shavit's fine-grained list.) Returns \`None\` if one of its loops has made \`N::MOST\` rounds.
+    { name: "fine_within", first: 61, steps: [{"line": 75, "rows": [1]}, {"line": 78, "rows": [12]}, {"line": 79, "rows": [13]}], calls: [[76, "walk"], [77, "act"]], text: `
+/// Makes a whole call: walks to the key, locking each node before it releases the previous one, acts there, and
+/// releases both locks. (Herlihy and Shavit's fine-grained list.) Returns \`None\` if one of its loops has made \`N::MOST\`
+/// rounds.
 pub fn fine_within<P: Pause, N: Rounds>(
     table: &Words<FineList>,
     place: &mut TableSeat,
@@ -137,7 +138,7 @@ pub fn fine_within<P: Pause, N: Rounds>(
   ],
   "crates/lset_loops/src/optimistic.rt": [
     { name: "walk", first: 22, steps: [{"line": 37, "rows": [2]}, {"line": 42, "rows": [3]}], calls: [], text: `
-/// Walks from the head, whose link led to \`first\`, to the first key that is not below the call's.
+/// Walks from the head, whose link led to \`first\`, to the first key that is not smaller than the call's.
 #[inline(always)]
 fn walk<P: Pause, N: Rounds>(
     caller: &Caller<OptimisticList, P>,
@@ -165,8 +166,8 @@ fn walk<P: Pause, N: Rounds>(
     None
 }` },
     { name: "reaches", first: 50, steps: [{"line": 68, "rows": [6]}, {"line": 70, "rows": [7]}], calls: [], text: `
-/// Walks a second time from the head, up to \`pred\`. Returns whether the walk reached \`pred\`: it fails if it sees a key above that
-/// of \`pred\`.
+/// Walks a second time from the head, up to \`pred\`. Returns whether the walk reached \`pred\`. It fails if it sees a key
+/// greater than that of \`pred\`.
 #[inline(always)]
 fn reaches<P: Pause, N: Rounds>(
     caller: &Caller<OptimisticList, P>,
@@ -196,7 +197,7 @@ fn reaches<P: Pause, N: Rounds>(
     None
 }` },
     { name: "validate", first: 81, steps: [{"line": 94, "rows": [8]}], calls: [[91, "reaches"]], text: `
-/// Checks that \`pred\` is still in the list and leads to \`curr\`. Both are locked.
+/// Checks that \`pred\` is still in the list and leads to \`curr\`. Both must be locked.
 fn validate<P: Pause, N: Rounds>(
     caller: &Caller<OptimisticList, P>,
     place: &mut TableSeat,
@@ -216,7 +217,7 @@ fn validate<P: Pause, N: Rounds>(
     Some(true)
 }` },
     { name: "act", first: 101, steps: [{"line": 112, "rows": [9, 10, 11]}, {"line": 116, "rows": [12]}, {"line": 117, "rows": [13]}], calls: [], text: `
-/// Adds, removes or only replies, at the key that the walk has found, between two locked nodes.
+/// Adds the key, removes it, or only replies, between the two locked nodes at which the walk has stopped.
 fn act<P: Pause>(
     caller: &Caller<OptimisticList, P>,
     place: &mut TableSeat,
@@ -239,9 +240,9 @@ fn act<P: Pause>(
     }
 }` },
     { name: "optimistic_within", first: 124, steps: [{"line": 138, "rows": [1], "begins": true, "answers": false}, {"line": 142, "rows": [4]}, {"line": 143, "rows": [5]}, {"line": 146, "rows": [14], "begins": false, "answers": true}, {"line": 147, "rows": [15], "begins": false, "answers": true}, {"line": 150, "rows": [14], "begins": false, "answers": false}, {"line": 151, "rows": [15], "begins": false, "answers": false}, {"line": 152, "rows": [1], "begins": false, "answers": false}], calls: [[140, "walk"], [144, "validate"], [145, "act"]], text: `
-/// Makes a whole call: walks to the key without a lock, locks the two nodes there, and checks by a second walk that they are
-/// still neighbours in the list. If they are, acts and releases them; else releases them and starts over. (Herlihy and Shavit's
-/// optimistic list.) Returns \`None\` if one of its loops has made \`N::MOST\` rounds.
+/// Makes a whole call: walks to the key without a lock, locks the two nodes there, and checks with a second walk that
+/// they are still neighbours in the list. If they are, acts and releases them; otherwise releases them and starts over.
+/// (Herlihy and Shavit's optimistic list.) Returns \`None\` if one of its loops has made \`N::MOST\` rounds.
 pub fn optimistic_within<P: Pause, N: Rounds>(
     table: &Words<OptimisticList>,
     place: &mut TableSeat,
@@ -274,7 +275,7 @@ pub fn optimistic_within<P: Pause, N: Rounds>(
   ],
   "crates/lset_loops/src/lazy.rt": [
     { name: "walk", first: 17, steps: [{"line": 31, "rows": [2]}, {"line": 35, "rows": [3]}], calls: [], text: `
-/// Walks from the head, whose link led to \`first\`, to the first key that is not below the call's.
+/// Walks from the head, whose link led to \`first\`, to the first key that is not smaller than the call's.
 #[inline(always)]
 fn walk<P: Pause, N: Rounds>(
     caller: &Caller<LazyList, P>,
@@ -298,8 +299,9 @@ fn walk<P: Pause, N: Rounds>(
     }
     None
 }` },
-    { name: "validate", first: 42, steps: [{"line": 51, "rows": [6]}, {"line": 55, "rows": [7]}], calls: [], text: `
-/// Checks that \`pred\` leads to \`curr\` and that neither is marked. Returns the next node of \`curr\`; \`None\` if the check fails.
+    { name: "validate", first: 42, steps: [{"line": 52, "rows": [6]}, {"line": 56, "rows": [7]}], calls: [], text: `
+/// Checks that \`pred\` leads to \`curr\` and that neither is marked. Returns the node after \`curr\`, or \`None\` if the check
+/// fails.
 fn validate<P: Pause>(
     caller: &Caller<LazyList, P>,
     place: &mut TableSeat,
@@ -318,8 +320,8 @@ fn validate<P: Pause>(
     }
     Some(Node::behind(after))
 }` },
-    { name: "act", first: 62, steps: [{"line": 74, "rows": [8, 9, 10]}, {"line": 78, "rows": [11]}, {"line": 79, "rows": [12]}], calls: [], text: `
-/// Adds, removes or only replies, at the key that the walk has found, between two locked nodes.
+    { name: "act", first: 63, steps: [{"line": 75, "rows": [8, 9, 10]}, {"line": 79, "rows": [11]}, {"line": 80, "rows": [12]}], calls: [], text: `
+/// Adds the key, removes it, or only replies, between the two locked nodes at which the walk has stopped.
 fn act<P: Pause>(
     caller: &Caller<LazyList, P>,
     place: &mut TableSeat,
@@ -342,10 +344,11 @@ fn act<P: Pause>(
         Decision::Answer(reply) => (caller.slots, reply),
     }
 }` },
-    { name: "lazy_change_within", first: 86, steps: [{"line": 101, "rows": [1], "begins": true, "answers": false}, {"line": 104, "rows": [4]}, {"line": 105, "rows": [5]}, {"line": 109, "rows": [13], "begins": false, "answers": true}, {"line": 110, "rows": [14], "begins": false, "answers": true}, {"line": 114, "rows": [13], "begins": false, "answers": false}, {"line": 115, "rows": [14], "begins": false, "answers": false}, {"line": 116, "rows": [1], "begins": false, "answers": false}], calls: [[103, "walk"], [106, "validate"], [108, "act"]], text: `
-/// Makes a whole \`add\` or \`remove\` on a LazyList: walks to the key without a lock, locks the two nodes there, and checks that
-/// they are still neighbours in the list. If they are, acts and releases them; else releases them and starts over. (Herlihy and
-/// Shavit's lazy list, after Heller and others.) Returns \`None\` if one of its loops has made \`N::MOST\` rounds.
+    { name: "lazy_change_within", first: 87, steps: [{"line": 103, "rows": [1], "begins": true, "answers": false}, {"line": 106, "rows": [4]}, {"line": 107, "rows": [5]}, {"line": 111, "rows": [13], "begins": false, "answers": true}, {"line": 112, "rows": [14], "begins": false, "answers": true}, {"line": 116, "rows": [13], "begins": false, "answers": false}, {"line": 117, "rows": [14], "begins": false, "answers": false}, {"line": 118, "rows": [1], "begins": false, "answers": false}], calls: [[105, "walk"], [108, "validate"], [110, "act"]], text: `
+/// Makes a whole \`add\` or \`remove\` on a LazyList: walks to the key without a lock, locks the two nodes there, and
+/// checks that they are still neighbours in the list. If they are, acts and releases them; otherwise releases them and
+/// starts over. (Herlihy and Shavit's lazy list, after Heller and others.) Returns \`None\` if one of its loops has made
+/// \`N::MOST\` rounds.
 pub fn lazy_change_within<P: Pause, N: Rounds>(
     table: &Words<LazyList>,
     place: &mut TableSeat,
@@ -381,12 +384,12 @@ pub fn lazy_change_within<P: Pause, N: Rounds>(
 }` },
   ],
   "crates/lset_loops/src/reads.rt": [
-    { name: "contains_on", first: 42, steps: [{"line": 59, "rows": [20], "begins": true, "answers": false}, {"line": 61, "rows": [21]}, {"line": 67, "rows": [22]}, {"line": 70, "rows": [20], "begins": false, "answers": false}], calls: [], text: `
-/// Makes a whole \`contains\` of \`key\`: walks to the first key that is not below its own, and checks the mark of the node that has
-/// it. (Herlihy and Shavit's wait-free \`contains\`.)
+    { name: "contains_on", first: 43, steps: [{"line": 60, "rows": [20], "begins": true, "answers": false}, {"line": 62, "rows": [21]}, {"line": 68, "rows": [22]}, {"line": 71, "rows": [20], "begins": false, "answers": false}], calls: [], text: `
+/// Makes a whole \`contains\` of \`key\`: walks to the first key that is not smaller than its own, and checks the mark of
+/// the node that has it. (Herlihy and Shavit's wait-free \`contains\`.)
 ///
-/// \`place\` is an idle seat of these words, and \`slots\` are the slots of its thread. Returns the slots and the reply. \`pause\` is
-/// called after each step that does not end the call. Does not block, and always returns.
+/// \`place\` is an idle seat of these words, and \`slots\` are its thread's slots. Returns the slots and the reply. \`pause\`
+/// is called after each step that does not end the call. Does not block, and always returns.
 pub fn contains_on<M: ReadsByRows, P: Pause>(
     table: &Words<M>,
     place: &mut TableSeat,
@@ -418,8 +421,8 @@ pub fn contains_on<M: ReadsByRows, P: Pause>(
   ],
   "crates/lset_loops/src/lock_free.rt": [
     { name: "find", first: 16, steps: [{"line": 30, "rows": [2]}, {"line": 33, "rows": [3]}, {"line": 39, "rows": [1], "begins": false, "answers": false}, {"line": 42, "rows": [4]}], calls: [], text: `
-/// Walks from the head, whose link led to \`first\`, to the first key that is not below the call's, and unlinks marked nodes on the
-/// way (Herlihy and Shavit's \`find\`).
+/// Walks from the head, whose link led to \`first\`, to the first key that is not smaller than the call's, and unlinks
+/// marked nodes on the way (Herlihy and Shavit's \`find\`).
 fn find<P: Pause, N: Rounds>(
     caller: &Caller<LockFreeList, P>,
     place: &mut TableSeat,
@@ -454,8 +457,9 @@ fn find<P: Pause, N: Rounds>(
     }
     None
 }` },
-    { name: "attempt", first: 53, steps: [{"line": 65, "rows": [5, 6]}, {"line": 66, "rows": [7]}, {"line": 73, "rows": [8]}, {"line": 74, "rows": [9]}, {"line": 78, "rows": [10]}], calls: [], text: `
-/// Adds, removes or only replies, at the key that the walk has found. Returns \`None\` if a link has changed in the meantime.
+    { name: "attempt", first: 53, steps: [{"line": 66, "rows": [5, 6]}, {"line": 67, "rows": [7]}, {"line": 74, "rows": [8]}, {"line": 75, "rows": [9]}, {"line": 79, "rows": [10]}], calls: [], text: `
+/// Adds the key, removes it, or only replies, at the place where the walk has stopped. Returns \`None\` if a link has
+/// changed since.
 fn attempt<P: Pause>(
     caller: &Caller<LockFreeList, P>,
     place: &mut TableSeat,
@@ -486,10 +490,10 @@ fn attempt<P: Pause>(
         Decision::Answer(reply) => Some((caller.slots, reply)),
     }
 }` },
-    { name: "lock_free_change_within", first: 85, steps: [{"line": 100, "rows": [1], "begins": true, "answers": false}, {"line": 105, "rows": [1], "begins": false, "answers": false}], calls: [[102, "find"], [103, "attempt"]], text: `
-/// Makes a whole \`add\` or \`remove\` on a LockFreeList: walks to the key, and links in its next slot there, or marks the node and
-/// attempts once to unlink it. Starts over if a link has changed. (Herlihy and Shavit's lock-free list.) Returns \`None\` if one of
-/// its loops has made \`N::MOST\` rounds.
+    { name: "lock_free_change_within", first: 86, steps: [{"line": 101, "rows": [1], "begins": true, "answers": false}, {"line": 106, "rows": [1], "begins": false, "answers": false}], calls: [[103, "find"], [104, "attempt"]], text: `
+/// Makes a whole \`add\` or \`remove\` on a LockFreeList. Walks to the key, then links in its next slot, or marks the node
+/// and attempts once to unlink it. Starts over if a link has changed since the walk. (Herlihy and Shavit's lock-free
+/// list.) Returns \`None\` if one of its loops has made \`N::MOST\` rounds.
 pub fn lock_free_change_within<P: Pause, N: Rounds>(
     table: &Words<LockFreeList>,
     place: &mut TableSeat,

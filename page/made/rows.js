@@ -423,7 +423,7 @@ export const LISTS = {
    "7": {
     "step": "load node.key",
     "then": "above pkey: reply none, 14; node is pred: 8; else 6",
-    "book": "has the walk reached pred, or passed it",
+    "book": "has the walk reached or passed pred",
     "invalid": 14
    },
    "8": {

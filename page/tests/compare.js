@@ -18,7 +18,8 @@ function check(result, name, isGood) {
   else result.failed.push(name);
 }
 
-// Each trace can be read, its schedule is the given one, and the state can move on and back to the start. Some runs end ceilings.
+// Checks that each trace parses, has the given schedule, and can be stepped forward and back to the start. Some of the
+// traces end ceilings.
 function checkTraces(result, engine, cases) {
   const replies = new Set();
   for (const { texts } of cases.filter((wanted) => wanted.function === "listset_trace")) {

@@ -108,7 +108,7 @@ class Document:
         return made
 
     def table(self, made):
-        """Returns a table. If its first column has numbers of rows or of events, they link to an event: the row's, or the event itself."""
+        """Returns a table. If its first column has numbers of rows or events, each links to an event: one of the row, or the event itself."""
         kind = re.search("<th>(.*?)</th>", made)[1]
         first = {"Row": self.row, "Events": lambda cell: self.runs.numbers(self.example, cell)}.get(kind, str)
         return re.sub(r"(?<=<tr>\n<td>)(.*?)(?=</td>)", lambda it: first(it[1]), made)

@@ -1,5 +1,5 @@
-// node page/tools/make_traces.js makes made/traces.js: the names and the traces of the classic examples, by the page's engine. A browser that cannot
-// run the engine shows the examples from this file.
+// node page/tools/make_traces.js: writes made/traces.js, the answers of the page's engine about the classic examples: the list of
+// their names, and the trace of each. Browsers that cannot run the engine show the examples from made/traces.js.
 "use strict";
 
 const fs = require("fs");

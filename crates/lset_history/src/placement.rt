@@ -18,8 +18,8 @@ pub fn logs_tell_histories()
     ensures { LogsTellHistories }
 {}
 
-/// Lemma: a reply fits a content if and only if the sequential set with these keys and this count returns it and does
-/// not change.
+/// Lemma: a reply fits a content if and only if a sequential set with those keys and that count returns the reply
+/// without changing.
 pub fn fits_are_replies()
     ensures { FitsAreReplies }
 {}

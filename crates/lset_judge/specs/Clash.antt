@@ -102,8 +102,7 @@ abbrev pub IsClash : List CallRecord → ℕ → Presence → Option Presence �
 IsClash calls key there left was first second =
     Clashes calls key there left was first second × InOrder calls key there left first second
 
--- States that if two calls of a history clash, no order explains the history and leaves these keys, whatever all other
--- calls did.
+-- If two calls of a history clash, no order both explains the history and leaves `keys`, whatever the other calls did.
 abbrev pub ClashesExcludeOrders : Type 0
 ClashesExcludeOrders = (h : HistoryValue) (keys : List ℕ) (key : ℕ) (there : Presence) (left : Option Presence) (was : Presence)
     (first second : Option CallRecord) → IsHistory h.opening.threads h.calls → has_key key h.opening.keys ≡ is_there there

@@ -71,7 +71,7 @@ key_in p = (key_of p.call.call).0
 abbrev pub event_of : Pending → Event
 event_of p = end_event (kind_if p.call.call p.call.ended) p.call.begun
 
--- States that the call has ended by the moment.
+-- States that the call has ended by the given moment.
 abbrev pub IsOver : ℕ → CallRecord → Type 0
 IsOver moment x = (end : ℕ × Reply) × (x.ended ≡ Some end) × (end.0 ≤ moment)
 

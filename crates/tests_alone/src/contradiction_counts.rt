@@ -1,4 +1,4 @@
-//! Contradictions found by counting: between some calls, a key must change back more often than it can.
+//! Contradictions found by counting: between certain calls, a key would have to change back more often than it can.
 
 use crate::prelude::*;
 use crate::test_histories::{FIVE, reply_of};

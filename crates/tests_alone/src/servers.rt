@@ -147,8 +147,8 @@ fn output_fails<R: Host>(rt: &R, alloc: Global, plan: Plan) -> Result<bool, Fail
     Ok(true)
 }
 
-/// Runs a server repeatedly, each time with a failure at the next call on its output, until a run ends without a
-/// failure. Returns the number of runs that failed.
+/// Runs a server repeatedly, making its output fail one call later each time, until a run ends without a failure.
+/// Returns the number of runs that failed.
 fn each_call_fails<R: Host>(rt: &R, alloc: Global, way: Way) -> Result<usize, Fail> {
     for fails_at in 0..MOST_CALLS {
         if !output_fails(rt, alloc, planned(way, fails_at))? {

@@ -3,7 +3,7 @@ use crate::runs::Runs;
 use lset_words::Presence;
 use std::alloc::{AllocError, Global};
 
-/// How many keys are known to be present at each moment, namely those that their last completed call left present.
+/// How many keys are known to be present at each moment: those whose last completed call left them present.
 #[derive(Drop)]
 pub struct Fullness {
     /// The moments at which the number changes, in increasing order.

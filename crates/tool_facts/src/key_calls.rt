@@ -34,8 +34,8 @@ impl Makers {
     }
 }
 
-/// The completed calls that left a key in one state: their ends in increasing order and, for each, which call up to it
-/// began last.
+/// The completed calls that left a key in a given state: their ends in increasing order and, for each, the call that
+/// began last among those up to it.
 #[derive(Drop)]
 struct Proofs {
     ends: Vec<u64>,

@@ -26,7 +26,7 @@ export function setHidden(part, isHidden, other) {
   part.hidden = isHidden;
 }
 
-// Scrolls a box so that a line of it is seen, with these distances to its upper and lower end.
+// Scrolls `box` so that `line` is visible, at least `above` from the upper edge and `below` from the lower edge.
 export function scrollToLine(box, line, above, below) {
   const y = line.offsetTop - box.offsetTop;
   if (y < box.scrollTop + above || y > box.scrollTop + box.clientHeight - below) box.scrollTop = y - box.clientHeight / 2;

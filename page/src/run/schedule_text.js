@@ -57,7 +57,7 @@ export function scheduleOfDraft(ask, text, lacks = null) {
   return made.status === 0 ? { text: made.text, fault: null } : { text: null, fault: made.text.trim() };
 }
 
-// Returns how many steps of a thread end its call or lead to a row, or why no number does.
+// Returns how many steps the thread needs to end its call or to reach `row`, or why no number of steps does.
 function stepsOfLacking(ask, lacks, lines, thread, row) {
   const fault = (cause) => ({ count: null, fault: `listset: line ${lines.length + 1}: ${cause}` });
   const { text } = ask("listset_lacking", lacks, `${[...lines, `go ${thread} ${MOST_TRIED}`].join("\n")}\n`, "trace");

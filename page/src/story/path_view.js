@@ -9,7 +9,7 @@ import { barHtml, dots, drawBar, endHtml, GONE, HERO, LAST, openContents, prompt
 import { head, numberOfKey, onStage, openScene, part, pressThread, scene, setScene, takeFigure, showPrompt, threadOfKey } from "./scene.js";
 import { toSlide } from "./slide.js";
 
-// The address names a screen and its part: #story=4 is the first part of screen 4, #story=4.2 the next.
+// The address names a screen and a part of it: #story=4 is the first part of screen 4, #story=4.2 the second.
 const placeIn = ({ id }) => {
   const [number, at = "1"] = id.split(".");
   return { number: Math.max(1, Math.min(LAST, Number(number) || 1)), at: Number(at) };
