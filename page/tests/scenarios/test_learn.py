@@ -123,7 +123,7 @@ def test_a_faulty_course_has_no_link(visitor):
     courses(visitor)
     visitor.type("#lesson-course-text", COURSE)
     visitor.click("#lesson-link")
-    visitor.wait("return document.getElementById('lesson-link-text').value")
+    visitor.wait("return document.getElementById('lesson-faults').innerText.includes('it opens')")  # a later line would move the button
     visitor.type("#lesson-course-text", COURSE.replace("list lazy", "list crazy"))
     visitor.click("#lesson-link")
     assert visitor.text("#lesson-faults").startswith("line 5:") and not visitor.is_seen("#lesson-link-text")
