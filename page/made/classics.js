@@ -38,7 +38,7 @@ export const CLASSICS = {
   ]
  },
  "same-gap": {
-  "question": "Both threads have walked without locks to the gap between head and tail. Thread 1 adds its key first. What does thread 0 do once it has its two locks?",
+  "question": "Both threads have walked without locks to the gap between head and tail. Thread 1 adds its key first. What does thread 0 do with both locks?",
   "turnsOn": "Thread 0 looks at pred again: the head leads to the node of 7 now. So thread 0 releases its locks and walks again.",
   "without": "If the validation finds pred but does not compare its link, the add links 5 to the tail, and 7 is lost.",
   "turns": [

@@ -26,9 +26,9 @@ abbrev pub moves : (Call → ℕ) → Table → State → Event → ℕ
 moves calls T s (Begin t call) = 0
 moves calls T s (Go t) = unless_failed s.words (T.next (local_of s t)) (calls (local_of s t).call)
 
--- [Livelock freedom]: states that of any `most` consecutive steps, not counting failed attempts to take a lock, at least
--- one ends its call. It does not matter which threads make the steps or what else happens in between. `calls` is 1 for the
--- calls whose steps count.
+-- [Livelock freedom]: states that of any `most` consecutive steps, not counting failed attempts to take a lock, at
+-- least one ends its call. It does not matter which threads make the steps or what else happens in between. `calls` is
+-- 1 for the calls whose steps count.
 abbrev pub IsLivelockFree : (Call → ℕ) → Table → (Sizes → ℕ) → Type 0
 IsLivelockFree calls T most = EndsAmong (moves calls T) T most
 

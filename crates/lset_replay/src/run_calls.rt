@@ -130,10 +130,11 @@ fn make_all<W: Steps + Drop>(
 /// Makes the events of a schedule until one is refused, and returns the calls of the run. `run` must not have made an
 /// event yet.
 ///
-/// A call that changed the set is placed at the event that made the change, even if the call is still pending. Any other
-/// completed call is placed at the first of its moments at which its reply is correct. On a broken list, a call that has no such moment
-/// is placed at its end. On a correct list, the history, the order and the keys equal those from `replay`. `schedule`
-/// must be within the limits, as every schedule from `read_schedule` is. Returns `AllocError` if an allocation fails.
+/// A call that changed the set is placed at the event that made the change, even if the call is still pending. Any
+/// other completed call is placed at the first of its moments at which its reply is correct. On a broken list, a call
+/// that has no such moment is placed at its end. On a correct list, the history, the order and the keys equal those
+/// from `replay`. `schedule` must be within the limits, as every schedule from `read_schedule` is. Returns `AllocError`
+/// if an allocation fails.
 pub fn calls_of<W: Steps + Drop>(
     alloc: Global,
     schedule: &Schedule,

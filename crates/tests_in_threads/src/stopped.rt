@@ -54,8 +54,8 @@ impl Told {
     }
 }
 
-/// A `Pause` for tests that run two threads. Thread 1 stops until thread 0 has ended its call or has failed three times.
-/// Thread 0 stops until thread 1 has stopped.
+/// A `Pause` for tests that run two threads. Thread 1 stops until thread 0 has ended its call or has failed three
+/// times. Thread 0 stops until thread 1 has stopped.
 #[derive(Drop)]
 struct Stopping<'a, R> {
     rt: &'a R,
