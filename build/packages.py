@@ -1,5 +1,6 @@
 """Makes the package formats of a release: a .tar.gz, a .deb for dpkg, a wheel for pip, and SHA256SUMS. The input is a dict
-from names to bytes. Equal files make equal packages, since only the given time and owner are used.
+from names to bytes. Equal files make equal packages, since only the given time and owner are used. (The packagers' own tools
+put days, owners and their versions into the bytes.)
 """
 
 import base64
