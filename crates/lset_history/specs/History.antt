@@ -18,7 +18,7 @@ pub record HistoryValue : Type 0 where
 abbrev pub has_open : List CallRecord → ℕ → Bool
 has_open calls thread = list_any (λ x. x.thread == thread && is_none x.ended) calls
 
--- States that the moment is at least 1 and after every earlier moment.
+-- States that the moment is at least 1 and after every begin and end in these calls.
 pub record IsLater (calls : List CallRecord) (at : ℕ) : Type 0 where
   pub counted : 0 < at
   pub begins : All (λ (x : CallRecord). x.begun < at) calls
