@@ -90,8 +90,8 @@ fn run_all<R: Threads + Wait + Sync, M: Running + Send + Sync, G: Gate + Sync>(
 ///
 /// - `Programs`: if and only if the number of programs differs from the number of seats, or the seats do not hold all
 ///   seats of the set. No call was made, and the set and the seats are returned.
-/// - `Spawn`: the system refused to start a thread. The threads that had been started ran to completion.
-/// - `Gate`: the gate returned false. That thread stopped, and the others ran to completion.
+/// - `Spawn`: the system refused to start a thread. The threads that had been started have ended.
+/// - `Gate`: the gate returned false, and the thread that it stopped made no further call. All threads have ended.
 /// - `Memory`: an allocation failed. All memory, including that for the final keys, is allocated before the first
 ///   thread starts. The set and the seats are returned.
 ///
