@@ -77,7 +77,8 @@ pub record MissesFirst (calls : List CallRecord) (order : List Placed) (number :
   pub missing : IsMissing calls order number
   pub smallest : (smaller : ℕ) → smaller < number → IsMissing calls order smaller → ⊥
 
--- States that this is the order's error, and that all earlier checks passed.
+-- States that this is the first error of the order: every earlier check accepts the order, and no earlier place fails
+-- this check. `Missing` names the smallest number of a missing call. For `Memory`, nothing is stated.
 abbrev pub IsFault : HistoryValue → List Placed → List ℕ → OrderFault → Type 0
 IsFault h order keys (Unknown number) = RefusesFirst (IsUnknown h.calls order) order number
 IsFault h order keys (Twice number) = Passes (IsUnknown h.calls order) order × RefusesFirst (IsTwice order) order number

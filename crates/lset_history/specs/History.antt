@@ -18,7 +18,7 @@ pub record HistoryValue : Type 0 where
 abbrev pub has_open : List CallRecord → ℕ → Bool
 has_open calls thread = list_any (λ x. x.thread == thread && is_none x.ended) calls
 
--- States that the moment is at least 1 and after every earlier moment.
+-- States that the moment is at least 1 and after every begin and end in these calls.
 pub record IsLater (calls : List CallRecord) (at : ℕ) : Type 0 where
   pub counted : 0 < at
   pub begins : All (λ (x : CallRecord). x.begun < at) calls
@@ -30,7 +30,8 @@ pub record MayBegin (h : HistoryValue) (thread at : ℕ) : Type 0 where
   pub idle : has_open h.calls thread ≡ false
   pub later : IsLater h.calls at
 
--- States that this is the first reason why the history does not let a call begin.
+-- States that this is the first reason why the history does not let a call begin. `Memory` is the reason only if the
+-- thread can begin a call at this moment.
 abbrev pub CannotBegin : HistoryValue → ℕ → ℕ → HistoryFault → Type 0
 CannotBegin h thread at NoThread = h.opening.threads ≤ thread
 CannotBegin h thread at Busy = (thread < h.opening.threads) × (has_open h.calls thread ≡ true)
@@ -50,7 +51,7 @@ pub record MayEnd (h : HistoryValue) (number at : ℕ) : Type 0 where
   pub open_call : IsOpen h.calls number
   pub later : IsLater h.calls at
 
--- States that this is the first reason why the history does not let a call end.
+-- States that this is the first reason why the history does not let a call end. `Memory` is never the reason.
 abbrev pub CannotEnd : HistoryValue → ℕ → ℕ → HistoryFault → Type 0
 CannotEnd h number at NotOpen = IsOpen h.calls number → ⊥
 CannotEnd h number at Time = IsOpen h.calls number × (IsLater h.calls at → ⊥)

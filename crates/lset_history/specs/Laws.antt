@@ -37,7 +37,8 @@ PlacementLinearizes = (op : Opening) (last : ℕ) (log : Log) (lists : ℕ → L
     → IsPlacement op.quota (calls_at log last) (contents_of_lists lists) counts order
     → Linearizes op.quota (opening_set op) (history_at log last) order × HasKeysOf (set_of_order op log last order) (lists last)
 
--- States that every run has a placement. So every call that changed the set or ended has a place in an order.
+-- States that every run that satisfies an account has a placement. So every call that changed the set or ended has a
+-- place in the order.
 abbrev pub EveryCallHasAPlace : Type 0
 EveryCallHasAPlace = (op : Opening) (last : ℕ) (log : Log) (lists : ℕ → List ℕ) (counts : Counts)
     → Account op last log (contents_of_lists lists) counts
@@ -55,7 +56,8 @@ IncreasesFor (call.Remove k) keys = Unit {0}
 IncreasesFor (call.Contains k) keys = Unit {0}
 IncreasesFor (call.Ceiling k) keys = IsStrictlyIncreasing keys
 
--- States that a reply fits if and only if the sequential set returns it and does not change.
+-- States that a reply fits a content and a count if and only if the sequential set with these keys and this count
+-- returns the reply and does not change.
 abbrev pub FitsAreReplies : Type 0
 FitsAreReplies = (quota thread count : ℕ) (keys : List ℕ) (s : SetState) (call : Call) (reply : Reply)
     → ((j : ℕ) → Contains keys j ↔ Contains s.keys j) → IncreasesFor call s.keys → count_of s thread ≡ count

@@ -4,13 +4,15 @@ use Rattle.std.specs.Prelude.{◌≡◌, ℕ, ◌<◌, ◌≤◌, ◌==◌, nat_
 use Rattle.std.specs.Prelude.{None}
 use Rattle.lset_history.specs.Changes.{is_present, is_present_now}
 
--- States that this is the next moment after `moment` at which a key changes, together with that key.
+-- States that no key changes after `moment` and before the returned moment, and that at the returned moment at most the
+-- returned key changes. `None` states that no key changes after `moment`.
 abbrev pub IsNextNote : (ℕ → List ℕ) → ℕ → Option (ℕ × ℕ) → Type 0
 IsNextNote changes moment None = (j : ℕ) → All (λ m. m ≤ moment) (changes j)
 IsNextNote changes moment (Some n) = (moment < n.0)
     × ((j : ℕ) → All (λ m. moment < m → m ≤ n.0 → (m ≡ n.0) × (j ≡ n.1)) (changes j))
 
--- States that this is the next larger key that is present after the last change.
+-- States that no key between `key` and the returned key is present after the last change. `None` states that no key
+-- above `key` is present then.
 abbrev pub IsNextPresent : (ℕ → List ℕ) → ℕ → Option ℕ → Type 0
 IsNextPresent changes key None = (j : ℕ) → key < j → is_present_now changes j ≡ false
 IsNextPresent changes key (Some k) = (key < k) × ((j : ℕ) → key < j → j < k → is_present_now changes j ≡ false)

@@ -210,7 +210,8 @@ impl Changes {
         self.first(key, true, moment, moment).0.is_some()
     }
 
-    /// Returns the next moment after `moment` at which a key changed, and this key.
+    /// Returns the next entry of `keys_at` after `moment`. No key changes between, and at the returned moment at most
+    /// the returned key changes.
     fn note_after(&self, moment: u32) -> Option<(u32, u32)>
         ensures { IsNextNote (moments_of self.now) moment result }
     {
@@ -221,7 +222,7 @@ impl Changes {
         }
     }
 
-    /// Returns the next key above `key` that is in the set after the last change.
+    /// Returns the next key above `key` in `keys_now`. No key between is in the set after the last change.
     fn present_after(&self, key: u32) -> Option<u32>
         ensures { IsNextPresent (moments_of self.now) key result }
     {
@@ -263,7 +264,8 @@ impl Changes {
         moment
     }
 
-    /// Returns whether every key from `key` to just below `end` that is in the set now was absent at `moment`.
+    /// Returns `true` only if each key from `key` to just below `end` that is in the set after the last change was
+    /// absent at `moment`. Returns `false` only if some key in this range was present at `moment`.
     fn came_after(&self, key: u32, end: Option<u32>, moment: u32) -> bool
         ensures came { IsTrue result → CameAfter (moments_of self.now) key end moment }
         ensures there { result ≡ false → IsSomeThere (moments_of self.now) key end moment }

@@ -31,7 +31,7 @@ pub enum OrderFault {
     /// No call of the history has this number.
     #[error("no call has the number {0}")]
     Unknown(u32),
-    /// The call is in the order twice.
+    /// The call is in the order more than once.
     #[error("call {0} stands twice")]
     Twice(u32),
     /// A completed call is not in the order. If there are several, the smallest number is reported.

@@ -105,8 +105,10 @@ impl History {
         self.opening = opening;
     }
 
-    /// Appends a call to the history, with its end if it has ended. The history must allow the call as its next one.
-    /// Can allocate. If an allocation fails, returns `AllocError` and changes nothing.
+    /// Appends a call to the history, with its end if it has ended. The call must satisfy `MayFollow`: it begins after
+    /// every call of the history has begun, none of its moments is a moment of another call, and the earlier calls of
+    /// its thread ended before it begins. Can allocate. If an allocation fails, returns `AllocError` and changes
+    /// nothing.
     pub fn push(&mut self, call_record: CallRecord) -> Result<(), AllocError>
         requires { MayFollow self.old.opening.threads self.old.calls call_record }
         ensures pushed { OnOk result (self.new ≡ with_begun self.old call_record) }

@@ -18,8 +18,8 @@ pub fn logs_tell_histories()
     ensures { LogsTellHistories }
 {}
 
-/// Lemma: a reply fits a content if and only if a sequential set with those keys and that count returns the reply
-/// without changing.
+/// Lemma: a reply fits a content and a count if and only if the sequential set with these keys and this count returns
+/// the reply and does not change.
 pub fn fits_are_replies()
     ensures { FitsAreReplies }
 {}

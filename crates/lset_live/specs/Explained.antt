@@ -58,9 +58,9 @@ abbrev pub NamedIn : ℕ → List Record → Type 0
 NamedIn u [] = ⊥
 NamedIn u (r ∷ rs) = Names u r ⊎ NamedIn u rs
 
--- There is one legal order of exactly the calls in the records. The order keeps each record, so it keeps the order of
--- each seat's calls and the order of gathering, and it leaves these keys. It need not keep real-time order between
--- seats: this is sequential consistency.
+-- A legal order of exactly the calls in the records. The order keeps each record, so it keeps the order of each seat's
+-- calls and the order of gathering. It leaves these keys. It need not keep real-time order between seats: this is
+-- sequential consistency.
 pub record IsOneLegalOrder (k : Opening) (records : List Record) (keys : List ℕ) : Type 0 where
   pub order : List Answered
   pub legal : IsLegal k.quota (opening_set k) order
@@ -69,9 +69,10 @@ pub record IsOneLegalOrder (k : Opening) (records : List Record) (keys : List �
   pub no_other : (u : ℕ) → u < k.threads → ¬ (NamedIn u records) → calls_by u order ≡ []
   pub leaves : (set_left (opening_set k) order).keys ≡ keys
 
--- There is one legal order in time of exactly the calls in the records, for a seat that has seen these events. The
--- order also linearizes the history of the events, so a call that ended before another one began comes before it. The
--- events begin with what the seats had seen, so the order respects receipts in the same way as gathering.
+-- A legal order of exactly the calls in the records that also linearizes the history of these events. So a call that
+-- ended before another one began comes before it. The contracts state it for events that begin with what the seats had
+-- seen, and a seat that takes a receipt has seen what the giver had seen. So the order respects receipts in the same
+-- way as gathering.
 pub record IsOneOrderInTime (T : Table) (k : Opening) (events : List Event) (records : List Record) (keys : List ℕ) : Type 0 where
   pub run : IsRunOf T k events
   pub placed : List Placed

@@ -61,7 +61,8 @@ abbrev pub reply_of : Bool → Reply
 reply_of true = True
 reply_of false = False
 
--- Returns the record after gathering these records, one after another, into the first.
+-- Returns the record after gathering these records, one after another, into the given record or, without one, into the
+-- first of them.
 abbrev pub gather_onto : Option Record → List Record → Option Record
 gather_onto r [] = r
 gather_onto None (g ∷ gs) = gather_onto (Some g) gs

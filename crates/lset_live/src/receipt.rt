@@ -64,9 +64,10 @@ impl<M: Machine> LiveSet<M> {
         }
     }
 
-    /// Adds the events of the receipt to what the seat has seen. Both must belong to this set. Later calls of the seat begin after
-    /// all calls in the receipt's events, and each order that explains them has those calls first (`receipts_keep_order`). The
-    /// seat's record and the seats that it holds do not change. Does not block or allocate.
+    /// Adds the events of the receipt to what the seat has seen. Both must belong to this set. Later calls of the seat
+    /// begin after all events of the receipt. In each order that explains them, the calls that had ended in these
+    /// events come first (`receipts_keep_order`). The seat's record and the seats that it holds do not change. Does not
+    /// block or allocate.
     pub fn after(&self, seat: &mut Seat<M>, receipt: Receipt<M>)
         requires seat { seat.old.set ≡ self.now }
         requires receipt { receipt.set ≡ self.now }

@@ -33,7 +33,8 @@ use std::sync::Wait;
 use thiserror::Error;
 
 /// A running set of the list `M` (Herlihy and Shavit's `Set`, with a quota). Threads share it by `&`, and each thread
-/// calls from a seat of its own. Contracts see the set's table, threads and quota.
+/// calls from a seat of its own. Contracts see the set's table and its opening: the number of threads, the quota and
+/// the opening keys.
 #[derive(Drop)]
 pub struct LiveSet<M: Machine> {
     pub(crate) table: Table<(), View, Opened, Follows<M>, Global>,
@@ -228,7 +229,8 @@ impl<M: Machine> LiveSet<M> {
     }
 
     /// Closes the set if the seat holds all seats; otherwise returns both unchanged in `SeatsOut`. There is a legal
-    /// order of calls that keeps the seat's record, has no other call, and leaves exactly the final keys.
+    /// order of calls that keeps the seat's record, has no other call, and leaves exactly the final keys. It also
+    /// linearizes the history of the events that the seat has seen.
     pub fn close(self, seat: Seat<M>) -> Result<Closed, SeatsOut<M>>
         requires { seat.set ≡ self }
         ensures all { IfOk result (λ c. seat.held ≡ self.shape.threads) }
@@ -308,8 +310,9 @@ impl<M: Machine> LiveSet<M> {
 }
 
 impl<M: OpenContains> LiveSet<M> {
-    /// Returns whether the key is in the set, as `contains_now` does. For functions that must not wait, on a list that need not be
-    /// `Running`.
+    /// Returns whether the key is in the set, without blocking or allocating. The call is wait-free: whatever other
+    /// threads do, it makes at most `bound` steps, each of them a load (`lset_steps::OpenReads`). Unlike
+    /// `contains_now`, it does not require that the list is `Running`.
     pub fn contains_within_bound(&self, seat: &mut Seat<M>, key: Key) -> bool
         requires { seat.old.set ≡ self.now }
         ensures answered { HasAnswered M.table self.now seat.old (Contains key) (reply_of result) seat.new }

@@ -65,8 +65,8 @@ impl<M: Running> Seat<M> {
 
     /// Returns whether `key` is in `set`. This seat must belong to `set`.
     ///
-    /// Appends the call with the reply `True` or `False` to the seat's record, as `LiveSet::contains` does. Can block while another
-    /// thread holds a lock that the call needs; `LiveSet::contains_now` never blocks. Does not allocate.
+    /// Appends the call with the reply `True` or `False` to the seat's record, as `LiveSet::contains` does. Can block
+    /// while another thread holds a lock that the call needs; `LiveSet::contains_now` never blocks. Does not allocate.
     ///
     /// For example:
     ///

@@ -15,7 +15,7 @@ use lset_rule::{OwnSlots, Pause, TableSeat, Words};
 use lset_steps::OpenReads;
 use lset_words::{Call, Key, Reply};
 
-/// A list whose `contains` has rows 20 to 22 of `lset_steps`.
+/// A list whose `contains` and `ceiling` have rows 20 to 25 of `lset_steps`.
 pub trait ReadsByRows: OpenReads {
     ghost reading: { HasReading Self.table };
 }

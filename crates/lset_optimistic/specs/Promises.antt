@@ -14,7 +14,7 @@ use Rattle.lset_steps.specs.Chain.{View, InChain, FitsIn}
 use Rattle.lset_steps.specs.Laws.{views}
 use Rattle.lset_optimistic.specs.Optimistic.{optimistic}
 
--- Returns the private state of thread t at moment k. `world_at` has the view of that moment.
+-- Returns the private state of thread t at moment k. `world_at` returns the view of the world at moment k.
 abbrev pub held_at : Opening → (ℕ → Event) → ℕ → ℕ → Local
 held_at op es k t = local_of (state_at optimistic op es k) t
 

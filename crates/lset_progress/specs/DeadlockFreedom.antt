@@ -21,14 +21,15 @@ unless_failed ws (Load w) n = n
 unless_failed ws (Store w v) n = n
 unless_failed ws (Exchange w old new) n = if slice_index ws w == old then n else if is_lock_word w then 0 else n
 
--- Returns 1 for a step that counts: its call counts, and it is not a failed attempt to take a lock.
+-- Returns 1 for a step that counts, else 0. A step counts if `calls` is 1 for its call, and if it is not a failed
+-- attempt to take a lock.
 abbrev pub moves : (Call → ℕ) → Table → State → Event → ℕ
 moves calls T s (Begin t call) = 0
 moves calls T s (Go t) = unless_failed s.words (T.next (local_of s t)) (calls (local_of s t).call)
 
--- [Livelock freedom]: states that of any `most` consecutive steps, not counting failed attempts to take a lock, at
--- least one ends its call. It does not matter which threads make the steps or what else happens in between. `calls` is
--- 1 for the calls whose steps count.
+-- [Livelock freedom]: states that among any `most` successive steps that count, one ends its call. It does not matter
+-- which threads make these steps or what else happens in between. A step counts if `calls` is 1 for its call, and if it
+-- is not a failed attempt to take a lock.
 abbrev pub IsLivelockFree : (Call → ℕ) → Table → (Sizes → ℕ) → Type 0
 IsLivelockFree calls T most = EndsAmong (moves calls T) T most
 

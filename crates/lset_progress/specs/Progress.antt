@@ -123,8 +123,8 @@ EndsAmong count T most = (op : Opening) (k n : ℕ) (es : ℕ → Event) → Run
 abbrev pub IsLockFree : Table → (Sizes → ℕ) → Type 0
 IsLockFree T most = (reads : Bool) → EndsAmong (steps_of reads) T most
 
--- Returns the maximum number of steps of a call that runs alone, for N nodes: the head, the tail, the slots of n
--- threads with quota q, and the nodes of the opening keys.
+-- Returns a bound on the steps of a call that runs alone, for N nodes: the head, the tail, the slots of n threads with
+-- quota q, and the nodes of the opening keys.
 abbrev pub coarse_steps : Sizes → ℕ
 coarse_steps sz = 2 * node_count sz + 3
 
@@ -137,8 +137,9 @@ optimistic_steps sz = 8 * node_count sz + 9
 abbrev pub lock_free_steps : Sizes → ℕ
 lock_free_steps sz = 4 * node_count sz + 5
 
--- Returns the number of steps: each thread's pending call, and one more walk for each exchange that succeeds without
--- ending a call. Each thread marks at most one node, and each node is unlinked at most once.
+-- Returns the number of steps: those of each thread's pending call and, for each exchange that succeeds without ending
+-- a call, those of one more walk of each thread. Each thread marks at most one node, and each node is unlinked at most
+-- once.
 abbrev pub lock_free_window : Sizes → ℕ
 lock_free_window sz =
     sz.threads * (2 * node_count sz + 2) * (node_count sz + sz.threads) + sz.threads * lock_free_steps sz

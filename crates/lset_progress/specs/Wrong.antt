@@ -98,8 +98,9 @@ crossed = record {
   effect = lazy.effect;
 }
 
--- LazyList with these two orders of locks, except that no thread waits for its second lock. A thread reads this lock
--- (row 16). If it is taken, the thread releases its first lock (row 15) and starts again.
+-- LazyList, except that a remove locks curr before pred, while an add locks pred before curr, and that a thread reads
+-- its second lock (row 16) before it attempts to take this lock. If the lock is taken, the thread releases its first
+-- lock (row 15) and starts again.
 abbrev pub looks_first : Fed → Fed
 looks_first f = record { local = if f.local.pc == 5 then record f.local { pc = 16 } else f.local; answer = f.answer }
 

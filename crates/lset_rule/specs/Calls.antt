@@ -50,7 +50,7 @@ Starts m c v n w = (log : List Event) × (on : StartsWith log v.seen) × Sees m 
     × (let b = begun_view m log c v in w ≡ gone_view m b.seen n b) × Stands m w
     × (let b = begun_view m log c v in seen_next m (end_of m v.shape b.seen) v.thread ≡ n)
 
--- The same knowledge in the form that the table's steps require. A seat never holds a slot of the table, since the
+-- `Goes` and `Starts` in the form that the table's steps require. A seat never holds a slot of the table, since the
 -- table has no slots.
 abbrev pub onward : Table → Step (Unit {0}) → Me (Unit {0}) View → ℕ → Me (Unit {0}) View → Type 0
 onward m st me n me' = Goes m me.0 n me'.0 × (me'.1 ≡ me.1)

@@ -7,8 +7,8 @@ use lset_words::{Call, Reply};
 use std::collections::LinkedList;
 use std::marker::Model;
 
-/// The opening of a set: the number of threads, the number of slots per thread, and the opening keys. It identifies the
-/// table, and is fixed when the set is opened.
+/// The opening of a set: the number of threads, the number of slots per thread, and the opening keys. It is the `key`
+/// of the set's table, and is fixed when the set is opened.
 #[derive(Drop)]
 pub struct Opened {
     threads: u32,

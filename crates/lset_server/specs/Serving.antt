@@ -13,7 +13,7 @@ followed [] more = []
 followed (r ∷ rs) [] = r ∷ rs
 followed (r ∷ rs) (cs ∷ more) = with_calls r cs ∷ followed rs more
 
--- One legal order leaves these keys. It has the calls in these records, `calls` more calls, and no others. The
+-- A legal order of exactly the calls in these records and `calls` more keeps the records and leaves these keys. The
 -- additional calls that follow a record were made by the record's own thread.
 pub record IsServed (k : Opening) (records : List Record) (calls : ℕ) (keys : List ℕ) : Type 0 where
   pub added : List (List CallMade)

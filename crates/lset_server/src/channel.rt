@@ -93,8 +93,8 @@ impl<S> Lesson<Message<S>, Tally> for Receiving {
     ghost fact = { λ v items. ⊤ };
 }
 
-/// What follows about the queue if a pass has all parts: the messages sent are the messages received and the messages
-/// in the queue.
+/// What follows about the queue if a pass has all parts: the connections sent are the connections received and the
+/// connections in the queue.
 pub(crate) struct Balanced;
 
 impl<S> Lesson<Message<S>, Tally> for Balanced {
@@ -166,7 +166,7 @@ pub(crate) fn take_back<S: Drop>(to: &Sender<S>, pass: &mut Token<S>, other: Tok
     to.absorb::<Parting>(pass, other)
 }
 
-/// Lemma: if the pass has all parts, the messages sent are the messages received and those in the queue.
+/// Lemma: if the pass has all parts, the connections sent are the connections received and those in the queue.
 pub(crate) fn balance<S: Drop>(to: &Sender<S>, pass: &mut Token<S>)
     requires channel { IsSeatAt (sends_on to.now) pass.old }
     requires all { (view pass.old).parts ≡ PARTS }

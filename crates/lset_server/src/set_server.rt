@@ -226,8 +226,8 @@ fn serve_all<R: Threads + Wait + Clock + Sync, M: Running + Send + Sync>(
 ///
 /// Returns a `ServeFault` with one of these causes:
 ///
-/// - `Seats`: if and only if the seats do not hold all seats of the set. No connection was accepted, and the set and the seats are
-///   returned.
+/// - `Seats`: if and only if the seats do not hold all seats of the set. No connection was accepted, and the set and
+///   the seats are returned.
 /// - `Accept`, `Spawn`: the system refused a connection or a thread.
 /// - `Send`: the channel returned a connection.
 /// - `Left`: the workers received fewer connections than were accepted.

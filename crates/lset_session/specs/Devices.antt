@@ -15,6 +15,6 @@ is_failed d = d.failed
 abbrev pub CutShort : Option (List ℕ) → Option (List ℕ) → List ℕ → Type 0
 CutShort old new text = (front : List ℕ) × (b : ℕ) × (cut : List ℕ) × (text ≡ front ++ b ∷ cut) × Appends old new front
 
--- States that the whole text was written or, if the write failed, a proper prefix.
+-- States that the whole text was written if `whole` is true, and otherwise a proper prefix.
 abbrev pub Writes : Bool → Option (List ℕ) → Option (List ℕ) → List ℕ → Type 0
 Writes whole old new text = MatchBool whole (Appends old new text) (CutShort old new text)

@@ -17,8 +17,8 @@ abbrev pub Wrote : EndReason → Option (List ℕ) → Option (List ℕ) → Lis
 Wrote why.WriteFault w w' talk = CutAnswers w w' talk
 Wrote end w w' talk = Appends w w' (answers_in talk)
 
--- Returns how the text that was read ends, if the session has ended for this reason. If a read failed, the text just
--- stops.
+-- Returns why the text that was read ends, for a session that has ended for the reason `end`. After a failed read, no
+-- line has ended the text, so the result is `End`. Otherwise the result is `end`.
 abbrev pub text_end : EndReason → EndReason
 text_end why.ReadFault = why.End
 text_end end = end
@@ -30,11 +30,12 @@ pub record IsSession (end : EndReason) (calls : ℕ) (s s' : Option (List ℕ)) 
   pub bytes : List ℕ
   pub talk : List Exchange
   pub read : Consumes s s' bytes
-  -- The turns are the turns of these bytes. Unless a write has failed, they are all of them.
+  -- The turns are the first turns of these bytes. Unless a write has failed, they are all of them.
   pub turns : (later : List Turn) × (turns_of bytes ≡ turns_in talk ++ later) × (end ≢ why.WriteFault → later ≡ [])
   pub recorded : r' ≡ with_calls r (calls_in talk)
   pub count : calls ≡ length (calls_in talk)
   pub wrote : Wrote end w w' talk
-  -- The text of these bytes ends for the same reason as the session, unless a write has failed.
+  -- Unless a write has failed, the text of these bytes ends for the session's reason or, after a failed read, for
+  -- `End`.
   pub ends : end ≢ why.WriteFault → end_of (turns_of bytes) ≡ text_end end
   pub drained : end ≡ why.End → IsAtEnd s'

@@ -41,12 +41,12 @@ view sz ws used = record {
   published = Published sz used;
 }
 
--- States that following links from i visits the nodes ns, then reaches j.
+-- States that following links from i visits exactly the nodes ns, none of which is the tail, and then reaches j.
 abbrev pub Segment : View → ℕ → List ℕ → ℕ → Type 0
 Segment v i [] j = i ≡ j
 Segment v i (a ∷ ns) j = (a ≡ i) × (i ≢ 1) × Segment v (v.link i / 2) ns j
 
--- States that node b is reachable from the head.
+-- States that node b is reachable from the head without passing the tail.
 abbrev pub InChain : View → ℕ → Type 0
 InChain v b = (ns : List ℕ) × Segment v 0 ns b
 
@@ -58,7 +58,8 @@ IsChain v ns = Segment v 0 ns 1
 abbrev pub InContent : View → ℕ → Type 0
 InContent v k = (b : ℕ) × InChain v b × (1 < b) × (v.key b ≡ k + 1) × (v.link b % 2 ≡ 0)
 
--- The link of each published node except the tail leads to a published node with a greater key.
+-- The head and the tail are published, and no published key is above the tail's. The link of each published node except
+-- the tail leads to a published node with a greater key.
 pub record IsOrdered (v : View) : Type 0 where
   pub head_published : v.published 0
   pub tail_published : v.published 1
@@ -72,7 +73,8 @@ abbrev pub UnmarkedInChain : Bool → View → Type 0
 UnmarkedInChain true v = (b : ℕ) → v.published b → v.link b % 2 ≡ 0 → InChain v b
 UnmarkedInChain false v = (b : ℕ) → v.published b → v.link b % 2 ≡ 0
 
--- [Content] of a world: states how an event changes it. `contents_of` has the contents at the moments of a run.
+-- [Content] of a world: states that the content changes from `v` to `w` as `change` says. `contents_of` has the
+-- contents at the moments of a run.
 abbrev pub Changed : Option (Key × Bool) → View → View → Type 0
 Changed change v w = Changes change (InContent v) (InContent w)
 
@@ -85,9 +87,9 @@ counts_of vs moment thread = (vs moment).used thread
 abbrev pub FitsIn : ℕ → View → ℕ → Call → Reply → Type 0
 FitsIn quota v thread call reply = Fits quota (InContent v) (v.used thread) call reply
 
--- [Unlinked stays]: w is a later view than v, and node i is published in v. The node's key is the same in w. If the
--- node was unlinked, its link is the same and the node is not in the chain. In a list that marks nodes, a marked node
--- has the same link.
+-- [Unlinked stays]: for a later view w, and a node i that is published in v. The node is published in w, with the same
+-- key. If the node is unlinked in v, it is unlinked in w, with the same link. In a list that marks nodes, a node that
+-- is marked in v has the same link in w.
 pub record UnlinkedStays (marks : Bool) (v w : View) (i : ℕ) : Type 0 where
   pub published : w.published i
   pub key : w.key i ≡ v.key i

@@ -89,7 +89,7 @@ pub record StepLaws (T : Table) (op : Opening) (es : ℕ → Event) (k t : ℕ) 
   -- The thread's call may make this change.
   pub by_call : MayChange op.quota l.used l.call (has_changed (log_of T op es) t k) change
   pub counts : (T.feed l (seen_next T s t)).local.used ≡ count_after change l.used
-  -- If the step has a reply, the call ends, and the reply is correct.
+  -- The call ends if and only if the step has a reply, and the reply is correct.
   pub answered : Answered (has_changed (log_of T op es) t (suc k)) op.quota (views T op es)
       (begun_at (log_of T op es) t (suc k)) (suc k) t l.call
       (T.feed l (seen_next T s t)).local.pc (T.feed l (seen_next T s t)).answer
@@ -107,7 +107,8 @@ pub record BeginLaws (begin : Call → Local → Local) (call : Call) (l : Local
   -- The new state depends only on the thread's number, quota and count of successful adds.
   pub alike : begin call l ≡ begin call (record (idle l.quota l.thread) { used = l.used })
 
--- The laws of a machine: properties of every begin, every state and every step, in each of its runs.
+-- The laws of a machine: properties of every begin, every state and every step, in each of its runs, and of nodes at
+-- two moments of a run.
 pub record Lawful (T : Table) : Type 0 where
   pub begins : (call : Call) (l : Local) → BeginLaws T.begin call l
   -- Every state of every run has the properties of `StateLaws`.
@@ -115,11 +116,13 @@ pub record Lawful (T : Table) : Type 0 where
       StateLaws T.marks (sizes op) (state_at T op es k)
   -- Every step has the properties of `StepLaws`.
   pub steps : (op : Opening) (last k t : ℕ) (es : ℕ → Event) → Run T op es last → k < last → es k ≡ Go t → StepAt T op es k t
-  -- At every later moment, a published node has the same key, and an unlinked node the same link.
+  -- At every later moment, a published node is published and has the same key. An unlinked node stays unlinked, with
+  -- the same link. In a list that marks nodes, a marked node has the same link.
   pub unlinked_stays : (op : Opening) (last j k i : ℕ) (es : ℕ → Event) → Run T op es last → j ≤ k → k ≤ last
       → (views T op es j).published i
       → UnlinkedStays T.marks (views T op es j) (views T op es k) i
-  -- If a node was in the chain, each link read from it later is one that it had while it was in the chain.
+  -- If a node is in the chain at moment j, the link that it has at a later moment k is one that it had while it was in
+  -- the chain, at some moment from j to k.
   pub seen_before : (op : Opening) (last j k b : ℕ) (es : ℕ → Event) → Run T op es last → j ≤ k → k ≤ last
       → InChain (views T op es j) b
       → Seen (views T op es) j k b ((views T op es k).link b)

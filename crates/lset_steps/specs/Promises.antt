@@ -41,7 +41,7 @@ abbrev pub SortedChain : Table → Type 0
 SortedChain T = (op : Opening) (last k : ℕ) (es : ℕ → Event) → Run T op es last → k ≤ last → ChainIsSorted (views T op es k)
 
 -- [Lock words]: a lock word is t + 1 from the step at which thread t takes the lock until the store of 0 that releases
--- it, and is otherwise 0. Returns the value of lock word x after an action, given its value before it.
+-- it, and is otherwise 0. Returns the value of lock word x after an action of thread t, given its value before it.
 abbrev pub held : ℕ → ℕ → ℕ → Action → ℕ
 held x t old (Load w) = old
 held x t old (Store w v) = if w == x then 0 else old
@@ -69,8 +69,8 @@ abbrev pub LockUses : Table → Type 0
 LockUses T = (op : Opening) (last k t : ℕ) (es : ℕ → Event) → Run T op es last → k < last → es k ≡ Go t
     → LockUse (state_at T op es k).words t (T.next (local_of (state_at T op es k) t))
 
--- [Unlinked stays]: states that a node published at moment j has the same key at each later moment k. It also has the
--- same link if it is unlinked at j or, in a list that marks nodes, marked at j.
+-- [Unlinked stays]: states that a node published at moment j has the same key at each later moment k. If it is unlinked
+-- at j, it is unlinked at k, with the same link. In a list that marks nodes, a node marked at j has the same link at k.
 abbrev pub UnlinkedNodesStay : Table → Type 0
 UnlinkedNodesStay T = (op : Opening) (last j k i : ℕ) (es : ℕ → Event) → Run T op es last → j ≤ k → k ≤ last
     → (views T op es j).published i → UnlinkedStays T.marks (views T op es j) (views T op es k) i
@@ -90,7 +90,7 @@ FrozenNodes T = (op : Opening) (last k i : ℕ) (es : ℕ → Event) → Run T o
     → Freezes T op last es k i
 
 -- [Seen in the past]: states that if a node was in the chain at moment j and its link word is read at a later moment k,
--- then at some moment in between it was in the chain with this link word.
+-- then at some moment from j to k it was in the chain with this link word.
 abbrev pub SeenInThePast : Table → Type 0
 SeenInThePast T = (op : Opening) (last j k b : ℕ) (es : ℕ → Event) → Run T op es last → j ≤ k → k ≤ last
     → InChain (views T op es j) b → Seen (views T op es) j k b ((views T op es k).link b)

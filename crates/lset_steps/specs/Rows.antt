@@ -11,7 +11,7 @@ use Rattle.lset_steps.specs.declared.Local.{Local}
 use Rattle.lset_steps.specs.Steps.{idle}
 use Rattle.lset_steps.specs.declared.rows.Targets.{Targets}
 
--- Returns the slot that the thread's next successful add links into the chain.
+-- Returns the node of the slot that the thread's next successful add links into the chain.
 abbrev pub own_slot : Local → ℕ
 own_slot l = slot_node l.quota l.thread l.used
 

@@ -123,7 +123,7 @@ abbrev pub state_at : Table → Opening → (ℕ → Event) → ℕ → State
 state_at T op es zero = opening op
 state_at T op es (suc k) = after T (state_at T op es k) (es k)
 
--- Each event before moment `last` is enabled in the state before it.
+-- A run of `last` events: the opening is within its limits, and each event is enabled in the state before it.
 pub record Run (T : Table) (op : Opening) (es : ℕ → Event) (last : ℕ) : Type 0 where
   pub opens : Opens op
   pub enabled : (k : ℕ) → k < last → Enabled (state_at T op es k) (es k)

@@ -74,9 +74,9 @@ pub fn no_link_is_marked<M: Machine>()
     ensures { NoLinkIsMarked M.table }
 {}
 
-/// Lemma: the content changes only at a step whose effect names a key, and only by that key. An `Add` of the key adds
-/// it if the thread is below its quota; a `Remove` of the key removes it. A call changes the content at most once.
-/// (Herlihy and Shavit's linearization points of calls that change the set.)
+/// Lemma: the content changes only at a step whose effect names a key, and only by that key. Only an `Add` of the key
+/// can add it, while its thread is below its quota. Only a `Remove` of the key can remove it. A call changes the
+/// content at most once. (Herlihy and Shavit's linearization points of calls that change the set.)
 pub fn named_change<M: Machine>()
     ensures { NamedChange M.table }
 {}
@@ -110,8 +110,9 @@ pub fn bounded_reads<M: OpenReads>()
     ensures { BoundedReads M.table }
 {}
 
-/// Lemma: in a list with open reads, each node that a `contains` has passed was in the chain at some moment of the call, with the
-/// link that was read. The node can have left the chain before the load. (O'Hearn and others' hindsight.)
+/// Lemma: in a list with open reads, each node that a `contains` or a `ceiling` has passed was in the chain at some
+/// moment of the call, with the link that was read. The node can have left the chain before the load. (O'Hearn and
+/// others' hindsight.)
 pub fn walk_was_in_chain<M: OpenReads>()
     ensures { WalkWasInChain M.table }
 {}

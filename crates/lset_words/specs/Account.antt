@@ -17,8 +17,9 @@ Content = ℕ → Type 0
 abbrev pub Same : Content → Content → Type 0
 Same before after = (j : ℕ) → (before j → after j) × (after j → before j)
 
--- [Named change]: relates the content before a change to the content after it. They differ in the changed key alone. A
--- key is added only if it was absent, and removed only if it was present.
+-- [Named change]: relates the content before a step to the content after it. Without a change, both have the same keys.
+-- Otherwise they differ in the changed key alone: a key is added only if it was absent, and removed only if it was
+-- present.
 abbrev pub Changes : Option Change → Content → Content → Type 0
 Changes None before after = Same before after
 Changes (Some (k, true)) before after =
@@ -75,7 +76,7 @@ Contents = ℕ → Content
 abbrev pub Counts : Type 0
 Counts = ℕ → ℕ → ℕ
 
--- States that the reply of this thread's call is correct at some moment from `first` to `last`.
+-- States that a reply to this thread's call fits at some moment from `first` to `last`.
 pub record FitsSometime (quota : ℕ) (contents : Contents) (counts : Counts) (first last thread : ℕ) (call : Call)
     (reply : Reply) : Type 0 where
   pub moment : ℕ
@@ -83,8 +84,8 @@ pub record FitsSometime (quota : ℕ) (contents : Contents) (counts : Counts) (f
   pub upto : moment ≤ last
   pub fits : Fits quota (contents moment) (counts moment thread) call reply
 
--- States when a reply is correct. A call that has made a change replies `True`. Any other reply must be correct at some
--- moment of its call.
+-- States when a reply is correct. A call that has made a change must reply `True`. The reply of a call that has made no
+-- change must fit at some moment from `first` to `last`. If there is no reply, nothing is required.
 abbrev pub RightReply : Bool → ℕ → Contents → Counts → ℕ → ℕ → ℕ → Call → Option Reply → Type 0
 RightReply changed quota contents counts first last thread call None = Unit {0}
 RightReply true quota contents counts first last thread call (Some reply) = reply ≡ True
@@ -127,5 +128,5 @@ pub record Account (o : Opening) (last : ℕ) (log : Log) (contents : Contents) 
   pub opens : (k : ℕ) → (contents 0 k → InList o.keys k) × (InList o.keys k → contents 0 k)
   -- At moment 0, no thread has added a key.
   pub none_yet : (t : ℕ) → t < o.threads → counts 0 t ≡ 0
-  -- Each entry of the log is a valid begin or a valid step.
+  -- Each of the first `last` entries of the log is a valid begin or a valid step.
   pub enters : (k : ℕ) → k < last → Enters o.threads o.quota log contents counts k (log k)

@@ -17,7 +17,8 @@ abbrev pub is_there : Presence → Bool
 is_there Present = true
 is_there Absent = false
 
--- Returns the effect of a call with this reply: the call changes its key, or sees it present or absent.
+-- Returns the effect of a call with this reply: the call changes its key, or sees it present or absent. The effect is
+-- `Other` if the reply shows nothing about the key.
 abbrev pub effect_of : Call → Reply → Effect
 effect_of (Add k) True = Changes Present
 effect_of (Add k) False = Sees Present

@@ -28,7 +28,7 @@ pub record Follows (y x : CallRecord) : Type 0 where
   -- The two calls begin and end at different moments.
   pub begins_alone : IfSome y.ended (λ (e : ℕ × Reply). e.0 ≢ x.begun)
   pub ends_alone : IfSome x.ended (λ (e : ℕ × Reply). (e.0 ≢ y.begun) × IfSome y.ended (λ (d : ℕ × Reply). e.0 ≢ d.0))
-  -- A thread begins a call only after its previous call has ended.
+  -- If both calls are made by one thread, `y` ends before `x` begins.
   pub none_open : y.thread ≡ x.thread → IsSomeAnd y.ended (λ (e : ℕ × Reply). e.0 < x.begun)
 
 -- The conditions under which call `x` can be appended to a history.
@@ -65,5 +65,5 @@ pub record Linearizes (quota : ℕ) (start : SetState) (history : List CallRecor
       → Contains order (record { call = number; reply = reply })
   -- The sequential set returns these replies in turn.
   pub legal : IsLegal quota start (map (answered history) order)
-  -- If a call precedes another in real time, it comes first in the order.
+  -- No call of the order comes before a call that had ended when it began.
   pub in_time : AllPairs (λ (p r : Placed). Precedes (call_numbered history r.call) (call_numbered history p.call) → ⊥) order

@@ -49,7 +49,7 @@ abbrev pub calls_after : ℕ → Entry → List TracedCall → List TracedCall
 calls_after moment (began t call) xs = xs ++ record { thread = t; call = call; begun = moment; changed = None; ended = None } ∷ []
 calls_after moment (stepped t change reply) xs = map (λ x. if is_under_way t x then traced_on moment change reply x else x) xs
 
--- Returns the calls that have begun by moment k, in the order in which they begin.
+-- Returns the calls that have begun by moment k, in the order in which they begin, as they are at moment k.
 abbrev pub calls_at : Log → ℕ → List TracedCall
 calls_at log zero = []
 calls_at log (suc k) = calls_after (suc k) (log k) (calls_at log k)

@@ -58,8 +58,9 @@ placed_by u c = record { thread = u; call = c.call; reply = c.reply }
 abbrev pub HasOwnCalls : List Answered → Record → Type 0
 HasOwnCalls order r = calls_by (thread_of r) order ≡ map (placed_by (thread_of r)) (own_calls r)
 
--- States where the order has call `c`, which r's thread made when its record was `r`. Before `c`, the order has exactly
--- r's own calls of that thread. After `c`, it has no call of a thread whose record was gathered into `r`.
+-- States where the order has call `c`, which r's thread made when its record was `r`. Before `c`, the order's calls of
+-- that thread are exactly r's own calls. After `c`, the order has no call of a thread whose record was gathered into
+-- `r`, directly or as part of another record.
 pub record Follows (order : List Answered) (r : Record) (c : CallMade) : Type 0 where
   pub before : List Answered
   pub after : List Answered

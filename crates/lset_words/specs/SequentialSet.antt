@@ -19,7 +19,7 @@ abbrev pub has_key : ℕ → List ℕ → Bool
 has_key k [] = false
 has_key k (x ∷ xs) = x == k || has_key k xs
 
--- Inserts k into increasing keys at its place.
+-- Returns increasing keys with k inserted at its place. k must not be one of them.
 abbrev pub with_key : ℕ → List ℕ → List ℕ
 with_key k [] = k ∷ []
 with_key k (x ∷ xs) = if nat_lt k x then k ∷ x ∷ xs else x ∷ with_key k xs
@@ -28,7 +28,7 @@ abbrev pub without_key : ℕ → List ℕ → List ℕ
 without_key k [] = []
 without_key k (x ∷ xs) = if x == k then without_key k xs else x ∷ without_key k xs
 
--- Returns the smallest of increasing keys at or above k, as a reply.
+-- Returns the smallest of increasing keys at or above k, as a reply; `Nothing` if there is none.
 abbrev pub ceiling_in : ℕ → List ℕ → Reply
 ceiling_in k [] = Nothing
 ceiling_in k (x ∷ xs) = if nat_lt x k then ceiling_in k xs else At (record { 0 = x })

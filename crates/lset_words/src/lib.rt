@@ -97,8 +97,9 @@ impl Call {
     }
 }
 
-/// What a completed call returns. `add`, `remove` and `contains` reply `True` or `False`; `add` replies `Full` if its thread
-/// has used up its quota. `ceiling` replies `At` with the key that it found, or `Nothing` if there is none.
+/// What a completed call returns. `add`, `remove` and `contains` reply `True` or `False`; `add` replies `Full` if the
+/// key is absent and the thread has used up its quota. `ceiling` replies `At` with the key that it found, or `Nothing`
+/// if there is none.
 #[derive(Clone, Copy, Debug, PartialEq, Eq)]
 pub enum Reply {
     True,

@@ -16,7 +16,7 @@ pub trait SetCalls {
     /// The record of a seat.
     ghost record_of: { Self.Seat → Record };
 
-    /// The number of seats merged into a seat, itself included.
+    /// The number of seats that a seat holds: itself and those that were gathered into it.
     ghost held_by: { Self.Seat → ℕ };
 
     /// Makes `call` from `seat`, which must belong to this set, and returns the reply. Appends the call with its reply

@@ -5,7 +5,8 @@ pub trait Gate {
     /// Whether the gate can return false.
     ghost may_shut: { Self → Bool } = { λ _. true };
 
-    /// Returns whether to make call number `call`, counted from 0, of the program on seat `seat`.
+    /// Returns whether to make call number `call`, counted from 0, of the program that runs on the seat of thread
+    /// `seat`.
     fn pass(&self, seat: u32, call: u32) -> bool
         ensures { may_shut self.now ≡ false → IsTrue result };
 }

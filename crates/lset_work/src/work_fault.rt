@@ -9,10 +9,10 @@ pub enum WorkCause {
     /// thread was started.
     #[error("the number of programs is not the number of seats, or seats are missing")]
     Programs,
-    /// The system refused to start a thread. The threads that had been started ran to completion.
+    /// The system refused to start a thread. The threads that had been started have ended.
     #[error("the system refused to start a thread")]
     Spawn,
-    /// The gate returned false. The other threads ran to completion.
+    /// The gate returned false, and the thread that it stopped made no further call. All threads have ended.
     #[error("the gate returned false")]
     Gate,
     /// An allocation failed. No thread was started.

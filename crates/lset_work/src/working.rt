@@ -79,21 +79,21 @@ fn run_all<R: Threads + Wait + Sync, M: Running + Send + Sync, G: Gate + Sync>(
 
 /// Makes the calls of each program on its seat. All programs run at the same time, each on its own thread.
 ///
-/// `gate` is asked before each call. At the end, the seats are gathered and the set is closed. There is one legal order
+/// `gate` is asked before each call. At the end, the seats are gathered and the set is closed. There is a legal order
 /// of calls (Herlihy and Wing) that has each seat's earlier record followed by the calls of its program with their
 /// replies, has no other call, and leaves the final keys. A program has at most 4,294,967,295 calls. Blocks until all
 /// threads have ended. A thread can wait for locks of the set, and for as long as the gate does.
 ///
 /// # Errors
 ///
-/// Returns a `WorkFault` with the first of these causes that applies:
+/// Returns a `WorkFault` with one of these causes:
 ///
-/// - `Programs`: the number of programs differs from the number of seats, or the seats do not hold all seats of the set. No call was
-///   made, and the set and the seats are returned.
-/// - `Spawn`: the system refused to start a thread. The threads that had been started ran to completion.
-/// - `Gate`: the gate returned false. That thread stopped, and the others ran to completion.
-/// - `Memory`: an allocation failed. All memory, including that for the final keys, is allocated before the first thread starts. The
-///   set and the seats are returned.
+/// - `Programs`: if and only if the number of programs differs from the number of seats, or the seats do not hold all
+///   seats of the set. No call was made, and the set and the seats are returned.
+/// - `Spawn`: the system refused to start a thread. The threads that had been started have ended.
+/// - `Gate`: the gate returned false, and the thread that it stopped made no further call. All threads have ended.
+/// - `Memory`: an allocation failed. All memory, including that for the final keys, is allocated before the first
+///   thread starts. The set and the seats are returned.
 ///
 /// No contract states when the system refuses to start a thread, or when a gate that can return false does so.
 pub fn work<R: Threads + Wait + Sync, M: Running + Send + Sync, G: Gate + Sync>(
@@ -110,8 +110,8 @@ pub fn work<R: Threads + Wait + Sync, M: Running + Send + Sync, G: Gate + Sync>(
     ensures replies { IfOk result (λ o. map (λ v. length v.items) o.replies.items ≡ map (λ p. length p.items) programs.items) }
     ensures outcome { IfOk result (λ o. IsOneLegalOrder set.shape (worked
         (map (λ s. s.past) seats.items) (map (λ p. p.items) programs.items) (map (λ v. v.items) o.replies.items)) o.keys.items) }
-    // The order keeps time: calls that a seat had seen before, or that the giver of a receipt it took had seen, come
-    // first.
+    // The order also linearizes a history that begins with the events that the seats had seen. So calls that had ended
+    // in these events come before calls that began later, even if a seat knew them only from a receipt.
     ensures in_time { IfOk result (λ o. IsWorkInTime M.table set.shape seats.items (worked
         (map (λ s. s.past) seats.items) (map (λ p. p.items) programs.items) (map (λ v. v.items) o.replies.items)) o.keys.items) }
     // The cause is `Programs` exactly if the programs and the seats do not fit.

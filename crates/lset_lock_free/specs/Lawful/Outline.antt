@@ -46,8 +46,8 @@ pub record Was (vs : ℕ → View) (first now a b t count : ℕ) (P : View → T
   pub holds : P (vs at)
   pub same_count : (vs at).used t ≡ count
 
--- States that at some moment of the call curr was the node after pred, whose key is smaller than the call's. `Open`
--- states that succ was the node after curr, which was not marked.
+-- States that at some moment from `first` to `now`, pred was in the chain with a key below the call's, and curr was its
+-- next node. `Open` states that at some such moment curr was in the chain and not marked, and succ was its next node.
 abbrev pub Link : (ℕ → View) → ℕ → ℕ → ℕ → ℕ → ℕ → ℕ → ℕ → Type 0
 Link vs first now key pred curr t count = Was vs first now pred curr t count (λ v. v.key pred < key)
 
