@@ -17,7 +17,7 @@ export const CLASSICS = {
  "full": {
   "question": "A thread with one slot adds 5, removes it and adds 7. Is there a slot for 7?",
   "turnsOn": "No: each slot is used once, so no thread ever reaches a node whose key has changed. full changes nothing, and is correct from the begin of its call.",
-  "without": "If a slot is used again, the key of a node changes while other threads may be at that node (new-slot).",
+  "without": "If a slot is used again, the key of a node changes while other threads can be at that node (new-slot).",
   "turns": [
    14,
    19
@@ -38,7 +38,7 @@ export const CLASSICS = {
   ]
  },
  "same-gap": {
-  "question": "Both threads have walked without locks to the gap between head and tail. Thread 1 adds its key first. What does thread 0 do with both locks?",
+  "question": "Both threads have walked without locks to the gap between head and tail. Thread 1 adds its key first. What does thread 0 do once it has both locks?",
   "turnsOn": "Thread 0 looks at pred again: the head leads to the node of 7 now. So thread 0 releases its locks and walks again.",
   "without": "If the validation finds pred but does not compare its link, the add links 5 to the tail, and 7 is lost.",
   "turns": [
@@ -50,7 +50,7 @@ export const CLASSICS = {
  "stale-pred": {
   "question": "Thread 0 has found pred = 3 and curr = tail. Thread 1 removes 3, whose node still leads to the tail. May thread 0 write?",
   "turnsOn": "No: an unlinked node keeps its link. Thread 0 walks once more from the head, and gets past the key of pred without reaching pred.",
-  "without": "5 is added after an unlinked node (second-walk). A walk that looks for the key of pred, and not for the node, may find another node with that key (same-node).",
+  "without": "5 is added after an unlinked node (second-walk). A walk that looks for the key of pred, and not for the node, can find another node with that key (same-node).",
   "turns": [
    24,
    30
