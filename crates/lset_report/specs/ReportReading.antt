@@ -54,8 +54,8 @@ most_keys One = MOST_KEYS
 most_keys Two = MOST_KEYS_OPENED
 
 -- A report that has a text: a set can open with its sizes and keys, its calls are a history, its version has words for
--- its opening keys, calls and replies, and all numbers are within the limits. The order and the final keys are
--- arbitrary.
+-- its opening keys, calls and replies, and all numbers, and the counts of calls, places and keys, are within their
+-- limits. The order and the final keys are otherwise arbitrary.
 pub record IsReport (r : ReportValue) : Type 0 where
   pub opens : Opens r.history.opening
   pub opening : HasOpening r.version r.history.opening.keys
@@ -253,7 +253,7 @@ no_lines version h = record {
 abbrev pub nothing_told : Version → HeaderTold → SoFar
 nothing_told version h = record { section = section.Opening; report = no_lines version h }
 
--- The version that the first line of a text names.
+-- The version of a text: version 2 if its first line is the title of version 2, else version 1.
 abbrev pub version_told : List (List ℕ) → Version
 version_told parts = version_in (title Two) parts
 
