@@ -34,7 +34,7 @@ abbrev pub end_of : ℕ → Option (ℕ × Reply) → ℕ
 end_of begun None = begun
 end_of begun (Some e) = e.0
 
--- True if the second call begins before the first has ended.
+-- True if the second call begins at or before the end of the first, or if the first is pending.
 abbrev pub overlap : Option (ℕ × Reply) → ℕ → Bool
 overlap None begun = true
 overlap (Some e) begun = nat_le begun e.0
