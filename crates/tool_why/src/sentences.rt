@@ -130,7 +130,7 @@ fn put_ways(out: &mut String, odd: &Odd) -> Result<(), AllocError> {
     }
 }
 
-/// Writes the scope for an faulty operation.
+/// Writes the scope for a faulty operation.
 fn put_odd(out: &mut String, odd: &Odd) -> Result<(), AllocError> {
     let word = answers_word(odd.operation);
     let (wrong, of) = (odd.wrong, odd.of);
