@@ -1,5 +1,5 @@
--- What command lines ask for. Commands that are not named here, broken lists and `judge --only` have no clause. They
--- are memory-safe and tested, but not proved.
+-- What command lines ask for. Commands that are not named here, broken lists and `judge --only` have no clause: their
+-- code is safe and tested, but nothing is proved about what they print.
 use Rattle.std.specs.Prelude.{Bool, true, false, List, Option, Some, None, Result, Ok, Err}
 use Rattle.clap.specs.Words.{Text}
 use Rattle.lset_command.specs.CommandLine.{Choice, OptionValues}
