@@ -109,7 +109,8 @@ begun_by (looks w since) f = f
 begun_by (leaves w) f = f
 begun_by idle f = f
 
--- States that the facts `new` have this call as their kept call, and otherwise the ends of changes of `old`.
+-- States that the call leaves the key in the state `was` of the facts `new` and is their kept call. The moments by
+-- which changes end stay as in `old`.
 pub record IsKept (call : StreamCall) (old new : Facts) : Type 0 where
   pub first : first_of (key_of call.call).0 new ≡ Some call
   pub leaves : leaves_if call.call call.ended ≡ Some new.was

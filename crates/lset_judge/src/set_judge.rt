@@ -24,8 +24,8 @@ pub enum Verdict {
 }
 
 /// Judges the calls of a set as they come. A judge keeps the state of each key, at most one ended call of each key, the
-/// pending calls, and ends of the threads' last calls. Its memory does not grow with the number of calls that have
-/// ended.
+/// pending calls, and the ends of threads' last calls. Its memory grows with the number of keys, of threads and of
+/// pending calls, but not with the number of calls.
 ///
 /// Calls must come in the order of their begins. `close` and `close_cut_off` return whether some order explains them.
 #[derive(Drop)]

@@ -380,8 +380,9 @@ fn verdict_of_key(key: Option<u32>) -> StreamVerdict
     }
 }
 
-/// A stream of calls of a set that is judged call by call. It stores the state of each key and the pending calls, so
-/// its memory use does not grow with the number of calls.
+/// A stream of calls of a set that is judged call by call. It stores the state of each key, the pending calls, and the
+/// ends of threads' last calls. Its memory grows with the number of keys, of threads and of pending calls, but not with
+/// the number of calls.
 ///
 /// Calls must arrive in the order in which they began. `verdict` and `verdict_cut_off` return whether some order
 /// explains them. The rule looks at the moments of each key only once and in order, so no moment has to be stored.
