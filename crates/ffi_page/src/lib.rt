@@ -112,10 +112,10 @@ pub extern "C" fn listset_why(alloc: Global, text: &[u8], room: &mut [u8], statu
 
 /// Diagnoses a refused recording and writes a record, with status 1. The record has these lines, in this order:
 /// `headline TEXT`; `call THREAD OPERATION KEY BEGIN END REPLY MARK` for each call shown, in the order of their begins
-/// (MARK is `-`, `expected BOOL`, `leaves STATE` with `present` or `absent`, or `either`); `also THREAD OPERATION KEY
-/// BEGIN END REPLY` for each change of another key at the same time; `fact TEXT` for each fact; and, if there is a
-/// likely cause, `likely TEXT` and `because TEXT`. END and REPLY are `-` for a pending call. If the text is not a
-/// recording or some order explains it, writes nothing and sets status 0.
+/// (MARK is `-`, `expected BOOL`, `leaves STATE` or `finds STATE` with `present` or `absent`, or `either`); `also
+/// THREAD OPERATION KEY BEGIN END REPLY` for each change of another key at the same time (of many, the longest); `fact
+/// TEXT` for each fact; and, if there is a likely cause, `likely TEXT` and `because TEXT`. END and REPLY are `-` for a
+/// pending call. If the text is not a recording or some order explains it, writes nothing and sets status 0.
 #[unsafe(no_mangle)]
 pub extern "C" fn listset_why_record(
     alloc: Global,
