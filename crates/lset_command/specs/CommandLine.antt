@@ -1,5 +1,5 @@
--- The command line of the program: the table of its commands, as simple commands of clap. The definitions of clap say which values
--- the words give.
+-- The command line of the program: the table of its commands, as simple commands of clap. The definitions of clap say
+-- which values the words give.
 use Rattle.std.specs.Prelude.{◌≡◌, Result, IfOk, List, [], map, codes, Bool, true, false, ◌||◌, fold, Option, Some, None, option_map, unwrap_or}
 use Rattle.std.specs.Prelude.{string_bytes, if◌then◌else◌, option_and_then}
 use Rattle.std.specs.List.{flat_map}
