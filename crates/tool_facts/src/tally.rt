@@ -54,7 +54,8 @@ pub struct Tally {
     pub usual: u64,
     /// Of `lost` and `came_back` that a call shows: the change before is known.
     pub made: u64,
-    /// Of `made`: a change of another key that can have read the set before the change, and written it afterwards, overlapped the change.
+    /// Of `made`: a change of another key that can have read the set before the change, and written it afterwards,
+    /// overlapped the change.
     pub fits: u64,
     /// How many contradictions, of all kinds, have no two overlapping calls.
     pub apart: u64,
@@ -126,8 +127,8 @@ impl Tally {
         }
     }
 
-    /// Counts a change that was undone, and whether a change of another key can have written back what it read before. `key` has the calls
-    /// of the key.
+    /// Counts a change that was undone, and whether a change of another key can have written back what it read before.
+    /// `key` has the calls of the key.
     pub fn add_change(&mut self, key: &KeyCalls, place: &Place, neighbours: &Neighbours) {
         let Some(second) = place.clash.second else {
             return;
