@@ -113,7 +113,8 @@ fn places_with(
     Ok(found)
 }
 
-/// Returns the place that is shown: the first place in a long split, or the clearest place of the most frequent symptom, if possible of `key`.
+/// Returns the place that is shown: the first place in a long split, or the clearest place of the most frequent
+/// symptom, if possible of `key`.
 fn place_shown(alloc: Global, found: &Found, key: u32) -> Result<Option<Place>, AllocError> {
     if found.odd.is_some() {
         return Ok(clearest(&found.places, key));

@@ -314,8 +314,8 @@ fn needs_no_race(tally: &Tally) -> bool {
     tally.gone() >= 2 * ENOUGH && tally.apart >= ENOUGH && is_share(tally.apart, tally.places, 10)
 }
 
-/// Returns whether the losses need no race, or no two calls are both true and most losses are not beside a change that can have written back
-/// what it read.
+/// Returns whether the losses need no race, or no two calls are both true and most losses are not beside a change that
+/// can have written back what it read.
 fn is_displaced(tally: &Tally) -> bool {
     let is_alone = !is_least(tally.fits, tally.made, 60);
     needs_no_race(tally) || (tally.both() == 0 && is_alone)

@@ -253,7 +253,8 @@ fn put_apart(out: &mut String, tally: &Tally) -> Result<(), AllocError> {
     )
 }
 
-/// Writes how often another key was changed at losses and returns, and how often a call that returned false can have made the change.
+/// Writes how often another key was changed at losses and returns, and how often a call that returned false can have
+/// made the change.
 fn put_gone_beside(out: &mut String, tally: &Tally) -> Result<(), AllocError> {
     let (beside, timed) = (tally.beside, tally.timed());
     let (silent, gone) = (tally.silent, tally.gone());
