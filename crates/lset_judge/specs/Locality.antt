@@ -30,8 +30,8 @@ KeysAreApart = (h : HistoryValue) (keys : List ℕ) (part : ℕ → ℕ) (parts 
     → ((key : ℕ) → part key < parts)
     → IsExplained h keys ↔ ((i : ℕ) → i < parts → IsExplained (part_of part i h) (keys_in part i keys))
 
--- A judged history needs no other quota: if some order explains it with another quota, some order explains it with its
--- own.
+-- The quota of a judged history does not matter: if some order explains the history with another quota, some order
+-- explains it with its own.
 abbrev pub QuotasDoNotMatter : Type 0
 QuotasDoNotMatter = (h : HistoryValue) (keys : List ℕ) (quota : ℕ)
     → IsHistory h.opening.threads h.calls → IsStrictlyIncreasing h.opening.keys → IsStrictlyIncreasing keys → IsJudged h

@@ -165,8 +165,8 @@ impl KeyChanges {
     }
 
     /// Returns whether no heap is needed for a change to the state `to` that begins at the moment after `before` and
-    /// ends at `end`. It has an end, and all earlier changes have ended by `before`, the last of them a change to the
-    /// other state.
+    /// ends at `end`: it has an end, each earlier change has ended by `before`, and the last of them, if any, was to
+    /// the other state.
     fn is_alone(&self, to: Presence, before: u64, end: u64) -> bool
         ensures alone { IsTrue result → is_many self.now.held ≡ false }
         ensures puts { IsTrue result → (puts_in self.now ≡ []) × (takes_in self.now ≡ []) }
