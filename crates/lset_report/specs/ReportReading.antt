@@ -117,7 +117,7 @@ abbrev pub from_opening : Version → List (LineKind ReportLine)
 from_opening One = from_calls
 from_opening Two = opening_kind ∷ from_calls
 
--- THE LINES that can come next in a section, by version
+-- Returns the kinds of lines that can come next in a section of a report of this version.
 abbrev pub kinds : Version → Section → List (LineKind ReportLine)
 kinds version section.Opening = from_opening version
 kinds version section.Calls = from_calls
@@ -237,7 +237,7 @@ is_done section.Done = true
 abbrev pub ends : SoFar → Result SoFar Cause
 ends s = if is_done s.section then Ok s else Err wrong.NotEnded
 
--- THE GRAMMAR of the lines after the header
+-- The grammar of the lines after the header.
 abbrev pub grammar : Grammar SoFar
 grammar = record { step = step; ends = ends }
 
@@ -257,7 +257,7 @@ nothing_told version h = record { section = section.Opening; report = no_lines v
 abbrev pub version_told : List (List ℕ) → Version
 version_told parts = version_in (title Two) parts
 
--- THE GRAMMAR of a text of a version
+-- Returns the grammar of a report's text in this version.
 abbrev pub text : Version → TextGrammar SoFar
 text version = record { title = title version; start = nothing_told version; lines = grammar }
 
