@@ -21,7 +21,8 @@ abbrev pub asked_replay : Option Text → Option Asked
 asked_replay None = Some (Ok (Replay None))
 asked_replay (Some name) = None
 
--- `judge`, with only the verdict or with all details
+-- Returns the job of `judge`: with `--brief` the verdict without details, else with all details. `--only` has no
+-- clause.
 abbrev pub asked_judge : Option Text → Bool → Option Asked
 asked_judge None true = Some (Ok Verdict)
 asked_judge None false = Some (Ok Judge)
