@@ -67,7 +67,7 @@ pub struct Options {
     pub to: Option<String>,
     /// The maximum row length of `show`, in characters.
     pub width: Option<String>,
-    /// Whether `judge` prints only the verdict.
+    /// Whether `judge` prints the verdict without what is wrong.
     pub brief: bool,
     /// The only key whose calls `judge` prints.
     pub only: Option<String>,
