@@ -51,7 +51,7 @@ pub struct Odd {
     pub then_wrong: u64,
     /// The number of wrong answers whose contradiction was looked at.
     pub placed: u64,
-    /// Of `placed`: no two calls of the run overlapped in the time of the contradiction.
+    /// Of `placed`: at the contradiction, no call of the recording began while another call was running.
     pub apart: u64,
     /// Whether the final keys are ignored too.
     pub puts_left_aside: bool,
