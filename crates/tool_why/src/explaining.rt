@@ -106,8 +106,9 @@ fn explain_first(
 
 /// Reads a recording, and explains why no order explains it. The verdict above the explanation has `used` lines: two
 /// without a clash. If no order explains the first `MOST_EXPLAINED` calls, the explanation is of these, and the other
-/// lines are not read. Returns `None` if a read fails, if the text is no recording, or if some order explains it.
-/// Allocates; blocks as the input does.
+/// lines are not read. Returns `None` if a read fails, if a line has the wrong form, or if some order explains the
+/// recording. That the text is a recording otherwise, is not checked: judge it first. Allocates; blocks as the input
+/// does.
 pub fn explain<R: Read>(
     alloc: Global,
     input: &mut R,
