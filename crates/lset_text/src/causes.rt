@@ -21,8 +21,7 @@ pub enum Cause {
     /// 5` below an event; an empty line.
     Event,
     /// In a report or a recording, the line does not have the fields of any line that is allowed here: `place 0 maybe`;
-    /// `place 0 true` below a `key` line; in version 1 `place 0 at-5`; in a recording `call 0 add 5 1 8 full`. Or a
-    /// line of a recording has more than 128 bytes.
+    /// `place 0 true` below a `key` line; in version 1 `place 0 at-5`; in a recording `call 0 add 5 1 8 full`.
     Line,
     /// A field must be a number, and is not a number or is out of range: `begin 0 add 05`, `go 0 10001`, `place 01
     /// true`.
