@@ -31,7 +31,7 @@ pub enum Cause {
     SizeFirst,
     /// `contains` reads a cache of its own thread.
     ThreadCache,
-    /// `contains` reads a copy that is updated too late.
+    /// `contains` reads a copy that is updated only after `add` and `remove` return.
     LateCopy,
     /// One key is treated differently from the others.
     OneKey,
@@ -45,7 +45,7 @@ pub enum Cause {
     RemoveGivesUp,
     /// Operations look for a key in two different places.
     TwoPlaces,
-    /// The first call creates something, and it is created twice.
+    /// Two first calls each create the same thing, and one is lost.
     FirstUse,
     /// A remove keeps writing after it has taken effect.
     GoesOn,
