@@ -42,14 +42,14 @@ fn run_calls(alloc: Global, broken: BrokenList, schedule: &Schedule) -> Result<R
     calls_of(alloc, schedule, run)
 }
 
-/// Reads a schedule for a broken list, runs it, and returns a report of version 2. The report's order has a call at
-/// each step that the list's table declares to be a linearization point. This order does not always explain the calls.
-/// Allocates.
+/// Reads a schedule for a broken list, runs it, and returns a report of version 2. The report's order places the calls
+/// as `lset_replay::calls_of` does. This order does not always explain the calls. Allocates.
 ///
 /// # Errors
 ///
 /// Returns the errors of `read_broken_schedule`. If the run ends early, returns the line of the event at which it ends:
-/// the event is not enabled, or its step would access a word outside of the table (`Lost`).
+/// the event is not enabled, or its step would access a word outside of the table (`Lost`). If an allocation fails in
+/// the run, returns `Memory` in line 2.
 pub fn report_broken(alloc: Global, broken: BrokenList, text: &[u8]) -> Result<Report, LineFault>
     ensures { IfOk result (λ r. r.version ≡ Two) }
 {

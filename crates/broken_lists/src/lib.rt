@@ -1,8 +1,8 @@
-//! Five correct lists with one check removed: the broken lists.
+//! The broken lists. Each is one of the five lists with one check removed.
 //!
 //! `BrokenList` names a broken list, and `flaws` has its steps. A broken list violates the laws of a list. Therefore it
-//! is not a `Machine`, and its state is a `BrokenWorld`. `broken_run` runs a schedule on it. There can be no order that
-//! explains the calls of such a run.
+//! is not a `Machine`, and its state is a `BrokenWorld`. `broken_run` runs a schedule on it. Some of its runs have
+//! calls that no order explains.
 #![tactic(auto)]
 
 mod broken_fine;

@@ -37,16 +37,16 @@ pub extern "C" fn listset_open(
 /// Splits a seat off `seat` and stores it in `out`, which must be empty.
 ///
 /// Returns `DONE`. On an error, changes nothing and returns the first that applies: `IS_SEAT` if `out` is not empty,
-/// `NO_SEAT` if `seat` is empty, `NO_MORE` if no seat can be split off it or it is a closed set, `OUT_OF_MEMORY` if an
-/// allocation failed. Does not block.
+/// `NO_SEAT` if `seat` is empty, `NO_MORE` if no seat can be split off it, or it is a receipt or a closed set,
+/// `OUT_OF_MEMORY` if an allocation failed. Does not block.
 #[unsafe(no_mangle)]
 pub extern "C" fn listset_split(alloc: Global, seat: &mut CSeat, out: &mut CSeat) -> u8 {
     ffi_sets::split_seat(alloc, seat, out)
 }
 
 /// Adds `key` to the set. Returns 1 if the key was absent, 0 if it was present, and 2 if it is absent but the seat has
-/// used up its quota. Returns 255 if `seat` is empty or a closed set. Blocks while another thread holds a lock that the
-/// call needs. Does not allocate.
+/// used up its quota. Returns 255 if `seat` is empty, a receipt or a closed set. Blocks while another thread holds a
+/// lock that the call needs. Does not allocate.
 #[unsafe(no_mangle)]
 pub extern "C" fn listset_add(alloc: Global, seat: &mut CSeat, key: u32) -> u8
     ensures { HasMade seat.old.full seat.old.held (Add (record { 0 = key })) result seat.new.full seat.new.held }
@@ -54,8 +54,8 @@ pub extern "C" fn listset_add(alloc: Global, seat: &mut CSeat, key: u32) -> u8
     ffi_sets::add_key(alloc, seat, key)
 }
 
-/// Removes `key` from the set. Returns 1 if the key was present, 0 if it was absent, and 255 if `seat` is empty or a
-/// closed set. Blocks while another thread holds a lock that the call needs. Does not allocate.
+/// Removes `key` from the set. Returns 1 if the key was present, 0 if it was absent, and 255 if `seat` is empty, a
+/// receipt or a closed set. Blocks while another thread holds a lock that the call needs. Does not allocate.
 #[unsafe(no_mangle)]
 pub extern "C" fn listset_remove(alloc: Global, seat: &mut CSeat, key: u32) -> u8
     ensures { HasMade seat.old.full seat.old.held (Remove (record { 0 = key })) result seat.new.full seat.new.held }
@@ -63,8 +63,8 @@ pub extern "C" fn listset_remove(alloc: Global, seat: &mut CSeat, key: u32) -> u
     ffi_sets::remove_key(alloc, seat, key)
 }
 
-/// Returns 1 if `key` is in the set, 0 if it is not, and 255 if `seat` is empty or a closed set. On a coarse, fine or
-/// optimistic list, blocks while another thread holds a lock that the call needs. Does not allocate.
+/// Returns 1 if `key` is in the set, 0 if it is not, and 255 if `seat` is empty, a receipt or a closed set. On a
+/// coarse, fine or optimistic list, blocks while another thread holds a lock that the call needs. Does not allocate.
 #[unsafe(no_mangle)]
 pub extern "C" fn listset_contains(alloc: Global, seat: &mut CSeat, key: u32) -> u8
     ensures { HasMade seat.old.full seat.old.held (Contains (record { 0 = key })) result seat.new.full seat.new.held }
@@ -72,9 +72,10 @@ pub extern "C" fn listset_contains(alloc: Global, seat: &mut CSeat, key: u32) ->
     ffi_sets::contains_key(alloc, seat, key)
 }
 
-/// Finds the smallest key of the set that is at least `key`. Returns 3 and writes the key to `at`, or returns 4 if the set has no
-/// such key. Returns 255 if `seat` is empty or a closed set. On a coarse, fine or optimistic list the call blocks while another
-/// thread holds a lock that it needs. On a lock-free list it can wait until another thread adds or removes a key. Does not allocate.
+/// Finds the smallest key of the set that is at least `key`. Returns 3 and writes the key to `at`, or returns 4 if the
+/// set has no such key. Returns 255 if `seat` is empty, a receipt or a closed set. On a coarse, fine or optimistic list
+/// the call blocks while another thread holds a lock that it needs. On a lock-free list it can wait until another
+/// thread adds or removes a key. Does not allocate.
 #[unsafe(no_mangle)]
 pub extern "C" fn listset_ceiling(alloc: Global, seat: &mut CSeat, key: u32, at: &mut u32) -> u8
     ensures { HasCeiling seat.old.full seat.old.held (Ceiling (record { 0 = key })) result at.old at.new seat.new.full seat.new.held }
@@ -82,9 +83,9 @@ pub extern "C" fn listset_ceiling(alloc: Global, seat: &mut CSeat, key: u32, at:
     ffi_sets::ceiling_at(alloc, seat, key, at)
 }
 
-/// Returns 1 if `key` is in the set, 0 if it is not, without blocking: whatever other threads do, the call makes at most
-/// `listset_most_reads` steps. Makes no call and returns 254 on a coarse, fine or optimistic list, 255 if `seat` is empty or a closed
-/// set. Does not allocate.
+/// Returns 1 if `key` is in the set, 0 if it is not, without blocking: whatever other threads do, the call makes at
+/// most `listset_most_reads` steps. Makes no call and returns 254 on a coarse, fine or optimistic list, 255 if `seat`
+/// is empty, a receipt or a closed set. Does not allocate.
 #[unsafe(no_mangle)]
 pub extern "C" fn listset_contains_now(alloc: Global, seat: &mut CSeat, key: u32) -> u8
     ensures made { result < 254 → HasMade seat.old.full seat.old.held (Contains (record { 0 = key })) result seat.new.full seat.new.held }
@@ -107,7 +108,7 @@ pub extern "C" fn listset_most_reads(seats: u32, quota: u32, opening: u32) -> u6
 /// calls, and everything seen by the seats that it gathered and the receipts that it accepted. `seat` does not change.
 ///
 /// Returns `DONE`. On an error, changes nothing and returns the first that applies: `IS_SEAT` if `out` is not empty,
-/// `NO_SEAT` if `seat` is empty or a closed set, `OUT_OF_MEMORY` if an allocation failed. Does not block.
+/// `NO_SEAT` if `seat` is empty, a receipt or a closed set, `OUT_OF_MEMORY` if an allocation failed. Does not block.
 #[unsafe(no_mangle)]
 pub extern "C" fn listset_receipt_of(alloc: Global, seat: &mut CSeat, out: &mut CSeat) -> u8
     ensures { result ≡ 0 → HasGiven seat.old.full seat.old.held out.new.full out.new.held seat.new.full seat.new.held }
@@ -130,7 +131,7 @@ pub extern "C" fn listset_after(alloc: Global, seat: &mut CSeat, given: &mut CSe
 }
 
 /// Returns how many of its set's seats `seat` contains, including itself, and writes the number of all seats of the set
-/// to `all`. Both are 0 if `seat` is empty or a closed set. Does not block or allocate.
+/// to `all`. Both are 0 if `seat` is empty, a receipt or a closed set. Does not block or allocate.
 #[unsafe(no_mangle)]
 pub extern "C" fn listset_seats_within(alloc: Global, seat: &mut CSeat, all: &mut u32) -> u64 {
     ffi_sets::count_seats(alloc, seat, all)
@@ -150,8 +151,8 @@ pub extern "C" fn listset_gather(alloc: Global, into: &mut CSeat, from: &mut CSe
 
 /// Closes the set. `seat` must contain all of the set's seats; afterwards it is a closed set with the final keys.
 ///
-/// Returns `DONE`. On an error, changes nothing and returns `NO_SEAT` if `seat` is empty or a closed set, `SEATS_OUT`
-/// if it lacks some of the seats, or `OUT_OF_MEMORY` if an allocation failed. Does not block.
+/// Returns `DONE`. On an error, changes nothing and returns `NO_SEAT` if `seat` is empty, a receipt or a closed set,
+/// `SEATS_OUT` if it lacks some of the seats, or `OUT_OF_MEMORY` if an allocation failed. Does not block.
 #[unsafe(no_mangle)]
 pub extern "C" fn listset_close(alloc: Global, seat: &mut CSeat) -> u8 {
     ffi_sets::close_set(alloc, seat)

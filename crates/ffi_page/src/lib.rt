@@ -112,10 +112,11 @@ pub extern "C" fn listset_why(alloc: Global, text: &[u8], room: &mut [u8], statu
 
 /// Diagnoses a refused recording and writes a record, with status 1. The record has these lines, in this order:
 /// `headline TEXT`; `call THREAD OPERATION KEY BEGIN END REPLY MARK` for each call shown, in the order of their begins
-/// (MARK is `-`, `expected BOOL`, `leaves STATE` with `present` or `absent`, or `either`); `also THREAD OPERATION KEY
-/// BEGIN END REPLY` for each change of another key at the same time; `fact TEXT` for each fact; and, if there is a
-/// likely cause, `likely TEXT` and `because TEXT`. END and REPLY are `-` for a pending call. If the text is not a
-/// recording or some order explains it, writes nothing and sets status 0.
+/// (MARK is `-`, `expected BOOL`, `leaves STATE` or `finds STATE` with `present` or `absent`, or `either`); `also
+/// THREAD OPERATION KEY BEGIN END REPLY` for each change of another key at the same time (of many, the longest); `fact
+/// TEXT` for each fact; and, if there is a likely cause, `likely TEXT` and `because TEXT`. END and REPLY are `-` for a
+/// pending call. If a line has the wrong form or some order explains the calls, writes nothing and sets status 0. Judge
+/// the text first: that keys increase, and that each call can follow the calls before it, is not checked.
 #[unsafe(no_mangle)]
 pub extern "C" fn listset_why_record(
     alloc: Global,
@@ -129,8 +130,9 @@ pub extern "C" fn listset_why_record(
 }
 
 /// Diagnoses the refused recording in the file with this descriptor, from the file's current position: writes the lines
-/// that `listset judge FILE` prints after a verdict of `used` lines, with status 1. If the file is not a recording or
-/// some order explains it, writes nothing and sets status 0. Blocks while reading. If `room` is too short, the text is
+/// that `listset judge FILE` prints after a verdict of `used` lines, with status 1. If a line has the wrong form or
+/// some order explains the calls, writes nothing and sets status 0. Judge the file first: that keys increase, and that
+/// each call can follow the calls before it, is not checked. Blocks while reading. If `room` is too short, the text is
 /// lost; 8,192 bytes are enough.
 #[unsafe(no_mangle)]
 pub extern "C" fn listset_why_from(

@@ -35,8 +35,8 @@ pub fn fault_code(fault: OpenFault) -> u8 {
     }
 }
 
-/// Makes a call from `seat` and returns its reply as a number. Returns 255 if `seat` is empty or a closed set, or if
-/// the call gives up, which loses the seat.
+/// Makes a call from `seat` and returns its reply as a number. Returns 255 if `seat` is empty, a receipt or a closed
+/// set, or if the call gives up, which loses the seat.
 pub fn call_from_seat(alloc: Global, seat: &mut CSeat, call: Call) -> u8
     ensures { HasMade seat.old.full seat.old.held call result seat.new.full seat.new.held }
 {

@@ -33,5 +33,5 @@ pub const NO_GATHER: u8 = 18;
 /// On this list, a `contains` can block.
 pub const MAY_BLOCK: u8 = 254;
 
-/// The seat is empty or a closed set.
+/// The seat is empty, a receipt or a closed set.
 pub const NO_SEAT: u8 = 255;

@@ -46,8 +46,8 @@ pub fn call_held(held: &mut Held, call: Call) -> Option<Reply>
     }
 }
 
-/// Makes a `contains` from the seat in `held` without blocking, in at most `most_reads` steps. Returns an error and makes no call:
-/// `MAY_BLOCK` on a coarse, fine or optimistic list, `NO_SEAT` if `held` has no seat.
+/// Makes a `contains` from the seat in `held` without blocking, in at most `most_reads` steps. Returns an error and
+/// makes no call: `MAY_BLOCK` on a coarse, fine or optimistic list, `NO_SEAT` if `held` has no seat.
 pub fn read_held(held: &mut Held, key: Key) -> Result<Reply, u8>
     ensures called { IfOk result (λ r. HasCalledHeld held.old (Contains key) (Some r) held.new) }
     ensures within { IfOk result (λ r. HasReadHeld held.old held.new) }
@@ -76,8 +76,8 @@ pub fn receipt_held(held: &mut Held) -> Option<Held>
     })
 }
 
-/// Hands the receipt `given` to the seat in `into`. Returns `None` on success, and `given` if these are not a seat and a receipt of one
-/// list and number.
+/// Hands the receipt `given` to the seat in `into`. Returns `None` on success, and `given` if these are not a seat and
+/// a receipt of one list and number.
 pub fn heed_held(into: &mut Held, given: Held) -> Option<Held>
     requires { Gathers into.old given }
     ensures { IfNone result (HasHeededHeld into.old given into.new) }
@@ -132,8 +132,8 @@ pub fn split_held(held: &mut Held, alloc: Global) -> Result<Held, u8> {
     })
 }
 
-/// Merges the seat in `from` into the seat in `into`. Returns `None` on success, and `from` if these are not two seats of one list and
-/// number.
+/// Merges the seat in `from` into the seat in `into`. Returns `None` on success, and `from` if these are not two seats
+/// of one list and number.
 pub fn gather_held(alloc: Global, into: &mut Held, from: Held) -> Option<Held>
     requires { Gathers into.old from }
 {

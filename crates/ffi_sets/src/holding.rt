@@ -85,7 +85,8 @@ impl<M: Bounded> SeatOfSet<M> {
         Some(reply)
     }
 
-    /// Splits a seat off this one. Returns the error `NO_MORE` if none remains, `OUT_OF_MEMORY` if the set cannot have another owner.
+    /// Splits a seat off this one. Returns the error `NO_MORE` if none remains, `OUT_OF_MEMORY` if the set cannot have
+    /// another owner.
     pub fn split(&mut self, alloc: Global) -> Result<SeatOfSet<M>, u8> {
         if self.spare.is_empty() {
             return Err(NO_MORE);
@@ -190,9 +191,9 @@ impl<M: Bounded> SeatOfSet<M> {
         others as usize == self.spare.len()
     }
 
-    /// Closes the set and returns its final keys. On an error returns this seat and the number of the error: `SEATS_OUT` if other seats
-    /// are out; `OUT_OF_MEMORY` if room for the most keys of the set cannot be allocated, or if the set has another owner, which happens
-    /// in no run.
+    /// Closes the set and returns its final keys. On an error returns this seat and the number of the error:
+    /// `SEATS_OUT` if other seats are out; `OUT_OF_MEMORY` if room for the most keys of the set cannot be allocated, or
+    /// if the set has another owner, which happens in no run.
     pub fn close(self, alloc: Global) -> Result<Vec<u32>, (SeatOfSet<M>, u8)> {
         if !self.has_all() {
             return Err((self, SEATS_OUT));
@@ -224,7 +225,8 @@ impl<M: Bounded> SeatOfSet<M> {
 }
 
 impl<M: OpenContains> SeatOfSet<M> {
-    /// Makes a `contains` from this seat without blocking, in at most `most_reads` steps. Returns `None` if the seat was lost before.
+    /// Makes a `contains` from this seat without blocking, in at most `most_reads` steps. Returns `None` if the seat
+    /// was lost before.
     pub fn contains_now(&mut self, key: Key) -> Option<Reply>
         ensures set { arc_value self.new.set ≡ arc_value self.old.set }
         ensures number { self.new.number ≡ self.old.number }

@@ -1,9 +1,10 @@
 //! Provides running sets as functions on seats that C keeps. The crate `ffi_c` exports the functions.
 //!
 //! A seat of C (`CSeat`) is empty, or owns a seat of a set, a receipt, or the keys of a closed set. Each function
-//! accepts all arguments that its types allow, and returns one of the numbers in `codes`. A call from a seat gives up
-//! after 2^64 - 1 rounds of a loop (`lset_live::Bounded`), since a C function has no handle that would allow it to wait
-//! forever.
+//! accepts all arguments that its types allow, except that seats and receipts with the same list and number must belong
+//! to the same set. `codes` has the numbers of errors. A call from a seat gives up after 2^64 - 1 rounds of a loop
+//! (`lset_live::Bounded`), since a C function has no handle that would allow it to wait forever. The seat is then lost,
+//! and each later call from it returns 255.
 #![tactic(auto)]
 
 mod answers;
@@ -67,8 +68,8 @@ pub fn open_set(
 /// Splits a seat off `seat` and stores it in `out`, which must be empty.
 ///
 /// Returns `DONE`. On an error, changes nothing and returns the first that applies: `IS_SEAT` if `out` is not empty,
-/// `NO_SEAT` if `seat` is empty, `NO_MORE` if no seat can be split off it or it is a closed set, `OUT_OF_MEMORY` if an
-/// allocation failed. Does not block.
+/// `NO_SEAT` if `seat` is empty, `NO_MORE` if no seat can be split off it, or it is a receipt or a closed set,
+/// `OUT_OF_MEMORY` if an allocation failed. Does not block.
 pub fn split_seat(alloc: Global, seat: &mut CSeat, out: &mut CSeat) -> u8 {
     if let Some(held) = take(alloc, out) {
         put(out, held);
@@ -99,33 +100,34 @@ pub fn split_seat(alloc: Global, seat: &mut CSeat, out: &mut CSeat) -> u8 {
 }
 
 /// Adds `key` to the set. Returns 1 if the key was absent, 0 if it was present, and 2 if it is absent but the seat has
-/// used up its quota. Returns 255 if `seat` is empty or a closed set. Blocks while another thread holds a lock that the
-/// call needs. Does not allocate.
+/// used up its quota. Returns 255 if `seat` is empty, a receipt or a closed set. Blocks while another thread holds a
+/// lock that the call needs. Does not allocate.
 pub fn add_key(alloc: Global, seat: &mut CSeat, key: u32) -> u8
     ensures { HasMade seat.old.full seat.old.held (Add (record { 0 = key })) result seat.new.full seat.new.held }
 {
     call_from_seat(alloc, seat, Call::Add(Key(key)))
 }
 
-/// Removes `key` from the set. Returns 1 if the key was present, 0 if it was absent, and 255 if `seat` is empty or a
-/// closed set. Blocks while another thread holds a lock that the call needs. Does not allocate.
+/// Removes `key` from the set. Returns 1 if the key was present, 0 if it was absent, and 255 if `seat` is empty, a
+/// receipt or a closed set. Blocks while another thread holds a lock that the call needs. Does not allocate.
 pub fn remove_key(alloc: Global, seat: &mut CSeat, key: u32) -> u8
     ensures { HasMade seat.old.full seat.old.held (Remove (record { 0 = key })) result seat.new.full seat.new.held }
 {
     call_from_seat(alloc, seat, Call::Remove(Key(key)))
 }
 
-/// Returns 1 if `key` is in the set, 0 if it is not, and 255 if `seat` is empty or a closed set. On a coarse, fine or
-/// optimistic list, blocks while another thread holds a lock that the call needs. Does not allocate.
+/// Returns 1 if `key` is in the set, 0 if it is not, and 255 if `seat` is empty, a receipt or a closed set. On a
+/// coarse, fine or optimistic list, blocks while another thread holds a lock that the call needs. Does not allocate.
 pub fn contains_key(alloc: Global, seat: &mut CSeat, key: u32) -> u8
     ensures { HasMade seat.old.full seat.old.held (Contains (record { 0 = key })) result seat.new.full seat.new.held }
 {
     call_from_seat(alloc, seat, Call::Contains(Key(key)))
 }
 
-/// Finds the smallest key of the set that is at least `key`. Returns 3 and writes the key to `at`, or returns 4 if the set has no
-/// such key. Returns 255 if `seat` is empty or a closed set. On a coarse, fine or optimistic list the call blocks while another
-/// thread holds a lock that it needs. On a lock-free list it can wait until another thread adds or removes a key. Does not allocate.
+/// Finds the smallest key of the set that is at least `key`. Returns 3 and writes the key to `at`, or returns 4 if the
+/// set has no such key. Returns 255 if `seat` is empty, a receipt or a closed set. On a coarse, fine or optimistic list
+/// the call blocks while another thread holds a lock that it needs. On a lock-free list it can wait until another
+/// thread adds or removes a key. Does not allocate.
 pub fn ceiling_at(alloc: Global, seat: &mut CSeat, key: u32, at: &mut u32) -> u8
     ensures { HasCeiling seat.old.full seat.old.held (Ceiling (record { 0 = key })) result at.old at.new seat.new.full seat.new.held }
 {
@@ -140,8 +142,9 @@ pub fn ceiling_at(alloc: Global, seat: &mut CSeat, key: u32, at: &mut u32) -> u8
     reply_code(reply)
 }
 
-/// Returns 1 if `key` is in the set, 0 if it is not, without blocking: whatever other threads do, the call makes at most `most_reads`
-/// steps. Makes no call and returns 254 on a coarse, fine or optimistic list, 255 if `seat` is empty or a closed set. Does not allocate.
+/// Returns 1 if `key` is in the set, 0 if it is not, without blocking: whatever other threads do, the call makes at
+/// most `most_reads` steps. Makes no call and returns 254 on a coarse, fine or optimistic list, 255 if `seat` is empty,
+/// a receipt or a closed set. Does not allocate.
 pub fn contains_key_now(alloc: Global, seat: &mut CSeat, key: u32) -> u8
     ensures made { result < 254 → HasMade seat.old.full seat.old.held (Contains (record { 0 = key })) result seat.new.full seat.new.held }
     ensures within { result < 254 → HasReadHeld seat.old.held seat.new.held }
@@ -173,7 +176,7 @@ pub fn most_reads(seats: u32, quota: u32, opening: u32) -> u64
 /// calls, and everything seen by the seats that it gathered and the receipts that it accepted. `seat` does not change.
 ///
 /// Returns `DONE`. On an error, changes nothing and returns the first that applies: `IS_SEAT` if `out` is not empty,
-/// `NO_SEAT` if `seat` is empty or a closed set, `OUT_OF_MEMORY` if an allocation failed. Does not block.
+/// `NO_SEAT` if `seat` is empty, a receipt or a closed set, `OUT_OF_MEMORY` if an allocation failed. Does not block.
 pub fn give_receipt(alloc: Global, seat: &mut CSeat, out: &mut CSeat) -> u8
     ensures { result ≡ 0 → HasGiven seat.old.full seat.old.held out.new.full out.new.held seat.new.full seat.new.held }
 {
@@ -220,7 +223,7 @@ pub fn take_receipt(alloc: Global, seat: &mut CSeat, given: &mut CSeat) -> u8
 }
 
 /// Returns how many of its set's seats `seat` contains, including itself, and writes the number of all seats of the set
-/// to `all`. Both are 0 if `seat` is empty or a closed set. Does not block or allocate.
+/// to `all`. Both are 0 if `seat` is empty, a receipt or a closed set. Does not block or allocate.
 pub fn count_seats(alloc: Global, seat: &mut CSeat, all: &mut u32) -> u64 {
     let (within, of_set) = match take(alloc, seat) {
         Some(held) => {
@@ -261,8 +264,8 @@ pub fn gather_seats(alloc: Global, into: &mut CSeat, from: &mut CSeat) -> u8
 
 /// Closes the set. `seat` must contain all of the set's seats; afterwards it is a closed set with the final keys.
 ///
-/// Returns `DONE`. On an error, changes nothing and returns `NO_SEAT` if `seat` is empty or a closed set, `SEATS_OUT`
-/// if it lacks some of the seats, or `OUT_OF_MEMORY` if an allocation failed. Does not block.
+/// Returns `DONE`. On an error, changes nothing and returns `NO_SEAT` if `seat` is empty, a receipt or a closed set,
+/// `SEATS_OUT` if it lacks some of the seats, or `OUT_OF_MEMORY` if an allocation failed. Does not block.
 pub fn close_set(alloc: Global, seat: &mut CSeat) -> u8 {
     let Some(mut held) = take(alloc, seat) else {
         return NO_SEAT;

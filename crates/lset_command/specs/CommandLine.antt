@@ -1,5 +1,5 @@
--- The command line of the program: the table of its commands, as simple commands of clap. The definitions of clap say which values
--- the words give.
+-- The command line of the program: the table of its commands, as simple commands of clap. The definitions of clap say
+-- which values the words give.
 use Rattle.std.specs.Prelude.{◌≡◌, Result, IfOk, List, [], map, codes, Bool, true, false, ◌||◌, fold, Option, Some, None, option_map, unwrap_or}
 use Rattle.std.specs.Prelude.{string_bytes, if◌then◌else◌, option_and_then}
 use Rattle.std.specs.List.{flat_map}
@@ -66,17 +66,17 @@ MakesWithSubcommand old sub new = (a b : App) → Makes old a → Makes sub b �
 
 -- ---- the result of a parse
 
--- The names of flags and options; all other names have values.
+-- Returns whether a name is that of a flag or of an option. Every other name is that of a value without `--`.
 abbrev pub is_option : Text → Bool
 is_option name = bytes_eq name (codes "svg") || (bytes_eq name (codes "from") || (bytes_eq name (codes "to")
     || (bytes_eq name (codes "width") || (bytes_eq name (codes "brief") || (bytes_eq name (codes "only")
     || (bytes_eq name (codes "chain") || (bytes_eq name (codes "broken") || bytes_eq name (codes "lacks"))))))))
 
--- The values of this name among the rows of a parse.
+-- Returns the values of this name among the rows of a parse. None if the name is that of a flag or of an option.
 abbrev pub values_by : Text → List Row → List Text
 values_by name rows = if is_option name then [] else unwrap_or (all_of name rows) []
 
--- The values of a command, in order.
+-- Returns the values of a command, in order, without those of its flags and options.
 abbrev pub values_in : List Row → List Text
 values_in rows = flat_map (λ row. values_by row.id rows) rows
 

@@ -56,8 +56,8 @@ pub enum Command {
 /// option, the flag is off and the option is `None`.
 #[derive(Drop)]
 pub struct Options {
-    /// The argument FILE, which is also among the values. Without it, `serve` reads nothing and the other commands read
-    /// standard input.
+    /// The argument FILE, which is also among the values. Without it, `serve` reads nothing, and the other commands
+    /// that have this argument read standard input.
     pub file: Option<String>,
     /// Whether `show` draws an SVG.
     pub svg: bool,
@@ -67,7 +67,7 @@ pub struct Options {
     pub to: Option<String>,
     /// The maximum row length of `show`, in characters.
     pub width: Option<String>,
-    /// Whether `judge` prints only the verdict.
+    /// Whether `judge` prints the verdict without what is wrong.
     pub brief: bool,
     /// The only key whose calls `judge` prints.
     pub only: Option<String>,
@@ -75,7 +75,7 @@ pub struct Options {
     pub chain: bool,
     /// Whether `example` prints the report of a broken list.
     pub broken: bool,
-    /// The broken list on which `replay`, `show` and `trace` run the schedule.
+    /// The name of the broken list on which `replay`, `show` and `trace` run the schedule.
     pub lacks: Option<String>,
 }
 

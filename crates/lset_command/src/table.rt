@@ -13,12 +13,12 @@ pub(crate) enum Form {
 /// the option `lacks`: `Helps` has that line.
 pub(crate) type Argument<'a> = (&'a str, Form, &'a str, &'a str);
 
-/// A command: its name, a line of help, its arguments, its usage, and the text below its help. The usage is empty if it is the one
-/// that `clap` prints. The text is empty for `faults`: `Helps` has the whole help of that command.
+/// A command: its name, a line of help, its arguments, its usage, and the text below its help. The usage is empty if it
+/// is the one that `clap` prints. The text is empty for `faults`: `Helps` has the whole help of that command.
 pub(crate) type CommandRow<'a> = (&'a str, &'a str, &'a [Argument<'a>], &'a str, &'a str);
 
-/// The commands of the program, in the order of its help. The rows are tuples, since a contract cannot name a constant of a struct
-/// with references.
+/// The commands of the program, in the order of its help. The rows are tuples, since a contract cannot name a constant
+/// of a struct with references.
 pub(crate) const COMMANDS: [CommandRow<'static>; 12] = [
     (
         "replay",

@@ -1,5 +1,5 @@
--- What command lines ask for. Commands that are not named here, broken lists and `judge --only` have no clause. They
--- are memory-safe and tested, but not proved.
+-- What command lines ask for. Commands that are not named here, broken lists and `judge --only` have no clause: their
+-- code is safe and tested, but nothing is proved about what they print.
 use Rattle.std.specs.Prelude.{Bool, true, false, List, Option, Some, None, Result, Ok, Err}
 use Rattle.clap.specs.Words.{Text}
 use Rattle.lset_command.specs.CommandLine.{Choice, OptionValues}
@@ -21,7 +21,8 @@ abbrev pub asked_replay : Option Text → Option Asked
 asked_replay None = Some (Ok (Replay None))
 asked_replay (Some name) = None
 
--- `judge`, with only the verdict or with all details
+-- Returns the job of `judge`: with `--brief` the verdict without details, else with all details. `--only` has no
+-- clause.
 abbrev pub asked_judge : Option Text → Bool → Option Asked
 asked_judge None true = Some (Ok Verdict)
 asked_judge None false = Some (Ok Judge)

@@ -17,7 +17,7 @@ use tool_show::{Show, read_show};
 pub(crate) enum Job {
     Replay(Option<BrokenList>),
     Judge,
-    /// Print only the verdict of `judge`.
+    /// Print the verdict of `judge` without a contradiction, advice or a diagnosis.
     Verdict,
     /// Print the recording of one key.
     OneKey(u32),

@@ -53,7 +53,7 @@ fn judge<R: Read, W: Write, E: Write>(
     deliver(pointed(made), output, stderr)
 }
 
-/// Judges the input and prints only the verdict.
+/// Judges the input and prints the verdict, without a contradiction, advice or a diagnosis.
 fn judge_verdict<R: Read, W: Write, E: Write>(
     alloc: Global,
     input: &mut R,

@@ -1,4 +1,5 @@
--- Clashes: two calls of a key that rule out every order, whatever all other calls did.
+-- Clashes: two calls of a key that rule out every order, whatever all other calls did. The opening state can take the
+-- place of the first call, and the final state that of the second.
 use Rattle.std.specs.Prelude.{◌≡◌, ◌≢◌, ℕ, ◌⊎◌, ◌||◌, not, nat_lt, Bool, true, List, Option, Some, None, map, All, IfSome, Contains as Has}
 use Rattle.lset_words.specs.declared.Call.{Call}
 use Rattle.lset_words.specs.declared.Reply.{Reply}
@@ -58,8 +59,9 @@ abbrev pub HasToBe : List CallRecord → ℕ → Option Presence → Presence �
 HasToBe calls key left need None = left ≡ Some need
 HasToBe calls key left need (Some y) = IsOf calls key y × (needs_if y.call y.ended ≡ Some need)
 
--- Returns the moment at which the first call begins. The time between two calls goes from this moment to the end of the
--- second call.
+-- Returns the moment at which the first call begins, or 0 if the opening state takes its place. The time between two
+-- calls goes from this moment to the end of the second call. It has no end if the second call is pending, or if the
+-- final state takes its place.
 abbrev pub since_of : Option CallRecord → ℕ
 since_of None = 0
 since_of (Some x) = x.begun
@@ -72,7 +74,8 @@ abbrev pub is_before : ℕ → Option CallRecord → Bool
 is_before begun None = true
 is_before begun (Some y) = is_before_end begun y.ended
 
--- States that no change of the key to the state `there` overlaps the time from `since` to the end of the second call.
+-- States that no call that changes the key to the state `there`, or is pending and can do so, overlaps the time from
+-- `since` to the end of the second call: each such call has ended by `since`, or begins at that end or later.
 abbrev pub NothingTurns : List CallRecord → ℕ → Presence → ℕ → Option CallRecord → Type 0
 NothingTurns calls key there since second = All (λ (x : CallRecord). (key_of x.call).0 ≡ key → turns_to there (kind_if x.call x.ended) ≡ true
     → is_before x.begun second ≡ true → has_ended since x.ended ≡ true) calls
@@ -81,15 +84,15 @@ NothingTurns calls key there since second = All (λ (x : CallRecord). (key_of x.
 abbrev pub is_apart : Presence → ℕ → Option CallRecord → CallRecord → Bool
 is_apart there since second x = not (turns_to there (kind_if x.call x.ended)) || (not (is_before x.begun second) || has_ended since x.ended)
 
--- The second call needs a state that the first call does not leave, and no call can change the key between them. So the
--- second call cannot come after the first.
+-- The second call needs the state that the first call does not leave, and between them no call can change the key to
+-- this state. So the second call cannot come after the first.
 pub record Clashes (calls : List CallRecord) (key : ℕ) (there : Presence) (left : Option Presence) (was : Presence) (first second : Option CallRecord) : Type 0 where
   pub was_so : WasSo calls key there was first
   pub needed : HasToBe calls key left (other was) second
   pub nothing : NothingTurns calls key (other was) (since_of first) second
 
 -- States that the second call comes after the first in real time, or that the two calls also clash in the opposite
--- order.
+-- order. Holds for the opening state in place of the first call, and for the final state in place of the second.
 abbrev pub InOrder : List CallRecord → ℕ → Presence → Option Presence → Option CallRecord → Option CallRecord → Type 0
 InOrder calls key there left (Some x) (Some y) =
     Precedes x y ⊎ ((x.begun ≢ y.begun) × ((v : Presence) × Clashes calls key there left v (Some y) (Some x)))

@@ -9,7 +9,8 @@ use Rattle.lset_judge.specs.declared.event.Event.{Event as MomentEvent}
 use Rattle.lset_judge.specs.declared.event.Event.TheVariants.{Begins, Ends, Looks, Idle}
 use Rattle.lset_judge.specs.Rule.{State, Event, begins, ends, looks, idle}
 
--- the ends of the pending changes that have not taken effect: those that add the key, and those that remove it
+-- Returns the ends of the pending changes that have not taken effect and add the key. `takes_held` returns those that
+-- remove it. `until` is the end of a change that is stored without a heap.
 abbrev pub puts_held : ℕ → Held → List ℕ
 puts_held until Nothing = []
 puts_held until Put = until ∷ []
@@ -28,14 +29,14 @@ puts_in c = puts_held c.puts_until c.held
 abbrev pub takes_in : KeyChanges → List ℕ
 takes_in c = takes_held c.takes_until c.held
 
--- whether the changes are in heaps
+-- Returns whether the ends of the changes are stored in heaps.
 abbrev pub is_many : Held → Bool
 is_many Nothing = false
 is_many Put = false
 is_many Take = false
 is_many (Many many) = true
 
--- the states of changes are the same in all that the rule and the facts see
+-- States that two values have the same pending changes, and the same moments by which all changes end.
 pub record AreSame (old new : KeyChanges) : Type 0 where
   pub puts : puts_in new ≡ puts_in old
   pub takes : takes_in new ≡ takes_in old

@@ -27,7 +27,8 @@ kind_as Other = nothing
 abbrev pub kind_of : Call → Reply → Kind
 kind_of c r = kind_as (effect_of c r)
 
--- Returns the kind of a pending call. It can change its key, but has not seen anything.
+-- Returns the kind of a pending call. An `add` or a `remove` counts as a change, because it can take effect. A pending
+-- read has seen nothing.
 abbrev pub open_kind : Call → Kind
 open_kind (Add k) = changes true
 open_kind (Remove k) = changes false

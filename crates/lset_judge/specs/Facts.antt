@@ -28,8 +28,10 @@ use Rattle.lset_judge.specs.Rest.{turns_to}
 use Rattle.lset_judge.specs.Stream.{States, behind_all, record_of, IsStreamOf}
 use Rattle.lset_judge.specs.Clash.{record_if, other, leaves_if, needs_if, since_of, WasSo, IsClash}
 
--- The facts about the calls of a key. The key was in the state `was`: at first, or because a call leaves it in this state. The facts have the
--- thread, the begin and the end of this call. All changes of the key to present have ended by `puts_until`, those to absent by `takes_until`.
+-- The facts about the calls of a key. The key was in the state `was`: at the opening (`kept` is `Opening`), or because
+-- an ended call, the kept call, leaves it in this state. `kept` is the kind of this call; `thread`, `begun` and `ended`
+-- are its thread, its begin and its end. Each change of the key to present ends by `puts_until`, each change to absent
+-- by `takes_until`. A pending change counts as one that ends after all moments.
 pub record Facts : Type 0 where
   pub was : Presence
   pub kept : Kept
@@ -50,7 +52,7 @@ facts_of s = record {
   takes_until = s.changes.takes_until;
 }
 
--- the call of a kind that leaves its key in a state, and its reply
+-- Returns the call of a kind that leaves the key in the state `was`. `reply_kept` returns the reply of this call.
 abbrev pub word_kept : Kept → Presence → Key → Call
 word_kept Look was key = Contains key
 word_kept kept Present key = Add key
@@ -76,11 +78,11 @@ is_call Change = true
 is_call Refused = true
 is_call Look = true
 
--- the call that leaves the key in the state `was`; None if the key had this state at first
+-- Returns the kept call, which leaves the key in the state `was`. None if the key had this state at the opening.
 abbrev pub first_of : ℕ → Facts → Option StreamCall
 first_of key f = if is_call f.kept then Some (call_kept key f) else None
 
--- Returns a moment by which all changes of the key to this state have ended.
+-- Returns a moment by which all changes of the key to this state end.
 abbrev pub until_of : Presence → Facts → ℕ
 until_of Present f = f.puts_until
 until_of Absent f = f.takes_until
@@ -95,7 +97,8 @@ facts_or (Some s) = facts_of s
 abbrev pub facts_for : States → ℕ → Facts
 facts_for states k = facts_or (get nat_eq states k)
 
--- Returns the facts after an event of the key.
+-- Returns the facts after the event of the key at which a call begins. Only the begin of a change alters them. The end
+-- of a call can alter the facts too: see `IsEnded`.
 abbrev pub begun_by : Event → Facts → Facts
 begun_by (begins w end) f = record f {
   puts_until = if w then max f.puts_until end else f.puts_until;
@@ -106,30 +109,33 @@ begun_by (looks w since) f = f
 begun_by (leaves w) f = f
 begun_by idle f = f
 
--- the facts change from `old` to `new`, which have this call
+-- States that the call leaves the key in the state `was` of the facts `new` and is their kept call. The moments by
+-- which changes end stay as in `old`.
 pub record IsKept (call : StreamCall) (old new : Facts) : Type 0 where
   pub first : first_of (key_of call.call).0 new ≡ Some call
   pub leaves : leaves_if call.call call.ended ≡ Some new.was
   pub puts : new.puts_until ≡ old.puts_until
   pub takes : new.takes_until ≡ old.takes_until
 
--- the facts stay, or have this call, which ends
+-- States how the facts change when a call ends: they stay as they are, or the call becomes their kept call.
 abbrev pub IsEnded : StreamCall → Facts → Facts → Type 0
 IsEnded call old new = (new ≡ old) ⊎ IsKept call old new
 
 -- ---- What the facts mean
 
--- States that each change of the key to this state has ended by the moment.
+-- States that each change of the key to this state ends by the moment. A pending change counts as one that ends after
+-- all moments.
 abbrev pub AreOverBy : List CallRecord → ℕ → Presence → ℕ → Type 0
 AreOverBy calls key there moment = All (λ (x : CallRecord). (key_of x.call).0 ≡ key → turns_to there (kind_if x.call x.ended) ≡ true
     → until_if behind_all x.begun x.ended ≤ moment) calls
 
--- THE FACTS ARE RIGHT for the calls of a key: a state in which the key was, and when its changes have ended
+-- States that the facts about a key are correct: the key was in the state `was`, at the opening or after the kept call,
+-- which is one of its calls, and the changes of the key to each state end by the moment that the facts have for it.
 pub record AreFacts (opening : List ℕ) (calls : List CallRecord) (key : ℕ) (f : Facts) : Type 0 where
   pub was : WasSo calls key (presence (has_key key opening)) f.was (record_if (first_of key f))
   pub over : (there : Presence) → AreOverBy calls key there (until_of there f)
 
--- States that this is a clash of the key's calls, whichever calls begin after the moment.
+-- States that this is a clash of the key's calls, and stays one whatever calls begin after the moment.
 abbrev pub IsClashBy : List ℕ → List CallRecord → ℕ → ℕ → Clash → Type 0
 IsClashBy opening calls moment key c = (later : List CallRecord) → All (λ (z : CallRecord). moment < z.begun) later
     → IsClash (calls ++ later) key (presence (has_key key opening)) None c.was (record_if c.first) (record_if c.second)
@@ -148,7 +154,8 @@ pub record IsStreamKept (threads : ℕ) (opening : List ℕ) (calls : List CallR
 
 -- ---- Definitions that only single contracts use
 
--- no call that can change the key to the other state has been pending since the begin of the call
+-- States that each call that can change the key to the other state has ended by the begin of the kept call. Without a
+-- kept call, states that no such call has begun.
 abbrev pub IsStanding : ℕ → Facts → Type 0
 IsStanding key f = until_of (other f.was) f ≤ since_of (record_if (first_of key f))
 
@@ -156,7 +163,7 @@ IsStanding key f = until_of (other f.was) f ≤ since_of (record_if (first_of ke
 abbrev pub EndsBy : Option (ℕ × Reply) → Option (ℕ × Reply) → Type 0
 EndsBy first second = IsSomeAnd first (λ (d : ℕ × Reply). IsSomeAnd second (λ (e : ℕ × Reply). d.0 ≤ e.0))
 
--- The two calls also clash in the opposite order.
+-- States that the facts show that two calls also clash in the opposite order: `y` first, then `x`.
 pub record ClashTurned (f : Facts) (x y : StreamCall) : Type 0 where
   pub apart : x.begun ≢ y.begun
   pub left : Presence
@@ -169,7 +176,8 @@ abbrev pub ComesAfter : Facts → Option StreamCall → StreamCall → Type 0
 ComesAfter f None second = Unit {0}
 ComesAfter f (Some x) second = Precedes (record_of x) (record_of second) ⊎ ClashTurned f x second
 
--- the facts show that this call clashes
+-- States that the facts show a clash whose second call is `call`. Its first call is the kept call, or the opening
+-- state.
 pub record IsClashing (f : Facts) (call : StreamCall) : Type 0 where
   pub needs : needs_if call.call call.ended ≡ Some (other f.was)
   pub standing : IsStanding (key_of call.call).0 f
@@ -178,12 +186,12 @@ pub record IsClashing (f : Facts) (call : StreamCall) : Type 0 where
 abbrev pub clash_with : ℕ → Facts → Option StreamCall → Clash
 clash_with key f second = record { was = f.was; first = first_of key f; second = second }
 
--- A clash whose second call is `call`.
+-- States that `c` is a clash that the facts show, and that its second call is `call`.
 pub record IsFound (f : Facts) (call : StreamCall) (c : Clash) : Type 0 where
   pub is : c ≡ clash_with (key_of call.call).0 f (Some call)
   pub clashing : IsClashing f call
 
--- A clash with the final state of the key.
+-- States that `c` is a clash of the kept call, or of the opening state, with the final state `left` of the key.
 pub record IsFoundLeft (key : ℕ) (f : Facts) (left : Presence) (c : Clash) : Type 0 where
   pub is : c ≡ clash_with key f None
   pub is_other : left ≡ other f.was
@@ -197,7 +205,8 @@ BeginIsKnown before key event after (Some f) None = (facts_for after f.key.0 ≡
     ⊎ ((facts_for after f.key.0 ≡ facts_for before f.key.0) × (f.key.0 ≢ key))
 BeginIsKnown before key event after (Some f) (Some c) = Unit {0}
 
--- How the facts change when a call ends, and the call's clash if one is found.
+-- States how the facts about a key change when a call of the key ends. If a clash is found, the earlier facts show it,
+-- and the call is its second call.
 pub record EndIsKept (before : States) (call : StreamCall) (after : States) (clash : Option Clash) : Type 0 where
   pub facts : IsEnded call (facts_for before (key_of call.call).0) (facts_for after (key_of call.call).0)
   pub found : IfSome clash (IsFound (facts_for before (key_of call.call).0) call)
@@ -213,7 +222,7 @@ abbrev pub clash_met : Option Failed → Option Clash → Option Clash
 clash_met None clash = None
 clash_met (Some f) clash = clash
 
--- States that this is a clash of the stream's calls, for the key of the refusal.
+-- States that this is a clash of the calls of the refusal's key, for all calls that the stream can have judged.
 abbrev pub ClashesStream : List ℕ → Refusal → Option Presence → Stream → Clash → Type 0
 ClashesStream opening refusal left s c = (threads : ℕ) (calls : List CallRecord) → IsStreamKept threads opening calls s
     → IsClash calls refusal.key.0 (presence (has_key refusal.key.0 opening)) left c.was (record_if c.first) (record_if c.second)

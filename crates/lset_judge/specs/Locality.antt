@@ -22,15 +22,16 @@ part_of part i h = record {
   calls = calls_in part i h.calls;
 }
 
--- Locality: some order explains a history with its final keys if and only if, for each part, some order explains the
--- part with its final keys.
+-- Locality: some order explains a judged history with its final keys if and only if, for each part, some order explains
+-- the part with its final keys.
 abbrev pub KeysAreApart : Type 0
 KeysAreApart = (h : HistoryValue) (keys : List ℕ) (part : ℕ → ℕ) (parts : ℕ)
     → IsHistory h.opening.threads h.calls → IsStrictlyIncreasing h.opening.keys → IsStrictlyIncreasing keys → IsJudged h
     → ((key : ℕ) → part key < parts)
     → IsExplained h keys ↔ ((i : ℕ) → i < parts → IsExplained (part_of part i h) (keys_in part i keys))
 
--- A judged history needs no quota: if some order explains it with another quota, some order explains it with its own.
+-- The quota of a judged history does not matter: if some order explains the history with another quota, some order
+-- explains it with its own.
 abbrev pub QuotasDoNotMatter : Type 0
 QuotasDoNotMatter = (h : HistoryValue) (keys : List ℕ) (quota : ℕ)
     → IsHistory h.opening.threads h.calls → IsStrictlyIncreasing h.opening.keys → IsStrictlyIncreasing keys → IsJudged h

@@ -9,7 +9,8 @@ use Rattle.lset_history.specs.History.{HistoryValue}
 use Rattle.lset_judge.specs.Events.{Kind, changes, sees, nothing}
 use Rattle.lset_judge.specs.Rule.{same}
 
--- Returns whether a call changes its key to the state `there`.
+-- Returns whether a call of this kind changes its key to the state `there`. A pending `add` or `remove` has this kind
+-- if it can do so.
 abbrev pub turns_to : Presence → Kind → Bool
 turns_to there (changes w) = same w (is_there there)
 turns_to there (sees w) = false

@@ -2,9 +2,10 @@
 use Rattle.std.specs.Prelude.{ℕ, zero, suc, ◌+◌, ◌==◌, ◌||◌, min, nat_lt, Bool, true, false, not, if◌then◌else◌, List, [], ◌∷◌}
 use Rattle.std.specs.Prelude.{length, Option, Some, None, is_some}
 
--- The event of a key at a moment. `true` means present. `begins`: a change to this state begins; its end is known.
--- `ends`: a change to this state ends. `looks`: a read ends, with the state that it saw and the moment at which it
--- began. `leaves`: this is the final state. `idle`: there is no event of the key.
+-- The event of a key at a moment. `true` means present. `begins`: a change to this state begins; the number is the
+-- moment at which it ends, or a number after all moments if it stays pending. `ends`: a change to this state ends.
+-- `looks`: a read ends, with the state that it saw and the moment at which it began. `leaves`: this is the final state.
+-- `idle`: there is no event of the key.
 pub data Event : Type 0 where
   begins : Bool → ℕ → Event
   ends : Bool → Event
@@ -89,7 +90,7 @@ abbrev pub turned_if : ℕ → State → List ℕ → Option State
 turned_if m s [] = None
 turned_if m s (x ∷ xs) = Some (turned_by m (nearest x xs) s)
 
--- Lets at most `n` changes take effect until the state fits the event, and returns this state.
+-- Lets changes take effect, at most `n`, until the state fits the event, and returns this state. None if no state fits.
 abbrev pub settled : ℕ → ℕ → Event → Option State → Option State
 settled n m v None = None
 settled zero m v (Some s) = if fits (suc m) v s then Some s else None

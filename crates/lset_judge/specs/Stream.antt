@@ -87,7 +87,8 @@ pub record ArePending (calls : List CallRecord) (moment : ℕ) (pending : List P
   pub apart : AllPairs (λ (p q : Pending). p.end ≢ q.end) pending
   pub later : All (λ (p : Pending). moment < p.end) pending
 
--- the states of the keys after a moment are those of the rule; if the rule has failed, it failed first on the key of `f`, at its moment
+-- States that the states of the keys after a moment are those of the rule. If the rule has failed by then, states
+-- instead that it has failed on the key of `f` by the moment of `f`, and on no key by an earlier moment.
 abbrev pub IsJudgedTo : List ℕ → List CallRecord → ℕ → States → Option Failed → Type 0
 IsJudgedTo opening calls moment states None =
     (k : ℕ) → state_after (event_at behind_all k calls) (has_key k opening) moment ≡ Some (state_for states k)
@@ -127,18 +128,20 @@ pub record MayCome (pending : List Pending) (moment : ℕ) (x : CallRecord) : Ty
 
 -- ---- What a verdict means
 
--- the rule has failed on a key by a moment
+-- States that the rule has failed on a key by a moment.
 abbrev pub HasFailed : HistoryValue → ℕ → ℕ → Type 0
 HasFailed h k moment = state_after (event_at behind_all k h.calls) (has_key k h.opening.keys) moment ≡ None
 
--- THE RULE FAILS FIRST on this key and at this moment: by no earlier moment has it failed on any key. Without a moment, the rule has failed on
--- no key by any moment, and only the final state of the key is wrong.
+-- States that the rule fails first on this key and at this moment: it has failed on this key by then, and by no earlier
+-- moment on any key. Without a moment, states that the rule has failed on no key by any moment. (Then only the final
+-- state of the key is wrong: see `IsRefusedBy`.)
 abbrev pub FailsFirst : HistoryValue → ℕ → Option ℕ → Type 0
 FailsFirst h key None = (k m : ℕ) → HasFailed h k m → ⊥
 FailsFirst h key (Some moment) = HasFailed h key moment × ((k m : ℕ) → HasFailed h k m → moment ≤ m)
 
--- Linearizable: some order explains the calls and leaves the keys. NotLinearizable: no order does, under any quota, because no order explains
--- the calls of the refusal's key; and the rule fails first on this key, at the refusal's moment.
+-- Linearizable: some order explains the calls and leaves the keys. NotLinearizable: no order does, under any quota; the
+-- reason is about the calls of the refusal's key (`IsRefusedBy`); and the rule fails first on this key, at the
+-- refusal's moment.
 abbrev pub IsStreamVerdict : HistoryValue → List ℕ → StreamVerdict → Type 0
 IsStreamVerdict h keys Linearizable = IsExplained h keys
 IsStreamVerdict h keys (NotLinearizable refusal) =
@@ -156,7 +159,8 @@ IsStreamVerdictCutOff h (NotLinearizable refusal) = (keys : List ℕ) → IsStre
 abbrev pub no_pending : Pending
 no_pending = record { end = 0; call = call_of no_call }
 
--- States how the states change by the event of a key at a moment.
+-- States how the states of the keys change at the event of a key at a moment, and whether the rule fails there. After a
+-- failure, nothing is stated about the states.
 abbrev pub IsMetBy : States → ℕ → ℕ → Event → States → Option Failed → Option Failed → Type 0
 IsMetBy before key moment event after (Some f) failed = failed ≡ Some f
 IsMetBy before key moment event after None None =

@@ -23,7 +23,8 @@ fn ends_by(first: StreamCall, second: StreamCall) -> bool
     }
 }
 
-/// Returns the state in which a call leaves its key, and the kind of the call. `None` if nothing is known of the key.
+/// Returns the state in which a call leaves its key, and the kind of the call. `None` for a `ceiling`, and for a reply
+/// that is neither true nor false.
 fn kept_as(call: Call, reply: Reply) -> Option<(Presence, Kept)>
     ensures { IfSome result (λ p. (left_so (effect_of call reply) ≡ Some p.0) × (word_kept p.1 p.0 (key_of call) ≡ call)
         × (reply_kept p.1 p.0 ≡ reply) × IsTrue (is_call p.1)) }
@@ -39,7 +40,7 @@ fn kept_as(call: Call, reply: Reply) -> Option<(Presence, Kept)>
     }
 }
 
-/// Returns the word and the key of a kept call.
+/// Returns what a kept call of this kind was, without its reply: an `add`, a `remove` or a `contains` of the key.
 fn word_kept(kept: Kept, was: Presence, key: Key) -> Call
     ensures { result ≡ word_kept kept was key }
 {
@@ -72,7 +73,7 @@ impl KeyState {
         }
     }
 
-    /// Returns the kept call of a key with this state. `None` if the key had its state at first.
+    /// Returns the kept call of a key with this state. `None` if the key had the state `was` at the opening.
     fn first(&self, key: Key) -> Option<StreamCall>
         ensures { result ≡ first_of key.0 (facts_of self.now) }
     {
@@ -87,7 +88,8 @@ impl KeyState {
         })
     }
 
-    /// Records the begin of a call, if it can change the key. (The rule has failed, so the pending changes are not recorded.)
+    /// Records that a call begins after the rule has failed. Only the moments by which changes end are raised: the
+    /// pending changes no longer matter.
     pub(crate) fn note_begin(&mut self, event: Event)
         ensures { facts_of self.new ≡ begun_by (event_as event) (facts_of self.old) }
     {
@@ -98,7 +100,8 @@ impl KeyState {
         }
     }
 
-    /// Whether no call that can change the key to the other state has been pending since the begin of the kept call.
+    /// Returns whether each call that can change the key to the other state has ended by the begin of the kept call
+    /// `first`. Without a kept call, returns whether no such call has begun.
     fn is_standing(&self, first: Option<StreamCall>, key: Key) -> bool
         requires { first ≡ first_of key.0 (facts_of self.now) }
         ensures { IsTrue result → IsStanding key.0 (facts_of self.now) }
@@ -110,8 +113,8 @@ impl KeyState {
         }
     }
 
-    /// Returns whether the second call comes after the first in each order, or also clashes with it in the opposite
-    /// order.
+    /// Returns whether the facts show that the second call comes after the first in real time, or also clashes with it
+    /// in the opposite order. True without a first call.
     fn comes_after(&self, first: Option<StreamCall>, second: StreamCall) -> bool
         ensures { IsTrue result → ComesAfter (facts_of self.now) first second }
     {
@@ -174,13 +177,15 @@ impl KeyState {
         })
     }
 
-    /// Whether a call that begins at `begun` and leaves the key in the state `was` replaces the kept call.
+    /// Returns whether an ended call that begins at `begun` and leaves the key in the state `was` replaces the kept
+    /// call. Each change to the other state must have ended by `begun`. A kept call with the same state stays if each
+    /// such change has ended by its own begin.
     fn is_to_be_kept(&self, begun: u64, was: Presence) -> bool {
         let until = self.until(other(was));
         until <= begun && !(self.was == was && until <= self.begun)
     }
 
-    /// Records that a call ends.
+    /// Records that a call ends: it becomes the kept call, or the facts stay as they are.
     pub(crate) fn keep(&mut self, call: StreamCall)
         ensures state { state_of self.new ≡ state_of self.old }
         ensures ended { IsEnded call (facts_of self.old) (facts_of self.new) }

@@ -22,8 +22,8 @@ pub enum Judged {
     Linearizable,
     /// No order explains the calls and leaves the final keys. Contains the reason, and a clash if one was found.
     NotLinearizable(Refusal, Option<Clash>),
-    /// Not decided: a call that ended is a `ceiling`, or returned neither true nor false, and nothing else refutes the
-    /// history.
+    /// Not decided: a call that ended is a `ceiling`, or returned neither true nor false, and some order explains the
+    /// calls as the judge reads them.
     Undecided,
 }
 

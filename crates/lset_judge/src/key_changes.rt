@@ -10,7 +10,7 @@ use crate::stream::BEHIND_ALL;
 use lset_words::Presence;
 use std::alloc::{AllocError, Global};
 
-/// Pending changes of a key of which two were pending at once.
+/// Changes of a key in heaps: the ends of the pending changes that have not taken effect, and counts of the changes.
 #[derive(Drop)]
 pub(crate) struct ManyChanges {
     puts: Ends,
@@ -18,7 +18,9 @@ pub(crate) struct ManyChanges {
     counts: Changes,
 }
 
-/// The pending changes of a key that have not taken effect. (A key of which no two changes were ever pending at once needs no allocation.)
+/// The pending changes of a key that have not taken effect. Heaps are not needed, and nothing is allocated, as long as
+/// `add`s and `remove`s that change the key alternate, each has an end, and each begins after the end of the one
+/// before.
 #[derive(Drop)]
 pub(crate) enum Held {
     /// None.
@@ -31,18 +33,19 @@ pub(crate) enum Held {
     Many(Box<ManyChanges>),
 }
 
-/// The changes of a key that have begun: when they end, and the ends of those that are pending and have not taken effect.
+/// The changes of a key that have begun: by which moments they end, and the ends of those that are pending and have not
+/// taken effect. A change without an end counts as one that ends after all moments.
 #[derive(Drop)]
 pub(crate) struct KeyChanges {
-    /// A moment by which each `add` that has begun and can put the key in has ended.
+    /// A moment by which each `add` that has begun and can add the key ends.
     pub(crate) puts_until: u64,
-    /// A moment by which each `remove` that has begun and can take the key out has ended.
+    /// A moment by which each `remove` that has begun and can remove the key ends.
     pub(crate) takes_until: u64,
     held: Held,
 }
 
 impl KeyChanges {
-    /// Returns no changes. Does not allocate.
+    /// Returns the value of a key without changes. Does not allocate.
     pub(crate) fn none() -> KeyChanges
         ensures puts { puts_in result ≡ [] }
         ensures takes { takes_in result ≡ [] }
@@ -56,7 +59,7 @@ impl KeyChanges {
         }
     }
 
-    /// Whether no `add` is pending that has not taken effect.
+    /// Returns whether no `add` is pending that has not taken effect.
     pub(crate) fn has_no_put(&self) -> bool
         ensures { result ≡ (length (puts_in self.now) == 0) }
     {
@@ -67,7 +70,7 @@ impl KeyChanges {
         }
     }
 
-    /// Whether no `remove` is pending that has not taken effect.
+    /// Returns whether no `remove` is pending that has not taken effect.
     pub(crate) fn has_no_take(&self) -> bool
         ensures { result ≡ (length (takes_in self.now) == 0) }
     {
@@ -78,7 +81,7 @@ impl KeyChanges {
         }
     }
 
-    /// Whether no such `add` ends at the moment after `before` or earlier.
+    /// Returns whether each pending `add` that has not taken effect ends later than at the moment after `before`.
     pub(crate) fn no_put_is_due(&self, before: u64) -> bool
         ensures { result ≡ (not_before (suc (suc before)) (puts_in self.now) == length (puts_in self.now)) }
     {
@@ -89,7 +92,7 @@ impl KeyChanges {
         }
     }
 
-    /// Whether no such `remove` ends at the moment after `before` or earlier.
+    /// Returns whether each pending `remove` that has not taken effect ends later than at the moment after `before`.
     pub(crate) fn no_take_is_due(&self, before: u64) -> bool
         ensures { result ≡ (not_before (suc (suc before)) (takes_in self.now) == length (takes_in self.now)) }
     {
@@ -100,7 +103,7 @@ impl KeyChanges {
         }
     }
 
-    /// Removes the pending `add` whose end is nearest, and returns its end.
+    /// Removes the `add` with the earliest end from the pending `add`s that have not taken effect. Returns its end.
     pub(crate) fn pop_put(&mut self) -> Option<u64>
         ensures popped { MatchOption result (puts_in self.old ≡ [])
             (λ end. (puts_in self.old ≡ end ∷ puts_in self.new) × (nearest end (puts_in self.new) ≡ end)) }
@@ -118,7 +121,8 @@ impl KeyChanges {
         }
     }
 
-    /// Removes the pending `remove` whose end is nearest, and returns its end.
+    /// Removes the `remove` with the earliest end from the pending `remove`s that have not taken effect. Returns its
+    /// end.
     pub(crate) fn pop_take(&mut self) -> Option<u64>
         ensures popped { MatchOption result (takes_in self.old ≡ [])
             (λ end. (takes_in self.old ≡ end ∷ takes_in self.new) × (nearest end (takes_in self.new) ≡ end)) }
@@ -136,7 +140,8 @@ impl KeyChanges {
         }
     }
 
-    /// Returns the counts of the changes that end, after the moment `before`.
+    /// Returns, after the moment `before`, how many of the changes that have an end are pending, and when the last of
+    /// the others ended.
     pub(crate) fn counts(&self, before: u64) -> Changes {
         if let Held::Many(many) = &self.held {
             return many.counts;
@@ -150,7 +155,7 @@ impl KeyChanges {
         }
     }
 
-    /// Records the end of a change.
+    /// Records in the counts that a change ends.
     pub(crate) fn end(&mut self, moment: u64)
         ensures { AreSame self.old self.new }
     {
@@ -159,7 +164,9 @@ impl KeyChanges {
         }
     }
 
-    /// Whether a change that begins after the moment `before` is pending alone, so that heaps are not needed.
+    /// Returns whether no heap is needed for a change to the state `to` that begins at the moment after `before` and
+    /// ends at `end`: it has an end, each earlier change has ended by `before`, and the last of them, if any, was to
+    /// the other state.
     fn is_alone(&self, to: Presence, before: u64, end: u64) -> bool
         ensures alone { IsTrue result → is_many self.now.held ≡ false }
         ensures puts { IsTrue result → (puts_in self.now ≡ []) × (takes_in self.now ≡ []) }
@@ -235,7 +242,8 @@ impl KeyChanges {
         }
     }
 
-    /// Raises the moment by which each `add` has ended.
+    /// Raises the moment by which each `add` ends. Without heaps, this also moves the end of a pending `add`: call this
+    /// only for heaps, or after the rule has failed.
     pub(crate) fn raise_puts(&mut self, end: u64)
         ensures puts { is_many self.old.held ≡ true → puts_in self.new ≡ puts_in self.old }
         ensures takes { takes_in self.new ≡ takes_in self.old }
@@ -245,7 +253,8 @@ impl KeyChanges {
         self.puts_until = self.puts_until.max(end);
     }
 
-    /// Raises the moment by which each `remove` has ended.
+    /// Raises the moment by which each `remove` ends. Without heaps, this also moves the end of a pending `remove`:
+    /// call this only for heaps, or after the rule has failed.
     pub(crate) fn raise_takes(&mut self, end: u64)
         ensures puts { puts_in self.new ≡ puts_in self.old }
         ensures takes { is_many self.old.held ≡ true → takes_in self.new ≡ takes_in self.old }
@@ -255,7 +264,8 @@ impl KeyChanges {
         self.takes_until = self.takes_until.max(end);
     }
 
-    /// Begins an `add` after the moment `before`. It takes effect by `end`.
+    /// Begins an `add` at the moment after `before`. `end` is its end, or a number after all moments if it stays
+    /// pending.
     pub(crate) fn begin_put(
         &mut self,
         alloc: Global,
@@ -280,7 +290,8 @@ impl KeyChanges {
         Ok(())
     }
 
-    /// Begins a `remove` after the moment `before`. It takes effect by `end`.
+    /// Begins a `remove` at the moment after `before`. `end` is its end, or a number after all moments if it stays
+    /// pending.
     pub(crate) fn begin_take(
         &mut self,
         alloc: Global,

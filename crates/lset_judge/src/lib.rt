@@ -40,8 +40,9 @@ pub use stream::{LAST_MOMENT, Refusal, StreamCall, StreamFault};
 /// part. So if `judge` finds each part linearizable, the recording is linearizable, and if it finds one part not
 /// linearizable, the recording is not.
 ///
-/// The lemma holds for the histories that the judge decides, which have no `ceiling` and no quota: a `ceiling` reads many keys, and a
-/// quota counts the `add`s of all keys. (Locality is Herlihy and Wing's: here each key is an object of its own.)
+/// The lemma holds for the histories that the judge decides: see `is_judged`. A `ceiling` reads many keys, and a quota
+/// that does not cover all `add`s counts those of all keys. (Locality is Herlihy and Wing's: here each key is an object
+/// of its own.)
 pub fn keys_are_apart()
     ensures { KeysAreApart }
 {}

@@ -17,10 +17,10 @@ use crate::stream::StreamCall;
 use lset_words::Presence;
 use std::alloc::{AllocError, Global};
 
-/// The kind of call that leaves a key in a state.
+/// The kind of the kept call, which leaves its key in the state `was`.
 #[derive(Clone, Copy)]
 pub(crate) enum Kept {
-    /// No call. The key had the state at first.
+    /// No call. The key had the state `was` at the opening.
     Opening,
     /// An `add` or a `remove` that returned true.
     Change,
@@ -30,7 +30,8 @@ pub(crate) enum Kept {
     Look,
 }
 
-/// The state of a key: its presence, when it last changed, its changes, and the call that left it in a state. (64 bytes.)
+/// The state of a key: its presence, when it last changed, its changes, and the kept call, with which later calls can
+/// clash. (64 bytes.)
 #[derive(Drop)]
 pub(crate) struct KeyState {
     pub(crate) changes: KeyChanges,
@@ -42,7 +43,7 @@ pub(crate) struct KeyState {
     /// The thread of the kept call.
     pub(crate) thread: u32,
     pub(crate) kept: Kept,
-    /// The state in which the kept call leaves the key.
+    /// The state in which the kept call leaves the key. Without a kept call, the state at the opening.
     pub(crate) was: Presence,
     there: Presence,
 }

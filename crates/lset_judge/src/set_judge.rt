@@ -23,8 +23,9 @@ pub enum Verdict {
     NotLinearizable(Refusal, Option<Clash>),
 }
 
-/// Judges the calls of a set as they come. A judge keeps the state of each key, at most one call of each key, and the pending calls, so
-/// its memory does not grow with the number of calls.
+/// Judges the calls of a set as they come. A judge keeps the state of each key, at most one ended call of each key, the
+/// pending calls, and the ends of threads' last calls. Its memory grows with the number of keys, of threads and of
+/// pending calls, but not with the number of calls.
 ///
 /// Calls must come in the order of their begins. `close` and `close_cut_off` return whether some order explains them.
 #[derive(Drop)]
@@ -81,7 +82,7 @@ impl Judge {
     }
 
     /// Returns how many of the calls overlap another call of the same key that is an `add` or a `remove` and returned
-    /// true. The number is correct only if some order explains the calls.
+    /// true. The number is right if some order explains the calls. Otherwise it can be wrong.
     pub fn overlapped(&self) -> u64 {
         self.stream.overlapped()
     }

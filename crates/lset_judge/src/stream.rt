@@ -82,21 +82,23 @@ impl From<AllocError> for StreamFault {
 pub(crate) enum StreamVerdict {
     /// Some order explains the calls, from the opening keys, and leaves the final keys.
     Linearizable,
-    /// No order explains the calls.
+    /// No order explains the calls and leaves the final keys.
     NotLinearizable(Refusal),
 }
 
-/// Why no order explains the calls of a stream: the key that rules every order out, and a moment.
+/// Why no order explains the calls of a stream and leaves the final keys: a key that rules every order out, and a
+/// moment.
 #[derive(Clone, Copy, Debug, PartialEq, Eq)]
 pub struct Refusal {
-    /// The key whose calls no order explains.
+    /// The key that rules every order out.
     pub key: Key,
     /// No order explains the calls of the key that begin by this moment, with all their replies, whatever keys it
-    /// leaves. `None` if no order explains all calls of the key and leaves its final state.
+    /// leaves. It is the first moment at which the judge's rule fails on any key. `None` if the rule fails on no key,
+    /// but no order explains all calls of this key and leaves its final state.
     pub moment: Option<u64>,
 }
 
-/// The key for which the rule failed, and the moment at which it failed.
+/// The key for which the rule failed first, and the moment at which it failed.
 #[derive(Clone, Copy)]
 pub(crate) struct Failed {
     pub(crate) key: Key,
@@ -378,8 +380,9 @@ fn verdict_of_key(key: Option<u32>) -> StreamVerdict
     }
 }
 
-/// A stream of calls of a set that is judged call by call. It stores the state of each key and the pending calls, so
-/// its memory use does not grow with the number of calls.
+/// A stream of calls of a set that is judged call by call. It stores the state of each key, the pending calls, and the
+/// ends of threads' last calls. Its memory grows with the number of keys, of threads and of pending calls, but not with
+/// the number of calls.
 ///
 /// Calls must arrive in the order in which they began. `verdict` and `verdict_cut_off` return whether some order
 /// explains them. The rule looks at the moments of each key only once and in order, so no moment has to be stored.
@@ -629,8 +632,8 @@ impl Stream {
         }
     }
 
-    /// Returns how many calls overlap a change of their key that ends, other than themselves. The number is correct
-    /// only if the rule has not failed.
+    /// Returns how many calls overlap a change of their key that ends, other than themselves. The number is right if
+    /// the rule has not failed. Otherwise it can be wrong.
     pub(crate) fn overlapped(&self) -> u64 {
         self.overlapped
             .saturating_add(self.pending.overlapping(&self.states, self.moment))

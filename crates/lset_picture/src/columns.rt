@@ -60,8 +60,8 @@ impl Drawing {
         self.before || self.after
     }
 
-    /// Returns a window that begins at the clash, if not all moments fit and the order is refused. Otherwise returns
-    /// `None`.
+    /// Returns a window that begins at the clash, if the order is refused and `window` has all moments but they do not
+    /// all fit. Otherwise returns `None`.
     pub fn window_of_clash(&self, picture: &Picture, window: Window) -> Option<Window> {
         if !(self.after && window.is_whole()) {
             return None;

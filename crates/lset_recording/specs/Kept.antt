@@ -23,13 +23,14 @@ use Rattle.lset_recording.specs.Reading.{SoFar, Reads, Says, first_line, is_done
 abbrev pub IsLatest : List CallRecord → ℕ → Type 0
 IsLatest calls moment = (moment ≡ 0) ⊎ ((x : CallRecord) × Contains calls x × (moment ≡ x.begun))
 
--- States that the judge has judged these calls. Before the first call there is no judge.
+-- States that the judge has judged these calls, that its moment is the begin of a call or 0, and that there are at most
+-- as many calls as this moment. Before the first call there is no judge.
 abbrev pub IsJudgeKept : List ℕ → List CallRecord → Option Judge → Type 0
 IsJudgeKept opening calls None = calls ≡ []
 IsJudgeKept opening calls (Some j) =
     IsJudgeOf all_threads opening calls j × IsLatest calls (moment_of j.stream) × (length calls ≤ moment_of j.stream)
 
--- The keys increase. So there are at most k of them below any next key k, and their number fits in a machine word.
+-- The keys increase. So there are at most k of them if a next key k is above them, and at most 2^32 of them in all.
 pub record AreKeys (keys : List ℕ) : Type 0 where
   pub increase : IsStrictlyIncreasing keys
   pub below : (k : ℕ) → is_above keys k ≡ true → length keys ≤ k
@@ -98,7 +99,7 @@ IsLineOf bytes piece line = (first_line + newlines bytes ≤ line) × (line < fi
 abbrev pub HasFailed : RecordingReader → LineFault → Type 0
 HasFailed r e = r.failed ≡ Some e
 
--- States that every text that begins with these bytes has this error.
+-- States that every text that begins with these bytes has this error, unless the error is a failed allocation.
 abbrev pub IsRefusedAt : List ℕ → LineFault → Type 0
 IsRefusedAt bytes e = e.cause ≢ wrong.Memory → (more : List ℕ) → Says (bytes ++ more) (Err e)
 

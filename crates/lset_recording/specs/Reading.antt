@@ -163,7 +163,8 @@ abbrev pub cause_of : RecordingLine → Cause
 cause_of (told.Call x) = wrong.History
 cause_of l = wrong.Opening
 
--- States that the numbers in a line are in range, and that a call that ended returned true or false.
+-- States that the keys of opening and key lines, and the threads and moments of calls, are in range, and that a call
+-- that ended is no `ceiling` and returned true or false.
 abbrev pub IsFormed : RecordingLine → Type 0
 IsFormed told.Title = Unit {0}
 IsFormed (told.Opening k) = k < 2 ^ 32
@@ -237,7 +238,7 @@ Says bytes read = Reads first_line nothing_told (cut_at 10 bytes) read
 abbrev pub RecordingsAreRead : Type 0
 RecordingsAreRead = (bytes : List ℕ) (c : Recording) → Says bytes (Ok c) → bytes ≡ recording_text c
 
--- States the verdict on a whole recording or, for `true`, on a recording that was cut off.
+-- States that the verdict on a whole recording is correct or, for `true`, the verdict on a recording that was cut off.
 abbrev pub IsVerdictIf : Bool → Recording → Verdict → Type 0
 IsVerdictIf true c verdict = IsVerdictCutOff all_threads c.opening c.calls verdict
 IsVerdictIf false c verdict = IsVerdict all_threads c.opening c.calls c.keys verdict

@@ -26,7 +26,7 @@ abbrev pub all_threads : ℕ
 all_threads = 2 ^ 32
 
 -- A recording: its opening keys and its final keys increase. Its calls are a history with moments below 2^63, and each
--- call that ended returned true or false.
+-- call that ended is no `ceiling` and returned true or false.
 pub record IsRecording (c : Recording) : Type 0 where
   pub opening : IsStrictlyIncreasing c.opening
   pub calls : IsHistory all_threads c.calls

@@ -1,5 +1,6 @@
-//! Recordings of a set: the text `listset-calls 1`, read line by line and judged as it comes. At most one call of each key and the pending
-//! calls are stored, so memory does not grow with the length of the text. (This project's own format.)
+//! Recordings of a set: the text `listset-calls 1`, read line by line and judged as it comes. The keys, at most one
+//! ended call of each key, and the pending calls are stored. So memory grows with the number of keys, of threads and of
+//! pending calls, but not with the number of calls. (This project's own format.)
 #![tactic(auto)]
 
 mod kept;

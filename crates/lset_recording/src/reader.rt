@@ -21,8 +21,9 @@ fn next_line(bytes: &[u8]) -> Option<(&[u8], &[u8])>
     Some((&bytes[..at], &bytes[at + 1..]))
 }
 
-/// A reader of a recording. The bytes of the text come in pieces of any length. The calls are judged as they come. The reader stores the keys,
-/// the pending calls, at most one call of each key, and at most `LONGEST_LINE` bytes of a line, so memory does not grow with the number of
+/// A reader of a recording. The bytes of the text come in pieces of any length. The calls are judged as they come. The
+/// reader stores the keys, the pending calls, at most one ended call of each key, and at most `LONGEST_LINE` bytes of a
+/// line. So its memory grows with the number of keys, of threads and of pending calls, but not with the number of
 /// calls. The first line of a recording is `listset-calls 1`. (This project's own format.)
 #[derive(Drop)]
 pub struct RecordingReader {

@@ -255,7 +255,9 @@ fn title_told(line: &[u8]) -> Result<Line, Cause>
 ///
 /// # Errors
 ///
-/// Returns the cause of the error if the line is not allowed in the section.
+/// Returns `Header` if the first line is not the title. For a later line, returns `Line` if it has more than
+/// `LONGEST_LINE` bytes or does not have the fields of a line that is allowed in the section, and `Number` if a field
+/// must be a number, and is not a number or is out of range.
 pub fn line_told(section: Section, line: &[u8]) -> Result<Line, Cause>
     ensures { result ≡ line_told section line.now }
 {

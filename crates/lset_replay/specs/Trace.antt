@@ -22,8 +22,8 @@ use Rattle.lset_replay.specs.declared.recorder.Recorder.{Recorder}
 
 -- ---- a pending call
 
--- True if the reply needs the key to be present, false if it needs the key to be absent. Applies to calls that change
--- nothing. For a ceiling, the key is the one in the reply.
+-- Returns whether the reply of a call that changes nothing needs the call's key to be present: true if present, false
+-- if absent. True for a ceiling, for which `shows` tests the whole reply.
 abbrev pub needs_key : Call → Reply → Bool
 needs_key (call.Add k) reply.False = true
 needs_key (call.Contains k) reply.True = true
@@ -153,7 +153,8 @@ pub record MayStep (h : HistoryValue) (under_way : List (Option OpenCall)) (plac
   pub goes : IsSomeAnd (open_call_at under_way thread) (λ o.
       (o.number < length places) × (o.begun ≤ moment) × MayEnd h o.number moment)
 
--- The change can be recorded: no recorded change is later, and the key is not already present or absent.
+-- States that the change can be recorded: its moment is above 0 and after every recorded change, and the key is not
+-- already present or absent.
 abbrev pub MayChange : (ℕ → List ℕ) → ℕ → Option Change → Type 0
 MayChange changes moment None = Unit {0}
 MayChange changes moment (Some (k, present)) =

@@ -100,8 +100,8 @@ pub struct Run<W: Steps + Drop> {
 
 impl<W: Steps + Drop> Run<W> {
     /// Creates a run in a world that opens with these keys, before the first event. If `chains` is true, each event
-    /// that changes the chain or a mark comes with the new chain. This costs a walk along the chain at each event that
-    /// writes a node's key or link.
+    /// that changes the chain or a mark in it comes with the new chain. This costs a walk along the chain at each event
+    /// that writes a node's key or link.
     pub fn opened(alloc: Global, world: W, keys: &[u32], chains: bool) -> Result<Run<W>, AllocError>
         requires { IsStrictlyIncreasing keys.now }
     {
@@ -159,8 +159,8 @@ impl<W: Steps + Drop> Run<W> {
         }))
     }
 
-    /// Returns the local state of the event's thread, and what the event is about to do; `None` if the event would be
-    /// refused.
+    /// Returns the local state of the event's thread before the event, and what the event is about to do. `None` if the
+    /// thread does not exist, or cannot make a step.
     fn look(&self, event: Event) -> Option<(Local, Deed)> {
         let deed = match event {
             Event::Begin(_, call) => Deed::Begin(call),

@@ -30,7 +30,7 @@ ends_apart ends begun (Some end) = nat_lt begun end.0 && not (is_last_end ends e
 abbrev pub ends_well_by : List ℕ → CallRecord → Bool
 ends_well_by ends x = ends_apart ends x.begun x.ended
 
--- THE INVARIANT of CallsSoFar:
+-- The invariant of `CallsSoFar`:
 pub record Tracks (s : CallsSoFar) : Type 0 where
   -- last_begun is the moment at which the last call began,
   pub begins : (m : ℕ) → begins_later s.history.calls m ≡ nat_lt s.last_begun m

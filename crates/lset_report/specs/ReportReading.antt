@@ -54,8 +54,8 @@ most_keys One = MOST_KEYS
 most_keys Two = MOST_KEYS_OPENED
 
 -- A report that has a text: a set can open with its sizes and keys, its calls are a history, its version has words for
--- its opening keys, calls and replies, and all numbers are within the limits. The order and the final keys are
--- arbitrary.
+-- its opening keys, calls and replies, and all numbers, and the counts of calls, places and keys, are within their
+-- limits. The order and the final keys are otherwise arbitrary.
 pub record IsReport (r : ReportValue) : Type 0 where
   pub opens : Opens r.history.opening
   pub opening : HasOpening r.version r.history.opening.keys
@@ -117,7 +117,7 @@ abbrev pub from_opening : Version → List (LineKind ReportLine)
 from_opening One = from_calls
 from_opening Two = opening_kind ∷ from_calls
 
--- THE LINES that can come next in a section, by version
+-- Returns the kinds of lines that can come next in a section of a report of this version.
 abbrev pub kinds : Version → Section → List (LineKind ReportLine)
 kinds version section.Opening = from_opening version
 kinds version section.Calls = from_calls
@@ -237,7 +237,7 @@ is_done section.Done = true
 abbrev pub ends : SoFar → Result SoFar Cause
 ends s = if is_done s.section then Ok s else Err wrong.NotEnded
 
--- THE GRAMMAR of the lines after the header
+-- The grammar of the lines after the header.
 abbrev pub grammar : Grammar SoFar
 grammar = record { step = step; ends = ends }
 
@@ -253,11 +253,11 @@ no_lines version h = record {
 abbrev pub nothing_told : Version → HeaderTold → SoFar
 nothing_told version h = record { section = section.Opening; report = no_lines version h }
 
--- The version that the first line of a text names.
+-- The version of a text: version 2 if its first line is the title of version 2, else version 1.
 abbrev pub version_told : List (List ℕ) → Version
 version_told parts = version_in (title Two) parts
 
--- THE GRAMMAR of a text of a version
+-- Returns the grammar of a report's text in this version.
 abbrev pub text : Version → TextGrammar SoFar
 text version = record { title = title version; start = nothing_told version; lines = grammar }
 

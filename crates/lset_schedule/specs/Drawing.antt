@@ -59,7 +59,8 @@ after_turn T threads keys p =
 abbrev pub IsEnd : Progress → Type 0
 IsEnd p = IsOver p.state (length p.lines) p.left
 
--- States that these are the lines after at most n more turns.
+-- States that these are the lines after the next turns: all turns until the generator has finished, but at most this
+-- many.
 unfoldable pub AreDrawn : Table → ℕ → ℕ → ℕ → Progress → List Line → Type 0
 AreDrawn T threads keys zero p lines = lines ≡ p.lines
 AreDrawn T threads keys (suc turns) p lines =

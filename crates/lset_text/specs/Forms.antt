@@ -19,7 +19,7 @@ pub data Piece : Type 0 where
   call : Piece
   reply : Piece
 
--- Any number that a file can contain.
+-- Any number from 0 to 4,294,967,295.
 abbrev pub any : Piece
 any = number 0 max_number
 
@@ -106,12 +106,13 @@ all_told v [] xs = Some tt
 all_told v (p ∷ f) [] = None
 all_told v (p ∷ f) (x ∷ xs) = both (told v p x) (all_told v f xs)
 
--- Returns the values of a line of this form, or `None` if the line does not match.
+-- Returns the values of a line of this form. `None` if the line does not match, or if a field has no value, such as a
+-- number out of range.
 abbrev pub told_in : Version → (f : Form) → List (List ℕ) → Option (Told f)
 told_in v f xs = if have_form v f xs then all_told v f xs else None
 
--- States that the field can be read back: all bytes of a fixed word are above the space, and the largest number is
--- below 2^64.
+-- States that the field can be read back: all bytes of a fixed word are at least 45 (letters, digits and dashes, but
+-- not the space and the newline), and the largest number is below 2^64.
 abbrev pub IsPiece : Piece → Type 0
 IsPiece (word w) = all_from 45 w ≡ true
 IsPiece (number low high) = high < 2 ^ 64
@@ -125,7 +126,8 @@ abbrev pub IsForm : Form → Type 0
 IsForm [] = ⊥
 IsForm (p ∷ f) = IsPiece p × ArePieces f
 
--- The law of forms: a line is read as some values if and only if it spells these values.
+-- The law of forms: a line is read as some values if and only if the version can spell these values and the line spells
+-- them.
 abbrev pub FormsReadBack : Type 0
 FormsReadBack = (v : Version) (f : Form) (line : List ℕ) (t : Told f) → IsForm f
     → (AllFit v f t → told_in v f (cut_at 32 (line_with f t)) ≡ Some t)

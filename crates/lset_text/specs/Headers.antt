@@ -62,7 +62,7 @@ abbrev pub number_after : List ℕ → ℕ → ℕ → List ℕ → Option ℕ
 number_after word low high line = option_map (λ t. t.1.0) (told_in Two (number_form word low high) (cut_at 32 line))
 
 -- Splits off the next header line, and returns it with the parts after it. If no bytes are left, the line is missing
--- and the error is `cause`.
+-- and the error is `cause`. If bytes are left but no newline, the error is `NotEnded`.
 abbrev pub line_due : ℕ → Cause → List (List ℕ) → Result (List ℕ × List (List ℕ)) LineFault
 line_due line cause [] = Err (fault line cause)
 line_due line cause (rest ∷ []) = Err (fault line (if length rest == 0 then cause else wrong.NotEnded))

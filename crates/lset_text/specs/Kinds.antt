@@ -19,7 +19,8 @@ made f (Ok x) = Ok (f x)
 made f (Err e) = Err e
 
 -- Reads the value of a line. The first kind whose form the line matches makes the value. A line that matches no form is
--- refused with the cause `none`. A line that matches but has a number out of range is refused with `Number`.
+-- refused with the cause `none`. A line that matches a form, but has in the place of a number no number or one out of
+-- range, is refused with `Number`.
 abbrev pub first_of : {X : Type 0} → Version → Cause → List (LineKind X) → List (List ℕ) → Result X Cause
 first_of v none [] pieces = Err none
 first_of v none (k ∷ ks) pieces =

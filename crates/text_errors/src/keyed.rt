@@ -6,7 +6,8 @@ use crate::written::{put_number, put_opening};
 use lset_text::Cause;
 use std::alloc::AllocError;
 
-/// Returns the first line that `serve` refuses: its number and the cause.
+/// Returns the first line that is wrong for `serve`: its number and the cause. Checks neither the order of the lines
+/// that a server prints before its keys nor the number of keys.
 pub fn wrong_key(lines: &Lines<'_>) -> Option<(usize, Cause)> {
     let mut before: Option<u32> = None;
     for number in 1..lines.count().saturating_add(1) {

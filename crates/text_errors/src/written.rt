@@ -111,7 +111,8 @@ fn advice_on(name: &str) -> &'static str {
     }
 }
 
-/// Explains field `index` of a line if it is not an operation. If it is one, writes nothing and returns `false`.
+/// Explains field `index` of a line if it is not `add`, `remove` or `contains`. If it is one of these, writes nothing
+/// and returns `false`.
 pub fn put_no_call(
     out: &mut String,
     place: Place<'_>,

@@ -48,8 +48,9 @@ line_of (Err t) = trouble_text t
 abbrev pub AppendsFront : Option (List ℕ) → Option (List ℕ) → List ℕ → Type 0
 AppendsFront old new text = (front : List ℕ) × (rest : List ℕ) × (text ≡ front ++ rest) × Appends old new front
 
--- The result is delivered: an answer is written to the output, or an error's line to stderr, and the exit status
--- matches the outcome.
+-- States that the result is delivered. An answer's text is written to the output, or a prefix of it if a write fails.
+-- The line of an error, also of a failed write to the output, goes to stderr, or a prefix of it. The exit status is
+-- that of the outcome.
 abbrev pub IsDelivered : Made → Option (List ℕ) → Option (List ℕ) → Option (List ℕ) → Option (List ℕ) → ℕ → Type 0
 IsDelivered made output_old output_new faults_old faults_new status =
     (outcome : Outcome) × Delivers made output_old output_new outcome
@@ -72,7 +73,7 @@ IsTooLong bytes t = (t ≡ TooLong) × (LONGEST < length bytes)
 abbrev pub OnText : (List ℕ → Made → Type 0) → List ℕ → Made → Type 0
 OnText Makes bytes made = ((t : Trouble) × (made ≡ Err t) × IsTooLong bytes t) ⊎ (IsTaken bytes × Makes bytes made)
 
--- What a tool returns for an input: an error if a read or an allocation failed, otherwise the result for the bytes.
+-- What a tool returns for an input: `CannotRead`, `Memory`, or its result for the bytes.
 abbrev pub OnInput : (List ℕ → Made → Type 0) → List ℕ → Made → Type 0
 OnInput Makes bytes made = (made ≡ Err CannotRead) ⊎ ((made ≡ Err Memory) ⊎ OnText Makes bytes made)
 

@@ -15,7 +15,7 @@ use Rattle.tool_base.specs.declared.trouble.Trouble.{Trouble}
 use Rattle.tool_base.specs.declared.trouble.Trouble.TheVariants.{CannotRead, TooLong, CannotWrite, Memory, Line, Bad}
 use Rattle.tool_base.specs.declared.trouble.Trouble.TheVariants.{CannotListen, Work, Serve}
 
--- The error of a wrong line.
+-- The error of a wrong line. A failed allocation at a line is the error `Memory`, without the line.
 abbrev pub of_line : ℕ → Cause → Trouble
 of_line number cause.Memory = Memory
 of_line number c = Line number c

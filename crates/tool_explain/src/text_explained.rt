@@ -11,8 +11,9 @@ use tool_judge::judge_bytes;
 use tool_replay::{Check, Expand, Replay};
 
 /// Explains a text. Prints its kind and the first line with an error; the last line says what is wrong and how to
-/// correct it. If the text has no error, the last line names the commands that read it. `file` is the file's name as a
-/// shell should read it. The exit status is 0. Returns `Trouble::Memory` if an allocation fails.
+/// correct it. If the text has no error, the last line names the commands that read it. `file` is the file's name. It
+/// is printed so that a shell reads it as this name. The exit status is 0. Returns `Trouble::Memory` if an allocation
+/// fails.
 pub fn explain_text(alloc: Global, file: &str, text: &[u8]) -> Result<Answer, Trouble> {
     let mut out = String::new(alloc);
     let name = quoted_name(alloc, file)?;

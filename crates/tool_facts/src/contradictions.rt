@@ -165,7 +165,8 @@ impl Apart {
     }
 }
 
-/// Returns the contradictions of a key, without those that overlap others, ordered by time. Allocates.
+/// Returns contradictions of a key, ordered by time. No two of them overlap each other in time; of two that do, one is
+/// left out. Allocates.
 pub fn clashes_of(
     alloc: Global,
     key: &KeyCalls,

@@ -29,7 +29,7 @@ impl Crossings {
         self.counts.get(count.wrapping_sub(1)).copied().unwrap_or(0)
     }
 
-    /// Returns `true` if no two of the calls overlapped between `since` and `until`.
+    /// Returns `true` if none of the calls that began from `since` to `until` began while another call was running.
     pub fn has_none(&self, calls: &[Made], since: u64, until: u64) -> bool {
         let first = calls.partition_point(|call| call.begun < since);
         let end = calls.partition_point(|call| call.begun <= until);

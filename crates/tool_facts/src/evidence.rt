@@ -45,7 +45,8 @@ pub struct Found {
     pub split: Option<Split>,
 }
 
-/// The maximum number of moments of a loss that is compared with removes of other keys. In a longer time any remove can run by chance.
+/// The maximum number of moments of a loss that is compared with removes of other keys. In a longer time any remove can
+/// run by chance.
 const MOST_MOMENTS: u64 = 200;
 
 /// The minimum number of losses that are compared with the number of keys.
@@ -168,7 +169,8 @@ fn span_of(keys: &[u32]) -> u32 {
     }
 }
 
-/// Returns whether the calls of the smallest key have an order and those of at least two others have none, and it has as many calls as others.
+/// Returns whether the calls of the smallest key have an order and those of at least two others have none, and it has
+/// as many calls as others.
 fn is_first_spared(runs: &Runs<'_>, keys: &[u32], refused: &[Refused]) -> bool {
     let (Some(first), Some(hit)) = (keys.first(), refused.first()) else {
         return false;

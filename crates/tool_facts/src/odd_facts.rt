@@ -51,7 +51,7 @@ pub struct Odd {
     pub then_wrong: u64,
     /// The number of wrong answers whose contradiction was looked at.
     pub placed: u64,
-    /// Of `placed`: no two calls of the run overlapped in the time of the contradiction.
+    /// Of `placed`: at the contradiction, no call of the recording began while another call was running.
     pub apart: u64,
     /// Whether the final keys are ignored too.
     pub puts_left_aside: bool,
@@ -81,7 +81,8 @@ pub struct OddFound {
     pub answers: WrongAnswers,
 }
 
-/// The maximum number of calls that the judge judges again. For more calls the rule of each key alone decides, with the same result.
+/// The maximum number of calls that the judge judges again. For more calls the rule of each key alone decides, with the
+/// same result.
 const MOST_JUDGED: usize = 500_000;
 
 /// Returns the final state of a key. `None` if it is not known, or ignored (`aside`).
@@ -93,7 +94,8 @@ fn left_of(runs: &Runs<'_>, key: u32, aside: bool) -> Option<Presence> {
     }
 }
 
-/// Returns whether the calls of all refused keys have an order without the answers of an operation, with any final keys if `aside`.
+/// Returns whether the calls of all refused keys have an order without the answers of an operation, with any final keys
+/// if `aside`.
 fn is_odd(
     alloc: Global,
     runs: &Runs<'_>,
@@ -159,7 +161,8 @@ pub fn find_odd(
     Ok(None)
 }
 
-/// The adds and removes of a key, whatever they returned, in the order of their begins, each with the latest end of those up to it.
+/// The adds and removes of a key, whatever they returned, in the order of their begins, each with the latest end of
+/// those up to it.
 #[derive(Drop)]
 struct Writers {
     calls: Vec<Made>,
@@ -383,8 +386,8 @@ fn is_changed(sound: &KeyCalls, since: u64, until: u64) -> bool {
         || sound.may_become(Presence::Absent, since, until)
 }
 
-/// Returns the next completed call of the same operation that begins after an answer has ended, if no change of the key overlaps the time
-/// between them. An add or remove that returned true may change the key itself.
+/// Returns the next completed call of the same operation that begins after an answer has ended, if no change of the key
+/// overlaps the time between them. An add or remove that returned true may change the key itself.
 fn next_call(sound: &KeyCalls, calls: &[Made], answer: Made) -> Option<Made> {
     let first = calls.partition_point(|call| call.begun <= answer.ended);
     for call in calls.get(first..).unwrap_or(&[]) {
@@ -404,7 +407,8 @@ fn next_call(sound: &KeyCalls, calls: &[Made], answer: Made) -> Option<Made> {
     None
 }
 
-/// Counts what ran during a wrong answer, and whether the next answer is wrong too. `wrong` has the begins of all wrong answers in order.
+/// Counts what ran during a wrong answer, and whether the next answer is wrong too. `wrong` has the begins of all wrong
+/// answers in order.
 fn count_around(sound: &KeyCalls, calls: &[Made], call: Made, odd: &mut Odd, wrong: &[u64]) {
     if was_left_so(calls, call) {
         more(&mut odd.own);
@@ -467,7 +471,8 @@ fn usually_largest(runs: &Runs<'_>) -> u64 {
     count.saturating_mul(100).checked_div(tried).unwrap_or(100)
 }
 
-/// Compares the wrong answers with the other keys at the same time: whether another key, and whether a larger key was shown present.
+/// Compares the wrong answers with the other keys at the same time: whether another key, and whether a larger key was
+/// shown present.
 fn compare_keys(
     alloc: Global,
     runs: &Runs<'_>,

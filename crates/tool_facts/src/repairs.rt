@@ -15,8 +15,8 @@ const AHEAD: [usize; 3] = [24, 8, 2];
 /// The maximum number of calls around a contradiction.
 const MOST_AROUND: usize = 300;
 
-/// A key's calls around a contradiction: those that are pending at the moment `from`, and those that begin after it and
-/// before a later moment. The key has the state `state` at `from`.
+/// A key's calls around a contradiction: those that begin after the moment `from` and before a later moment. A call
+/// that has not ended by then is pending. The key has the state `state` at `from`.
 #[derive(Drop)]
 struct Around {
     from: u64,
@@ -74,7 +74,7 @@ fn calls_around(
     }))
 }
 
-/// Returns the moment before which `ahead` calls begin after a contradiction; `NEVER` if there are fewer calls.
+/// Returns the moment before which `ahead` calls begin after a contradiction; `NEVER` if no further call begins.
 fn moment_ahead(key: &KeyCalls, clash: &Clash, ahead: usize) -> u64 {
     key.after(clash.until)
         .get(ahead)

@@ -40,7 +40,8 @@ fn presence_in(keys: &[u32], key: u32) -> Presence {
     }
 }
 
-/// Reads a recording and keeps all of its calls.
+/// Reads a recording and keeps all of its calls. Checks the form of each line, but not that keys increase and that each
+/// call can follow the calls before it: the judge does.
 #[derive(Drop)]
 pub struct RunReader {
     recorded: Recorded,
@@ -113,7 +114,8 @@ impl RunReader {
         Ok(())
     }
 
-    /// Returns the recording; `None` if the text is not a recording. Does not allocate.
+    /// Returns the recording. `None` if a line does not have the form of a line that is allowed there, or if the text
+    /// does not end after the line `end` or `cut`. Does not allocate.
     pub fn finish(self) -> Option<Recorded> {
         let is_done = matches!(self.section, Section::Done);
         if is_done && self.is_whole && self.line.is_empty() {
@@ -152,7 +154,7 @@ impl RunReader {
     }
 
     /// Returns the first `count` calls as a recording that was cut off just before the next call began. Returns `None`
-    /// if fewer calls were read or a line is wrong. Allocates.
+    /// unless more than `count` calls were read, or if a line has the wrong form. Allocates.
     pub fn first_calls(&self, count: usize) -> Result<Option<Recorded>, AllocError> {
         let Some(next) = self.recorded.calls.get(count) else {
             return Ok(None);

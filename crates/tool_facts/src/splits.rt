@@ -87,7 +87,8 @@ impl Split {
         }
     }
 
-    /// Returns `true` if `contains` always found the key in one state, and the answers alternated at least three times.
+    /// Returns `true` if at least `LEAST` answers found the key present and as many found it absent, the answers
+    /// alternated at least three times, and those of `contains` did not differ.
     fn is_split(&self) -> bool {
         let votes = self.votes();
         let is_mixed = self.contains.present > 0 && self.contains.absent > 0;

@@ -132,8 +132,8 @@ pub fn place_of(
     Ok(place)
 }
 
-/// Returns the contradictions of a key with their symptoms, without those that overlap others, ordered by time.
-/// Allocates.
+/// Returns contradictions of a key with their symptoms, ordered by time. No two of them overlap each other in time; of
+/// two that do, one is left out. Allocates.
 pub fn places_of(alloc: Global, key: &KeyCalls) -> Result<Vec<Place>, AllocError> {
     let stretches = stretches_of(alloc, key)?;
     let clashes = clashes_of(alloc, key, &stretches)?;

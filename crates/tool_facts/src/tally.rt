@@ -48,15 +48,16 @@ pub struct Tally {
     pub short: u64,
     /// The smallest number of keys that were known to be present at one of these short losses.
     pub least_full: u64,
-    /// The percentage of moments at which at least `least_full` keys were known to be present.
+    /// The percentage of calls, in a sample, at whose begin at least `least_full` keys were known to be present.
     pub usually_full: u64,
     /// The percentage of other periods of the same length in which a change of another key ran.
     pub usual: u64,
     /// Of `lost` and `came_back` that a call shows: the change before is known.
     pub made: u64,
-    /// Of `made`: a change of another key that can have read the set before the change, and written it afterwards, overlapped the change.
+    /// Of `made`: a change of another key that can have read the set before the change, and written it afterwards,
+    /// overlapped the change.
     pub fits: u64,
-    /// How many contradictions, of all kinds, have no two overlapping calls.
+    /// At how many contradictions, of all kinds, no call of the recording began while another call was running.
     pub apart: u64,
     /// The number of keys with contradictions.
     pub keys: u64,
@@ -126,8 +127,8 @@ impl Tally {
         }
     }
 
-    /// Counts a change that was undone, and whether a change of another key can have written back what it read before. `key` has the calls
-    /// of the key.
+    /// Counts a change that was undone, and whether a change of another key can have written back what it read before.
+    /// `key` has the calls of the key.
     pub fn add_change(&mut self, key: &KeyCalls, place: &Place, neighbours: &Neighbours) {
         let Some(second) = place.clash.second else {
             return;

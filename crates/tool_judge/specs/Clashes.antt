@@ -34,7 +34,7 @@ abbrev pub end_of : ℕ → Option (ℕ × Reply) → ℕ
 end_of begun None = begun
 end_of begun (Some e) = e.0
 
--- True if the second call begins before the first has ended.
+-- True if the second call begins at or before the end of the first, or if the first is pending.
 abbrev pub overlap : Option (ℕ × Reply) → ℕ → Bool
 overlap None begun = true
 overlap (Some e) begun = nat_le begun e.0
@@ -142,7 +142,7 @@ lines_turned key was x y = turned_first key (need_of (is_change x.call x.ended) 
     ++ turned_there key (other was) x.begun (end_of y.begun y.ended)
     ++ turned_back (need_of (is_change x.call x.ended) was) y.begun (end_of x.begun x.ended)
 
--- THE LINES OF A CONTRADICTION between calls of one key
+-- Returns the lines of a contradiction between calls of one key. Two calls that overlap are described in both orders.
 abbrev pub lines_of : ℕ → Presence → Option StreamCall → Option StreamCall → List ℕ
 lines_of key was (Some x) (Some y) = if overlap x.ended y.begun then lines_turned key was x y else lines_in_order key was (Some x) (Some y)
 lines_of key was first second = lines_in_order key was first second

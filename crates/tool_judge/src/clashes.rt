@@ -65,7 +65,7 @@ fn end_of(made: StreamCall) -> u64
     }
 }
 
-/// Returns `true` if the second call begins before the first has ended.
+/// Returns `true` if the second call begins at or before the end of the first, or if the first is pending.
 fn overlap(first: StreamCall, second: StreamCall) -> bool
     ensures { result ≡ lines.overlap first.ended second.begun }
 {

@@ -14,12 +14,13 @@ use std::alloc::{AllocError, Global};
 use std::io::Read;
 use tool_base::{Answer, READ_SIZE, Trouble};
 
-/// How much an answer contains besides the verdict.
+/// How much an answer contains besides the verdict, the number of calls that overlap, and whether the recording was cut
+/// off.
 #[derive(Clone, Copy, PartialEq, Eq)]
 pub(crate) enum Detail {
-    /// The contradiction behind a refusal, and advice if few calls overlap.
+    /// Also the contradiction behind a refusal, and advice if few calls overlap.
     Whole,
-    /// Nothing but the verdict.
+    /// Neither a contradiction nor advice.
     Brief,
 }
 

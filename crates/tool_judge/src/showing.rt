@@ -132,9 +132,9 @@ fn claim_text(alloc: Global, picture: &Picture) -> Result<Vec<u8>, AllocError> {
 /// status is 1 if the report's order is refused or an event of the schedule is not enabled, otherwise 0. A schedule is
 /// drawn up to the first event that is not enabled.
 ///
-/// If the order is refused, an empty line follows the picture, and then a statement whether any other order explains
-/// the report and leaves its final keys. If none does, the lines of `judge` follow. For a report with `ceiling` or
-/// `full`, the statement can be that this is unknown.
+/// If the order is refused and the picture is text, an empty line follows the picture, and then a statement whether any
+/// other order explains the report and leaves its final keys. If none does, the lines of `judge` follow. For a report
+/// with `ceiling` or `full`, the statement can be that this is unknown.
 ///
 /// The errors are those of `Show::picture`, `Bad(From)` if the window begins after everything in the picture, and
 /// `Memory`.

@@ -70,10 +70,10 @@ pub fn generate_for(alloc: Global, values: &[String]) -> Result<Answer, Trouble>
 
 /// Implements the command `gen`: writes a random schedule in version 1 to `output`, and returns the exit status.
 ///
-/// `values` are the arguments, in the format of `read_random_request`. The schedule ends after 10,000 events, so it can
-/// contain fewer calls than requested. The status is 0 if the schedule was written. Otherwise one line on `faults`
-/// names the error (if that line can be written), and the status is 2 for an argument that is missing or wrong, 3 if an
-/// allocation failed, and 1 for any other error. Allocates.
+/// `values` are the arguments, in the format of `read_random_request`. The schedule has at most 10,000 events, so it
+/// can begin fewer calls than requested. The status is 0 if the schedule was written. Otherwise one line on `faults`
+/// names the error (if that line can be written), and the status is 2 if an argument is missing or wrong (the line
+/// names the first), 3 if an allocation failed, and 1 for any other error. Allocates.
 pub fn tool_gen<W: Write, F: Write>(
     alloc: Global,
     values: &[String],

@@ -13,10 +13,10 @@ use tool_facts::{
 #[derive(Clone, Copy)]
 pub enum Mark {
     Nothing,
-    /// This reply was expected. With it, the key's calls up to the end of this call are linearizable; as recorded, they
-    /// are not.
+    /// This reply was expected. With it, the key's calls that had begun by the end of this call are linearizable; as
+    /// recorded, they are not.
     Expected(bool),
-    /// In every order, the key is in this state from the end of this call until the contradicting call.
+    /// In every order, the key is in this state after this call takes effect, until the contradicting call does.
     Leaves(Presence),
     /// A later call, which finds the key in this state.
     Finds(Presence),
@@ -113,7 +113,8 @@ fn places_with(
     Ok(found)
 }
 
-/// Returns the place that is shown: the first place in a long split, or the clearest place of the most frequent symptom, if possible of `key`.
+/// Returns the place that is shown: the first place in a long split, or the clearest place of the most frequent
+/// symptom, if possible of `key`.
 fn place_shown(alloc: Global, found: &Found, key: u32) -> Result<Option<Place>, AllocError> {
     if found.odd.is_some() {
         return Ok(clearest(&found.places, key));

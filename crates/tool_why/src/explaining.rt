@@ -30,8 +30,8 @@ fn lines_of(text: &str) -> usize {
     text.lines().filter(|line| !line.is_empty()).count()
 }
 
-/// Returns the message of a diagnosis, without the verdict. The message and the `used` lines above it have at most 15 lines that are not
-/// blank. Allocates.
+/// Returns the message of a diagnosis, without the verdict. The message and the `used` lines above it have at most 15
+/// lines that are not blank. Allocates.
 pub fn diagnosis_text(
     alloc: Global,
     diagnosis: &Diagnosis,
@@ -104,9 +104,11 @@ fn explain_first(
     Ok(Some(described(alloc, reader.recorded(), &diagnosis, used)?))
 }
 
-/// Reads a recording, and explains why no order explains it. The verdict above the explanation has `used` lines: two without a clash. If no
-/// order explains the first `MOST_EXPLAINED` calls, the explanation is of these, and the other lines are not read. Returns `None` if a read
-/// fails, if the text is no recording, or if some order explains it. Allocates; blocks as the input does.
+/// Reads a recording, and explains why no order explains it. The verdict above the explanation has `used` lines: two
+/// without a clash. If no order explains the first `MOST_EXPLAINED` calls, the explanation is of these, and the other
+/// lines are not read. Returns `None` if a read fails, if a line has the wrong form, or if some order explains the
+/// recording. That the text is a recording otherwise, is not checked: judge it first. Allocates; blocks as the input
+/// does.
 pub fn explain<R: Read>(
     alloc: Global,
     input: &mut R,

@@ -1,5 +1,5 @@
-//! Diagnosis of a recording that no order explains: the facts of `tool_facts` as a message with a picture, and a likely cause. The diagnosis does
-//! not decide the verdict. The cause, after `likely:`, is a guess.
+//! Diagnosis of a recording that no order explains: the facts of `tool_facts` as a message with a picture, and a likely
+//! cause. The diagnosis does not decide the verdict. The cause, after `likely:`, is a guess.
 #![tactic(auto)]
 
 mod as_record;

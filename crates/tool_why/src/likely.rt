@@ -31,7 +31,7 @@ pub enum Cause {
     SizeFirst,
     /// `contains` reads a cache of its own thread.
     ThreadCache,
-    /// `contains` reads a copy that is updated too late.
+    /// `contains` reads a copy that is updated only after `add` and `remove` return.
     LateCopy,
     /// One key is treated differently from the others.
     OneKey,
@@ -45,7 +45,7 @@ pub enum Cause {
     RemoveGivesUp,
     /// Operations look for a key in two different places.
     TwoPlaces,
-    /// The first call creates something, and it is created twice.
+    /// Two first calls each create the same thing, and one is lost.
     FirstUse,
     /// A remove keeps writing after it has taken effect.
     GoesOn,
@@ -314,8 +314,8 @@ fn needs_no_race(tally: &Tally) -> bool {
     tally.gone() >= 2 * ENOUGH && tally.apart >= ENOUGH && is_share(tally.apart, tally.places, 10)
 }
 
-/// Returns whether the losses need no race, or no two calls are both true and most losses are not beside a change that can have written back
-/// what it read.
+/// Returns whether the losses need no race, or no two calls are both true and most losses are not beside a change that
+/// can have written back what it read.
 fn is_displaced(tally: &Tally) -> bool {
     let is_alone = !is_least(tally.fits, tally.made, 60);
     needs_no_race(tally) || (tally.both() == 0 && is_alone)

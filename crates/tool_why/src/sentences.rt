@@ -130,7 +130,7 @@ fn put_ways(out: &mut String, odd: &Odd) -> Result<(), AllocError> {
     }
 }
 
-/// Writes the scope for an faulty operation.
+/// Writes the scope for a faulty operation.
 fn put_odd(out: &mut String, odd: &Odd) -> Result<(), AllocError> {
     let word = answers_word(odd.operation);
     let (wrong, of) = (odd.wrong, odd.of);
@@ -253,7 +253,8 @@ fn put_apart(out: &mut String, tally: &Tally) -> Result<(), AllocError> {
     )
 }
 
-/// Writes how often another key was changed at losses and returns, and how often a call that returned false can have made the change.
+/// Writes how often another key was changed at losses and returns, and how often a call that returned false can have
+/// made the change.
 fn put_gone_beside(out: &mut String, tally: &Tally) -> Result<(), AllocError> {
     let (beside, timed) = (tally.beside, tally.timed());
     let (silent, gone) = (tally.silent, tally.gone());
