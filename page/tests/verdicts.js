@@ -447,7 +447,7 @@ const OF_WHY = [
     const told = listed.split("; ");
     return told.length === Number(count) && told.every((one) => isListed(it, one));
   }],
-  [/^fact another add or remove of the key ran during (\d+) of them, only changes of other keys during (\d+), neither during (\d+)$/, (it, [same, others, neither], { told }) => {
+  [/^fact another add or remove of the key ran during (\d+) of them, only changes of other keys that returned true during (\d+), neither during (\d+)$/, (it, [same, others, neither], { told }) => {
     const runs = (call, holds) => it.calls.some((one) => one !== call && holds(one) && inTime(one, call.begun, call.ended));
     const isSame = (call) => runs(call, (one) => one.key === call.key && one.operation !== "contains");
     const isBeside = (call) => runs(call, (one) => one.key !== call.key && one.operation !== "contains" && one.reply === "true");

@@ -281,7 +281,7 @@ pub(crate) const COMMANDS: [CommandRow<'static>; 12] = [
             ),
         ],
         "listset serve KIND SEATS QUOTA PORT SESSIONS [FILE]",
-        "Example: listset serve lazy 2 16 4000 1\n\nAn error is one line, such as 'bad SEED'; its range is above.",
+        "Example: listset serve lazy 2 16 4000 1\n\nAn error is one line, such as 'bad PORT'; its range is above.",
     ),
     (
         "faults",

@@ -138,6 +138,17 @@ fn wrong_answers(
     })
 }
 
+/// The minimum number of answers of an operation that is blamed although the final keys are ignored.
+const LEAST_ANSWERS: u64 = 10;
+
+/// Returns whether the operation has many answers, and most of them are right. If the final keys are ignored, only such an
+/// operation is blamed: a few answers can be right against all other calls, for example if an `add` was lost.
+fn is_mostly_right(runs: &Runs<'_>, found: &OddFound) -> bool {
+    let wrong = u64::try_from(found.answers.wrong.len()).unwrap_or(u64::MAX);
+    let of = count_answers(&runs.recorded.calls, found.operation);
+    of >= LEAST_ANSWERS && wrong.saturating_mul(2) < of
+}
+
 /// Returns the odd operation. `None` if no operation alone is wrong. Allocates.
 pub fn find_odd(
     alloc: Global,
@@ -153,7 +164,8 @@ pub fn find_odd(
     for (operation, aside) in tries {
         if is_odd(alloc, runs, refused, operation, aside)? {
             let found = wrong_answers(alloc, runs, refused, operation, aside)?;
-            if !found.answers.wrong.is_empty() {
+            let is_blamed = !aside || is_mostly_right(runs, &found);
+            if is_blamed && !found.answers.wrong.is_empty() {
                 return Ok(Some(found));
             }
         }

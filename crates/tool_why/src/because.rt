@@ -194,7 +194,7 @@ fn put_because_of_gone(
         ),
         Cause::NoLock => writeln!(
             out,
-            "at {alone} of {timed} losses and returns no change of another key was running"
+            "at {alone} of {timed} losses and returns no change of another key that returned true was running"
         ),
         Cause::OldCopy => writeln!(
             out,

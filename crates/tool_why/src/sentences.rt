@@ -63,6 +63,8 @@ fn put_disagreement(out: &mut String, split: &Split) -> Result<(), AllocError> {
         } else {
             "contains finds it present, remove"
         }
+    } else if split.contains.absent == 0 {
+        "add finds it present, remove"
     } else if removes > 0 {
         "add finds it present, remove and contains"
     } else {
@@ -232,9 +234,15 @@ fn put_split(out: &mut String, split: &Split) -> Result<(), AllocError> {
     } else {
         (split.contains.absent, "absent")
     };
+    write!(out, "from {since} ")?;
+    if split.until < NEVER {
+        write!(out, "to {}", split.until)?;
+    } else {
+        out.push_str("on")?;
+    }
     write!(
         out,
-        "from {since} on no change of key {key} ran, and {adds} add found it present, "
+        " no change of key {key} ran, and {adds} add found it present, "
     )?;
     writeln!(out, "{removes} remove absent, {votes} contains {state}")
 }
@@ -295,7 +303,7 @@ fn put_around(out: &mut String, odd: &Odd) -> Result<(), AllocError> {
     let neither = odd.wrong.saturating_sub(odd.active);
     writeln!(
         out,
-        "another add or remove of the key ran during {same} of them, only changes of other keys during {other}, neither during {neither}"
+        "another add or remove of the key ran during {same} of them, only changes of other keys that returned true during {other}, neither during {neither}"
     )?;
     let (right, wrong, word) = (odd.then_right, odd.then_wrong, odd.operation.word());
     if odd.is_exact && right.saturating_add(wrong) > 0 {
