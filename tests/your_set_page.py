@@ -117,7 +117,7 @@ def line_of(language):
 
 
 def options_of(language):
-    return codes_of(language, ["Language", "With an option"])[0]
+    return codes_of(language, ["Language", "With 64 keys"])[0]
 
 
 def block_of(first):

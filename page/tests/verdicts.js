@@ -397,6 +397,25 @@ function isWrongAlone(it) {
 }
 
 const TALLIED = ["lost", "came back", "two adds true", "two removes true", "one wrong answer", "none of these"];
+// Returns the next completed call of an operation on the key of an answer, if no change of the key ran between the two.
+function nextCall(it, answer, operation) {
+  const next = ofKey(it, answer.key).filter((call) => call.operation === operation && call.ended !== null && call.begun > answer.ended).sort((one, other) => one.begun - other.begun)[0];
+  if (next === undefined) return undefined;
+  const until = isChange(next) ? next.begun - 0.5 : next.ended;
+  return ofKey(it, answer.key).some((call) => call !== answer && isChange(call) && inTime(call, answer.begun, until)) ? undefined : next;
+}
+
+// Decides whether a contradiction of a short list is one: the calls of the key that had begun by its end have no order.
+function isListed(it, told) {
+  const [, key, symptom, since, until] = /^key (\d+) (lost|came back|added twice|removed twice|missed|found, though absent,|contradictory) from (\d+) (?:to (\d+)|on)$/.exec(told) ?? [];
+  if (key === undefined) return false;
+  const calls = ofKey(it, Number(key));
+  const last = until === undefined ? LAST : Number(until);
+  const hasTwo = (operation) => calls.filter((call) => call.operation === operation && call.reply === "true" && inTime(call, Number(since), last)).length >= 2;
+  if (symptom.endsWith("twice") && !hasTwo(symptom.startsWith("added") ? "add" : "remove")) return false;
+  return until === undefined ? !hasOrderOf(it, Number(key)) : !hasOrder(knownBy(calls, last), Number(key), opens(it, Number(key)));
+}
+
 const OF_WHY = [
   [/^headline (?:key (\d+) (was lost|came back): )?(add|remove|contains)\((\d+)\) returned (true|false)(?:, expected (true|false))?$/, (it, found, why) => isHeadline(it, why, found)],
   [/^headline (?:key (\d+) (was lost|came back): )?key (\d+) is (present|absent) at the end$/, (it, [key, gone, ofEnd, state]) =>
