@@ -44,7 +44,7 @@ USERS = ["lset_lists", "lset_live", "tool_replay", "tool_threads"]
 # The places that describe the lists in prose, which must be written by hand.
 TEXTS = {
     "crates/tool_base/src/faults.rt": ["{word}"],
-    "crates/lset_command/src/table.rt": ["{word}"],
+    "crates/lset_command/src/command_line.rt": ["{word}"],
     "docs/TABLES.md": ["## {type}"],
     "docs/TEXTS.md": ["`{word}`"],
     "docs/make/believed.txt": ["{crate}/specs/{kind}.antt"],

@@ -1,8 +1,5 @@
--- What a command of clap is once a setting was made that a parse does not read, and with one more argument or subcommand.
-use Rattle.std.proofs.Common.{◌≡◌, ◌∙◌, ap, sym, subst, false, IfOk, Result, Ok, Err, List, length, map, take, ℕ, ◌+◌, ◌<◌}
-use Rattle.std.specs.Prelude.{fold, slice_index_or}
-use Rattle.std.proofs.lemmas.List.Folds.{fold-map}
-use Rattle.std.proofs.lemmas.List.Sums.{fold_more}
+-- A clap command does not change if a setting is made that parsing ignores.
+use Rattle.std.proofs.Common.{◌≡◌, sym, subst, false, IfOk, Result, Ok, Err}
 use Rattle.std.specs.declared.alloc.AllocError.{AllocError}
 use Rattle.clap.specs.Words.{App}
 use Rattle.clap.specs.Simple.{app_of_fields}
@@ -23,10 +20,3 @@ pub Makes-named : (made : Result Command AllocError) (old : Command) (a : App) (
     → IsApp old a → Makes made a
 Makes-named (Ok c) old a Rest same is = by_fields c _ a same.0 is
 Makes-named (Err e) old a Rest same is = same
-
--- what a fold over the items so far makes of one more item
-pub one_more : {X Y Z : Type 0} (g : Z → Y → Z) (f : X → Y) (a : Z) (xs : List X) (i : ℕ) (d : X) → i < length xs →
-    g (fold g a (map f (take i xs))) (f (slice_index_or xs i d)) ≡ fold g a (map f (take (i + 1) xs))
-one_more g f a xs i d lt =
-    ap (λ z. g z (f (slice_index_or xs i d))) (fold-map g f a (take i xs)) ∙ sym (fold_more (λ z x. g z (f x)) a xs i d lt)
-    ∙ sym (fold-map g f a (take (i + 1) xs))

@@ -1,6 +1,6 @@
--- The command line of the program: the table of its commands, as simple commands of clap. The definitions of clap say
--- which values the words give.
-use Rattle.std.specs.Prelude.{◌≡◌, Result, IfOk, List, [], map, codes, Bool, true, false, ◌||◌, fold, Option, Some, None, option_map, unwrap_or}
+-- The program's command line as a simple clap command: its subcommands and their values. clap's definitions say which
+-- values the arguments have.
+use Rattle.std.specs.Prelude.{◌≡◌, Result, IfOk, List, [], map, codes, Bool, true, false, ◌||◌, Option, Some, None, option_map, unwrap_or}
 use Rattle.std.specs.Prelude.{string_bytes, if◌then◌else◌, option_and_then}
 use Rattle.std.specs.List.{flat_map}
 use Rattle.std.specs.Option.{option_map_or}
@@ -17,29 +17,94 @@ use Rattle.lset_command.specs.declared.command_line.Command.TheVariants.{Replay,
 use Rattle.lset_command.specs.declared.command_line.Command.TheVariants.{Gen, Run, Serve, Faults, Explain}
 use Rattle.lset_command.specs.declared.command_line.Options.{Options}
 use Rattle.lset_command.specs.declared.command_line.Words.{Words}
-use Rattle.lset_command.specs.declared.table.Form.{Form}
-use Rattle.lset_command.specs.declared.table.Form.TheVariants.{Value, Flag, NamedValue}
-use Rattle.lset_command.specs.declared.table.TheConstants.{COMMANDS}
 
--- an argument in clap: a value, a flag `--NAME`, or an option of one value
-abbrev pub rule_by : Form → Text → Rule
-rule_by Value name = new_rule name
-rule_by Flag name = record (new_rule name) { long = Some name; action = Some SetTrue }
-rule_by NamedValue name = record (new_rule name) { long = Some name; value_names = 1 }
+-- A flag, `--NAME`.
+abbrev pub flag_rule : Text → Rule
+flag_rule name = record (new_rule name) { long = Some name; action = Some SetTrue }
 
--- a command with these arguments
-abbrev pub app_with : Text → List Rule → App
-app_with name rules = fold with_rule (new_app name) rules
+-- An option with a value, `--NAME M`.
+abbrev pub option_rule : Text → Rule
+option_rule name = record (new_rule name) { long = Some name; value_names = 1 }
 
--- the program with these commands; it has a version, and the words begin after its name
-abbrev pub program_with : List App → App
-program_with apps =
-    fold (λ program app. with_subcommand program app.top)
-    (on_top (λ s. record s { no_binary_name = true; has_version = true }) (new_app (codes "listset"))) apps
+-- `check [FILE]`, `draft [FILE]` and `explain [FILE]`; other commands start with the same rule
+abbrev pub file_app : Text → App
+file_app name = with_rule (new_app name) (new_rule (codes "FILE"))
 
--- the program, with the commands of `src/table.rt`
+-- `judge [--brief] [--only KEY] [FILE]`
+abbrev pub judge_app : App
+judge_app = with_rule (with_rule (file_app (codes "judge")) (flag_rule (codes "brief"))) (option_rule (codes "only"))
+
+-- `replay [--lacks NAME] [FILE]`
+abbrev pub replay_app : App
+replay_app = with_rule (file_app (codes "replay")) (option_rule (codes "lacks"))
+
+-- `show [--svg] [--from M] [--to M] [--width N] [--lacks NAME] [FILE]`
+abbrev pub show_app : App
+show_app =
+    with_rule (with_rule (with_rule (with_rule (with_rule (file_app (codes "show"))
+    (flag_rule (codes "svg")))
+    (option_rule (codes "from")))
+    (option_rule (codes "to")))
+    (option_rule (codes "width")))
+    (option_rule (codes "lacks"))
+
+-- `trace [--chain] [--lacks NAME] [FILE]`
+abbrev pub trace_app : App
+trace_app = with_rule (with_rule (file_app (codes "trace")) (flag_rule (codes "chain"))) (option_rule (codes "lacks"))
+
+-- `example [--broken] [NAME]`
+abbrev pub example_app : App
+example_app = with_rule (with_rule (new_app (codes "example")) (new_rule (codes "NAME"))) (flag_rule (codes "broken"))
+
+-- `gen KIND THREADS QUOTA CALLS KEYS SEED`; `run` starts with the same values
+abbrev pub six_values : Text → App
+six_values name =
+    with_rule (with_rule (with_rule (with_rule (with_rule (with_rule (new_app name)
+    (new_rule (codes "KIND")))
+    (new_rule (codes "THREADS")))
+    (new_rule (codes "QUOTA")))
+    (new_rule (codes "CALLS")))
+    (new_rule (codes "KEYS")))
+    (new_rule (codes "SEED"))
+
+-- `run KIND THREADS QUOTA CALLS KEYS SEED [LIVES]`
+abbrev pub run_app : App
+run_app = with_rule (six_values (codes "run")) (new_rule (codes "LIVES"))
+
+-- `serve KIND SEATS QUOTA PORT SESSIONS [FILE]`
+abbrev pub serve_app : App
+serve_app =
+    with_rule (with_rule (with_rule (with_rule (with_rule (with_rule (new_app (codes "serve"))
+    (new_rule (codes "KIND")))
+    (new_rule (codes "SEATS")))
+    (new_rule (codes "QUOTA")))
+    (new_rule (codes "PORT")))
+    (new_rule (codes "SESSIONS")))
+    (new_rule (codes "FILE"))
+
+-- `faults [CAUSE]`
+abbrev pub faults_app : App
+faults_app = with_rule (new_app (codes "faults")) (new_rule (codes "CAUSE"))
+
+-- The program, which has a version; its arguments begin after its name.
 abbrev pub listset : App
-listset = program_with (map (λ row. app_with row.0.now (map (λ argument. rule_by argument.1 argument.0.now) row.2.now)) COMMANDS)
+listset =
+    with_subcommand (with_subcommand (with_subcommand (with_subcommand (with_subcommand
+    (with_subcommand (with_subcommand
+    (with_subcommand (with_subcommand (with_subcommand
+    (with_subcommand (with_subcommand (on_top (λ s. record s { no_binary_name = true; has_version = true }) (new_app (codes "listset")))
+    replay_app.top)
+    judge_app.top)
+    (file_app (codes "check")).top)
+    show_app.top)
+    trace_app.top)
+    (file_app (codes "draft")).top)
+    example_app.top)
+    (six_values (codes "gen")).top)
+    run_app.top)
+    serve_app.top)
+    faults_app.top)
+    (file_app (codes "explain")).top
 
 -- ---- the program's command in clap
 
@@ -55,10 +120,6 @@ Makes made a = IfOk made (λ c. IsApp c a)
 abbrev pub MakesWithArg : Result clap.Command AllocError → Arg → Result clap.Command AllocError → Type 0
 MakesWithArg old arg new = (a : App) (r : Rule) → Makes old a → rule_of arg ≡ r → arg.global ≡ false → Makes new (with_rule a r)
 
--- more arguments, if the command was made
-abbrev pub MakesWithArgs : Result clap.Command AllocError → List Rule → Result clap.Command AllocError → Type 0
-MakesWithArgs old rules new = (a : App) → Makes old a → Makes new (fold with_rule a rules)
-
 -- Adds a subcommand, if both commands were created.
 abbrev pub MakesWithSubcommand : Result clap.Command AllocError → Result clap.Command AllocError → Result clap.Command AllocError →
     Type 0
@@ -66,17 +127,17 @@ MakesWithSubcommand old sub new = (a b : App) → Makes old a → Makes sub b �
 
 -- ---- the result of a parse
 
--- Returns whether a name is that of a flag or of an option. Every other name is that of a value without `--`.
+-- The names of flags and options; all other names have values.
 abbrev pub is_option : Text → Bool
 is_option name = bytes_eq name (codes "svg") || (bytes_eq name (codes "from") || (bytes_eq name (codes "to")
     || (bytes_eq name (codes "width") || (bytes_eq name (codes "brief") || (bytes_eq name (codes "only")
     || (bytes_eq name (codes "chain") || (bytes_eq name (codes "broken") || bytes_eq name (codes "lacks"))))))))
 
--- Returns the values of this name among the rows of a parse. None if the name is that of a flag or of an option.
+-- The values of this name among the rows of a parse.
 abbrev pub values_by : Text → List Row → List Text
 values_by name rows = if is_option name then [] else unwrap_or (all_of name rows) []
 
--- Returns the values of a command, in order, without those of its flags and options.
+-- The values of a command, in order.
 abbrev pub values_in : List Row → List Text
 values_in rows = flat_map (λ row. values_by row.id rows) rows
 

@@ -1,18 +1,64 @@
 ghost use Rattle.std.specs.Prelude.{◌≡◌, ◌++◌, ◌↔◌, [], IfOk, IsTrue, OnOk, codes, false, map, option_map, string_bytes};
-ghost use Rattle.clap.specs.Words.{App, FailsBy, app_of, fault_of, found_of, kind_of, rows_of, rule_of, subcommand_of};
+ghost use Rattle.clap.specs.Words.{FailsBy, app_of, fault_of, found_of, kind_of, new_app, new_rule, rows_of, rule_of, subcommand_of};
 ghost use Rattle.clap.specs.Walk.{first_of, texts};
 ghost use Rattle.clap.specs.declared.error.kind.ErrorKind.TheVariants.{OutOfMemory};
-ghost use Rattle.lset_command.specs.CommandLine.{choice_in, choice_of, command_named, is_on, is_option, options_in, options_of, path_of, values_by, values_in};
-ghost use Rattle.lset_command.specs.CommandLine.{IsApp, Makes, MakesWithArg, MakesWithArgs, MakesWithSubcommand};
-ghost use Rattle.lset_command.specs.CommandLine.{app_with, listset, program_with, rule_by};
+ghost use Rattle.lset_command.specs.CommandLine.{choice_in, choice_of, command_named, file_app, path_of, six_values, serve_app};
+ghost use Rattle.lset_command.specs.CommandLine.{example_app, faults_app, flag_rule, judge_app, option_rule, run_app, show_app, trace_app};
+ghost use Rattle.lset_command.specs.CommandLine.{IsApp, Makes, MakesWithArg, MakesWithSubcommand, is_on, is_option, listset, replay_app, options_in, options_of, values_by, values_in};
 
-use crate::table::{Argument, COMMANDS, CommandRow, Form};
 use clap::error::ErrorKind;
 use clap::{Arg, ArgAction, ArgMatches, Error};
 use std::alloc::{AllocError, Global};
 
 /// The text of `--version` after the program's name: the version, then a line with the kit and the logic of the proof.
 pub const VERSION: &str = "0.1.0\nRattle kit 13, logic dac8208d650f15bf";
+
+// Help texts for arguments and options.
+const KIND: &str = "List: coarse, fine, optimistic, lazy or lock-free";
+
+const THREADS: &str = "Number of threads: 1 to 64";
+
+const QUOTA_OF_THREAD: &str = "Successful adds allowed per thread: 0 to 16384";
+
+const KEYS: &str = "Number of keys, counted from 0, to draw from: 1 to 4294967295";
+
+const SEED: &str = "Seed of the random draws: 0 to 18446744073709551615";
+
+const SEATS: &str = "Number of clients that are served at once: 1 to 64";
+
+const QUOTA_OF_SEAT: &str = "Successful adds allowed per seat: 0 to 16384";
+
+const PORT: &str = "Port to listen on: 0 to 65535; with 0 the system chooses";
+
+const SESSIONS: &str = "Number of client connections to serve before the end: 0 to 10000";
+
+const KEYS_FILE: &str =
+    "File with the opening keys, in the format that a server prints; - for standard input; no keys if missing";
+
+const FROM_OPTION: &str =
+    "First moment to draw: 1 to the last one at which a call begins, takes effect or ends [default: 1]";
+
+const TO_OPTION: &str = "Last moment to draw: the first or a later one [default: 4294967295]";
+
+const WIDTH_OPTION: &str =
+    "Maximum width of the text in characters: 1 to 4294967295 [default: 100]";
+
+const CHAIN_FLAG: &str = "Print the chain after each step that changed it";
+
+const LIVES: &str =
+    "Number of rounds, each on a set that opens with the keys of the round before: 1 to 100 [default: 1]";
+
+const NAME: &str = "Name of the schedule; without it the list of names is printed";
+
+const CAUSE: &str = "Cause in an error line, such as Idle; without it every message is explained";
+
+const BROKEN_FLAG: &str =
+    "Print the report that a broken list would produce, if the example has one";
+
+const BRIEF_FLAG: &str = "Print the verdict alone, and not what is wrong";
+
+const ONLY_OPTION: &str =
+    "Print a recording of one key alone, or of the few calls that show its refusal";
 
 /// Help texts that other crates provide.
 #[derive(Clone, Copy)]
@@ -98,23 +144,33 @@ impl Words {
     }
 }
 
-/// Returns an argument of a command in `clap`, which lets a value be missing.
-fn arg_of<'a>(
-    alloc: Global,
-    name: &'a str,
-    form: Form,
-    value_name: &'a str,
-    help: &'a str,
-) -> Arg<'a>
-    ensures rule { rule_of result ≡ rule_by form name.entry.now }
+// Creates an argument that `clap` treats as optional.
+fn value<'a>(alloc: Global, name: &'a str, help: &'a str) -> Arg<'a>
+    ensures rule { rule_of result ≡ new_rule name.entry.now }
     ensures local { result.global ≡ false }
 {
-    let arg = Arg::new(alloc, name);
-    match form {
-        Form::Value => arg.help(help),
-        Form::Flag => arg.long(name).action(ArgAction::SetTrue).help(help),
-        Form::NamedValue => arg.long(name).value_name(value_name).help(help),
-    }
+    Arg::new(alloc, name).help(help)
+}
+
+fn flag<'a>(alloc: Global, name: &'a str, help: &'a str) -> Arg<'a>
+    ensures rule { rule_of result ≡ flag_rule name.entry.now }
+    ensures local { result.global ≡ false }
+{
+    Arg::new(alloc, name)
+        .long(name)
+        .action(ArgAction::SetTrue)
+        .help(help)
+}
+
+// Creates an option with one value.
+fn value_option<'a>(alloc: Global, name: &'a str, value_name: &'a str, help: &'a str) -> Arg<'a>
+    ensures rule { rule_of result ≡ option_rule name.entry.now }
+    ensures local { result.global ≡ false }
+{
+    Arg::new(alloc, name)
+        .long(name)
+        .value_name(value_name)
+        .help(help)
 }
 
 // Adds an argument, if the command was created. The callers use this instead of `?`, because the drops at each early
@@ -138,88 +194,241 @@ fn and_subcommand<'a>(
     command?.subcommand(subcommand?)
 }
 
-/// Returns the command with these arguments too, if the command was made. `lacks` is the help on the option of this name.
-fn and_arguments<'a>(
+fn file_command<'a>(
     alloc: Global,
-    command: Result<clap::Command<'a>, AllocError>,
-    arguments: &'a [Argument<'a>],
-    lacks: &'a str,
+    name: &'a str,
+    about: &'a str,
+    file_help: &'a str,
+    example: &'a str,
 ) -> Result<clap::Command<'a>, AllocError>
-    ensures { MakesWithArgs command.entry (map (λ a. rule_by a.1 a.0.now) arguments.entry.now) result }
+    ensures { Makes result (file_app name.entry.now) }
 {
-    let mut command = command;
-    for argument in arguments {
-        let (name, form, value_name, help) = *argument;
-        let help = if help.is_empty() { lacks } else { help };
-        command = and_arg(command, arg_of(alloc, name, form, value_name, help));
-    }
-    command
+    clap::Command::new(alloc, name)
+        .about(about)
+        .after_help(example)
+        .arg(value(alloc, "FILE", file_help))
 }
 
-/// Returns the command with this usage, or with the usage of `clap` if the text is empty.
-fn with_usage<'a>(command: clap::Command<'a>, usage: &'a str) -> clap::Command<'a>
-    ensures { (a : App) → IsApp command.entry a → IsApp result a }
+fn show_command<'a>(alloc: Global, lacks_help: &'a str) -> Result<clap::Command<'a>, AllocError>
+    ensures { Makes result show_app }
 {
-    if usage.is_empty() {
-        command
-    } else {
-        command.override_usage(usage)
-    }
+    let command = file_command(
+        alloc,
+        "show",
+        "Draw a schedule or a report: a bar for each call, with the point at which it takes effect",
+        "Schedule or report file; standard input if - or missing",
+        "If an event of the schedule is not enabled, the picture ends before it, the last line names it, and the exit status is 1. With --lacks only that line is printed.\n\nExample: listset example read-in-anothers-step | listset show --from 9 --to 38\n\nAn error is one line, such as 'line 5: Idle'; listset faults Idle explains it.",
+    );
+    let command = and_arg(command, flag(alloc, "svg", "Draw an SVG instead of text"));
+    let command = and_arg(command, value_option(alloc, "from", "M", FROM_OPTION));
+    let command = and_arg(command, value_option(alloc, "to", "M", TO_OPTION));
+    let command = and_arg(command, value_option(alloc, "width", "N", WIDTH_OPTION));
+    and_arg(command, value_option(alloc, "lacks", "NAME", lacks_help))
 }
 
-/// Returns the command with this text below its help. If the text is empty, the whole help is `help`.
-fn with_text<'a>(command: clap::Command<'a>, text: &'a str, help: &'a str) -> clap::Command<'a>
-    ensures { (a : App) → IsApp command.entry a → IsApp result a }
+fn trace_command<'a>(alloc: Global, lacks_help: &'a str) -> Result<clap::Command<'a>, AllocError>
+    ensures { Makes result trace_app }
 {
-    if text.is_empty() {
-        command.override_help(help)
-    } else {
-        command.after_help(text)
-    }
+    let command = file_command(
+        alloc,
+        "trace",
+        "Print each step of a schedule: the word accessed, the value seen, what changed",
+        "Schedule file; standard input if - or missing",
+        "Example: listset example two-removers | listset trace --chain\n\nAn error is one line, such as 'line 5: Idle'; listset faults Idle explains it.",
+    );
+    let command = and_arg(command, flag(alloc, "chain", CHAIN_FLAG));
+    and_arg(command, value_option(alloc, "lacks", "NAME", lacks_help))
 }
 
-/// Returns a command of the table.
-fn command_of<'a>(
+fn draft_command<'a>(alloc: Global) -> Result<clap::Command<'a>, AllocError>
+    ensures { Makes result (file_app (codes "draft")) }
+{
+    file_command(
+        alloc,
+        "draft",
+        "Turn a draft into a schedule: lines that say where a thread stops become numbers of steps",
+        "Draft file; standard input if - or missing",
+        "Example: listset draft a.draft | listset show\n\nAn error is one line, such as 'line 5: Idle'; listset faults Idle explains it.",
+    )
+}
+
+fn example_command<'a>(alloc: Global) -> Result<clap::Command<'a>, AllocError>
+    ensures { Makes result example_app }
+{
+    clap::Command::new(alloc, "example")
+        .about("Print a classic schedule, or the list of their names")
+        .after_help(
+            "Example: listset example snip | listset show\n\nAn error is one line, such as 'bad NAME'; listset example lists the names.",
+        )
+        .arg(value(alloc, "NAME", NAME))?
+        .arg(flag(alloc, "broken", BROKEN_FLAG))
+}
+
+// Creates a command whose usage text is written out. `clap` treats all values as optional and would print each in
+// brackets. The command's tool names the first missing value.
+fn command_with_usage<'a>(
     alloc: Global,
-    row: &'a CommandRow<'a>,
-    helps: Helps<'a>,
-) -> Result<clap::Command<'a>, AllocError>
-    ensures { Makes result (app_with row.entry.now.0.now (map (λ a. rule_by a.1 a.0.now) row.entry.now.2.now)) }
+    name: &'a str,
+    about: &'a str,
+    usage: &'a str,
+    example: &'a str,
+) -> clap::Command<'a>
+    ensures { IsApp result (new_app name.entry.now) }
 {
-    let (name, about, arguments, usage, text) = *row;
-    let command = clap::Command::new(alloc, name).about(about);
-    let command = with_text(command, text, helps.faults);
-    let command = with_usage(command, usage);
-    and_arguments(alloc, Ok(command), arguments, helps.lacks)
+    clap::Command::new(alloc, name)
+        .about(about)
+        .override_usage(usage)
+        .after_help(example)
 }
 
-/// Returns the program without a command.
-fn bare_program<'a>(alloc: Global) -> Result<clap::Command<'a>, AllocError>
-    ensures { Makes result (program_with []) }
+fn random_command<'a>(
+    alloc: Global,
+    name: &'a str,
+    about: &'a str,
+    usage: &'a str,
+    example: &'a str,
+    calls_help: &'a str,
+) -> Result<clap::Command<'a>, AllocError>
+    ensures { Makes result (six_values name.entry.now) }
 {
-    clap::Command::new(alloc, "listset")
+    let command = command_with_usage(alloc, name, about, usage, example);
+    let command = and_arg(Ok(command), value(alloc, "KIND", KIND));
+    let command = and_arg(command, value(alloc, "THREADS", THREADS));
+    let command = and_arg(command, value(alloc, "QUOTA", QUOTA_OF_THREAD));
+    let command = and_arg(command, value(alloc, "CALLS", calls_help));
+    let command = and_arg(command, value(alloc, "KEYS", KEYS));
+    and_arg(command, value(alloc, "SEED", SEED))
+}
+
+fn serve_command<'a>(alloc: Global) -> Result<clap::Command<'a>, AllocError>
+    ensures { Makes result serve_app }
+{
+    let command = command_with_usage(
+        alloc,
+        "serve",
+        "Serve one set to clients on 127.0.0.1, and print the remaining keys at the end",
+        "listset serve KIND SEATS QUOTA PORT SESSIONS [FILE]",
+        "Example: listset serve lazy 2 16 4000 1\n\nAn error is one line, such as 'bad PORT'; its range is above.",
+    );
+    let command = and_arg(Ok(command), value(alloc, "KIND", KIND));
+    let command = and_arg(command, value(alloc, "SEATS", SEATS));
+    let command = and_arg(command, value(alloc, "QUOTA", QUOTA_OF_SEAT));
+    let command = and_arg(command, value(alloc, "PORT", PORT));
+    let command = and_arg(command, value(alloc, "SESSIONS", SESSIONS));
+    and_arg(command, value(alloc, "FILE", KEYS_FILE))
+}
+
+fn gen_command<'a>(alloc: Global) -> Result<clap::Command<'a>, AllocError>
+    ensures { Makes result (six_values (codes "gen")) }
+{
+    random_command(
+        alloc,
+        "gen",
+        "Print a random schedule of at most 10000 events; the same arguments give the same schedule",
+        "listset gen KIND THREADS QUOTA CALLS KEYS SEED",
+        "Example: listset gen optimistic 3 4 9 5 1 | listset replay\n\nAn error is one line, such as 'bad SEED'; its range is above.",
+        "Calls in all threads together, if 10000 events suffice: 0 to 10000",
+    )
+}
+
+fn run_command<'a>(alloc: Global) -> Result<clap::Command<'a>, AllocError>
+    ensures { Makes result run_app }
+{
+    random_command(
+        alloc,
+        "run",
+        "Run random calls in threads on one set, and print counts of the replies and the remaining keys",
+        "listset run KIND THREADS QUOTA CALLS KEYS SEED [LIVES]",
+        "Example: listset run lock-free 4 1000 10000 64 1\n\nAn error is one line, such as 'bad SEED'; its range is above.",
+        "Calls in each thread: 0 to 10000",
+    )?
+    .arg(value(alloc, "LIVES", LIVES))
+}
+
+fn replay_command<'a>(alloc: Global, lacks_help: &'a str) -> Result<clap::Command<'a>, AllocError>
+    ensures { Makes result replay_app }
+{
+    let command = file_command(
+        alloc,
+        "replay",
+        "Execute a schedule of atomic steps and print its report (the default command)",
+        "Schedule file; standard input if - or missing",
+        "Example: listset example full | listset replay\n\nAn error is one line, such as 'line 5: Idle'; listset faults Idle explains it.",
+    );
+    and_arg(command, value_option(alloc, "lacks", "NAME", lacks_help))
+}
+
+fn judge_command<'a>(alloc: Global) -> Result<clap::Command<'a>, AllocError>
+    ensures { Makes result judge_app }
+{
+    let command = file_command(
+        alloc,
+        "judge",
+        "Judge recorded calls of a set: ok if an order explains them and the keys left, else not linearizable",
+        "File of recorded calls; standard input if - or missing",
+        "A recording is judged as it is read, and may have any length. Below 'not linearizable' come the calls that show it and, for a file, what is wrong. Exit status 0 for ok, 1 for not linearizable.\n\nExample: listset judge a.calls\n\nAn error is one line, such as 'line 5: Line'; listset faults Line explains it.",
+    );
+    let command = and_arg(command, flag(alloc, "brief", BRIEF_FLAG));
+    and_arg(command, value_option(alloc, "only", "KEY", ONLY_OPTION))
+}
+
+fn check_command<'a>(alloc: Global) -> Result<clap::Command<'a>, AllocError>
+    ensures { Makes result (file_app (codes "check")) }
+{
+    file_command(
+        alloc,
+        "check",
+        "Check the order in a report: ok, or its first fault",
+        "Report file; standard input if - or missing",
+        "Example: listset example full | listset replay | listset check\n\nAn error is one line, such as 'line 5: Line'; listset faults Line explains it.",
+    )
+}
+
+// Creates the command `faults`, whose help is the text that it prints.
+fn faults_command<'a>(alloc: Global, help: &'a str) -> Result<clap::Command<'a>, AllocError>
+    ensures { Makes result faults_app }
+{
+    clap::Command::new(alloc, "faults")
+        .about("Explain every error message, or those with one cause")
+        .override_help(help)
+        .arg(value(alloc, "CAUSE", CAUSE))
+}
+
+fn explain_command<'a>(alloc: Global) -> Result<clap::Command<'a>, AllocError>
+    ensures { Makes result (file_app (codes "explain")) }
+{
+    file_command(
+        alloc,
+        "explain",
+        "Explain the first error of a file: its line, what is wrong there, and what to do",
+        "File of any kind that a command reads; standard input if - or missing",
+        "Example: listset explain a.schedule",
+    )
+}
+
+fn program_command<'a>(alloc: Global, helps: Helps<'a>) -> Result<clap::Command<'a>, AllocError>
+    ensures { IfOk result (λ c. app_of c ≡ listset) }
+{
+    let program = clap::Command::new(alloc, "listset")
         .about("Replay, judge, draw, run and serve concurrent list sets")
         .after_help(
             "listset --version --long also prints the commit, and whether the program is proved.\n\nAn error is one line, such as 'line 5: Idle'; listset faults Idle explains it.",
         )
         .version(VERSION)
         .no_binary_name(true)
-        .bin_name("listset")
-}
-
-/// Returns the program with these commands.
-fn program_command<'a>(
-    alloc: Global,
-    rows: &'a [CommandRow<'a>],
-    helps: Helps<'a>,
-) -> Result<clap::Command<'a>, AllocError>
-    ensures { Makes result (program_with (map (λ row. app_with row.0.now (map (λ a. rule_by a.1 a.0.now) row.2.now)) rows.entry.now)) }
-{
-    let mut program = bare_program(alloc);
-    for row in rows {
-        program = and_subcommand(program, command_of(alloc, row, helps));
-    }
-    program
+        .bin_name("listset");
+    let program = and_subcommand(program, replay_command(alloc, helps.lacks));
+    let program = and_subcommand(program, judge_command(alloc));
+    let program = and_subcommand(program, check_command(alloc));
+    let program = and_subcommand(program, show_command(alloc, helps.lacks));
+    let program = and_subcommand(program, trace_command(alloc, helps.lacks));
+    let program = and_subcommand(program, draft_command(alloc));
+    let program = and_subcommand(program, example_command(alloc));
+    let program = and_subcommand(program, gen_command(alloc));
+    let program = and_subcommand(program, run_command(alloc));
+    let program = and_subcommand(program, serve_command(alloc));
+    let program = and_subcommand(program, faults_command(alloc, helps.faults));
+    and_subcommand(program, explain_command(alloc))
 }
 
 // Returns `true` if this is the name of a flag or an option.
@@ -366,8 +575,7 @@ pub fn words_given<'a>(
     // failed.
     ensures refused { FailsBy (fault_of listset (texts words.entry.now)) result }
 {
-    let rows = COMMANDS;
-    let matches = program_command(alloc, &rows, helps)?.try_get_matches_from(words)?;
+    let matches = program_command(alloc, helps)?.try_get_matches_from(words)?;
     let Some((name, found)) = matches.subcommand() else {
         return Ok(Words {
             command: Command::Replay,

@@ -2,6 +2,5 @@
 #![tactic(auto)]
 
 mod command_line;
-mod table;
 
 pub use command_line::{Command, Helps, Options, VERSION, Words, is_out_of_memory, words_given};
