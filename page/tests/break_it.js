@@ -1,5 +1,5 @@
-// node tests/break_it.js checks the broken lists: each is broken by a schedule of examples/schedules/lacks, as docs/CLASSIC.md says; drafts on them,
-// hand-ins about them, and a lesson on one. Prints as JSON how many checks passed, and which failed.
+// node tests/break_it.js checks the broken lists. Each list must be broken by its schedule in examples/schedules/lacks, as docs/CLASSIC.md says.
+// Also checks drafts, hand-ins and a lesson on broken lists. Prints as JSON how many checks passed, and which failed.
 "use strict";
 
 const fs = require("fs");
@@ -23,8 +23,8 @@ const startOf = inPage("startOfLacking");
 const LOST = /^(\d+) was added once and never removed, and at the end the set does not have it$/; // as docs/CLASSIC.md summarizes it
 const isTask = (name) => name !== inPage("NO_TASK");
 
-// Checks that the schedule breaks the list as docs/CLASSIC.md says, or that only the order of its points is refused. It
-// must not break the list before its last call.
+// Checks that the schedule breaks the list as docs/CLASSIC.md says or, for one list, that only the order by linearization points is refused. The
+// schedule must not break the list before its last call.
 function checkBroken(ask, name) {
   const schedule = scheduleOf(name);
   const { kind, says } = verdictOnLacking(ask, name, schedule);
@@ -43,7 +43,7 @@ function checkBroken(ask, name) {
   check(`${name} is a list of one kind`, verdictOnLacking(ask, name, ofOther).kind === "refused");
 }
 
-// Each event has a sentence and a picture. The correct list makes the same events up to the first difference.
+// Checks that each event has a sentence and a picture, and that the correct list makes the same events up to the first difference.
 function checkDeparture(ask, name) {
   const trace = new Trace(ask("listset_lacking", name, scheduleOf(name), "trace").text, 2);
   check(`${name} stands in its trace`, trace.lacks === name && trace.kind === LACKING[name]);
@@ -60,7 +60,8 @@ function checkDeparture(ask, name) {
   check(`${name}: up to event ${event} they agree`, agree === event - 1 && common.total === event - 1);
 }
 
-// Checks that the history's row states that it shows the set according to the points. The list can contain other keys.
+// Checks the row of the set in the history: its label must state that the set follows from the linearization points. (The chain can have other
+// keys.)
 function checkContents(trace) {
   for (let count = 0; count <= trace.total; count++) {
     const drawn = inPage("drawContents")(trace, inPage("scaleOf")(trace, count, 860, true));
@@ -70,8 +71,8 @@ function checkContents(trace) {
   }
 }
 
-// Checks that the trace as a file follows the grammar and equals the engine's, and that it is refused if another name
-// is in it.
+// Checks a trace that comes from a file: it follows the grammar and equals the engine's trace. Without the name of the broken list it differs from
+// the engine's, and with an unknown name it is refused.
 function checkFile(ask, name) {
   const { text } = ask("listset_lacking", name, scheduleOf(name), "trace");
   check(`${name}: its trace is one: ${inPage("faultOfTrace")(text)}`, inPage("faultOfTrace")(text) === null);
@@ -83,7 +84,7 @@ function checkFile(ask, name) {
   check(`${name}: a check that is none`, inPage("faultOfTrace")(text.replace(`lacks ${name}`, "lacks luck"))?.startsWith("line 3: "));
 }
 
-// Checks that an answer that is neither a verdict nor a trace is shown unchanged.
+// Checks that the page shows an answer unchanged if it is neither a verdict nor a trace.
 function checkTroubles(ask) {
   const stopped = (name) => (one, ...texts) => (one === name ? { status: 1, text: "the engine stopped: unreachable" } : ask(one, ...texts));
   const unchecked = verdictOnLacking(stopped("listset_check_record"), "lock", scheduleOf("lock"));
@@ -99,15 +100,14 @@ function checkTroubles(ask) {
   check(`a trace of no schedule: ${compared}`, inPage("faultOfTrace")(long) === null && compared === refused);
 }
 
-// Checks that the page names the calls that no order explains.
+// Checks that the page names only the calls that no order explains, even if other calls follow.
 function checkReasons(ask) {
   const { text } = inPage("scheduleOfDraft")(ask, `${scheduleOf("mark-at-key")}begin 1 add 7\ngo 1 out\n`, "mark-at-key");
   const later = verdictOnLacking(ask, "mark-at-key", text).says;
   check(`what comes later is not told: ${later}`, later.includes("remove(7) of B answers true, which leaves 7 not there, and contains(7) of A answers true."));
 }
 
-// Checks that a draft's line is expanded into steps of the broken list, or is refused in the same way as one of a
-// correct list.
+// Checks that a draft on a broken list is expanded into a schedule, or is refused as a draft on a correct list would be.
 function checkDrafts(ask) {
   const drafted = (name, lines) => inPage("scheduleOfDraft")(ask, `${startOf(name)}${lines.join("\n")}\n`, name);
   const lock = drafted("lock", ["begin 0 add 5", "go 0 to 7", "begin 1 add 4", "go 1 out", "go 0 out"]);
@@ -125,8 +125,8 @@ function checkDrafts(ask) {
   }
 }
 
-// Checks that a hand-in is judged on the list that its line names. A run is not a solution if only its own order is
-// refused.
+// Checks that a hand-in is judged on the broken list that its line names. If only the order by linearization points is refused, the run is no
+// solution.
 function checkHandedIn(ask) {
   const judge = (line) => inPage("judgedPart")(ask, [], line);
   for (const name of NAMES) {
@@ -147,7 +147,7 @@ function checkHandedIn(ask) {
   check("and that is no solution", !judge(`break mark-at-key ${points}`).isSolved);
 }
 
-// Checks the sentences about a claim. The claim is right if no order explains the report.
+// Checks the verdict on the claim "no order explains the report", which is right for all broken lists but one.
 function checkClaims(ask, name) {
   const { report } = verdictOnLacking(ask, name, scheduleOf(name));
   const claim = Object.assign(new (inPage("OwnAnswer"))(inPage("exerciseOf")(report, "claim", false)), { isNone: true });
@@ -175,7 +175,7 @@ answer
   go 1 out
 `;
 
-// Checks that a lesson on a broken list is solved by breaking the list. Its goal can require more.
+// Checks that a student solves a lesson on a broken list by breaking the list. If the lesson has a goal, the run must reach the goal too.
 function checkLesson(ask) {
   const tried = (text) => inPage("triedCourse")(ask, text);
   const { lessons, faults } = tried(LESSON);

@@ -12,7 +12,8 @@ const GROUNDS_OF = {
   paper: ["ink"],
 };
 const THREADS = [0, 1, 2, 3, 4, 5, 6, 7];
-// The labels in the bars of the history, with the share of the thread's colour in the bar, for begun and for later calls.
+// The labels in the bars of the history: how strongly the thread's colour fills the bar, for calls that have begun and
+// for later calls.
 const BARS = [
   { share: /\.bar rect \{[^}]*fill-opacity: ([.0-9]+)/, texts: ["ink", "soft"] },
   { share: /\.bar\.later rect \{[^}]*fill-opacity: ([.0-9]+)/, texts: ["pale"] },

@@ -1,4 +1,4 @@
-// node tests/compare.js CASES: compares the module with the program's answers, and each file of the page with its size
+// node tests/compare.js CASES compares the module's answers with the program's, and each file of the page with its size
 // limit.
 "use strict";
 
@@ -18,8 +18,8 @@ function check(result, name, isGood) {
   else result.failed.push(name);
 }
 
-// Checks that each trace parses, has the given schedule, and can be stepped forward and back to the start. Some of the
-// traces end ceilings.
+// Checks that each trace can be read, contains the given schedule, and can be stepped forward to its end and back. In
+// some traces a ceiling ends.
 function checkTraces(result, engine, cases) {
   const replies = new Set();
   for (const { texts } of cases.filter((wanted) => wanted.function === "listset_trace")) {

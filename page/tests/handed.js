@@ -1,4 +1,5 @@
-// node tests/handed.js checks hand-ins, also as mail delivers them, and the teacher's tool. Prints as JSON how many checks passed, and which failed.
+// node tests/handed.js checks hand-ins, including those that were sent by mail, and the teacher's tool. Prints as JSON how many checks passed, and
+// which failed.
 "use strict";
 
 const { spawnSync } = require("child_process");
@@ -28,7 +29,7 @@ const folded = (text, width) => text.replace(new RegExp(`(\\S{${width}})(?=\\S)`
 const atSpaces = (text) => text.replace(/^(?!student|course|listset).*$/gm, (line) => line.replaceAll(" ", "\n"));
 const coded = (text) => text.replaceAll("=", "=3D").replace(/(.{60}[^=]{3})(?=.)/g, "$1=\n");
 
-// The changes that mail makes to a text, and the lines that it puts around it.
+// Ways in which mail changes a text, such as adding lines around it.
 const MAILED = {
   "as it is": (text) => text,
   "with CRLF": (text) => text.replaceAll("\n", "\r\n"),
@@ -104,7 +105,8 @@ function checkTeacher(course, folder) {
   check(`two of one name: ${named.lines}`, named.status === 1 && named.lines.filter((line) => line.startsWith("Max: 2 rows with this name")).length === 2);
 }
 
-// Only the tasks of one assignment count; a folder, UTF-16, the CSV table, and a wrong link.
+// Checks the tool's options and inputs: with an assignment's link, only the tasks of this assignment count; hand-ins can be in a folder and in
+// UTF-16; results can be written as CSV; a wrong link is refused.
 function checkAssignment(course, folder) {
   const link = "https://lists.example/page/#assignment=Week+3&learn=one-lock";
   const [answer, other] = course.lessons.map(({ name, solution }) => ({ name, schedule: solution }));
@@ -126,8 +128,8 @@ function checkAssignment(course, folder) {
   }
 }
 
-// Checks that copied solutions are found: schedules that two students share, however their lines are grouped, but not
-// those that many share, and not the schedule of an example.
+// Checks that copied solutions are found, however their lines are grouped: schedules that two students share. A schedule that many students share,
+// or that is an example, does not count as copied.
 function checkOwn(ask, course, folder) {
   const text = (student, solutions, lines = []) => handInText(NAME, student, solutions, lines);
   const own = ({ name, solution }, from, to) => ({ name, schedule: solution.replace(from, to) });
@@ -225,7 +227,7 @@ goal
   );
 }
 
-// Checks that wrong arguments and unreadable files are reported, while the other files are still judged.
+// Checks that the tool reports wrong arguments and unreadable files, and still judges the other files.
 function checkWords(folder) {
   for (const words of [[], ["--help"], ["-x", BOOK], ["--link"], [path.join(folder, "no-such-file")]]) {
     const { status, lines, fault } = told(...words);

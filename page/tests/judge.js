@@ -1,5 +1,5 @@
-// node tests/judge.js checks the reader's answers about a run, judged by the engine's check, and two lists side by side. Prints as JSON how many
-// checks passed, and which failed.
+// node tests/judge.js checks the verdicts on a reader's answers about a run, which the engine's `check` decides, and the view of two lists side
+// by side. Prints as JSON how many checks passed, and which failed.
 "use strict";
 
 const fs = require("fs");
@@ -17,7 +17,7 @@ function check(name, isGood) {
 
 const wordIn = (report) => [...report.matchAll(/^place (\d+) (\S+)$/gm)].map(([, id, reply]) => `${id}-${reply}`);
 
-// Checks at each level that the replayer's order is right, and that a reversed order gets the verdict of `check`.
+// Checks at each level that the replayer's order is accepted, and that a reversed order gets the same verdict as from `check`.
 function checkLevels(ask, name, report) {
   const places = wordIn(report);
   for (const level in LEVELS) {
@@ -65,8 +65,7 @@ function checkHidden(ask, name, schedule) {
   }
 }
 
-// Checks a contains that takes effect in another thread's step: placed by moments, with a wrong reply, and at a wrong
-// moment.
+// Checks answers about a contains that takes effect in another thread's step: with a wrong reply, at a wrong moment, and at the right one.
 function checkByHand(ask) {
   const report = ask("listset_replay", ask("listset_example", "read-in-anothers-step").text).text;
   const answer = new OwnAnswer(exerciseOf(report, "replies"));
@@ -110,7 +109,7 @@ function checkOpenCalls(ask) {
   check("put in", judgedAs(4, "0-true,1-false").isRight === false);
 }
 
-// Returns the labels of a drawing's bars, and those of them that cover an earlier one.
+// Returns the labels in the bars of a drawing, and the labels that cover an earlier one.
 function labelsOver(drawing) {
   const labels = [...drawing.matchAll(/<text class="call" x="([^"]*)" y="([^"]*)">(.*?)<\/text>/g)];
   const ends = {};
@@ -122,8 +121,7 @@ function labelsOver(drawing) {
   return { labels, over };
 }
 
-// Checks that no label in the history covers another one at any event, and that each label stays in its place once the
-// call has begun.
+// Checks that no label in the history covers another one at any event, and that a label does not move after its call has begun.
 function checkHistoryLabels(traces) {
   const [drawCalls, scaleOf] = ["drawCalls", "scaleOf"].map(inPage);
   let signs = 0;
@@ -143,7 +141,7 @@ function checkHistoryLabels(traces) {
   check(`the labels of the examples are whole: ${signs} are signs`, signs === 0);
 }
 
-// No label of a bar covers another, on a wide page and on a phone, whatever the answers are; for numbered runs too.
+// Checks that no label of a bar covers another one, on a wide page and on a phone, for the examples and for numbered runs.
 function checkLabels(ask, schedules) {
   const [drawJudged, judgeScale] = ["drawJudged", "judgeScale"].map(inPage);
   const judgedAt = (exercise, answer, width) => ({ exercise, answer, scale: judgeScale(exercise, width), moment: 0, count: 0 });
@@ -170,7 +168,7 @@ function saidOf(ask, lines) {
 
 const barsIn = (drawn) => drawn.split('<g class="bar ').length - 1;
 
-// Checks the page's words about recorded calls, which the judge decides.
+// Checks the page's sentences about the judge's verdict on recorded calls.
 function checkRecorded(ask) {
   const wanted = {
     "call 0 add 5 1 4 true\ncall 1 contains 5 2 3 false\nkey 5\nend": "ok Linearizable: an order explains these 2 calls and leaves the keys.",
@@ -191,7 +189,7 @@ function checkRecorded(ask) {
   check(`many calls: ${many.reasons}`, drawn === 40 && many.reasons.at(-1) === "The first 40 calls are drawn.");
 }
 
-// Checks that the record for a recording or a report agrees with the line that the program prints.
+// Checks that the record about a recording or a report agrees with the program's answer.
 function checkRecords(ask, reports) {
   const recorded = path.join(__dirname, "..", "..", "tests", "transcripts", "data", "recorded");
   const texts = fs.readdirSync(recorded).map((file) => fs.readFileSync(path.join(recorded, file), "utf8"));
@@ -237,7 +235,7 @@ function checkRefusals(ask) {
   check(`left otherwise: ${left}`, left.join() === unchanged.join());
 }
 
-// The words for answers that no short text produces.
+// Checks the sentences about answers that no short text produces.
 function checkAnswers(ask) {
   const said = (text) => inPage("verdictOnCalls")(ask, { text: `${text}\n` }, TITLE);
   const { kind, reasons, calls } = said("verdict none\nkey 7\nclash true\nfirst call 2 add 7 50 60 true\nsecond call 3 contains 7 65 70 false");
@@ -252,7 +250,7 @@ function checkAnswers(ask) {
   }
 }
 
-// Checks that the record of a diagnosis is read as the program writes it.
+// Checks that the page reads the record of a diagnosis correctly.
 function checkDiagnosis() {
   const record = ["headline contains(3) returned true, expected false", "call 1 remove 3 5414 5432 true -", "call 0 contains 3 5420 - - expected false",
     "also 3 remove 2 5413 5417 true", "fact only contains is wrong", "likely contains does not look at a mark", "because a remove was still running"].join("\n");
@@ -263,7 +261,7 @@ function checkDiagnosis() {
   check("no diagnosis", inPage("diagnosisIn")("") === null);
 }
 
-// Checks that an error in recorded calls is reported with the program's line and its sentence about the cause.
+// Checks that the page reports an error in recorded calls with the program's line, and with its sentence about the cause.
 function checkFaultsOfCalls(ask) {
   const { kind, says } = saidOf(ask, `${TITLE}call 0 add 5 7 8 true\ncall 1 add 6 5 9 true\nend\n`);
   const told = "the call does not end after it begins; or a line above has one of its moments, or a call of the same thread that is pending";
@@ -271,7 +269,7 @@ function checkFaultsOfCalls(ask) {
   check(`a fault: ${says}`, kind === "fault" && says === `listset: line 3: History: ${why}.`);
 }
 
-// Checks that an answer that is not a verdict is shown, and does not count as one.
+// Checks that an answer that is not a verdict is shown, and is not taken for a verdict.
 function checkTroubles(ask) {
   const answer = answerOfWord(exerciseOf(ask("listset_replay", ask("listset_example", "snip").text).text, "points"), "2-true,0-true,1-true");
   const stopped = () => ({ status: 1, text: "the engine stopped: unreachable" });
@@ -283,7 +281,7 @@ function checkTroubles(ask) {
   check(`nor of a claim: ${claim.says}`, claim.isRight === null && claim.says === untold);
 }
 
-// Checks two lists side by side: each turn makes a step in both. A list whose call has returned waits.
+// Checks two lists side by side. In each turn, both lists make a step, except a list whose call has already returned.
 function checkSides(ask) {
   const [Sides, readProgram, programText] = ["Sides", "readProgram", "programText"].map(inPage);
   const program = readProgram("0: add 5, remove 5\n t1 : contains 5\n");

@@ -1,5 +1,6 @@
-// node tests/lessons.js checks the lessons as text, their goals, and the words about an attempt. Prints as JSON how many checks passed, and which
-// failed. recorded.txt has schedules of each lesson, with the conditions that each run is known to meet, and the event at which it is refused.
+// node tests/lessons.js checks the lessons: their texts, their goals, and the sentences about an attempt. Prints as JSON how many checks passed,
+// and which failed. recorded.txt has schedules for each lesson, each with the conditions that its run meets, and the event at which the run is
+// refused.
 "use strict";
 
 const fs = require("fs");
@@ -21,7 +22,7 @@ const scheduleOf = (lesson, events) => scheduleText(lesson, events.split(",").ma
 
 const SPLIT = ["one-lock"]; // lessons whose conditions have been split since: a schedule meets all of them if it met all of the old ones
 
-// Checks that the goals are met by exactly the runs that are known to meet them.
+// Checks that a run meets exactly the conditions of a goal that recorded.txt lists for the run.
 function checkRecorded(ask, { lessons }) {
   for (const line of fs.readFileSync(path.join(__dirname, "recorded.txt"), "utf8").trimEnd().split("\n")) {
     const [name, bits, events] = line.split(" ");
@@ -51,7 +52,7 @@ function checkBook(ask, { name, lessons, faults }) {
   }
 }
 
-// For each lesson, the most likely wrong attempt, and how the text about its dead end begins.
+// The most likely wrong attempt at each lesson, and the beginning of the text that explains why it fails.
 const LIKELY = {
   "one-lock": { lines: ["go 0 out"], deadEnd: "The add of thread 0 has ended before that of thread 1." },
   "hand-over-hand": { lines: ["go 0 out", "go 1 out"], deadEnd: "Both calls have ended" },
@@ -67,7 +68,7 @@ const LIKELY = {
   "ceiling-in-anothers-step": { lines: ["go 0 out"], deadEnd: "This ceiling has answered 7" },
 };
 
-// Checks the words about a wrong attempt: the first missing condition, and the lesson's dead end.
+// Checks the sentences about a wrong attempt: the first condition that it does not meet, and why it cannot meet the goal any more.
 function checkTries(ask, { lessons }) {
   const lesson = lessons.find(({ name }) => name === "in-anothers-step");
   const tries = [
@@ -88,7 +89,7 @@ function checkTries(ask, { lessons }) {
   for (const one of lessons) check(`${one.name}: a solution is no dead end`, judged(ask, one, one.solution).deadEnd === null);
 }
 
-// Schedules that are not judged, each with the reason.
+// Checks that some schedules are not judged, and that the reason is given.
 function checkReasons(ask, [lesson]) {
   const answer = lesson.solution;
   const reasons = [
@@ -109,7 +110,7 @@ function checkReasons(ask, [lesson]) {
   );
 }
 
-// A change of the text, a part of the line that the error names, and the error.
+// Changes of a text: the part to replace, its replacement, a part of the line that the error names, and the error.
 const BROKEN = [
   ["listset-course 1", "listset-course 2", "listset-course 2", 'expected "listset-course 1" here'],
   [/^course .*$/m, "", "listset-course 1", 'expected the line "course NAME"'],
@@ -153,7 +154,7 @@ function checkFaults() {
   }
 }
 
-// Starts and answers can be drafts, which the engine turns into schedules.
+// Checks that starts and answers can be drafts, which the engine turns into schedules.
 function checkDrafts(ask, { lessons }) {
   const drafted = TEXT.replace("  go 1 7\n  begin 0 contains 5\n  go 0 3\n", "  go 1 to 12\n  begin 0 contains 5\n  go 0 out\n");
   const course = triedCourse(ask, drafted);
@@ -164,7 +165,7 @@ function checkDrafts(ask, { lessons }) {
   check(`one that is refused: ${fault}`, fault.startsWith(refused));
 }
 
-// Checks that a lesson is also tested when it is read.
+// Checks that a lesson is executed when it is read: its start and its answer must be accepted, and only the answer may meet the goal.
 function checkTrials(ask) {
   const trials = [
     ["  begin 0 add 5\n", "  begin 0 ad 5\n", "one-lock: its start is refused at \"begin 0 ad 5\": expected "],
@@ -184,8 +185,7 @@ function checkTrials(ask) {
   check("CRLF, a mark of order and tabs are no fault", triedCourse(ask, other).faults.length === 0);
 }
 
-// Checks that the course on the teachers' page is valid, also when it is indented, and that its goal requires what its
-// question asks.
+// Checks that the course on the teachers' page is valid, even if it is indented, and that its goal requires what its question asks for.
 function checkOwnCourse(ask) {
   const text = inPage("OWN_COURSE");
   const indented = text.replace(/^(?=.)/gm, "    ");

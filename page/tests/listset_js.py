@@ -31,7 +31,8 @@ def parts_of_error(text):
 
 
 def difference(words, ours, due):
-    """Returns a line about the difference between the two, or None. For wrong arguments the program's text is clap's, whose tips differ."""
+    """Returns a line if the two runs differ, otherwise None. For wrong arguments, clap's tips are not compared: only
+    the first line and the usage."""
     if due[1].startswith(b"error: "):
         is_right = (ours[0], ours[2]) == (due[0], due[2]) == (b"", 2) and parts_of_error(ours[1]) == parts_of_error(due[1])
     else:
@@ -40,7 +41,7 @@ def difference(words, ours, due):
 
 
 def compared_unwritten(program, script, words):
-    """Compares the two when the output takes no bytes, and when it is closed."""
+    """Compares both programs with an output that takes no bytes, and with a closed output."""
     with open("/dev/full", "wb") as full:
         ours, due = (said([*which, *words], output=full) for which in (script, program))
     closed, due_closed = (said(["sh", "-c", 'exec "$@" >&-', "sh", *which, *words]) for which in (script, program))
@@ -49,14 +50,15 @@ def compared_unwritten(program, script, words):
 
 
 def drawn_words(dice):
-    """Draws a command, with some arguments that it accepts or not."""
+    """Returns a random command with random arguments, right or wrong."""
     some = [dice.choice(dice.choice([FLAGS, OPTIONS, OPTIONS, VALUES])) for _ in range(dice.choice([0, 1, 1, 2, 2, 3, 4]))]
     command = dice.choice(COMMANDS)
     return [command, *(["lazy", "2", "4", "9", "8"] if command == "gen" and dice.random() < 0.5 else []), *" ".join(some).split()]
 
 
 def asked(program, names):
-    """Returns the arguments to compare, each with a text for standard input, which is read if no file is named."""
+    """Yields the arguments to compare, each with a text for standard input. The text is read if the arguments name no
+    file."""
     dice, schedule = random.Random(1), said([*program, "example", names[0]])[0]
     report = said([*program, "replay"], schedule)[0]
     texts = [schedule, report, REFUSED.encode(), b""]

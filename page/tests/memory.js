@@ -18,7 +18,8 @@ function check(what, is) {
   else failed.push(what);
 }
 
-// Allocates as many blocks of a size as possible, then what still fits.
+// Fills the memory with blocks of a size. Checks where the blocks are, that a small block still fits, and that a freed block can be allocated
+// again.
 function fill(size) {
   const { memory, page_alloc: alloc, page_free: free } = new WebAssembly.Instance(built, { env: { read: () => -1n } }).exports;
   const blocks = [];

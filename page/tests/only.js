@@ -1,5 +1,6 @@
-// Checks `judge --only KEY` on random recordings. The result is the recording of the key. If no order explains its calls, the result is a part of
-// them that the judge refuses with the same two lines, and whose opening state is the only one that the calls before it can leave.
+// Checks `judge --only KEY` on random recordings. It must return the recording of the key alone. If no order explains the key's calls, it must
+// return a part of them that the judge refuses with the same two lines, and the part's opening state must be the only state that the earlier
+// calls can leave.
 "use strict";
 
 const { startedEngine } = require("../in_node.js");
@@ -22,7 +23,7 @@ function replyOf(keys, { word, key }) {
   return word === "add" ? !is : is;
 }
 
-// Draws calls that overlap, some with a wrong reply and some pending at the end; and the keys at the start and the end.
+// Returns a random recording of overlapping calls. Some replies are wrong, and some calls are pending at the end.
 function drawn(count) {
   const opening = KEYS.filter(() => below(2) === 0);
   const [keys, pending, calls, wrong] = [new Set(opening), [], [], below(3) > 0 ? 3 : 0];
@@ -49,7 +50,7 @@ function textOf({ calls, opening, keys, isCut }) {
 const callsIn = (text) => text.split("\n").filter((line) => line.startsWith("call "));
 const head = (text) => text.split("\n").slice(0, 2).join("\n");
 
-// Returns what is wrong with the recording of a key, or "".
+// Returns what is wrong with the result for a key, or "".
 function faultOf(made, key, judge) {
   const of = (list) => list.filter((it) => it === key);
   const own = { ...made, calls: made.calls.filter((call) => call.key === key), opening: of(made.opening), keys: of(made.keys) };

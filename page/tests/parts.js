@@ -1,4 +1,4 @@
-// node tests/parts.js checks the parts of the page that need no browser, with the committed module: some sentences, addresses, and stored data.
+// node tests/parts.js checks those parts of the page that need no browser, with the committed module: some sentences, addresses, and stored data.
 "use strict";
 
 const { createHash } = require("crypto");
@@ -19,7 +19,7 @@ const traceOf = (engine, schedule) =>
   new (inPage("Trace"))(engine.ask("listset_trace", schedule).text, inPage("versionOf")(schedule));
 const withoutTags = (text) => text.replace(/<[^>]*>/g, "");
 
-// Checks that each example has a question, a deciding point, and the events that decide it, each with its own sentence.
+// Checks the text about each example: it has a question and an answer, and each deciding event has a sentence.
 function checkTurns(engine) {
   for (const [name, { question, turnsOn, without, turns }] of Object.entries(inPage("CLASSICS"))) {
     check(`${name}: it has a question, and what it turns on`, question.endsWith("?") && turnsOn.length > 40 && turns.length > 1);
@@ -35,7 +35,7 @@ function sentencesOf(engine, schedule) {
   return trace.events().map((_, index) => withoutTags(inPage("sentenceOf")(inPage("momentAt")(state, index + 1))));
 }
 
-// Ends of sentences that generated runs rarely have (tests/sentences.js checks the other sentences).
+// Checks sentences that generated runs rarely contain. (tests/sentences.js checks all others.)
 function checkSentences(engine) {
   const last = (kind, quota, ...lines) =>
     sentencesOf(engine, ["listset-schedule 1", `list ${kind}`, "threads 2", `quota ${quota}`, ...lines, ""].join("\n")).pop();
@@ -76,8 +76,7 @@ function checkDocs(engine) {
   }
 }
 
-// Checks that each page to which Read links exists and has the heading that the link names. One of them is the table of
-// progress.
+// Checks that each link to a page made from docs/ leads to an existing page and heading. One of the links must lead to the table of progress.
 function checkRead() {
   const links = inPage("PAGES").map(([href]) => href);
   check("Read leads to the table of progress", links.includes("tables.html#progress"));
@@ -90,8 +89,8 @@ function checkRead() {
   }
 }
 
-// Checks that a number gives everyone the same run, which is small enough to judge and has overlapping calls. The run
-// in README.md must not change.
+// Checks that a number stands for the same run in every browser, that the run is small enough to judge, and that its calls overlap. The run in
+// README.md must not change.
 function checkSeeds(engine) {
   const ask = (name, ...texts) => engine.ask(name, ...texts);
   for (const kind of Object.keys(inPage("LISTS"))) {
@@ -179,7 +178,7 @@ function checkAddresses(engine, texts) {
   check("two things", refusalOf("#example=snip&list=lazy") === 'the address names an example, and has "list" too');
 }
 
-// Checks that a broken list can be named by number or by name, and belongs to the list that the address names.
+// Checks that an address can name a broken list by its number or its name, and that the broken list must be of the address's kind of list.
 function checkLacking(readAddress) {
   for (const [at, [name, kind]] of Object.entries(inPage("LACKING")).entries()) {
     const named = [name, at + 1].map((which) => readAddress(`#list=${kind}&threads=2&quota=4&lacks=${which}`).lacks);
@@ -198,8 +197,8 @@ function checkLacking(readAddress) {
   for (const [hash, fault] of Object.entries(faults)) check(`${hash}: ${refusalOf(hash)}`, refusalOf(hash) === fault);
 }
 
-// Checks at each event that the text of the set's current box is inside of the box. Only in the last box may it cross
-// the edge, if the box is too narrow.
+// Checks at each event that the text in the set's current box fits in the box. Only in the last box, if that is too narrow, the text may cross
+// the edge.
 function checkContents(engine, texts) {
   const [scaleOf, drawContents] = ["scaleOf", "drawContents"].map(inPage);
   let boxes = 0;
@@ -228,8 +227,8 @@ function checkTraces(engine, names) {
 const areApart = (one, other) => one.x + one.wide <= other.x + 1 || other.x + other.wide <= one.x + 1 || one.y + one.high <= other.y + 1 || other.y + other.high <= one.y + 1;
 const ROOMS = [{ wide: 1280, high: 300 }, { wide: 900, high: 240 }, { wide: 351, high: 320 }];
 
-// Checks that everything on the stage is inside of it, and that no node or hand covers another one, at each event of
-// the examples and of a run with many nodes.
+// Checks at each event of the examples, and of a run with many nodes, that everything on the stage is within its edges, and that no node or hand
+// covers another one.
 function checkStage(engine, texts) {
   let hands = 0;
   for (const [text, size] of texts.flatMap((text) => ROOMS.map((size) => [text, size]))) {
@@ -259,7 +258,7 @@ function checkStage(engine, texts) {
   check(`a long chain is folded: ${items.length}, ${units.width}`, items.length <= 14 && units.width * units.scale <= 1281 && items.some(({ names }) => names.length > 20));
 }
 
-// Five threads add, remove and look, one to three steps at a time, on each list.
+// Returns a schedule of each list in which five threads make calls and take turns of one to three steps.
 function crowded(engine) {
   const calls = ["add 5", "remove 5", "add 7", "contains 7", "remove 7"].map((call, thread) => `begin ${thread} ${call}`);
   const turns = Array.from({ length: 60 }, (_, turn) => `go ${(turn * 3) % 5} ${1 + (turn % 3)}`);
@@ -275,8 +274,8 @@ function longerBy(engine, text, line) {
   return engine.ask("listset_trace", longer).text.includes("\nrefused ") ? text : longer;
 }
 
-// Each thread in a call is at a line of the proved code: until its first step at a line that begins a call, just before its answer at a line that
-// ends one, and in `find` if that walks again. A thread has been at each line that makes a row.
+// Checks the line of the proved code at which the page shows each thread in a call. Before the call's first step, it is a line that begins a
+// call; before the last step, a line that can end one; if `find` restarts its walk, a line of `find`. Each line that makes rows must occur.
 function checkListing(engine, texts) {
   const met = new Set();
   const wrong = texts.flatMap((text) => {
@@ -293,8 +292,7 @@ function checkListing(engine, texts) {
   check(`lines at which no thread stood: ${lines.filter((line) => !met.has(line))}`, lines.every((line) => met.has(line)));
 }
 
-// Returns what is wrong with the line of the thread that makes this event next: an array of no or one sentence. The ceilings of two lists have no
-// line.
+// Returns what is wrong with the line of the thread that makes this event next, or an empty array. (The ceilings of two lists have no code.)
 function wrongLine(trace, event, held, met) {
   const { kind } = trace;
   const found = inPage("codeOf")(kind, held.call);
@@ -312,7 +310,7 @@ function wrongLine(trace, event, held, met) {
   return isGood ? [] : [`${kind}, event ${event.number}: row ${held.pc} at ${found.file}:${line}`];
 }
 
-// Checks the colour of each text on each of its backgrounds, light and dark, and the edges of the controls.
+// Checks the contrast of each text with each of its backgrounds, light and dark, and of the edges of buttons and fields.
 function checkColours() {
   const sheet = ["page.css", "drawings.css"].map((name) => fs.readFileSync(path.join(folder, "style", name), "utf8")).join("");
   const contrasts = contrastsOf(sheet);

@@ -1,6 +1,6 @@
-"""The program's answers to texts and arguments, as cases for the page's engine. Each function that takes a text is asked about each example, about
-generated schedules, drafts, recorded calls and reports, and about broken texts; also pictures by options, broken lists, values of gen, and names.
-"""
+"""Makes test cases for the page's engine from the program's answers. Each function that takes a text gets each example,
+generated schedules, drafts, recorded calls, reports, and broken texts. Other cases are pictures with options, broken
+lists, values for gen, and names."""
 
 import base64
 import hashlib
@@ -37,7 +37,8 @@ class Program:
         return done.stdout + done.stderr, done.returncode
 
     def case(self, function, words, *texts, given=b""):
-        """Returns a case: a function of the module with its texts, and what the program prints for these arguments and this input."""
+        """Returns a case: a function of the module with its texts, and what the program prints for the arguments
+        `words` and the input `given`."""
         output, status = self.program_answers(*words, text=given)
         output = output.removesuffix(OF_A_FILE)
         return {"function": f"listset_{function}", "words": words, "texts": [base64.b64encode(it).decode() for it in texts], "status": status,
@@ -48,9 +49,8 @@ class Program:
 
 
 def generated(program, dice):
-    """Generates schedules of each list, with few threads and many, with and without free slots; some with a ceiling in place of each `contains`, some of
-    these ending at a refused event; and a long one.
-    """
+    """Generates schedules of each list: a long one, and others with few or many threads, and with or without free
+    slots. In some of these, each `contains` is replaced by a ceiling, so that a later event can be refused."""
     for kind in LISTS:
         yield program.program_answers("gen", kind, "4", "300", "1100", "4", "1")[0]
         for number in range(GENERATED):
@@ -60,7 +60,7 @@ def generated(program, dice):
 
 
 def broken(dice, texts, many=BROKEN):
-    """Returns texts with one to three bytes changed, dropped or inserted, and some that are cut."""
+    """Yields texts with one to three bytes changed, dropped or inserted. Some of the texts are also cut off."""
     for _ in range(many):
         text = bytearray(dice.choice(texts))
         for _ in range(dice.randrange(1, 4)):
@@ -83,9 +83,8 @@ def texts_of(program, dice):
 
 
 def cases_of_options(program, dice, texts):
-    """Returns cases of functions with options, right and wrong; an option that is not given is empty. Also runs the schedules that break the broken
-    lists, and generated ones, on these lists.
-    """
+    """Returns cases of functions with options, right and wrong. An option that is not set is an empty text. Other cases
+    run schedules on the broken lists: the schedules that break them, and generated ones."""
     files = {it.stem: it.read_bytes() for it in sorted(LACKS.glob("*.schedule"))}
     for _ in range(DRAWN):
         function, lacks = dice.choice([*OF_SCHEDULES]), dice.choice([*files, "luck"])
@@ -101,7 +100,8 @@ def cases_of_options(program, dice, texts):
 
 
 def cases_of_values(program, dice):
-    """Returns cases for values of gen, most of them right, and for names."""
+    """Yields cases of gen with random values, most of them right, of examples by name, and of the lists of examples and
+    errors."""
     for _ in range(DRAWN):
         values = [dice.choice([*LISTS * 4, "", "skip"]), *(dice.choice(VALUES[:4] * 6 + VALUES) for _ in range(dice.choice([5, 5, 5, 3, 0])))]
         yield program.case("gen", ["gen", "--", *values], "\0".join(values).encode(), b"")

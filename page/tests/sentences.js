@@ -1,6 +1,6 @@
-// node tests/sentences.js checks that no sentence about a generated run is false. The runs are of each list and of each broken one. The check reads a
-// sentence back: the keys that it compares, whether a key is present or absent, whether what it adds, removes, unlinks or marks is so in the chain,
-// who holds a lock, and what the thread does and returns next.
+// node tests/sentences.js checks that no sentence about a generated run is false. There are runs of each list and of each broken list. The check
+// reads each sentence and compares its statements with the run: keys that are compared, whether a key is present, whether the step adds, removes,
+// unlinks or marks what the sentence says, who holds a lock, and what the thread does and returns next.
 "use strict";
 
 const fs = require("fs");
@@ -15,8 +15,8 @@ const numberOf = (key) => ({ "−∞": -Infinity, "+∞": Infinity })[key] ?? Nu
 
 const isMarkOf = (event, node, thread) => event.word === `${node}.link` && event.to.endsWith("*") && thread === inPage("letterOf")(event.thread);
 
-// A pattern of a sentence, and whether its words are false, given the words in brackets and the facts: what was found, the chain and the locks at
-// that moment (chain, keys, lockOf, linkOf), the thread, its next step and its call.
+// The patterns of sentences. Each has a test that returns true if a matching sentence is false. The test gets the words in brackets and the facts:
+// the event, the next step of its thread, and the chain, keys and locks after the event.
 const CLAIMS = [
   [/key: (\S+)\. .*above (\d+)/, ([saw, key]) => numberOf(saw) <= numberOf(key)],
   [/key: (\S+)\. .*is below (\d+)/, ([saw, key]) => numberOf(saw) >= numberOf(key)],
@@ -69,7 +69,7 @@ function factsAfter(state, event, others) {
   return { ...others, event, thread: `t${event.thread}`, chain, keys, keyOf, lockOf, linkOf, locks: state.locks() };
 }
 
-// The same of the short sentences of the path (`said.js`).
+// Patterns and tests for the short sentences of the path (`said.js`), in the form of CLAIMS.
 const ownerOf = ({ word }) => word.split(".")[0];
 const SHORT_CLAIMS = [
   [/: \S+ is unlinked\./, (_, { chain, before }) => chain.includes(before.curr)],
@@ -91,7 +91,7 @@ function falseIn(claims, sentence, facts) {
 }
 const seen = new Set(); // the claims that some sentence has made
 
-// Returns the sentences of a run, each with the parts of it that are false.
+// Returns the sentences of a run, each with the patterns for which it is false.
 function readRun(trace) {
   const state = new (inPage("State"))(trace);
   const events = trace.events();
@@ -108,7 +108,7 @@ function readRun(trace) {
   });
 }
 
-// Runs of broken lists that are written by hand, as lines that follow the opening keys 3 and 7.
+// Runs of broken lists written by hand. Their lines follow the opening keys 3 and 7.
 const BY_HAND = {
   "marks-in-validation": ["begin 0 remove 7", "go 0 4", "begin 1 remove 3", "go 1 10", "begin 1 remove 7", "go 1 10", "go 0 8"],
   "mark-in-remove": ["begin 0 remove 3", "go 0 3", "begin 1 remove 3", "go 1 5", "go 0 3"],

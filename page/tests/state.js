@@ -1,4 +1,4 @@
-// Tests the page's state without a browser: the effects of actions, what is visible, the address and the title.
+// Tests the page's state without a browser: how actions change it, what it makes visible, its address and its title.
 "use strict";
 
 const { inPage } = require("../in_node.js");

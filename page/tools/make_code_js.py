@@ -9,13 +9,13 @@ import re
 import rattle_sources
 from lists import TOP, lists
 
-READS = "lset_loops/src/reads.rt"
+READS = "lset_loops/src/contains_loop.rt"
 LOOPS = {it.word: [f"lset_loops/src/{it.table}.rt", *[READS] * it.has_reads()] for it in lists()}
 LISTS = {word: files if (TOP / "crates" / files[0]).is_file() else [] for word, files in LOOPS.items()}  # (of others the interpreter makes the calls)
 BEGINS = ("begin_at_head", "begin_locked")  # the first step of a call
 STEP = re.compile(r"\bcaller\.(\w+)(?:::<N>)?\(place")
-HEAD = """// The proved loops of the lists as they stand in crates/, with the rows of its list's table that each line makes, by page/build: for
-// show alone.
+HEAD = """// The proved loops of the lists, made from crates/ by page/build. Each line has the rows of its list's table that it makes. For display
+// only.
 """
 
 
@@ -29,7 +29,7 @@ def lines_of(lines):
 
 
 def is_last(lines, number):
-    """Decides whether the call returns at this line or after it in the same block."""
+    """Returns whether the call returns at this line, or later in the block of this line."""
     for line in lines[number - 1:]:
         if re.search(r"_last\(|\breturn\b", line):
             return True
@@ -39,7 +39,8 @@ def is_last(lines, number):
 
 
 def steps_of(found, lines):
-    """Yields the steps of a file. If a row has several, each says whether calls begin there, and whether they return."""
+    """Yields the steps of a file. If several steps make one row, each of them states whether calls begin at its line,
+    and whether they return there."""
     rows = [row for *_, made in found for row in made]
     for number, step, made in found:
         told = {"line": number, "rows": made}

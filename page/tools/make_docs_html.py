@@ -55,7 +55,8 @@ def frame(index):
 
 
 class Runs:
-    """The classic examples by their traces: the list of each, the lines of its events, and for each row the first event that makes it."""
+    """The runs of the classic examples, by their traces: each example's list, the lines of its events, and for each row
+    the first event that makes this row."""
 
     def __init__(self, text):
         self.events, self.rows = {}, {kind: {} for kind in KINDS.values()}
@@ -69,7 +70,8 @@ class Runs:
                 stood[thread] = row
 
     def link(self, name, event, said):
-        """Returns a link to an event of an example's run, if the run has so many events."""
+        """Returns a link to an event of an example's run. If the run has fewer events, returns the text without a
+        link."""
         if event > len(self.events.get(name, [])):
             return said
         return f'<a href="index.html#example={name}&amp;event={event}">{said}</a>'
@@ -108,7 +110,8 @@ class Document:
         return made
 
     def table(self, made):
-        """Returns a table. If its first column has numbers of rows or events, each links to an event: one of the row, or the event itself."""
+        """Returns a table with links in its first column: from the number of a row to an event that makes this row, or
+        from the number of an event to the event."""
         kind = re.search("<th>(.*?)</th>", made)[1]
         first = {"Row": self.row, "Events": lambda cell: self.runs.numbers(self.example, cell)}.get(kind, str)
         return re.sub(r"(?<=<tr>\n<td>)(.*?)(?=</td>)", lambda it: first(it[1]), made)
@@ -132,7 +135,8 @@ class Document:
         return "<pre>" + "\n".join(self.of_run(line, is_picture, html.unescape(line) in events) for line in lines) + "</pre>"
 
     def of_run(self, line, is_picture, is_event):
-        """Returns a line. If it belongs to the picture or the trace of the section's example, its moments link to the run."""
+        """Returns a line of a block of code. In the picture and the trace of the section's example, moments link to the
+        run."""
         if is_picture and line.startswith("moment "):
             return self.runs.numbers(self.example, line)
         found = re.match(r"(event | +\d+ +at )(\d+)\b", line) if is_picture or is_event else None
@@ -140,7 +144,7 @@ class Document:
 
 
 def address_of(schedule):
-    """Returns a schedule as src/run/address.js writes it in an address."""
+    """Returns a schedule in the form that it has in an address (see src/run/address.js)."""
     title, *lines = schedule.splitlines()
     words = [line.split() for line in lines]
     opening = [values[0] for word, *values in words[3:] if word == "opening"]
@@ -157,12 +161,12 @@ def slug_of(heading, _separator):
 
 
 def kinds_in(text):
-    """Returns the lists that a text names."""
+    """Returns the kinds of lists that a text names."""
     return [kind for name, kind in KINDS.items() if name in text]
 
 
 def link_of(found):
-    """Returns a link of a page in docs/, as seen from page/."""
+    """Returns a link from a page in docs/, rewritten for the folder page/."""
     target, said = found.groups()
     said = f"“{NAMES[said]}”" if said in NAMES else said
     path, sign, heading = target.partition("#")

@@ -1,4 +1,5 @@
-"""Makes made/rows.js from docs/TABLES.md: the texts that the page shows beside a thread's row, and what its sentences need of the rows."""
+"""Makes made/rows.js from docs/TABLES.md. It contains the texts that the page shows beside a thread's row, and the
+properties of rows on which the page's sentences depend."""
 import json
 import re
 
@@ -6,7 +7,7 @@ from lists import lists as all_lists
 
 REGISTERS = ["pred", "curr", "succ", "node", "pkey", "ckey"]
 CALLS = ["add", "remove", "contains", "ceiling"]
-# The words of the column "Then", by where they lead.
+# Patterns for the column "Then", by the reason for which it leads to another row.
 LEADS = {
     "below": r"below K: (?:[^;]*, )?(\d+)",  # on with the walk
     "invalid": r"reply none, (\d+)",  # the validation failed
@@ -15,12 +16,12 @@ LEADS = {
 
 
 def plain(text):
-    """Returns a cell or a paragraph without Markdown's signs."""
+    """Returns a cell or a paragraph without Markdown's marks."""
     return re.sub(r"\*\*|`", "", text).strip()
 
 
 def leads_of(then):
-    """Returns the rows to which the column "Then" leads, by their meaning."""
+    """Returns the rows to which the column "Then" leads, by the reason."""
     found = {name: re.search(pattern, then) for name, pattern in LEADS.items()}
     return {name: int(next(filter(None, match.groups()))) for name, match in found.items() if match}
 
@@ -36,7 +37,8 @@ def rows_of(section):
 
 
 def deciding_rows(section):
-    """Returns the rows at which a call adds, removes and leaves. If calls leave by returning, the last is one past the table's end."""
+    """Returns the rows at which a call adds, removes, and leaves. If calls leave by returning, the third number is one
+    past the table's last row."""
     def row_of(pattern):
         found = re.search(pattern, section)
         return int(found[1]) if found else max(number for number in rows_of(section)) + 1
@@ -44,7 +46,7 @@ def deciding_rows(section):
 
 
 def reads_of(section):
-    """Returns the rows of `contains` and of `ceiling` in the lists in which these take no lock."""
+    """Returns the rows of `contains` and `ceiling`, for lists in which these calls take no lock."""
     rows = rows_of(section)
     ceiling = int(re.search(r"`ceiling` at row (\d+)", section)[1])
     return {"contains": {number: row for number, row in rows.items() if number < ceiling},
@@ -52,7 +54,7 @@ def reads_of(section):
 
 
 def registers_in(rows):
-    """Returns the registers that these rows set."""
+    """Returns the registers that the steps in these rows set."""
     return [name for name in REGISTERS if any(f"{name} = " in row["then"] for row in rows)]
 
 
@@ -80,5 +82,5 @@ def rows_text(tables):
         rows = rows_of(sections[name]) | {number: row for some in own.values() for number, row in some.items()}
         lists[kind] = {"name": name, "registers": registers_in(rows.values()), "adds": adds, "removes": removes,
                        "calls": calls_of(sections[name], own), "rows": rows}
-    return ("// The rows of the step tables, from docs/TABLES.md by page/build: for show alone, no state is computed from them.\n"
+    return ("// The rows of the step tables, made from docs/TABLES.md by page/build. For display only: no state is computed from them.\n"
             f"\nexport const LISTS = {json.dumps(lists, ensure_ascii=False, indent=1)};\n")

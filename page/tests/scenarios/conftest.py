@@ -21,7 +21,8 @@ SCENARIOS = {"webkit": 8}  # how many scenarios one browser is used for, since W
 
 
 class Quiet(http.server.SimpleHTTPRequestHandler):
-    """Serves the files of the page. slow.html is the page over a slow network, and cases.json has the program's answers."""
+    """Serves the files of the page. slow.html is the page over a slow network; cases.json contains the program's
+    answers."""
 
     cases = None
 
@@ -58,7 +59,7 @@ class Visitor(webdriver.Browser):
         self.wait("return document.body.dataset.ready === 'yes'")
 
     def inside(self, text, *given):
-        """Evaluates a script in the page. In the script, `listsets` has what the page's modules export."""
+        """Evaluates a script in the page. In the script, `listsets` has everything that the page's modules export."""
         words = f"JSON.stringify(((...given) => {{ {text} }})(...{json.dumps(given)}) ?? null)"
         return json.loads(self.script("return (window.wrappedJSObject ?? window).eval(arguments[0])", words))
 
@@ -79,7 +80,7 @@ class Visitor(webdriver.Browser):
         self.wait("return document.querySelector('.reveal') !== null && document.body.dataset.busy !== 'yes'")
 
     def step(self, keys):
-        """Presses the letters of threads. After each, waits until its steps are shown."""
+        """Presses the keys of threads. After each key, waits until the thread's steps are shown."""
         for key in keys:
             self.press(key)
             self.idle()
@@ -168,7 +169,7 @@ def place(request):
 
 
 class Turns:
-    """Browsers of one kind, used one after another. Each runs some scenarios, and is replaced if it has died."""
+    """Provides browsers of one kind, one at a time. Replaces a browser after some scenarios, or if it has died."""
 
     def __init__(self, name, place):
         self.name, self.place, self.one, self.left = name, place, None, 0

@@ -1,4 +1,5 @@
-"""Tests access with the Tab key alone, in both colour schemes, with a finger, and at twice the size."""
+"""Tests whether the page can be used with the Tab key alone, in light and dark colours, with a finger, and at twice the
+size."""
 
 import pytest
 from test_stage import fit

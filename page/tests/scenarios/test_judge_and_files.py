@@ -1,4 +1,4 @@
-"""Judge, Compare, files, and the messages about wrong ones."""
+"""Tests the judge, Compare, files, and the messages about wrong files."""
 
 from test_stage import fit
 

@@ -1,4 +1,4 @@
-"""Solve: a lesson is tried, solved and changed; a teacher's course is passed from profile to profile."""
+"""Tests lessons: one is attempted, solved and changed, and a teacher's course is passed from one profile to another."""
 
 COURSE = """listset-course 1
 course Monday
