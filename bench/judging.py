@@ -34,8 +34,9 @@ RECORDINGS = {
 
 
 def judge():
-    """Prints the table of recordings: the minimum of the seconds of several alternating runs, the peak memory, and the
-    instructions of a call in a recording with a tenth of the calls."""
+    """Prints the table of recordings: the minimum time of several alternating runs, the peak memory, and the
+    instructions per call, which are counted in a recording with a tenth of the calls.
+    """
     heading("Recording", "`judge`, s", "KB", "by hand, s", "KB", "ratio of s", "of KB", "instructions a call", "by hand", "ratio")
     with tempfile.TemporaryDirectory(prefix="bench-") as room:
         programs = [built("listset"), "judge"], [by_rustc("peer_judge.rs", room)]
@@ -59,7 +60,7 @@ def ratio(ours, hand):
 
 
 def instructions(programs, room, calls, *asked):
-    """Returns the cells for the instructions of a call, in a recording with a tenth of the calls."""
+    """Returns the table cells with the instructions per call, counted in a recording with a tenth of the calls."""
     file = write(f"{room}/tenth", calls // 10, *asked)
     ours, hand = (10 * (instructions_of(words, file) or 0) // calls for words in programs)
     return f"{ours:,}", f"{hand:,}", ratio(ours, hand)

@@ -17,8 +17,8 @@ MANY_RUNS = 25
 
 
 def calls():
-    """Prints the table of calls by operation: the ratio of their time to that of the list written by hand, as the median
-    of several alternating runs.
+    """Prints the table of calls by operation. Each number is the time of the calls divided by that of the list written
+    by hand, as the median of several alternating runs.
     """
     timer, kind_names = built("bench_calls"), ("add", "remove", "contains")
     heads = (f"`{call}`" + f", {named(many)}" * (call == "add") for many in THREADS for call in kind_names)

@@ -64,7 +64,9 @@ def asked(program, room):
 
 
 def log_uniform(draw, most, least=1):
-    """Returns a random number from `least` to `most`, as likely in the tens as in the thousands. One in ten is `most`."""
+    """Returns a random number from `least` to `most`. Each order of magnitude is equally likely, and one number in ten
+    is `most`.
+    """
     return most if draw.random() < 0.1 else min(most, int(math.exp(draw.uniform(math.log(least), math.log(most + 1)))))
 
 
@@ -114,7 +116,7 @@ def draft_of(kind, opening, calls, threads):
 
 @pytest.mark.parametrize("name, at_once", [*((name, False) for name in [*SHAPES, *NEAR]), ("rising", True), ("looks", True)])
 def test_recordings_of_each_size_are_judged(asked, few, name, at_once):
-    """Judges a linearizable recording, and the same one with a wrong last reply."""
+    """Judges a linearizable recording, and the same recording with a wrong reply in its last call."""
     sizes = [CALLS // TIMES] if few else [CALLS // TIMES, CALLS]
     for size in sizes:
         opening, calls, left = {**SHAPES, **NEAR}[name](size)

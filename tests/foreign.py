@@ -61,7 +61,9 @@ class InstalledLibraries:
         return [*flags, f"-Wl,-rpath,{self.library}"]
 
     def page(self, language, ending, name, before=""):
-        """Writes the program in docs/FOREIGN.md that contains `name` to a file, after the text `before`. Returns the file."""
+        """Copies the program that contains `name` from docs/FOREIGN.md to a file, after the text `before`. Returns the
+        file.
+        """
         found = re.findall(rf"^```{language}\n(.*?)^```$", (TOP / "docs" / "FOREIGN.md").read_text(), re.M | re.S)
         program, = (it for it in found if name in it)
         made = self.room / f"first-set.{ending}"
@@ -151,8 +153,8 @@ def test_the_judge_reports_each_failed_allocation_and_leaks_nothing(installed):
 
 @needs("gcc")
 def test_calls_of_threads_agree_with_counts_and_are_judged(installed):
-    """The calls of threads agree with models and counts, and are judged: with more threads than processors, and for a
-    million calls.
+    """Threads call sets, in one case more threads than processors, in another a million calls. Their replies are
+    compared with models and counts, and judged.
     """
     for flags, sizes in (([], [250_000, 4]), ([], [500, 64]), ([MEMORY], [5_000, 4]), ([RACES], [2_000, 4])):
         if all(map(installed.works, flags)):
@@ -247,7 +249,7 @@ def in_room(installed):
 
 
 def is_judged(said, proof):
-    """Checks that the library judged a user's set."""
+    """Checks that a test of a user's set printed the library as its judge."""
     assert f"; judge: liblistset, {proof}" in said
 
 

@@ -1,5 +1,5 @@
-"""Compares `judge` with a search of all orders: its verdict, and the key and the moment that it names, however the text is
-split into pieces. `--few` tries a tenth of the texts.
+"""Compares `judge` with a search of all orders: the verdict, and the key and the moment that a refusal names. Also
+tests texts that arrive in pieces. `--few` tries a tenth of the texts.
 """
 
 import collections
@@ -48,7 +48,7 @@ def drawn(rng, calls):
 
 
 def with_pending(rng, calls):
-    """Returns the calls, with the last calls of some threads made pending."""
+    """Makes the last calls of some threads pending, and returns all calls."""
     last, share = {it.thread: it for it in calls}, rng.choice([0, 0.3, 0.9])
     pending = {it.begin for it in last.values() if rng.random() < share}
     return [it._replace(end=None, reply=None) if it.begin in pending else it for it in calls]
@@ -166,7 +166,7 @@ def needs(it):
 
 
 def call_in(line, form, of_key):
-    """Returns the key's call in a line of this form, and the states that follow it."""
+    """Returns the key's call that a line of this form describes, and the states at the end of the line."""
     found = re.fullmatch(form, line)
     if not found:
         return None, []
@@ -176,7 +176,9 @@ def call_in(line, form, of_key):
 
 
 def may_be_made(of_key, word, since, until):
-    """Returns whether a call overlaps this period that brings the key into this state, and returned true or is pending."""
+    """Returns whether some call that brings the key into this state overlaps this period. The call must have returned
+    true or be pending.
+    """
     return any(it.word == word and changes(it) and it.begin < until and since < (it.end or LAST + 1) for it in of_key)
 
 

@@ -1,5 +1,5 @@
-"""Tests the first error in texts of each kind: in the texts of a table, and in each prefix of a text. The program must
-print exactly one line about the error and exit with status 1.
+"""Tests which error is named first in a text of each kind. The texts are those in a table, and the prefixes of a valid
+text. The program must print exactly one line about the error and exit with status 1.
 """
 
 import re
@@ -8,7 +8,7 @@ import pytest
 from harness.programs import TOP, ran
 
 DATA = TOP / "tests/transcripts/data"
-# The command that reads a kind of text, and the lines before those in the table.
+# For each kind of text, the command that reads it, and the valid lines that precede the lines of the table.
 READERS = {
     "schedule": ("replay", "listset-schedule 1\nlist coarse\nthreads 1\nquota 1\n"),
     "schedule 2": ("replay", "listset-schedule 2\nlist coarse\nthreads 1\nquota 1\n"),
@@ -18,7 +18,8 @@ READERS = {
     "recording": ("judge", "listset-calls 1\n"),
     "keys": ("serve lazy 1 4 0 0 -", ""),
 }
-# The kind of a text, a line number and a cause; then texts with this first error. \n separates their lines.
+# Each line has a kind of text, the first error (a line number and a cause), and texts with this error. The lines of a
+# text end with \n.
 TABLE = r"""
 schedule: line 5: Event | take 0 5\n | go  0 1\n | begin 0 add\n | opening 5\n
 schedule: line 5: Number | begin 0 add 05\n | begin 0 add 4294967296\n | go 0 0\n | go 0 10001\n

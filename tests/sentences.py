@@ -362,13 +362,14 @@ def each_order_of_the_report_leaves_the_key_otherwise(case, key):
     return case.ways(int(key)) == {int(key) not in case.keys}
 
 
-# Two contradicting calls: each must be a call of the report, and leaves or needs a key the way it is read.
+# Properties of the two calls in a contradiction: each call is a call of the report, and leaves or needs its key as the
+# line states.
 
 CALL, STATE = r"thread (\d+) (\w+) (\d+) (\S+), (\d+) to (\d+)", "(present|absent)"
 
 
 def look_at(case, call):
-    """Returns how a call of the report is read. Returns None if the report has no such call."""
+    """Returns what a call of the report does to its key (see `read`), or None if the report has no such call."""
     thread, word, key, reply, begin, end = call
     made = Call(int(thread), word, int(key), int(begin), int(end), reply)
     return dict(zip(case.calls, case.read())).get(made)
@@ -403,7 +404,9 @@ def the_key_is_so_at_the_end(case, key, state):
 
 
 def may_be_made(case, word, key, since, until):
-    """Returns whether a call overlaps this period that brings the key into this state, and returned true or is pending."""
+    """Returns whether some call that brings the key into this state overlaps this period. The call must have returned
+    true or be pending.
+    """
     return any((it.word, it.key) == (word, key) and changes(it) and it.begin <= until and since <= (it.end or LAST) for it in case.calls)
 
 

@@ -139,7 +139,9 @@ def test_more_clients_than_seats_are_served(program):
 
 
 def test_many_connections_one_after_another_are_served(program):
-    """The maximum number of connections, one after another, with a low limit on open files, whatever way a session ends."""
+    """The server accepts the maximum number of connections one after another, under a low limit on open files. Its
+    sessions end in different ways.
+    """
     sessions, keys, files = 10_000, 1000, 32
     limited = ["sh", "-c", f'ulimit -n {files} && exec "$@"', "sh"]
     with serving(program, ONE_LIST, 1, ROOM, sessions, before=limited) as server:
@@ -166,8 +168,8 @@ def drips(connection, end):
 
 
 def test_clients_of_one_seat_are_served_in_turn(program):
-    """Clients use one seat with 2 slots one after another. One client comes from another address, and one more comes than
-    are served.
+    """Clients use one seat with 2 slots one after another. A connection to another address of this machine is refused,
+    and so is the client after the last session.
     """
     with serving(program, ONE_LIST, 1, 2, 6) as server:
         with pytest.raises(ConnectionRefusedError):

@@ -85,8 +85,8 @@ class Compared:
         assert texts <= {it.text for it in svg.iter()}, f"{' '.join(words)} of {self.text!r}"
 
     def pictures(self, picture, below=()):
-        """Compares a picture of all moments with one width, one from a random moment on, and one that ends there or begins
-        at or after the last moment. Some options are absent.
+        """Compares three text pictures and two SVGs: of all moments, from a random moment on, and with an end or a
+        start at the edge of the picture. Some options are absent.
         """
         draw = random.Random(self.name)
         moments = Drawn(picture, 1, GREATEST).all or [1]
@@ -145,7 +145,8 @@ def test_trace_and_pictures_match_the_model(program, schedule):
 
 
 def compare_report(looked, report):
-    """Compares pictures of a report. Below a refused one, there are one or two lines about other orders."""
+    """Compares pictures of a report. If the report is refused, one or two lines about other orders follow the picture.
+    """
     picture, below = picture_of_report(report), []
     if picture.refusal:
         said = looked.said("show")[0]

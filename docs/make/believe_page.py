@@ -101,8 +101,8 @@ def public_contracts():
 
 
 def contracts_in_sources():
-    """Yields what each library states about its public functions, types and traits: the library, the name of the item, the
-    text, and what the names in it can mean.
+    """Yields the contract of each public function, type and trait: the library, the item's name, the text of the
+    contract, and the definitions to which the names in the text can refer.
     """
     for root in sorted(CRATES.glob("*/src/lib.rt")):
         texts = {it.stem: it.read_text(encoding="utf-8") for it in sorted(root.parent.rglob("*.rt"))}
@@ -142,22 +142,22 @@ def reached(items=""):
 
 
 def print_reached():
-    """Prints each file with the names of those of its definitions that are reached."""
+    """Prints each file of definitions, with those of its definitions that public contracts reach."""
     for path, module in modules().items():
         if names := [it for it in module.definitions if (path, it) in reached()]:
             print(f"{module.file}: {', '.join(names)}")
 
 
-# Which functions the rows of the page's table of lines are about. The key is the row's first word in code, or else its
-# first word.
+# For each row in the page's table of lines, a pattern for the functions that the row is about. The key is the row's
+# first word in code, or else its first word.
 OF_ROWS = {"check_order": "lset_history::check_order$", "laws": "lset_steps::laws::", "headline": "lset_lists::runs_are_linearizable$",
            "replay": "lset_replay::replay$", "LiveSet::call": "lset_live::LiveSet::call$", "LiveSet::close": "lset_live::LiveSet::close$",
            "work": "lset_work::work$", "session": "lset_session::session$", "serve": "lset_server::serve$", "everything": ""}  # fmt: skip
 
 
 def wrong_numbers(page):
-    """Yields the rows of the table of lines whose number differs by a twentieth or more from the number of lines that
-    contracts reach.
+    """Yields the rows in the page's table of lines whose number is wrong by more than a twentieth. The right number is
+    that of the lines of the definitions that the row's contracts reach.
     """
     said = {row: int(number) for row, number in re.findall(r"^\| (.*) \| (\d+) \|$", page, re.M)}
     for word, items in OF_ROWS.items():

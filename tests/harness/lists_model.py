@@ -74,12 +74,12 @@ LACKING = {
     "mark-at-key": ("lock-free", "22 | load curr.link | answers true"),
     "new-slot": ("lock-free", ""),  # (each add uses the first slot)
 }
-# The rows that are replaced for a remove that holds one lock. It first looks at a key, and locks a node only to move
-# past it.
+# Other rows for a remove on the broken list that holds a single lock in its walk (second-lock). The remove looks at a
+# key first, and locks a node only to move past it.
 ROWS_OF_ONE_LOCK = {3: 4, 4: 5, 5: 3, 12: 13}
 
-# The conditions in a table, for a thread, the value s that its step saw, the key word K, and the value that an exchange
-# expects.
+# The conditions in a table. The arguments are a thread, the value s that its step saw, the key word K, and the value
+# that an exchange expects.
 TESTS = {
     "below K": lambda it, s, key, old: s < key,
     "K": lambda it, s, key, old: s == key,

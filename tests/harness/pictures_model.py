@@ -29,7 +29,9 @@ def keys_text(keys, separator=","):
 
 
 class Drawn:
-    """The part of a picture between two moments: its columns."""
+    """A picture limited to the moments from `first` to `last`. It has a column for each moment at which something
+    happens.
+    """
 
     def __init__(self, picture, first, last):
         self.picture, self.first, self.has_points = picture, first, picture.refusal is None

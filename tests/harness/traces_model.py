@@ -59,8 +59,8 @@ def content(chain):
 
 
 class Tracing:
-    """A run in progress: what is known of its Run so far. For a broken list, the set follows the reported changes,
-    whatever the chain is.
+    """A run in progress, with the parts of its Run that are known so far. For a broken list, the set follows the
+    reported changes, whatever the chain is.
     """
 
     def __init__(self, plan, lacks):
