@@ -141,8 +141,8 @@ size_t listset_examples(char *room, size_t size, uint8_t *status);
 /// Returns the schedule of the example with this name.
 size_t listset_example(const char *name, size_t length, char *room, size_t size, uint8_t *status);
 
-/// Returns the broken report of the example with this name: it is from a list without the check that the example is
-/// about.
+/// Returns the broken report of the example with this name. It is the report of a run without the check that the
+/// example is about.
 size_t listset_broken_example(const char *name, size_t length, char *room, size_t size, uint8_t *status);
 
 /// Returns a line about each error message, and a sentence about each cause.
@@ -240,7 +240,7 @@ uint64_t listset_most_reads(uint32_t seats, uint32_t quota, uint32_t opening);
 /// another thread with any message.
 LISTSET_USED listset_fault listset_receipt_of(listset_seat *seat, listset_receipt *out);
 
-/// Passes a receipt of this set to `seat`. All later calls of `seat` come after every call that the receipt stands for.
+/// Passes a receipt of this set to `seat`. All later calls of `seat` come after every call that the receipt covers.
 /// `given` is empty afterwards.
 LISTSET_USED listset_fault listset_after(listset_seat *seat, listset_receipt *given);
 

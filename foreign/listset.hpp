@@ -78,8 +78,8 @@ inline said check(std::string_view report) { return of_text(listset_check, repor
 inline said draft(std::string_view draft) { return of_text(listset_draft, draft); }
 /// Returns the schedule of the example with this name.
 inline said example(std::string_view name) { return of_text(listset_example, name); }
-/// Returns the broken report of the example with this name: it is from a list without the check that the example is
-/// about.
+/// Returns the broken report of the example with this name. It is the report of a run without the check that the
+/// example is about.
 inline said broken_example(std::string_view name) { return of_text(listset_broken_example, name); }
 /// Returns the names of all examples, each with its list and a description.
 inline said examples() { return said_by(listset_examples); }
@@ -209,7 +209,7 @@ public:
     return made;
   }
 
-  /// Accepts a receipt: all later calls of this seat come after every call that the receipt stands for. If it throws,
+  /// Accepts a receipt: all later calls of this seat come after every call that the receipt covers. If it throws,
   /// both are unchanged.
   void after(listset::receipt &&given) {
     use held(*this);
@@ -478,7 +478,7 @@ public:
       return by([&](place &it) { return seat::replied(listset_contains(&it.raw, key)) == LISTSET_TRUE; });
     }
 
-    /// Returns the smallest key of the set that is at least `key`. Can wait as `seat::ceiling` can.
+    /// Returns the smallest key of the set that is at least `key`. Can block, like `seat::ceiling`.
     std::optional<uint32_t> ceiling(uint32_t key) {
       return by([&](place &it) {
         uint32_t at = 0;
@@ -590,7 +590,7 @@ public:
   /// Returns whether a key is in the set.
   bool contains(uint32_t key) { return by([&](seat &it) { return it.contains(key); }); }
 
-  /// Returns the smallest key of the set that is at least `key`. Can wait as `seat::ceiling` can.
+  /// Returns the smallest key of the set that is at least `key`. Can block, like `seat::ceiling`.
   std::optional<uint32_t> ceiling(uint32_t key) { return by([&](seat &it) { return it.ceiling(key); }); }
 
   /// Closes the set and returns its final keys. No call may use the set any more. Throws if an allocation fails; the

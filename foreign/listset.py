@@ -187,8 +187,8 @@ def examples():
 
 
 def example(name, is_broken=False):
-    """Returns the schedule of the example `name`. If `is_broken`, returns its broken report instead, which is from a list
-    without the check that the example is about.
+    """Returns the schedule of the example `name`. If `is_broken`, returns its broken report instead: the report of a
+    run without the check that the example is about.
     """
     return _asked("broken_example" if is_broken else "example", name)
 
@@ -396,7 +396,7 @@ class Seat:
         return made
 
     def after(self, receipt):
-        """Accepts a receipt: all later calls of this seat come after every call that the receipt stands for."""
+        """Accepts a receipt: all later calls of this seat come after every call that the receipt covers."""
         with self._used():
             _told(_AFTER(self.raw, receipt.raw))
 
@@ -532,7 +532,7 @@ class Shared:
     __contains__ = contains
 
     def ceiling(self, key):
-        """Returns the smallest key of the set that is at least `key`, or None. Can wait as `Seat.ceiling` can."""
+        """Returns the smallest key of the set that is at least `key`, or None. Can block, like `Seat.ceiling`."""
         return self._by(lambda it: it.ceiling(key))
 
     def close(self):
@@ -756,7 +756,7 @@ class OwnSeat:
     __contains__ = contains
 
     def ceiling(self, key):
-        """Returns the smallest key of the set that is at least `key`, or None. Can wait as `Seat.ceiling` can."""
+        """Returns the smallest key of the set that is at least `key`, or None. Can block, like `Seat.ceiling`."""
         return self._by(lambda it: it.seat.ceiling(key))
 
     def drop(self):

@@ -126,7 +126,8 @@ static bool end_by_one_seat(size_t free, size_t seats) {
   return made.get() && is_soon;
 }
 
-// Runs two threads one after the other. At most one of them has the free seat as its own place.
+// Runs two threads one after the other while all other seats are in use. At most one of the threads begins its search
+// at the free seat.
 static bool take_the_free_seat(size_t seats) {
   for (size_t free = 0; free < seats; free++)
     if (!end_by_one_seat(free, seats) || !end_by_one_seat(free, seats)) return false;

@@ -53,7 +53,8 @@
 #endif
 
 namespace listset {
-// (two files of one program can have different values of these)
+// (The name of the inner namespace depends on these macros, because two files of one program can define them
+// differently.)
 #if defined LISTSET_H && defined GTEST_SKIP
 inline namespace judged_by_library_in_gtest {
 #elif defined LISTSET_H
@@ -114,7 +115,7 @@ struct verdict {
     uint64_t seed = 0;
     /// What the judge printed about the failed run, and the file with its recording.
     std::string said, file;
-    /// The name of the judge, and what it states about its proof.
+    /// The name of the judge, and its statement about its proof.
     std::string judge;
     /// The complete message.
     std::string text;
@@ -238,7 +239,8 @@ inline constexpr auto by_erase = [](auto &set, auto &key) -> decltype(set.erase(
 inline constexpr auto by_contains = [](auto &set, auto &key) -> decltype(set.contains(key)) { return set.contains(key); };
 inline constexpr auto by_count = [](auto &set, auto &key) -> decltype(set.count(key)) { return set.count(key); };
 
-// Whether a set has at least one of these calls for such keys. `called` makes the first call that the set has.
+// Whether at least one of these calls can be made on a set of type S with a key of type K. `called` makes the first one
+// that can be made.
 template <class S, class K, class... Calls> constexpr bool has(const Calls &...) { return (std::is_invocable_v<Calls, S &, const K &> || ...); }
 
 template <class S, class K, class First, class... Others> reply called(S &set, const K &key, First first, Others... others) {
@@ -594,7 +596,7 @@ inline std::string proof_in(const std::string &version) {
     return at == std::string::npos ? "proof unknown" : version.substr(at, version.find('\n', at) - at);
 }
 
-// A judge: its name, what it states about its proof, and how to call it.
+// The judge of a test: its name, its statement about its proof, and how to call it.
 struct judge_found {
     std::string name, proof;
     std::function<answer(const std::string &file)> asked_of;
@@ -767,7 +769,7 @@ template <class Make, class Key> struct tester {
     }
 
     // Describes the key with this number in the recording, and its set if the run has several. Returns an empty text if
-    // the number says enough.
+    // the number itself is the key, and the run has a single set.
     static std::string key_line(const std::string &number, const shape &it, const std::vector<K> &keys) {
         if (number.empty()) return "";
         const unsigned long at = std::stoul(number);

@@ -197,7 +197,7 @@ func (o Options) most(of func(size) int) (most int) {
 }
 
 // Verdict is the result of a successful test: some order explains each run. It has the number of calls, how many of
-// them overlapped a change of their key (as counted by the judge), and the judge with what it states about its proof.
+// them overlapped a change of their key (as counted by the judge), and the judge with its statement about its proof.
 // String formats it.
 type Verdict struct {
 	Calls, Overlapped int

@@ -77,7 +77,7 @@ func newArea(options Options, source source) *area {
 
 func (a *area) bytes() int { return int(unsafe.Sizeof(head{})) + manyPart*int(unsafe.Sizeof(slot{})) }
 
-// lay places the run in this memory.
+// lay makes this memory the area of a run: the head comes first, then the slots.
 func (a *area) lay(memory []byte) {
 	a.memory, a.head = memory, (*head)(unsafe.Pointer(&memory[0]))
 	a.slots = unsafe.Slice((*slot)(unsafe.Pointer(&memory[unsafe.Sizeof(head{})])), manyPart)
@@ -286,7 +286,7 @@ func (a *area) write(file *os.File, lines string) {
 	}
 }
 
-// number returns the argument of a call for the number of a key.
+// number converts the index of a key to the number with which the set is called.
 func (a *area) number(key int) uint32 {
 	if a.source.isOwn {
 		return uint32(key)

@@ -71,7 +71,8 @@ func (s *set) part(key uint32) *right[uint32] {
 	return made
 }
 
-// place returns the key. With "collides", keys with the same remainder are treated as one key.
+// place returns the key that the set uses for this one. With "collides", it is the remainder, so different keys are
+// treated as one.
 func (s *set) place(key uint32) uint32 {
 	if s.is == "collides" {
 		return key % 64

@@ -89,7 +89,7 @@ func firstOf(lines string) string {
 }
 
 // keyLine describes the key with this number in the recording, and its set if the run has several. It is empty if the
-// number says enough.
+// number itself is the key, and the run has a single set.
 func keyLine(a *area, number int) string {
 	set, shown := "", a.source.shown(a.number(number%a.keys))
 	if a.sets > 1 {
@@ -124,7 +124,7 @@ func (r *recording) close() {
 
 // ---- the judge
 
-// judgeFound is a judge: its name, what it states about its proof, and how to call it.
+// judgeFound is the judge of a test: its name, its statement about its proof, and how to call it.
 type judgeFound struct {
 	name, proof string
 	answer      func(recording *os.File) (status int, said string)

@@ -146,12 +146,12 @@ public final class Judge {
         public Options withSeed(long it) { return with(made -> made.seed = it); }
 
         /**
-         * Sets after how many seconds without a begin or an end of a call a run is considered hung and is cut short: 1
-         * to 3,600.
+         * Sets the number of seconds after which a run is cut short if no call begins or ends: 1 to 3,600. Such a run
+         * is considered hung.
          */
         public Options withSeconds(int it) { return with(made -> made.seconds = it); }
 
-        /** Sets after how many seconds of the test no new run begins: 1 to 604,800. */
+        /** Sets the number of seconds after which the test begins no new run: 1 to 604,800. */
         public Options withWithin(int it) { return with(made -> made.within = it); }
 
         /**
@@ -231,7 +231,7 @@ public final class Judge {
 
     /**
      * The result of a successful test: some order explains each run. It has the number of calls, how many of them
-     * overlapped a change of their key (as counted by the judge), and the judge with what it states about its proof.
+     * overlapped a change of their key (as counted by the judge), and the judge with its statement about its proof.
      * {@code toString} formats it.
      */
     public record Verdict(long calls, long overlapped, String judge) {
@@ -424,7 +424,7 @@ public final class Judge {
 
         /**
          * Describes the key with this number in the recording, and its set if the run has several. Returns an empty
-         * text if the number says enough.
+         * text if the number itself is the key, and the run has a single set.
          */
         private String keyLine(int number, Shape shape) {
             String key = String.valueOf(calls.key(number % shape.keys, shape.times));
@@ -465,8 +465,8 @@ public final class Judge {
     /** The memory of a run, which JVMs can share. It contains the calls that have not been written to the file yet. */
     private record Area(Options how, ByteBuffer memory) {
         private static final VarHandle INT = MethodHandles.byteBufferViewVarHandle(int[].class, ByteOrder.nativeOrder());
-        // Offsets in the memory. IS_HERE: whether the other JVM has started. WRITTEN: the length of the file. SHAPE:
-        // five numbers. WHY and FILE: texts.
+        // Offsets of the fields in the memory. IS_HERE is 1 once the other JVM has started, WRITTEN is the length of
+        // the file, SHAPE has five numbers, WHY and FILE are texts.
         private static final int TICKETS = 0, THERE = 4, DONE = 8, BEGUN = 12, AT = 16, STOPPING = 20, IS_HERE = 24, IS_BUSY = 28, SEED = 32, WRITTEN = 40,
             SHAPE = 48, WHY = 68, FILE = WHY + 4 + 240, SLOTS = FILE + 4 + 1024;
         private static final int BEGIN = 0, END = 4, CALL = 8, KEY = 12, REPLY = 16, THREAD = 20, SLOT = 24; // offsets in a call; the memory has the calls of one thread after those of another
@@ -879,7 +879,7 @@ public final class Judge {
     private record Answer(String said, int status) { }
 
     /**
-     * The program that judges: its name, the command and its first arguments, and what it states about its proof.
+     * The program that judges: its name, the command and its first arguments, and its statement about its proof.
      * {@code toString} returns the name and this statement.
      */
     private record Program(String name, List<String> command, String proof) {

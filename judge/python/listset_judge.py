@@ -102,7 +102,7 @@ NUMBER = "the variable %s is %s, but must be a number from %s to %s"
 @dataclasses.dataclass(frozen=True)
 class Verdict:
     """The result of a successful test: some order explains each run. It has the number of calls, how many of them
-    overlapped a change of their key (as counted by the judge), and the judge with what it states about its proof. str()
+    overlapped a change of their key (as counted by the judge), and the judge with its statement about its proof. str()
     formats it.
     """
 
@@ -307,8 +307,8 @@ class Tester:
         return is_few(overlapped, calls)
 
     def key_line(self, number: str, shape: Shape) -> str:
-        """Describes the key with this number in the recording, and its set if the run has several. Returns an empty text
-        if the number says enough.
+        """Describes the key with this number in the recording, and its set if the run has several. Returns an empty
+        text if the number itself is the key, and the run has a single set.
         """
         one, at = divmod(int(number or 0), shape.keys)
         key = repr(self.how.key_of(at, shape))
@@ -621,7 +621,7 @@ def pausing(pauses, draw, before):
 
 
 class Judge:
-    """A judge: the library or a program. str() returns its name and what it states about its proof."""
+    """A judge: the library or a program. str() returns its name and its statement about its proof."""
 
     def __init__(self):
         try:

@@ -74,8 +74,8 @@ LACKING = {
     "mark-at-key": ("lock-free", "22 | load curr.link | answers true"),
     "new-slot": ("lock-free", ""),  # (each add uses the first slot)
 }
-# Other rows for a remove on the broken list that holds a single lock in its walk (second-lock). The remove looks at a
-# key first, and locks a node only to move past it.
+# On the broken list second-lock, a remove locks only pred: if the table leads to row 3, the remove continues at row 4,
+# and so on. It looks at a node's key first, and locks the node only to move past it.
 ROWS_OF_ONE_LOCK = {3: 4, 4: 5, 5: 3, 12: 13}
 
 # The conditions in a table. The arguments are a thread, the value s that its step saw, the key word K, and the value

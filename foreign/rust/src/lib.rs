@@ -136,8 +136,8 @@ pub fn example(name: &str) -> Result<String, Wrong> {
     of_text(calls::listset_example, name.as_bytes())
 }
 
-/// Returns the broken report of the example with this name: it is from a list without the check that the example is
-/// about.
+/// Returns the broken report of the example with this name. It is the report of a run without the check that the
+/// example is about.
 pub fn broken_example(name: &str) -> Result<String, Wrong> {
     of_text(calls::listset_broken_example, name.as_bytes())
 }

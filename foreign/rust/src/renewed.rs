@@ -307,7 +307,7 @@ impl OwnSeat<'_> {
         self.set.by(self.place, |it| it.seat.contains(key))
     }
 
-    /// Returns the smallest key of the set that is at least `key`. Can wait as [`Seat::ceiling`] can.
+    /// Returns the smallest key of the set that is at least `key`. Can block, like [`Seat::ceiling`].
     pub fn ceiling(&mut self, key: u32) -> Result<Option<u32>, Fault> {
         self.set.by(self.place, |it| it.seat.ceiling(key))
     }

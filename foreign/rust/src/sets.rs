@@ -327,7 +327,7 @@ impl Seat {
         Ok(made)
     }
 
-    /// Accepts a receipt: all later calls of this seat come after every call that the receipt stands for. Returns
+    /// Accepts a receipt: all later calls of this seat come after every call that the receipt covers. Returns
     /// [`Fault::OtherSet`] if the receipt is from another set.
     pub fn after(&mut self, mut given: Receipt) -> Result<(), Fault> {
         told(unsafe { listset_after(&mut self.raw, &mut given.raw) })

@@ -54,7 +54,7 @@ impl Shared {
         self.by(|seat| seat.contains(key))
     }
 
-    /// Returns the smallest key of the set that is at least `key`. Can wait as [`Seat::ceiling`] can.
+    /// Returns the smallest key of the set that is at least `key`. Can block, like [`Seat::ceiling`].
     pub fn ceiling(&self, key: u32) -> Option<u32> {
         self.by(|seat| seat.ceiling(key))
     }
@@ -98,8 +98,8 @@ mod tests {
         heard.recv_timeout(Duration::from_secs(20)).ok()
     }
 
-    /// All seats but one are in use. Of two threads that run one after the other, at most one has the free seat as its
-    /// own place.
+    /// All seats but one are in use. Two threads run one after the other, and at most one of them begins its search at
+    /// the free seat.
     #[test]
     fn a_call_takes_a_seat_that_no_other_uses() {
         for (seats, free) in [2, 3, 8].into_iter().flat_map(|seats| (0..seats).map(move |free| (seats, free))) {

@@ -38,7 +38,8 @@ struct Set : Right<unsigned> {
         if (!parts[key]) parts[key] = new right;  // (never deleted)
         return *parts[key];
     }
-    // Returns the key. With "collides", keys with the same remainder are treated as one key.
+    // Returns the key that the set uses for this one. With "collides", it is the remainder, so different keys are
+    // treated as one.
     unsigned place(unsigned key) const { return is == "collides" ? key % 64 : key; }
 
     // Loses one reply in fifty: the outcome is then unknown, or the call is repeated.

@@ -27,7 +27,7 @@ final class Sets {
             if (is.equals("not made")) throw new IllegalStateException("no room");
         }
 
-        /** Returns the key. With "collides", keys with the same remainder are treated as one key. */
+        /** Returns the key that the set uses for this one. With "collides", it is the remainder, so different keys are treated as one. */
         private Integer place(Object key) { return is.equals("collides") ? (Integer) key % 64 : (Integer) key; }
 
         /** With "first use", each key has its own set, which its first call creates; two calls can both create it. */

@@ -51,7 +51,9 @@ class Named(Right):
         return self.parts[key]
 
     def place(self, key):
-        """Returns the key. With "collides", keys with the same remainder are treated as one key."""
+        """Returns the key that the set uses for this one. With "collides", it is the remainder, so different keys are
+        treated as one.
+        """
         return key % 64 if self.name == "collides" else key
 
     def called(self, call, key):

@@ -7,7 +7,7 @@ use std::process::{Command, Stdio};
 use crate::words::*;
 use crate::{no_verdict, Failure};
 
-/// A judge, and what it states about its proof.
+/// A judge, and its statement about its proof.
 pub struct Judge {
     name: String,
     proof: String,

@@ -195,7 +195,7 @@ pub struct Verdict {
     pub calls: u64,
     /// The number of calls that overlapped a change of their key, as counted by the judge.
     pub overlapped: u64,
-    /// The name of the judge, and what it states about its proof.
+    /// The name of the judge, and its statement about its proof.
     pub judge: String,
 }
 

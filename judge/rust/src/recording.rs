@@ -57,7 +57,7 @@ impl<'a> Recording<'a> {
     }
 
     /// Describes the key with this number in the recording, and its set if the run has several. Returns an empty text
-    /// if the number says enough.
+    /// if the number itself is the key, and the run has a single set.
     fn key_line<S>(&self, number: u32, source: &Source<S>) -> String {
         let shown = (source.shown)(number % self.shape.keys * self.shape.times);
         let of_set = if self.shape.sets > 1 { say(IN_SET, &[&(number / self.shape.keys + 1)]) } else { String::new() };
