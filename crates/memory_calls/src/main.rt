@@ -57,9 +57,9 @@ fn take_blocks(alloc: Global, count: u32) -> Result<(), AllocError> {
     Ok(())
 }
 
-/// Returns the two parts of the line to print after all calls had the expected results. It names the call that returned
-/// `Memory`, if any. If none did, allocates `blocks` blocks first. If that fails, all calls came before the failing
-/// allocation, and the line says that a refusal is still to come.
+/// Returns the two parts of the line to print if all calls had the expected results. If a call returned `Memory`, the
+/// line names this call. Otherwise allocates `blocks` blocks: if that fails, all calls came before the failing
+/// allocation, and the line says so.
 fn told(alloc: Global, calls: &Calls, blocks: u32) -> (&'static str, &'static str) {
     match calls.refused {
         Some(name) => (name, " wanted memory"),

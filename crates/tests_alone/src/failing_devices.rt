@@ -48,7 +48,7 @@ pub struct Plan {
     pub failure: Failure,
 }
 
-/// A failure, and the number of bytes that a call transfers.
+/// A way in which a device fails, and the maximum number of bytes that one of its calls transfers.
 pub type Way = (Failure, usize);
 
 pub fn planned((failure, most): Way, fails_at: usize) -> Plan {

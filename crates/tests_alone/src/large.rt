@@ -91,7 +91,7 @@ fn in_their_turn(alloc: Global, last: Reply) -> Result<Vec<Placed>, AllocError> 
     Ok(order)
 }
 
-/// The order of many calls has a fault at its end: the last call has a wrong reply, is missing, occurs twice or is
+/// Tests orders of many calls with an error at the end: the last call has a wrong reply, is missing, occurs twice or is
 /// unknown, or the final keys are wrong.
 #[test]
 fn a_fault_at_the_end_of_a_long_order_is_found(rt: HostRuntime) -> Result<(), Fail> {

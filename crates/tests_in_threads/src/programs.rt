@@ -181,8 +181,8 @@ impl Gate for Shut {
     }
 }
 
-/// Which seat's call a gate refuses, and how often the gate is asked for each call. After the refusal, that program
-/// asks no more; the others ask to their ends.
+/// Rows of a test: the seat and the number of the call that a gate refuses, and how often the gate is asked for each
+/// call. The refused program asks for no later call. The other programs ask for all their calls.
 const SHUT: [(u32, u32, [u32; 10]); 5] = [
     (0, 1, [1, 1, 0, 1, 1, 0, 0, 0, 0, 0]),
     (0, 0, [1, 0, 0, 1, 1, 0, 0, 0, 0, 0]),
