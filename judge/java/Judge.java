@@ -117,18 +117,18 @@ public final class Judge {
         private boolean ownProcess = true, opensWithKeys;
         private String record;
 
-        /** Sets the number of threads that call a set at the same time: 1 to 64. 0 cycles through the presets. */
+        /** Sets the number of threads that call a set at the same time: 1 to 64. 0 selects the preset's number. */
         public Options withThreads(int it) { return with(made -> made.threads = it); }
 
         /**
          * Sets the number of calls of each thread: at least 1, and at most 1,000,000,000 for all threads together. 0
-         * cycles through the presets. After every 20,000 calls of all threads together, the calls are written to the
+         * selects the preset's number. After every 20,000 calls of all threads together, the calls are written to the
          * file while the threads wait.
          */
         public Options withCalls(int it) { return with(made -> made.calls = it); }
 
         /**
-         * Sets the number of keys: 1 to 1,048,576. 0 cycles through the presets. With more than eight keys, half of the
+         * Sets the number of keys: 1 to 1,048,576. 0 selects the preset's number. With more than eight keys, half of the
          * calls use the first four.
          */
         public Options withKeys(int it) { return with(made -> made.keys = it); }

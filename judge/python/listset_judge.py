@@ -216,10 +216,10 @@ def judge(make: Callable[[], Any], *, threads: int | None = None, calls: int | N
     """Judges the sets that `make` creates and returns a Verdict. Raises NotLinearizable if no order explains a run, and
     CutShort if the set crashes or hangs.
 
-    threads -- the number of threads that call a set at the same time: 1 to 64; None cycles through the presets
+    threads -- the number of threads that call a set at the same time: 1 to 64; None selects the preset's number
     calls -- the number of calls of each thread: at least 1, and at most 1,000,000,000 for all threads together; None
-             cycles through the presets; after every 20,000 calls, these are written to the file while the threads wait
-    keys -- the number of keys: 1 to 1,048,576; None cycles through the presets; with more than eight keys, half of
+             selects the preset's number; after every 20,000 calls, these are written to the file while the threads wait
+    keys -- the number of keys: 1 to 1,048,576; None selects the preset's number; with more than eight keys, half of
             the calls use the first four
     key -- converts a number to a key; must return a different key for each number
     pauses -- the percentage of the set's lines, and in one call of ten also of its steps, before which a thread lets

@@ -32,7 +32,8 @@ def parts_of_error(text):
 
 def difference(words, ours, due):
     """Returns a line if the two runs differ, otherwise None. For wrong arguments, clap's tips are not compared: only
-    the first line and the usage."""
+    the first line and the usage.
+    """
     if due[1].startswith(b"error: "):
         is_right = (ours[0], ours[2]) == (due[0], due[2]) == (b"", 2) and parts_of_error(ours[1]) == parts_of_error(due[1])
     else:
@@ -58,7 +59,8 @@ def drawn_words(dice):
 
 def asked(program, names):
     """Yields the arguments to compare, each with a text for standard input. The text is read if the arguments name no
-    file."""
+    file.
+    """
     dice, schedule = random.Random(1), said([*program, "example", names[0]])[0]
     report = said([*program, "replay"], schedule)[0]
     texts = [schedule, report, REFUSED.encode(), b""]

@@ -61,7 +61,7 @@ const refusalBy = (deed) => {
   }
 };
 
-// Checks that each link into a run on the pages made from docs/ is a valid address, and that its run has the event.
+// Checks each link to a run on the pages made from docs/: its address must be valid, and the run must have the event.
 function checkDocs(engine) {
   const lengthOf = (line) => (line.startsWith("go ") ? Number(line.split(" ")[2]) : Number(line.startsWith("begin ")));
   for (const page of ["how-it-works", "classic", "tables"]) {

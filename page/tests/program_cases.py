@@ -1,6 +1,7 @@
 """Makes test cases for the page's engine from the program's answers. Each function that takes a text gets each example,
 generated schedules, drafts, recorded calls, reports, and broken texts. Other cases are pictures with options, broken
-lists, values for gen, and names."""
+lists, values for gen, and names.
+"""
 
 import base64
 import hashlib
@@ -38,7 +39,8 @@ class Program:
 
     def case(self, function, words, *texts, given=b""):
         """Returns a case: a function of the module with its texts, and what the program prints for the arguments
-        `words` and the input `given`."""
+        `words` and the input `given`.
+        """
         output, status = self.program_answers(*words, text=given)
         output = output.removesuffix(OF_A_FILE)
         return {"function": f"listset_{function}", "words": words, "texts": [base64.b64encode(it).decode() for it in texts], "status": status,
@@ -50,7 +52,8 @@ class Program:
 
 def generated(program, dice):
     """Generates schedules of each list: a long one, and others with few or many threads, and with or without free
-    slots. In some of these, each `contains` is replaced by a ceiling, so that a later event can be refused."""
+    slots. In some of these, each `contains` is replaced by a ceiling, so that a later event can be refused.
+    """
     for kind in LISTS:
         yield program.program_answers("gen", kind, "4", "300", "1100", "4", "1")[0]
         for number in range(GENERATED):
@@ -84,7 +87,8 @@ def texts_of(program, dice):
 
 def cases_of_options(program, dice, texts):
     """Returns cases of functions with options, right and wrong. An option that is not set is an empty text. Other cases
-    run schedules on the broken lists: the schedules that break them, and generated ones."""
+    run schedules on the broken lists: the schedules that break them, and generated ones.
+    """
     files = {it.stem: it.read_bytes() for it in sorted(LACKS.glob("*.schedule"))}
     for _ in range(DRAWN):
         function, lacks = dice.choice([*OF_SCHEDULES]), dice.choice([*files, "luck"])
@@ -101,7 +105,8 @@ def cases_of_options(program, dice, texts):
 
 def cases_of_values(program, dice):
     """Yields cases of gen with random values, most of them right, of examples by name, and of the lists of examples and
-    errors."""
+    errors.
+    """
     for _ in range(DRAWN):
         values = [dice.choice([*LISTS * 4, "", "skip"]), *(dice.choice(VALUES[:4] * 6 + VALUES) for _ in range(dice.choice([5, 5, 5, 3, 0])))]
         yield program.case("gen", ["gen", "--", *values], "\0".join(values).encode(), b"")

@@ -41,13 +41,13 @@ use words::*;
 /// Options of a test. All of them are checked before the first set is created.
 #[derive(Clone, Debug)]
 pub struct Options {
-    /// The number of threads that call a set at the same time: 1 to 64. 0 cycles through the presets.
+    /// The number of threads that call a set at the same time: 1 to 64. 0 selects the preset's number.
     pub threads: u32,
     /// The number of calls of each thread: at least 1, and at most 1,000,000,000 for all threads together. 0 cycles
     /// through the presets. After every 20,000 calls of all threads together, the calls are written to the file while
     /// the threads wait.
     pub calls: u32,
-    /// The number of keys: 1 to 1,048,576. 0 cycles through the presets. With more than eight keys, half of the calls
+    /// The number of keys: 1 to 1,048,576. 0 selects the preset's number. With more than eight keys, half of the calls
     /// use the first four.
     pub keys: u32,
     /// The percentage of calls before which a thread pauses, for at most a few microseconds: 0 to 100. Unless it is 0,

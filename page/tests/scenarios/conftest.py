@@ -22,7 +22,8 @@ SCENARIOS = {"webkit": 8}  # how many scenarios one browser is used for, since W
 
 class Quiet(http.server.SimpleHTTPRequestHandler):
     """Serves the files of the page. slow.html is the page over a slow network; cases.json contains the program's
-    answers."""
+    answers.
+    """
 
     cases = None
 

@@ -1,5 +1,6 @@
 """Tests whether the page can be used with the Tab key alone, in light and dark colours, with a finger, and at twice the
-size."""
+size.
+"""
 
 import pytest
 from test_stage import fit
