@@ -519,7 +519,7 @@ template <class Make, class K> struct maker {
     }
 };
 
-// Waits until `is_done`. Returns false if no call begins or ends for `seconds` first.
+// Waits until `is_done` returns true. Returns false if no call begins or ends for `seconds` before that.
 template <class Done> bool comes_to_end(const area &run, unsigned seconds, Done is_done) {
     using clock = std::chrono::steady_clock;
     unsigned seen = run.tickets;

@@ -197,8 +197,8 @@ function checkLacking(readAddress) {
   for (const [hash, fault] of Object.entries(faults)) check(`${hash}: ${refusalOf(hash)}`, refusalOf(hash) === fault);
 }
 
-// Checks at each event that the text in the set's current box fits in the box. Only in the last box, if that is too narrow, the text may cross
-// the edge.
+// Checks at each event that the text in the set's current box fits in the box. The text may cross the edge of the last box if that box is too
+// narrow.
 function checkContents(engine, texts) {
   const [scaleOf, drawContents] = ["scaleOf", "drawContents"].map(inPage);
   let boxes = 0;

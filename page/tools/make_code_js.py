@@ -50,7 +50,9 @@ def steps_of(found, lines):
 
 
 def code_of(file):
-    """Returns the functions of a file that have steps: each with its lines, its steps, and the lines at which it calls the others."""
+    """Returns the functions of a file that make steps: each with its lines, its steps, and the lines at which it calls
+    other functions of the file.
+    """
     source = rattle_sources.Source((TOP / "crates" / file).read_text(encoding="utf-8"))
     lines = source.lines
     steps = [*steps_of([*lines_of(lines)], lines)]

@@ -71,7 +71,8 @@ class Runs:
 
     def link(self, name, event, said):
         """Returns a link to an event of an example's run. If the run has fewer events, returns the text without a
-        link."""
+        link.
+        """
         if event > len(self.events.get(name, [])):
             return said
         return f'<a href="index.html#example={name}&amp;event={event}">{said}</a>'
@@ -111,7 +112,8 @@ class Document:
 
     def table(self, made):
         """Returns a table with links in its first column: from the number of a row to an event that makes this row, or
-        from the number of an event to the event."""
+        from the number of an event to the event.
+        """
         kind = re.search("<th>(.*?)</th>", made)[1]
         first = {"Row": self.row, "Events": lambda cell: self.runs.numbers(self.example, cell)}.get(kind, str)
         return re.sub(r"(?<=<tr>\n<td>)(.*?)(?=</td>)", lambda it: first(it[1]), made)
@@ -136,7 +138,8 @@ class Document:
 
     def of_run(self, line, is_picture, is_event):
         """Returns a line of a block of code. In the picture and the trace of the section's example, moments link to the
-        run."""
+        run.
+        """
         if is_picture and line.startswith("moment "):
             return self.runs.numbers(self.example, line)
         found = re.match(r"(event | +\d+ +at )(\d+)\b", line) if is_picture or is_event else None

@@ -1,5 +1,6 @@
 """Makes made/rows.js from docs/TABLES.md. It contains the texts that the page shows beside a thread's row, and the
-properties of rows on which the page's sentences depend."""
+properties of rows on which the page's sentences depend.
+"""
 import json
 import re
 
@@ -38,7 +39,8 @@ def rows_of(section):
 
 def deciding_rows(section):
     """Returns the rows at which a call adds, removes, and leaves. If calls leave by returning, the third number is one
-    past the table's last row."""
+    past the table's last row.
+    """
     def row_of(pattern):
         found = re.search(pattern, section)
         return int(found[1]) if found else max(number for number in rows_of(section)) + 1
