@@ -29,8 +29,8 @@ use Rattle.lset_rule.proofs.ViewsFit.{is_in, set_there, stands_else, stands_stil
 use Rattle.lset_rule.proofs.MovesKeepRule.{M}
 use Rattle.lset_words.specs.Words.{Opening}
 
--- If events are quiet for a view, they are quiet for a view with fewer threads, and so is each part of them. If they
--- are quiet for two views, they are quiet for a view that has the threads of both.
+-- If a view's threads make none of some events, the threads of a view with fewer threads make none of them either. The
+-- next lemmas are about a part of the events, and about a view that has the threads of two views.
 quiet_less : (v w : View) → ((t : ℕ) → HasThread w t → HasThread v t) → (es : List Event) → IsQuiet v es → IsQuiet w es
 quiet_less v w less [] q = tt
 quiet_less v w less (e ∷ es) q = (λ h. q.0 (less (thread_of e) h), quiet_less v w less es q.1)
@@ -88,7 +88,8 @@ asides_join ends t r (o ∷ os) ps apart a b = (
   asides_join ends t r os ps (λ u h. apart u (inr h)) a.3 b,
 )
 
--- If another record has the same calls of the spare threads, they are idle according to that record as well.
+-- Spare threads that are idle according to a record are idle according to any other record with the same calls of these
+-- threads.
 asides_in : (ends : ℕ → Here) (t t' : ℕ) (r r' : Past) (os : List SpareThread) →
     ((u : ℕ) → HasAside os u → (u ≢ t') × (calls_of u r' ≡ calls_of u r)) → AreIdle ends t r os → AreIdle ends t' r' os
 asides_in ends t t' r r' [] same a = tt
@@ -104,7 +105,7 @@ not_own w t r [] a h = h
 not_own w t r (o ∷ os) a h = ⊎_elim (λ e. a.0 (sym e)) (λ x. not_own w t r os a.3 x) h
 
 module _ (m : Table) where
-  -- After losing threads, a view still matches the log.
+  -- A view that matches the log still matches the log after it has lost threads.
   fits_less : (k : Opening) (log : List Event) (so so' : ℕ → ℕ) (i j : ℕ) (v w : View) (f : MatchesLog m k log so i v) →
       w.shape ≡ v.shape → w.seen ≡ v.seen → StartsWith log w.ours → StartsWith log w.theirs
       → ((t : ℕ) → HasThread w t → HasThread v t) → Stands m w → ((t : ℕ) → HasThread w t → so' t ≡ j) → MatchesLog m k log so' j w

@@ -38,8 +38,7 @@ abbrev pub later : View → List Event → Event → Local → Option PendingCal
 later v log e l u r = record v { local = l; under = u; past = r; seen = log ++ e ∷ [] }
 
 module _ (m : Table) where
-  -- A view has seen everything that concerns its threads: after all events, each of them is as it was after the events
-  -- seen.
+  -- After all events, each thread of a view is in the same state as after the events that the view has seen.
   pub still : (k : Opening) (log : List Event) (so : ℕ → ℕ) (j : ℕ) (v : View) (f : MatchesLog m k log so j v) (t : ℕ) → HasThread v t →
       at_end m k log t ≡ at_end m k v.seen t
   still k log so j v f t h = ap (λ l. at_end m k l t) f.is ∙ still_quiet m k v v.seen f.rest t h f.quiet
@@ -285,7 +284,7 @@ module _ (m : Table) (law : Lawful m) (v : View) (st : Stands m v) where
   own_inside : v.thread < length (end_of m v.shape v.seen).locals
   own_inside = in_locals m law v.shape v.seen st.ran v.thread own_small
 
-  -- The thread number in its registers is its own number.
+  -- The thread number in the registers of the view's own thread is the number of this thread.
   pub own_number : v.local.thread ≡ v.thread
   own_number = ap (λ (x : Here). x.local.thread) (sym st.own)
       ∙ ((end_laws m law v.shape v.seen st.ran).threads v.thread own_small).thread

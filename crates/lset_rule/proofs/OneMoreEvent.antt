@@ -44,7 +44,7 @@ found (Load w) n = n
 found (Store w v) n = v
 found (Exchange w old new) n = n
 
--- Returns the thread after a step. `begins` returns it after it has begun a call.
+-- Returns the state of a thread after a step. `begins` returns its state after it has begun a call.
 abbrev pub gone : Here → Fed → ℕ → Here
 gone h f n = here f.local (under_after f.answer h.under) (h.done ++ ending f.answer h.under n)
 
@@ -137,7 +137,8 @@ module _ (T : Table) (op : Opening) (es : ℕ → Event) (k t : ℕ) where
       let d = other_done s (es k) (under_at (log_of T op es) t k) (done_at (log_of T op es) t k) ne in
       λ i. here (l i) (u i) (d i)
 
--- States that the thread's registers agree with its pending call, or with having no pending call.
+-- States that the thread's registers fit its pending call: they contain this call at a row other than 0, or are at row
+-- 0 if no call is pending.
 abbrev pub Tied : Option PendingCall → Local → Type 0
 Tied None l = l.pc ≡ 0
 Tied (Some u) l = (l.pc ≢ 0) × (l.call ≡ u.call)

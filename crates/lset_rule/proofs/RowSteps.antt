@@ -36,7 +36,7 @@ stepped m c s s' s'' f f' (come, seat) none step = (
   (step.place.0 ∙ seat.0, step.place.1 ∙ seat.1, step.place.2 ∙ seat.2),
 )
 
--- If the step has ended the call, the whole call has been made.
+-- If the last step has ended the call, the caller has made the whole call.
 pub answered : (m : Table) (c : Call) (s s' : TableSeat) (f : Fed) (own : OwnSlots) (r : Reply) → Reached m c s f s' →
     f.answer ≡ Some r → own ≡ slots_of f.local → HasCalled m c s (own, r) s'
 answered m c s s' f own r (come, seat) is slots = record {

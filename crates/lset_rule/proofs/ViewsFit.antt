@@ -1,5 +1,5 @@
--- What changes when one view of the table changes or is added: which properties each view has, and which view has each
--- thread.
+-- Lemmas about changing one view of the table, and about adding one: which properties each view has afterwards, and
+-- which view has each thread.
 use Rattle.std.proofs.Common.{◌≡◌, ◌≢◌, ⊎_elim, ℕ, zero, suc, ◌<◌, true, false, List, [], ◌∷◌, ◌++◌, length, set, refl, sym, ap, ◌∙◌, subst}
 use Rattle.std.proofs.lemmas.Bool.{false≢true}
 use mathlib.Core.Option.{some, some-injective, some-ne-none}
@@ -16,7 +16,8 @@ use Rattle.lset_rule.specs.Runs.{StartsWith, end_of, IsRunOf}
 use Rattle.lset_rule.specs.Rule.{Holds, MatchesLog, StandsIn}
 use Rattle.lset_rule.specs.Views.{HasThread}
 
--- Every entry of a list, with its index, has property P. Lemmas about changing or adding an entry.
+-- Lemmas about changing or adding an entry of a list whose entries all have a property P, which can depend on the
+-- index.
 module _ {A : Type 0} (P : ℕ → A → Type 0) where
   abbrev pub Each : List A → Type 0
   Each l = (j : ℕ) (x : A) → get_elem? l j ≡ some x → P j x
@@ -43,8 +44,8 @@ module _ {A : Type 0} where
   set_twice (x ∷ xs) zero a b = refl
   set_twice (x ∷ xs) (suc i) a b = ap (λ l. x ∷ l) (set_twice xs i a b)
 
--- Which view has a thread after another view changes, after the view itself changes but keeps the thread, or after a
--- view is added.
+-- A thread is still in its view after another view changes, after the view itself changes but keeps the thread, and
+-- after a view is added.
 pub stands_else : (views : List View) (id j t : ℕ) (w : View) → j ≢ id → StandsIn views j t → StandsIn (set views id w) j t
 stands_else views id j t w ne st = (st.0, set_else views id j w ne ∙ st.1, st.2, st.3)
 

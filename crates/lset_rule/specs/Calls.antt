@@ -37,14 +37,14 @@ gone_view m log n v = let f = m.feed v.local n in record v {
   seen = log ++ Go v.thread ∷ [];
 }
 
--- What a caller learns from a step. Some `log` contains all events before the step. It begins with the events that the
--- caller had seen, and after it the step sees n. The caller has then seen the log and the step. (Sees: in some run of
--- the machine, a thread has these registers and sees n next. `feed` requires this.)
+-- The facts that a caller learns from a step. Some `log` contains all events before the step and begins with the events
+-- that the caller had seen. After the log, the step sees n. Afterwards the caller has seen the log and the step. (Sees:
+-- in some run of the machine, a thread has these registers and sees n next. `feed` requires this.)
 abbrev pub Goes : Table → View → ℕ → View → Type 0
 Goes m v n w = (log : List Event) × (on : StartsWith log v.seen) × Sees m v.local n × (w ≡ gone_view m log n v) × Stands m w
     × (seen_next m (end_of m v.shape log) v.thread ≡ n)
 
--- What a caller learns from the first step of call c. The call begins just before the step.
+-- The facts that a caller learns from the first step of call c. The call begins just before the step.
 abbrev pub Starts : Table → Call → View → ℕ → View → Type 0
 Starts m c v n w = (log : List Event) × (on : StartsWith log v.seen) × Sees m (m.begin c v.local) n
     × (let b = begun_view m log c v in w ≡ gone_view m b.seen n b) × Stands m w

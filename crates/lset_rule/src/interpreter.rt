@@ -12,8 +12,9 @@ use lset_steps::{Machine, OpenReads};
 use lset_words::{Call, Key, Reply};
 use std::marker::Brand;
 
-/// The code between two steps: returns the reply if the call has ended, and pauses otherwise. This is a macro, since
-/// the compiler does not lead straight to the next row after a call of a function that may block, as a pause may.
+/// Runs the code between two steps: returns the reply if the call has ended, and pauses otherwise. This is a macro
+/// because a pause can block. After a call of a function that can block, the compiled code would not jump straight to
+/// the next row.
 macro_rules! ends_or_pauses {
     ($last:expr, $pause:expr) => {
         if let Some(reply) = $last.fed.answer {
@@ -53,8 +54,8 @@ pub fn interpret_within<M: Machine, P: Pause, N: Rounds>(
         fed: M::feed(&begun, seen),
         failed: has_failed(action, seen),
     };
-    // A round has four steps. Within a round, the compiler leads from the code of one row straight to the code of the
-    // next. At the end of a round, the code for the next row is looked up.
+    // A round has four steps. Within a round, the compiled code of one row jumps straight to the code of the next row.
+    // At the end of a round, the code of the next row is looked up.
     for round in 0..N::MOST {
         ends_or_pauses!(last, pause);
         let second = one_step::<M, 1>(table, place, &last.fed.local);

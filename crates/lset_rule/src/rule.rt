@@ -21,7 +21,7 @@ impl<M: Machine> TableRule<(), View, Opened> for Follows<M> {
     ghost first = { opener };
 }
 
-/// Names the call that a first step begins. A caller passes `Brand`, and proves which call it stands for.
+/// Identifies the call that a first step begins. A caller passes `Brand`, and proves which call `Brand` stands for.
 pub trait Asking {
     ghost call: { Call };
 }
