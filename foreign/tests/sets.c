@@ -47,7 +47,7 @@ static void call_shared(task *it, uint32_t kind, uint32_t key) {
   wrong += !may || (reply == LISTSET_FULL && it->adds < QUOTA);
 }
 
-// The keys that only thread t uses are SHARED + t * OWN and the OWN - 1 keys above it.
+// Makes a call with a key that only this thread uses: SHARED + t * OWN or one of the OWN - 1 keys above it.
 static void call_own(task *it, uint32_t kind, uint32_t k) {
   uint32_t base = SHARED + it->number * OWN, at = 0, next = k;
   uint8_t want;

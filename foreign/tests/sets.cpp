@@ -33,7 +33,8 @@ template <typename Call> uint8_t thrown(Call call) {
   }
 }
 
-// Each of four threads adds a quarter of the keys below 4,000, and removes the multiples of three among them.
+// Returns whether the right keys remain after four threads each add a quarter of the keys below 4,000 and remove the
+// multiples of three among them.
 static bool is_right(list kind) {
   std::vector<seat> seats(4);
   seats[0] = listset::open(kind, 4, 1000);
@@ -90,8 +91,8 @@ static bool is_filled(uint32_t seats, uint32_t quota) {
   return due.size() == seats * quota && set.close() == due;
 }
 
-// Four threads add the same keys, as many as the seats have quota for. An add may return full only if no seat has quota
-// left; its key must then be present.
+// Makes four threads add the same keys, as many as the seats have quota for. Returns how many adds return full. None may
+// do so: once no seat has quota left, all keys are present.
 static int full_too_soon() {
   const uint32_t many = 1000;
   listset::shared set(list::lazy, 2, many / 2);

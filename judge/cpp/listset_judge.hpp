@@ -748,7 +748,7 @@ template <class Make, class Key> struct tester {
     }
 
     // Returns a shape whose calls overlap more: with more threads (possibly more than processors) and fewer keys,
-    // except where the options set them. The total number of calls does not grow.
+    // unless the options set these numbers. The total number of calls does not grow.
     shape harder(shape it) const {
         const unsigned before = it.threads;
         if (!how.threads) it.threads = std::min(std::max(2 * it.threads, std::thread::hardware_concurrency() + 2), 64u);

@@ -157,7 +157,7 @@ func (o Options) shapeOf(seed int64) shape {
 }
 
 // harder returns a shape whose calls overlap more: with more goroutines (possibly more than processors) and fewer keys,
-// except where the options set them. The total number of calls does not grow.
+// unless the options set these numbers. The total number of calls does not grow.
 func (o Options) harder(s shape) shape {
 	before := s.threads
 	if o.Threads == 0 {

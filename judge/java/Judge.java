@@ -220,7 +220,7 @@ public final class Judge {
 
         /**
          * Returns a shape whose calls overlap more: with more threads (possibly more than processors) and fewer keys,
-         * except where these options set them. The total number of calls does not grow.
+         * unless these options set the numbers. The total number of calls does not grow.
          */
         private Shape harder(Shape it) {
             int wanted = Math.max(2 * it.threads, Runtime.getRuntime().availableProcessors() + 2), more = threads > 0 ? it.threads : Math.min(wanted, 64);

@@ -182,7 +182,7 @@ class Options(collections.namedtuple("Options", "threads calls keys key pauses r
 
     def harder(self, it: Shape) -> Shape:
         """Returns a shape whose calls overlap more: with more threads (possibly more than processors) and fewer keys,
-        except where these options set them. The total number of calls does not grow.
+        unless these options set the numbers. The total number of calls does not grow.
         """
         threads = self.threads or min(max(2 * it.threads, (os.cpu_count() or 1) + 2), 64)
         return it._replace(threads=threads, calls=self.calls or max(it.calls * it.threads // threads, 1), keys=self.keys or max(it.keys // 2, 1))
@@ -377,7 +377,7 @@ class Run:
 
     @property
     def written(self):
-        """The length of the file."""
+        """Returns the length of the file."""
         return self.COUNT.unpack_from(self.slots, self.at_slots - self.COUNT.size)[0]
 
     def fail(self, said, at=GOING):

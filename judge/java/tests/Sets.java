@@ -30,7 +30,7 @@ final class Sets {
         /** Returns the key that the set uses for this one. With "collides", it is the remainder, so different keys are treated as one. */
         private Integer place(Object key) { return is.equals("collides") ? (Integer) key % 64 : (Integer) key; }
 
-        /** With "first use", each key has its own set, which its first call creates; two calls can both create it. */
+        /** Returns the set of a key. With "first use", the first call of a key creates its set; two calls can both create it. */
         private Set<Integer> part(Object key) {
             Set<Integer> found = parts.get(key);
             if (found == null) parts.put(key, found = new ConcurrentSkipListSet<>());

@@ -173,7 +173,7 @@ impl Options {
     }
 
     /// Returns a shape whose calls overlap more: with more threads (possibly more than processors) and fewer keys,
-    /// except where these options set them. The total number of calls does not grow.
+    /// unless these options set the numbers. The total number of calls does not grow.
     fn harder(&self, it: Shape) -> Shape {
         let processors = std::thread::available_parallelism().map_or(1, |it| it.get()) as u32;
         let threads = if self.threads == 0 { (2 * it.threads).max(processors + 2).min(64) } else { it.threads };
