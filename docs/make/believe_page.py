@@ -190,7 +190,9 @@ def file_faults():
 
 
 def name_faults(top, rows):
-    """Yields names in brackets, in comments and pages, that are not a definition; and definitions that no row names."""
+    """Yields the bracketed names in comments and pages that are no names of definitions, and the definitions that no
+    row names.
+    """
     known = {name for _, names in entries() for name in names}
     texts = {it: re.sub(r"^    .*$|`[^`\n]*\[[^`\n]*`", "", it.read_text(encoding="utf-8"), flags=re.M) for it in (top / "docs").glob("*.md")}
     for path in [*CRATES.glob("*/*/**/*.antt"), *CRATES.glob("*/src/**/*.rt")]:

@@ -1,8 +1,8 @@
-"""Tests "guess, then see": each question is answered, shown, changed and left."""
+"""Tests "guess, then see": a visitor answers each question, sees the run, changes it, and leaves."""
 
 
 def hurried(visitor):
-    """Shows the run to its end at once, by a key."""
+    """Shows the run to its end at once by pressing a key."""
     visitor.press("Right")
     visitor.revealed()
 

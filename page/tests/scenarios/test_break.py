@@ -1,4 +1,6 @@
-"""Break: each level is won, its answer is not revealed, the contradiction is visible, and the missing check is struck out."""
+"""Tests Break: a visitor wins each level, the page does not reveal the answer, and it shows the contradiction and
+strikes out the missing check.
+"""
 
 import pathlib
 
@@ -72,8 +74,8 @@ def test_hints_use_words_instead_of_row_numbers(visitor):
 
 
 def test_the_schedule_of_the_examples_breaks_each_level(visitor):
-    """Each level opens with the run in a link. The run is shown as broken, its answer can be given, and each row has a
-    line.
+    """Opens each level by a link to the schedule that breaks its list. The page shows that the list is broken. The
+    visitor then names the missing check, and the page strikes it out.
     """
     visitor.open("#break")
     levels = visitor.inside("return Object.keys(listsets.BREAK_LEVELS)")

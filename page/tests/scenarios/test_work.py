@@ -134,7 +134,8 @@ def test_a_numbered_run_is_the_same_for_everyone(visitor, another):
 
 
 def test_a_slow_network(visitor):
-    """The engine comes late: the example is shown from its stored trace first, and the page says who ran it."""
+    """On a slow network, the page first shows the example from its stored trace, and says which source the trace has.
+    """
     visitor.go(f"{visitor.place}/slow.html#example=snip&event=3")
     visitor.wait("return document.body.dataset.ready === 'soon'")
     assert visitor.event() == 3 and "a stored trace" in visitor.text("#source")
