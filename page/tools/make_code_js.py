@@ -9,7 +9,7 @@ import re
 import rattle_sources
 from lists import TOP, lists
 
-READS = "lset_loops/src/contains_loop.rt"
+READS = "lset_loops/src/reads.rt"
 LOOPS = {it.word: [f"lset_loops/src/{it.table}.rt", *[READS] * it.has_reads()] for it in lists()}
 LISTS = {word: files if (TOP / "crates" / files[0]).is_file() else [] for word, files in LOOPS.items()}  # (of others the interpreter makes the calls)
 BEGINS = ("begin_at_head", "begin_locked")  # the first step of a call
