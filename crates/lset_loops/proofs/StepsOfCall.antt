@@ -1,4 +1,4 @@
--- A pending call, followed from step to step.
+-- Lemmas that follow a pending call from step to step.
 use Rattle.std.proofs.Common.{◌≡◌, ◌≢◌, ℕ, ◌+◌, ◌<◌, ◌≤◌, List, ◌∷◌, Option, None, refl, sym, ap, ◌∙◌, subst, arith}
 use Rattle.atomic_table.specs.Seated.{TableId}
 use Rattle.lset_words.specs.declared.Call.{Call}
@@ -182,9 +182,9 @@ first_tried m law b own s n s' c same may seat starts again ne =
     now_holds m b (m.feed (first m b own) n).local (first m b own) s' (ap (λ (f : Fed). f.local) (again n ne))
     (begins_holding m law b own s n s' c same may seat starts (ap (λ (f : Fed). f.answer) (again n ne)))
 
--- The same registers, written in another form. The proof of a loop has three parts: `leads` states the thread's state
--- after a step, as the table computes it; the branch's test selects the case (if_same, if_other, deed); and `moved`
--- writes the result in the form of a row.
+-- If a thread is in state l, and l' equals l, the thread is in state l'. The proof of a loop has three parts: `leads`
+-- states the thread's state after a step, as the table computes it; the branch's test selects the case (if_same,
+-- if_other, deed); and `moved` writes the result in the form of a row.
 pub moved : {m : Table} {b : Begun} {l l' : Local} {s : TableSeat} → Holds m b l s → l ≡ l' → Holds m b l' s
 moved h same = record { words = h.words; used = h.used; seat = h.seat; mid = h.mid; stands = h.stands; local = h.local ∙ same }
 

@@ -16,7 +16,7 @@ use lset_steps::{Action, Machine};
 use std::marker::Brand;
 
 impl<'a, M: Machine, P: Pause> Caller<'a, M, P> {
-    /// Calls the pause after a step that could have ended the call but did not. All other steps call the pause
+    /// Calls the pause after a step that could have ended the call but did not end it. All other steps call the pause
     /// themselves.
     #[inline(always)]
     pub fn goes_on(&self) {
