@@ -1,4 +1,4 @@
--- Records with the numbers of their calls, and records without these numbers.
+-- Lemmas about records that contain the numbers of their calls, and about the same records without these numbers.
 use Rattle.std.proofs.Common.{◌≡◌, ℕ, inl, inr, List, [], ◌∷◌, ◌++◌, map, refl, sym, ap, ◌∙◌, subst}
 use Rattle.std.proofs.lemmas.List.{map-append}
 use Rattle.lset_words.specs.SequentialSet.{Answered}

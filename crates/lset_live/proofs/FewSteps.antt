@@ -121,7 +121,7 @@ module _ (T : Table) (law : Lawful T) (reads : BoundedReads T) (key : Key) (v : 
       m.same.1 (subst (λ u. steps_since (event_at w.seen) u (length w.seen) ≤ most_reads (sizes w.shape))
       (sym (root_is v.past ∙ rooted)) within_shape)
 
--- The bound on steps, in terms of the values of set and seat that contracts use.
+-- The bound on the steps of a contains, stated with the values of the set and the seat that contracts use.
 pub few_steps : (T : Table) → Lawful T → BoundedReads T → (key : Key) (s : TableSeat) (r : Reply) (s' : TableSeat)
     → Makes T (Contains key) s.me.0 r s'.me.0 → (set : SetValue) (old : SeatValue) → seat_at s ≡ old → old.set ≡ set
     → HasMadeAtMost (most_reads (sizes set.shape)) (thread_of old.past) s'.me.0.seen

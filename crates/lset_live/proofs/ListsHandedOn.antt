@@ -22,7 +22,7 @@ all_rest rest rest' x P e all =
 pub all_more : {H : Type 0} (hs hs' : List H) (h : H) (P : H → Type 0) → hs' ≡ hs ++ h ∷ [] → All P hs → P h → All P hs'
 all_more hs hs' h P e all one = subst (All P) (sym e) (All-append P hs (h ∷ []) all (All-cons P h [] one (All-nil P)))
 
--- Moving one item's share from the remaining items to the sum does not change the total.
+-- If an item's share is moved from the sum over the remaining items to the other sum, the total stays the same.
 pub held_next : {H : Type 0} (f : H → ℕ) (rest rest' : List H) (h : H) (a a' k total : ℕ) → rest ≡ h ∷ rest' →
     a + sum_by f rest ≡ total → a' ≡ a + k → k ≡ f h
     → a' + sum_by f rest' ≡ total

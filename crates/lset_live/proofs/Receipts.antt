@@ -173,7 +173,7 @@ module _ (q : ℕ) (s : SetState) (H : List CallRecord) (P : List Placed) (L : L
 pub starts_on : (a b c : List Event) → StartsWith a b → StartsWith b c → StartsWith a c
 starts_on a b c (x, is) (y, so) = (y ++ x, is ∙ (ap (λ l. l ++ x) so ∙ append_assoc c y x))
 
--- What a seat has seen after a call begins with what it had seen before.
+-- The events that a seat has seen after a call begin with the events that it had seen before the call.
 pub answered_on : (T : Table) (k : Opening) (t : ℕ) (c : Call) (r : Reply) (before after : List Event) → IsAnswered T k t c r before after
     → StartsWith after before
 answered_on T k t c r before after a = (

@@ -69,10 +69,10 @@ pub record IsOneLegalOrder (k : Opening) (records : List Record) (keys : List �
   pub no_other : (u : ℕ) → u < k.threads → ¬ (NamedIn u records) → calls_by u order ≡ []
   pub leaves : (set_left (opening_set k) order).keys ≡ keys
 
--- A legal order of exactly the calls in the records that also linearizes the history of these events. So a call that
--- ended before another one began comes before it. The contracts state it for events that begin with what the seats had
--- seen, and a seat that takes a receipt has seen what the giver had seen. So the order respects receipts in the same
--- way as gathering.
+-- A legal order of exactly the calls in the records that also linearizes the history of these events: if a call ended
+-- before another one began, it comes first. In the contracts, the events begin with all events that the seats had seen.
+-- A seat that takes a receipt has then seen all events that the giver had seen. Therefore the order respects receipts
+-- in the same way as gathering.
 pub record IsOneOrderInTime (T : Table) (k : Opening) (events : List Event) (records : List Record) (keys : List ℕ) : Type 0 where
   pub run : IsRunOf T k events
   pub placed : List Placed
@@ -87,8 +87,8 @@ pub record StandsBefore (order : List Answered) (a b : Answered) : Type 0 where
   pub last : List Answered
   pub is : order ≡ first ++ a ∷ (between ++ b ∷ last)
 
--- The law of receipts: if call c had ended when a receipt was made, and a seat that has taken the receipt makes call d,
--- then c comes before d in each order that linearizes the events seen after d or later.
+-- The law of receipts: states that if call c had ended when a receipt was made, and a seat that has taken the receipt
+-- makes call d, then c comes before d in each order that linearizes the events seen by the end of d or later.
 abbrev pub ReceiptsKeepOrder : Type 0
 ReceiptsKeepOrder = (T : Table) (k : Opening) (t u : ℕ) (c d : Call) (r a : Reply) (old given taken after events : List Event)
     → IsAnswered T k t c r old given → StartsWith taken given → IsAnswered T k u d a taken after → StartsWith events after

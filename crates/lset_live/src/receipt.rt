@@ -64,10 +64,10 @@ impl<M: Machine> LiveSet<M> {
         }
     }
 
-    /// Adds the events of the receipt to what the seat has seen. Both must belong to this set. Later calls of the seat
-    /// begin after all events of the receipt. In each order that explains them, the calls that had ended in these
-    /// events come first (`receipts_keep_order`). The seat's record and the seats that it holds do not change. Does not
-    /// block or allocate.
+    /// Adds the events of the receipt to the events that the seat has seen. Both must belong to this set. Later calls
+    /// of the seat begin after all events of the receipt. In each order that explains these calls, the calls that ended
+    /// in the events of the receipt come first (`receipts_keep_order`). The seat's record and the seats that it holds
+    /// do not change. Does not block or allocate.
     pub fn after(&self, seat: &mut Seat<M>, receipt: Receipt<M>)
         requires seat { seat.old.set ≡ self.now }
         requires receipt { receipt.set ≡ self.now }
@@ -83,7 +83,8 @@ impl<M: Machine> LiveSet<M> {
 }
 
 /// The law of receipts: if a call has ended in the events of a receipt, and a seat takes the receipt, then the call
-/// comes before each later call of the seat, in each order of calls that linearizes what is seen then or later.
+/// comes before each later call of the seat. This holds in each order that linearizes the events seen by the end of the
+/// later call or at any moment after that.
 pub fn receipts_keep_order()
     ensures { ReceiptsKeepOrder }
 {}
