@@ -26,7 +26,7 @@ use Rattle.lset_progress.proofs.ProgressWithLocks.{IsFree, own_step}
 use Rattle.lset_progress.proofs.RowsWithLocks.{Timed, no_time, at_row}
 use Rattle.lset_progress.proofs.Windows.{counted_or_not, ends_later}
 
--- If a step counts n whichever way the test goes, it counts n.
+-- A conditional whose two branches are n is n.
 either_way : (b : Bool) (n : ℕ) → (if b then n else n) ≡ n
 either_way true n = refl
 either_way false n = refl

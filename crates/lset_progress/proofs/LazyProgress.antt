@@ -254,8 +254,8 @@ lazy_calls_end = calls_end lazy lazy_lawful shape lazy_steps shows
 pub lazy_gets_on : SomeThreadGetsOn lazy
 lazy_gets_on = gets_on lazy lazy_lawful shape lazy_steps shows
 
--- The calls that count are add and remove or, if `reads` is true, also contains. A thread after its decision is adding
--- or removing. Only a ceiling requires that no node of the chain is marked.
+-- If a call is neither a contains nor a ceiling, its steps count. Only such a call holds locks or decides to change the
+-- list.
 late_counts : (reads : Bool) (c : Call) → (IsRead c → ⊥) → counted reads c ≡ 1
 late_counts reads (Add k) no_read = refl
 late_counts reads (Remove k) no_read = refl

@@ -150,8 +150,8 @@ module _ {sz : Sizes} {ws : List ℕ} {used : ℕ → ℕ} {t : ℕ} {vs : ℕ �
   abbrev From : ℕ → List ℕ → Fed → Type 0
   From n ws' f = After (record l { pc = n }) ws' f
 
-  -- The step leads to a row below 23. The next two lemmas are about steps that start again from the head, and about
-  -- steps that end the call.
+  -- The step leads to a row below 23. The lemmas after this one are about steps that start again from the head, and
+  -- about steps that end the call.
   to : {k k' : Local} {ws' : List ℕ} → Only (nat_lt 0 k'.pc) → k'.pc < 23 → (Valid (node_link ws) k → Valid (node_link ws') k')
       → left size key k' < left size key k → After k ws' (continued k')
   to busy low valid less = (on (λ x o m. m) busy (λ z. z) valid less, inr (λ c high. absurd (omega arith)))

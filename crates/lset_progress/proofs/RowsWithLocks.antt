@@ -33,8 +33,8 @@ Only b = MatchBool b (Unit {0}) ⊥
 abbrev pub NodeLocks : (ℕ → Bool) → (ℕ → Bool) → Local → ℕ → Type 0
 NodeLocks P C l x = ((x ≡ lock_index l.pred) × Only (P l.pc)) ⊎ ((x ≡ lock_index l.curr) × Only (C l.pc))
 
--- The thread holds no lock. The next lemmas are about a thread that holds only pred's lock, and about a thread that
--- releases one of its two locks.
+-- A thread that holds no lock satisfies everything about the locks that it holds. The lemmas after this one are about a
+-- thread that holds only pred's lock, and about a thread that releases one of its two locks.
 pub no_lock : {A B C : Type 0} → (A × ⊥) ⊎ (B × ⊥) → C
 no_lock (inl p) = absurd p.1
 no_lock (inr c) = absurd c.1

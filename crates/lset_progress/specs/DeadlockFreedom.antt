@@ -48,7 +48,7 @@ IsDeadlockFree calls T = (op : Opening) (k t : ℕ) (es : ℕ → Event) → IsF
     → IsPending (state_at T op es k) t → calls (local_of (state_at T op es k) t).call ≡ 1
     → (n : ℕ) × SomeEnds (moves calls T) T op es k n
 
--- Returns the number of steps for n threads. Each thread can make the steps of a call that runs alone. After each of
--- the at most 5 steps that a call makes after its decision, all threads can make that many steps again.
+-- Returns the bound on counted steps for n threads. After its decision, a call makes at most 5 steps. Between two such
+-- steps of any threads, each thread makes at most `most` steps, as many as a call that runs alone.
 abbrev pub lock_window : (Sizes → ℕ) → Sizes → ℕ
 lock_window most sz = sz.threads * most sz * (5 * sz.threads + 1)

@@ -137,9 +137,9 @@ optimistic_steps sz = 8 * node_count sz + 9
 abbrev pub lock_free_steps : Sizes → ℕ
 lock_free_steps sz = 4 * node_count sz + 5
 
--- Returns the number of steps: those of each thread's pending call and, for each exchange that succeeds without ending
--- a call, those of one more walk of each thread. Each thread marks at most one node, and each node is unlinked at most
--- once.
+-- Returns the bound on steps for n threads. It has the steps of each thread's pending call and, for each exchange that
+-- succeeds without ending a call, one more walk of each thread. There are few such exchanges: each thread marks at most
+-- one node, and each node is unlinked at most once.
 abbrev pub lock_free_window : Sizes → ℕ
 lock_free_window sz =
     sz.threads * (2 * node_count sz + 2) * (node_count sz + sz.threads) + sz.threads * lock_free_steps sz
