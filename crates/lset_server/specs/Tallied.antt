@@ -1,4 +1,4 @@
--- The part of a server's result that only contracts can see.
+-- The tally in a server's result. Only contracts can see it.
 use Rattle.crossbeam_channel.specs.Claims.{view}
 use Rattle.lset_server.specs.declared.channel.Tally.{Tally}
 use Rattle.lset_server.specs.declared.set_server.Served.{Served}

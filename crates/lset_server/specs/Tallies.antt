@@ -44,8 +44,9 @@ total f (v ∷ vs) = f v + total f vs
 abbrev pub IdleIsEmpty : List Tally → Type 0
 IdleIsEmpty views = (port : ℕ) (v : Tally) → get_elem? views port ≡ some v → v.parts ≡ 0 → (v.sent ≡ []) × (v.received ≡ [])
 
--- The rule: the passes together have all parts. For any weights, the numbers that were sent weigh as much as those that
--- were received and those in the queue together.
+-- States that the channel has lost and duplicated nothing. The passes together have all parts. For every assignment of
+-- weights h to connection numbers, the total weight of the sent numbers is the total weight of the received numbers
+-- plus that of the numbers in the queue. A pass without parts has sent and received nothing.
 abbrev pub IsBalanced : List ℕ → List Tally → Type 0
 IsBalanced queue views =
     (total (λ v. v.parts) views ≡ PARTS)

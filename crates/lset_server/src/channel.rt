@@ -29,8 +29,8 @@ pub(crate) enum Message<S> {
     Close,
 }
 
-/// What contracts see of a pass: the numbers of the connections sent and received with it, and how many parts of the
-/// knowledge of the whole channel it has. A running program has no value of this type.
+/// The value of a pass in contracts: the numbers of the connections sent and received with it, and how many parts of
+/// the knowledge of the whole channel it has. A running program has no value of this type.
 pub(crate) struct Tally {
     pub parts: u64,
     pub sent: LinkedList<u64>,
@@ -93,8 +93,8 @@ impl<S> Lesson<Message<S>, Tally> for Receiving {
     ghost fact = { λ v items. ⊤ };
 }
 
-/// What follows about the queue if a pass has all parts: the connections sent are the connections received and the
-/// connections in the queue.
+/// The fact that a pass with all parts proves about the queue: the connections sent are those received and those in the
+/// queue.
 pub(crate) struct Balanced;
 
 impl<S> Lesson<Message<S>, Tally> for Balanced {
