@@ -62,8 +62,8 @@ pub record HaveRun (set : SetValue) (seats : List SeatValue) (programs : List (L
   -- What the last seat has seen begins with what each seat had seen.
   pub begins : All (HasSeenAll last) seats
 
--- A legal order in time of exactly the calls in these records, for a run that begins with the events that each of the
--- seats had seen.
+-- A legal order of exactly the calls in these records that also linearizes the history of some run. The run begins with
+-- the events that each of the seats had seen.
 pub record IsWorkInTime (T : Table) (k : Opening) (seats : List SeatValue) (records : List Record) (keys : List ℕ) : Type 0 where
   pub events : List Event
   pub begins : All (λ (s : SeatValue). StartsWith events s.events) seats
