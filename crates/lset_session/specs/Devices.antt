@@ -1,4 +1,4 @@
--- What it means to write a text in full or only in part.
+-- Definitions of the statements that a text was written completely, or only in part.
 use Rattle.std.specs.Prelude.{◌≡◌, ℕ, Bool, MatchBool, List, ◌∷◌, ◌++◌, Option}
 use Rattle.std.specs.Io.KnownBytes.{Appends}
 use Rattle.lset_session.specs.declared.devices.Device.{Device}

@@ -24,8 +24,8 @@ IsLast why.End = ⊥
 IsLast why.ReadFault = ⊥
 IsLast end = Unit {0}
 
--- States that the talk's turns come first. If the session has not ended, the turns after these are the turns of the
--- pending bytes and of the bytes that follow.
+-- States that the turns of the talk are the first turns of the input. If the session has not ended, the turns of the
+-- pending bytes and of all later bytes follow.
 abbrev pub Told : ℕ → List ℕ → Option EndReason → ℕ → List ℕ → List Exchange → Type 0
 Told left bytes None left' pending talk =
     (end_of (turns_in talk) ≡ why.End)
@@ -57,7 +57,8 @@ pub record IsTalk (t : Talk) : Type 0 where
   pub more : 0 < t.left
   pub few : t.calls + t.left ≤ MOST_LINES
 
--- States that the bytes bring the session nearer to its end.
+-- States that processing n bytes decreases the bound on the bytes that the session can still process by at least n. The
+-- bound is (LONGEST_LINE + 1) * left - len.
 abbrev pub Nearer : Talk → Talk → ℕ → Type 0
 Nearer t u n = (LONGEST_LINE + 1) * u.left + t.len + n ≤ (LONGEST_LINE + 1) * t.left + u.len
 

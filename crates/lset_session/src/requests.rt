@@ -5,7 +5,7 @@ ghost use Rattle.lset_session.specs.SessionText.{request_of};
 use lset_text::{cut, number};
 use lset_words::{Call, Key};
 
-/// The request that a line makes.
+/// A request, as one line of a session.
 #[derive(Clone, Copy, Debug, PartialEq, Eq)]
 pub enum Request {
     /// `ADD k`, `REMOVE k`, `CONTAINS k` or `CEILING k`.
