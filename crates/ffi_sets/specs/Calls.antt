@@ -89,7 +89,7 @@ abbrev pub HasGiven : Bool → Held → Bool → Held → Bool → Held → Type
 HasGiven true h true given true h' = HasNotedHeld h given h'
 HasGiven full h out given full' h' = ⊥
 
--- A seat accepted a receipt: it has now seen everything that the receipt stands for. Its record and the seats that it
+-- A seat accepted a receipt: it has now seen everything that the receipt covers. Its record and the seats that it
 -- contains are unchanged.
 abbrev pub HasHeededOf : Option SeatValue → Option ReceiptValue → Option SeatValue → Type 0
 HasHeededOf (Some old) (Some given) (Some new) = (new.set ≡ old.set) × (new.past ≡ old.past) × (new.held ≡ old.held)

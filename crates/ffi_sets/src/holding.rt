@@ -147,7 +147,7 @@ impl<M: Bounded> SeatOfSet<M> {
         })
     }
 
-    /// Hands a receipt to this seat, which has then seen all that the receipt stands for. Returns `None` on success, and
+    /// Hands a receipt to this seat, which has then seen all that the receipt covers. Returns `None` on success, and
     /// `given` if its number is another one or the seat was lost.
     pub fn after(&mut self, given: ReceiptOfSet<M>) -> Option<ReceiptOfSet<M>>
         requires { self.old.number ≡ given.number → arc_value self.old.set ≡ given.receipt.set }
@@ -191,9 +191,9 @@ impl<M: Bounded> SeatOfSet<M> {
         others as usize == self.spare.len()
     }
 
-    /// Closes the set and returns its final keys. On an error returns this seat and the number of the error:
-    /// `SEATS_OUT` if other seats are out; `OUT_OF_MEMORY` if room for the most keys of the set cannot be allocated, or
-    /// if the set has another owner, which happens in no run.
+    /// Closes the set and returns its final keys. On an error, returns this seat and the number of the error:
+    /// `SEATS_OUT` if other seats have not been gathered; `OUT_OF_MEMORY` if the space for the set's maximum number of
+    /// keys cannot be allocated, or if the set has another owner, which no run reaches.
     pub fn close(self, alloc: Global) -> Result<Vec<u32>, (SeatOfSet<M>, u8)> {
         if !self.has_all() {
             return Err((self, SEATS_OUT));

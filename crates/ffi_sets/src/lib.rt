@@ -172,7 +172,7 @@ pub fn most_reads(seats: u32, quota: u32, opening: u32) -> u64
     }
 }
 
-/// Stores a receipt in `out`, which must be empty. The receipt stands for everything that `seat` has seen: its own
+/// Stores a receipt in `out`, which must be empty. The receipt covers everything that `seat` has seen: its own
 /// calls, and everything seen by the seats that it gathered and the receipts that it accepted. `seat` does not change.
 ///
 /// Returns `DONE`. On an error, changes nothing and returns the first that applies: `IS_SEAT` if `out` is not empty,
@@ -195,7 +195,7 @@ pub fn give_receipt(alloc: Global, seat: &mut CSeat, out: &mut CSeat) -> u8
     }
 }
 
-/// Passes the receipt `given` to `seat`. All later calls of `seat` come after every call that the receipt stands for.
+/// Passes the receipt `given` to `seat`. All later calls of `seat` come after every call that the receipt covers.
 /// `given` is empty afterwards. The caller must ensure that a seat and a receipt with the same list and number belong
 /// to the same set.
 ///
