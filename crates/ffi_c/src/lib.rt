@@ -104,7 +104,7 @@ pub extern "C" fn listset_most_reads(seats: u32, quota: u32, opening: u32) -> u6
     ffi_sets::most_reads(seats, quota, opening)
 }
 
-/// Stores a receipt in `out`, which must be empty. The receipt stands for everything that `seat` has seen: its own
+/// Stores a receipt in `out`, which must be empty. The receipt covers everything that `seat` has seen: its own
 /// calls, and everything seen by the seats that it gathered and the receipts that it accepted. `seat` does not change.
 ///
 /// Returns `DONE`. On an error, changes nothing and returns the first that applies: `IS_SEAT` if `out` is not empty,
@@ -116,7 +116,7 @@ pub extern "C" fn listset_receipt_of(alloc: Global, seat: &mut CSeat, out: &mut 
     ffi_sets::give_receipt(alloc, seat, out)
 }
 
-/// Passes the receipt `given` to `seat`. All later calls of `seat` come after every call that the receipt stands for.
+/// Passes the receipt `given` to `seat`. All later calls of `seat` come after every call that the receipt covers.
 /// `given` is empty afterwards. The caller must ensure that a seat and a receipt with the same list and number belong
 /// to the same set.
 ///
