@@ -14,8 +14,8 @@ fn nothing(alloc: Global) -> Answer {
     }
 }
 
-/// Returns the diagnosis of a recording; `None` if a line has the wrong form or some order explains the calls. That the
-/// text is a recording otherwise, is not checked.
+/// Returns the diagnosis of a recording; `None` if a line has the wrong form or some order explains the calls. Does not
+/// check the other rules for recordings.
 fn diagnosis_of(alloc: Global, text: &[u8]) -> Result<Option<Diagnosis>, AllocError> {
     let mut reader = RunReader::new(alloc);
     reader.feed(text)?;
@@ -26,7 +26,7 @@ fn diagnosis_of(alloc: Global, text: &[u8]) -> Result<Option<Diagnosis>, AllocEr
 }
 
 /// Returns the diagnosis of a recording as a record, with status 1. If a line has the wrong form or some order explains
-/// the calls, returns an empty answer with status 0. That the text is a recording otherwise, is not checked.
+/// the calls, returns an empty answer with status 0. Does not check the other rules for recordings.
 pub fn diagnose_recording(alloc: Global, text: &[u8]) -> Result<Answer, Trouble> {
     match diagnosis_of(alloc, text)? {
         Some(diagnosis) => Ok(Answer {
@@ -74,7 +74,7 @@ pub fn diagnose_text(alloc: Global, text: &[u8]) -> Result<Answer, Trouble> {
 
 /// Returns the lines that `judge FILE` prints after a verdict of `used` lines, for the recording in the file with this
 /// descriptor, with status 1. If the file cannot be read, a line has the wrong form, or some order explains the calls,
-/// returns an empty answer with status 0. That the file is a recording otherwise, is not checked.
+/// returns an empty answer with status 0. Does not check the other rules for recordings.
 pub fn diagnose_file(alloc: Global, file: i32, used: usize) -> Result<Answer, Trouble> {
     let mut input = HostInput { file };
     explain_below(alloc, &mut input, used)
