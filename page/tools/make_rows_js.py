@@ -84,5 +84,5 @@ def rows_text(tables):
         rows = rows_of(sections[name]) | {number: row for some in own.values() for number, row in some.items()}
         lists[kind] = {"name": name, "registers": registers_in(rows.values()), "adds": adds, "removes": removes,
                        "calls": calls_of(sections[name], own), "rows": rows}
-    return ("// The rows of the step tables, made from docs/TABLES.md by page/build. For display only: no state is computed from them.\n"
+    return ("// The rows of the step tables, from docs/TABLES.md by page/build: for show alone, no state is computed from them.\n"
             f"\nexport const LISTS = {json.dumps(lists, ensure_ascii=False, indent=1)};\n")

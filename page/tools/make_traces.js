@@ -17,7 +17,7 @@ function tracesText() {
     return `  ${JSON.stringify(name)}: \`\n${trace}\`.slice(1),\n`;
   });
   return (
-    "// The engine's traces of the classic examples, made by make_traces.js. A browser that cannot run the engine shows these traces.\n" +
+    "// What the engine prints of the classic examples, by make_traces.js: shown where a browser cannot run it.\n" +
     `\nexport const EXAMPLES = \`\n${list}\`.slice(1);\n\nexport const TRACES = {\n${lines.join("")}};\n`
   );
 }
