@@ -114,8 +114,8 @@ type shape struct {
 	size
 }
 
-// size has the sizes of a run: the number of goroutines, of new sets used one after another, of calls per goroutine and
-// set, and of keys. The keys are the multiples of times.
+// size contains the numbers of a run: goroutines, new sets used one after another, calls per goroutine and set, and
+// keys. The keys are the multiples of times.
 type size struct{ threads, sets, calls, keys, times int }
 
 // rows returns how many calls a goroutine makes in a part. The last part on a set can have fewer.

@@ -57,8 +57,8 @@ func newSet() *set {
 	return made
 }
 
-// part returns the whole set. With "first use", each key has its own set, which its first call creates; two calls can
-// both create it.
+// part returns the set of a key: the whole set or, with "first use", a set for this key alone. The first call of the
+// key creates it; two calls can both create it.
 func (s *set) part(key uint32) *right[uint32] {
 	if s.is != "first use" {
 		return s.right

@@ -3,7 +3,7 @@
 
     page/tools/measure.py [--browser chromium] [--calls 12]
 
-The step is chosen in a generated run of so many calls (12 calls: about 280 events). Times depend on the load, which is printed."""
+The step is chosen in a generated run with this number of calls (12 calls: about 280 events). Times depend on the load, which is printed."""
 
 import argparse
 import functools

@@ -161,7 +161,7 @@ fn is_as_told<M: Running + Send + Sync, R: Host>(
     assert_eq!(rt; stopping.one.counts(), (one.3, one.4), "seat 1");
 }
 
-/// Asserts a case both with the list's loops and with the interpreter of its step table.
+/// Asserts the expected results of a case, once for the list's loops and once for the interpreter of its step table.
 fn both_are<M: Running + Send + Sync, R: Host>(
     rt: &R,
     alloc: Global,

@@ -31,8 +31,8 @@ struct Set : Right<unsigned> {
         if (is == "opens") keys = {1, 3};
         if (is == "not made") throw std::runtime_error("no room");
     }
-    // Returns the whole set. With "first use", each key has its own set, which its first call creates; two calls can
-    // both create it.
+    // Returns the set of a key: the whole set or, with "first use", a set for this key alone. The first call of the
+    // key creates it; two calls can both create it.
     right &part(unsigned key) {
         if (is != "first use") return *this;
         if (!parts[key]) parts[key] = new right;  // (never deleted)

@@ -41,8 +41,8 @@ class Named(Right):
             raise RuntimeError("no room")
 
     def part(self, key):
-        """Returns the whole set. With "first use", each key has its own set, which its first call creates; two calls can
-        both create it.
+        """Returns the set of a key: the whole set or, with "first use", a set for this key alone. The first call of the
+        key creates it; two calls can both create it.
         """
         if self.name != "first use":
             return super()
