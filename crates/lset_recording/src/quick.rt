@@ -16,35 +16,28 @@ use lset_judge::{LAST_MOMENT, StreamCall};
 use lset_text::{CallWord, Cause};
 use lset_words::{Key, Reply};
 
-/// The largest value to which a digit can be appended without overflow: 10 * value + 9 is still a moment.
-const LAST_WITH_A_DIGIT: u64 = 922_337_203_685_477_579;
+/// The maximum number of digits that are read. A number with so many digits is less than 2^64.
+const MOST_DIGITS: usize = 19;
 
-/// Returns the number before the first space, and the bytes after the space. Also returns `None` for the last eight
-/// moments.
+/// Returns the number before the first space, and the bytes after the space.
 fn digits_before(text: &[u8]) -> Option<(u64, &[u8])>
-    ensures { IfSome result (λ p. (text.now ≡ decimal p.0 ++ 32 ∷ p.1.now) × (p.0 ≤ LAST_MOMENT)) }
+    ensures { IfSome result (λ p. text.now ≡ decimal p.0 ++ 32 ∷ p.1.now) }
 {
-    let [first, rest @ ..] = text else {
-        return None;
-    };
-    if !first.is_ascii_digit() {
+    let most = text.len().min(MOST_DIGITS);
+    let mut value: u64 = 0;
+    let mut i = 0;
+    while i < most && text[i].is_ascii_digit() {
+        value = value * 10 + u64::from(text[i] - b'0');
+        i += 1;
+    }
+    if i == text.len() || text[i] != b' ' {
         return None;
     }
-    let mut value = u64::from(*first - b'0');
-    for (i, byte) in rest.iter().enumerate() {
-        if !byte.is_ascii_digit() {
-            return if *byte == b' ' {
-                Some((value, &rest[i + 1..]))
-            } else {
-                None
-            };
-        }
-        if value == 0 || value > LAST_WITH_A_DIGIT {
-            return None;
-        }
-        value = value * 10 + u64::from(*byte - b'0');
+    // The number needs a digit, and none may follow a leading zero.
+    if text[0] <= b'0' && i != 1 {
+        return None;
     }
-    None
+    Some((value, &text[i + 1..]))
 }
 
 /// Returns the thread or key before the first space, and the bytes after the space.
@@ -63,7 +56,7 @@ fn moment_before(text: &[u8]) -> Option<(u64, &[u8])>
     ensures { IfSome result (λ p. (text.now ≡ decimal p.0 ++ 32 ∷ p.1.now) × (1 ≤ p.0) × (p.0 ≤ LAST_MOMENT)) }
 {
     let (value, rest) = digits_before(text)?;
-    if value == 0 {
+    if value == 0 || value > LAST_MOMENT {
         return None;
     }
     Some((value, rest))
