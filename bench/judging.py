@@ -34,10 +34,12 @@ RECORDINGS = {
 
 
 def judge():
-    """Prints the table of recordings: the minimum time of several alternating runs, the peak memory, and the
-    instructions per call, which are counted in a recording with a tenth of the calls.
+    """Prints the table of recordings: the minimum time of several alternating runs, the peak memory, the instructions per
+    call, which are counted in a recording with a tenth of the calls, and how many times these instructions the whole
+    recording takes.
     """
-    heading("Recording", "`judge`, s", "KB", "by hand, s", "KB", "ratio of s", "of KB", "instructions a call", "by hand", "ratio")
+    measures = "`judge`, s", "KB", "by hand, s", "KB", "ratio of s", "of KB", "instructions a call", "by hand", "ratio", "ten times"
+    heading("Recording", *measures)
     with tempfile.TemporaryDirectory(prefix="bench-") as room:
         programs = [built("listset"), "judge"], [by_rustc("peer_judge.rs", room)]
         for name, asked in RECORDINGS.items():
@@ -45,7 +47,7 @@ def judge():
             ours, hand = least([seconds_of(words, file, os.devnull, 0) for words in programs] for _ in range(RUNS))
             kb, hand_kb = (memory_of(words, file) or 0 for words in programs)
             cells = [name, f"{ours:.2f}", f"{kb:,}", f"{hand:.2f}", f"{hand_kb:,}", f"{ours / hand:.2f}", ratio(kb, hand_kb)]
-            row(*cells, *instructions(programs, room, *asked))
+            row(*cells, *instructions(programs, room, file, *asked))
 
 
 def write(file, *asked):
@@ -59,11 +61,15 @@ def ratio(ours, hand):
     return f"{ours / hand:.2f}" if ours and hand else "-"
 
 
-def instructions(programs, room, calls, *asked):
-    """Returns the table cells with the instructions per call, counted in a recording with a tenth of the calls."""
+def instructions(programs, room, whole, calls, *asked):
+    """Returns the table cells with the instructions per call, counted in a recording with a tenth of the calls, and with
+    how many times these instructions the whole recording takes. The last cell is `-` for a recording of more than a
+    million calls.
+    """
     file = write(f"{room}/tenth", calls // 10, *asked)
-    ours, hand = (10 * (instructions_of(words, file) or 0) // calls for words in programs)
-    return f"{ours:,}", f"{hand:,}", ratio(ours, hand)
+    ours, hand = (instructions_of(words, file) or 0 for words in programs)
+    all_ours = (instructions_of(programs[0], whole) or 0) if calls <= MILLION else 0
+    return f"{10 * ours // calls:,}", f"{10 * hand // calls:,}", ratio(ours, hand), ratio(all_ours, ours)
 
 
 def lines_of(calls, threads, keys, has_spanning):

@@ -11,11 +11,11 @@ use Rattle.lset_words.specs.Words.{key_of}
 use Rattle.lset_text.specs.declared.words.CallWord.{CallWord}
 use Rattle.lset_text.specs.declared.words.CallWord.TheVariants as word
 use Rattle.lset_text.specs.declared.words.Version.TheVariants.{One}
-use Rattle.lset_text.specs.Parts.{line_of}
+use Rattle.lset_text.specs.Parts.{line_of, Lacks}
 use Rattle.lset_text.specs.Forms.{Told}
 use Rattle.lset_text.specs.Kinds.{LineKind, line_in}
 use Rattle.lset_text.specs.Spellings.{call_word_text, word_of, with_key, HasWord}
-use Rattle.lset_text.proofs.KindLaws.{Knows, line_found}
+use Rattle.lset_text.proofs.KindLaws.{Knows, line_found, line_found_lacks}
 use Rattle.lset_text.proofs.WordLaws.{same_bytes}
 use Rattle.lset_judge.specs.declared.stream.StreamCall.{StreamCall}
 use Rattle.lset_judge.specs.declared.stream.TheConstants.{LAST_MOMENT}
@@ -152,6 +152,12 @@ pub line_found_in : (s : Section) (line : List ℕ) (l : Line) → line_told s l
     → (line ≡ line_of (line_pieces l)) × IsLine l × Comes s l
 line_found_in section.Title line l is = titled (bytes_eq line title) line l refl is
 line_found_in s line l is = behind_title s line l is
+
+-- A line of the section of calls contains no newline.
+pub line_lacks : (line : List ℕ) (l : Line) → line_told section.Calls line ≡ Ok l → Lacks 10 line
+line_lacks line l is =
+    line_found_lacks One wrong.Line line_pieces (IsLineIn section.Calls) (kinds section.Calls) line l (kinds_known section.Calls)
+    (short_line (nat_lt LONGEST_LINE (length line)) wrong.Line (line_in One wrong.Line (kinds section.Calls) line) l is)
 
 pub is_formed : (l : Line) → IsLine l → IsFormed l
 is_formed (told.Opening k) is = is

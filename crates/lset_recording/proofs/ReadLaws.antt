@@ -13,6 +13,8 @@ use Rattle.lset_text.specs.Kinds.{line_in}
 use Rattle.lset_text.specs.declared.words.Version.TheVariants.{One}
 use Rattle.lset_text.proofs.PartLaws.{some_part, Lacks-append}
 use Rattle.lset_text.proofs.WordLaws.{same_bytes}
+use Rattle.lset_judge.specs.declared.stream.StreamCall.{StreamCall}
+use Rattle.lset_recording.proofs.LineKinds.{line_found_in, line_lacks}
 use Rattle.lset_text.specs.declared.causes.Cause.{Cause}
 use Rattle.lset_text.specs.declared.causes.Cause.TheVariants as wrong
 use Rattle.lset_text.specs.declared.causes.LineFault.{LineFault}
@@ -25,7 +27,7 @@ use Rattle.lset_recording.specs.declared.recording_lines.TheConstants.{LONGEST_L
 use Rattle.lset_recording.specs.declared.reader.RecordingReader.{RecordingReader}
 use Rattle.lset_recording.specs.declared.recording_judge.RecordingAnswer.{RecordingAnswer}
 use Rattle.lset_recording.specs.Texts.{Recording, title}
-use Rattle.lset_recording.specs.Reading.{SoFar, IsTaken, IsRefused, Reads, Says, cause_if_long, ending, first_line, kinds, line_behind_title, line_told}
+use Rattle.lset_recording.specs.Reading.{Comes, GoesOn, SoFar, IsTaken, IsRefused, Reads, Says, cause_if_long, cause_of, ending, first_line, kinds, line_behind_title, line_told, takes_calls, with_told}
 use Rattle.lset_recording.specs.Kept.{IsAnswered, IsJudging, IsHeld, IsLineOf, IsRead, IsRefusedAt, newlines}
 
 -- ---- Lemmas about a single complete line
@@ -181,6 +183,51 @@ pub whole_line : (bytes line : List ℕ) (r : RecordingReader) (is : IsRead byte
 whole_line bytes line r is lacks short none =
     subst (λ (held : List ℕ). StandsAt (bytes ++ line) (held ++ line) r.judging.number is.told) (sym (nothing_held bytes r is short none))
     (held_more bytes is.held line r.judging.number is.told (stands bytes r is) lacks)
+
+-- ---- Lemmas about the line of a completed call within a piece
+
+-- The line tells this call in each section that allows calls.
+abbrev pub Tells : List ℕ → StreamCall → Type 0
+Tells line x = (p : Section) → takes_calls p ≡ true → line_told p line ≡ Ok (told.Call x)
+
+-- After the line, the section allows calls.
+pub call_read : (bytes line : List ℕ) (r q : RecordingReader) (x : StreamCall) → IsRead bytes r → r.line.items ≡ [] → r.is_long ≡ false
+    → takes_calls r.judging.section ≡ true → Tells line x
+    → ((s : SoFar) → IsJudging s r.judging → Comes s.section (told.Call x) → GoesOn s.told (told.Call x)
+    × IsJudging (with_told s (told.Call x)) q.judging × (q.judging.number ≡ r.judging.number + 1))
+    → q.line.items ≡ [] → q.is_long ≡ false → q.failed ≡ None
+    → IsRead (bytes ++ line ++ 10 ∷ []) q × (takes_calls q.judging.section ≡ true)
+call_read bytes line r q x is none short takes tells put after_none after_short sound =
+    let s = is.told in
+    let tells_here = tells s.section (subst (λ (p : Section). takes_calls p ≡ true) is.judging.section takes) in
+    let lacks = line_lacks line (told.Call x) (tells part.Calls refl) in
+    let next = put s is.judging (line_found_in s.section line (told.Call x) tells_here).2 in (
+      line_read (bytes ++ line) line r.judging.number s (whole_line bytes line r is lacks short none) (with_told s (told.Call x)) q
+          (told.Call x, tells_here, next.0, refl) next.1 next.2 after_none after_short sound,
+      subst (λ (p : Section). takes_calls p ≡ true) (sym next.1.section) refl,
+    )
+
+pub call_refused : (bytes line : List ℕ) (r : RecordingReader) (x : StreamCall) (cause : Cause) → IsRead bytes r → r.line.items ≡ []
+    → r.is_long ≡ false → takes_calls r.judging.section ≡ true → Tells line x
+    → (cause ≡ cause_of (told.Call x)) × ((s : SoFar) → IsJudging s r.judging → GoesOn s.told (told.Call x) → ⊥)
+    → (more : List ℕ) → Says ((bytes ++ line ++ 10 ∷ []) ++ more) (Err (fault r.judging.number cause))
+call_refused bytes line r x cause is none short takes tells put more =
+    let s = is.told in
+    let tells_here = tells s.section (subst (λ (p : Section). takes_calls p ≡ true) is.judging.section takes) in
+    let lacks = line_lacks line (told.Call x) (tells part.Calls refl) in
+    line_refused (bytes ++ line) line r.judging.number s (whole_line bytes line r is lacks short none) cause
+    (inr (told.Call x, tells_here, put.1 s is.judging, put.0)) more
+
+-- The line of an error in the rest of a piece is a line of the piece.
+pub line_of_rest : (bytes done rest : List ℕ) (n : ℕ) → IsLineOf (bytes ++ done) rest n → IsLineOf bytes (done ++ rest) n
+line_of_rest bytes done rest n is =
+    let before = newlines_and bytes done in
+    let all = newlines_and bytes (done ++ rest) in
+    let parts = newlines_and done rest in
+    let here = newlines_and (bytes ++ done) rest in
+    let low = is.0 in
+    let high = is.1 in
+    (omega (arith, low, before), omega (arith, high, before, all, parts, here))
 
 -- ---- Lemmas about the end of the text
 

@@ -1,53 +1,47 @@
 //! A fast path for the lines of completed calls, which are most lines of a long recording. It reads such a line in one
 //! pass. For any other line, and for an error, the result is `None`, and the line is read in the general way.
 
-ghost use Rattle.std.specs.Prelude.{◌≡◌, ◌≤◌, ◌++◌, ◌∷◌, IfSome, Ok, true, codes};
+ghost use Rattle.std.specs.Prelude.{◌≡◌, ◌≤◌, ◌++◌, ◌∷◌, IfSome, List, ℕ, Ok, true, codes};
 ghost use Rattle.std.specs.Fmt.{decimal};
 ghost use Rattle.lset_text.specs.declared.words.Version.TheVariants.{One};
-ghost use Rattle.lset_text.specs.Kinds.{line_in};
 ghost use Rattle.lset_text.specs.Numbers.{max_number};
 ghost use Rattle.lset_text.specs.Spellings.{call_word_text, reply_text, HasWord};
 ghost use Rattle.lset_judge.specs.Verdict.{is_truth};
 ghost use Rattle.lset_recording.specs.declared.recording_lines.Section.{Section};
 ghost use Rattle.lset_recording.specs.declared.recording_lines.Line.TheVariants.{Call};
-ghost use Rattle.lset_recording.specs.Reading.{kinds, takes_calls};
+ghost use Rattle.lset_recording.specs.Reading.{line_told, takes_calls};
 
 use lset_judge::{LAST_MOMENT, StreamCall};
 use lset_text::{CallWord, Cause};
 use lset_words::{Key, Reply};
 
-/// The largest value to which a digit can be appended without overflow: 10 * value + 9 is still a moment.
-const LAST_WITH_A_DIGIT: u64 = 922_337_203_685_477_579;
+/// The maximum number of digits that are read. A number with so many digits is less than 2^64.
+const MOST_DIGITS: usize = 19;
 
-/// Returns the number before the first space, and the bytes after the space. Also returns `None` for the last eight
-/// moments.
+/// Returns the number before the first space, and the bytes after the space.
+#[inline(always)]
 fn digits_before(text: &[u8]) -> Option<(u64, &[u8])>
-    ensures { IfSome result (λ p. (text.now ≡ decimal p.0 ++ 32 ∷ p.1.now) × (p.0 ≤ LAST_MOMENT)) }
+    ensures { IfSome result (λ p. text.now ≡ decimal p.0 ++ 32 ∷ p.1.now) }
 {
-    let [first, rest @ ..] = text else {
-        return None;
-    };
-    if !first.is_ascii_digit() {
+    let most = text.len().min(MOST_DIGITS);
+    let mut value: u64 = 0;
+    let mut i = 0;
+    while i < most && text[i].is_ascii_digit() {
+        value = value * 10 + u64::from(text[i] - b'0');
+        i += 1;
+    }
+    if i == text.len() || text[i] != b' ' {
         return None;
     }
-    let mut value = u64::from(*first - b'0');
-    for (i, byte) in rest.iter().enumerate() {
-        if !byte.is_ascii_digit() {
-            return if *byte == b' ' {
-                Some((value, &rest[i + 1..]))
-            } else {
-                None
-            };
-        }
-        if value == 0 || value > LAST_WITH_A_DIGIT {
-            return None;
-        }
-        value = value * 10 + u64::from(*byte - b'0');
+    // The number needs a digit, and none may follow a leading zero.
+    if text[0] <= b'0' && i != 1 {
+        return None;
     }
-    None
+    Some((value, &text[i + 1..]))
 }
 
 /// Returns the thread or key before the first space, and the bytes after the space.
+#[inline(always)]
 fn number_before(text: &[u8]) -> Option<(u32, &[u8])>
     ensures { IfSome result (λ p. (text.now ≡ decimal p.0 ++ 32 ∷ p.1.now) × (p.0 ≤ max_number)) }
 {
@@ -59,11 +53,12 @@ fn number_before(text: &[u8]) -> Option<(u32, &[u8])>
 }
 
 /// Returns the moment before the first space, and the bytes after the space.
+#[inline(always)]
 fn moment_before(text: &[u8]) -> Option<(u64, &[u8])>
     ensures { IfSome result (λ p. (text.now ≡ decimal p.0 ++ 32 ∷ p.1.now) × (1 ≤ p.0) × (p.0 ≤ LAST_MOMENT)) }
 {
     let (value, rest) = digits_before(text)?;
-    if value == 0 {
+    if value == 0 || value > LAST_MOMENT {
         return None;
     }
     Some((value, rest))
@@ -92,13 +87,13 @@ fn word_before(text: &[u8]) -> Option<(CallWord, &[u8])>
     }
 }
 
-/// Returns the reply `true` or `false`, if the text spells it.
-fn reply_in(text: &[u8]) -> Option<Reply>
-    ensures { IfSome result (λ reply. (text.now ≡ reply_text reply) × (is_truth reply ≡ true)) }
+/// Returns the reply `true` or `false` with which the text begins, and the bytes after the reply.
+fn reply_before(text: &[u8]) -> Option<(Reply, &[u8])>
+    ensures { IfSome result (λ p. (text.now ≡ reply_text p.0 ++ p.1.now) × (is_truth p.0 ≡ true)) }
 {
     match text {
-        b"true" => Some(Reply::True),
-        b"false" => Some(Reply::False),
+        [b't', b'r', b'u', b'e', rest @ ..] => Some((Reply::True, rest)),
+        [b'f', b'a', b'l', b's', b'e', rest @ ..] => Some((Reply::False, rest)),
         _ => None,
     }
 }
@@ -113,22 +108,38 @@ fn behind_call(line: &[u8]) -> Option<&[u8]>
     }
 }
 
-/// Reads the line of a completed call, in a section that allows calls. `None` does not mean that the line is wrong.
-pub(crate) fn quick_call(line: &[u8]) -> Option<StreamCall>
-    ensures { IfSome result (λ call. (section : Section) → takes_calls section ≡ true
-        → line_in One Cause.Line (kinds section) line.now ≡ Ok (Call call)) }
+/// Reads the line of a completed call with which a text begins, in a section that allows calls. Returns the call, and
+/// the bytes after its reply. `None` does not mean that the line is wrong.
+#[inline(always)]
+pub(crate) fn quick_call(text: &[u8]) -> Option<(StreamCall, &[u8])>
+    ensures { IfSome result (λ p. (line : List ℕ) × (text.now ≡ line ++ p.1.now)
+        × ((section : Section) → takes_calls section ≡ true → line_told section line ≡ Ok (Call p.0))) }
 {
-    let rest = behind_call(line)?;
+    let rest = behind_call(text)?;
     let (thread, rest) = number_before(rest)?;
     let (word, rest) = word_before(rest)?;
     let (key, rest) = number_before(rest)?;
     let (begun, rest) = moment_before(rest)?;
     let (end, rest) = moment_before(rest)?;
-    let reply = reply_in(rest)?;
-    Some(StreamCall {
+    let (reply, rest) = reply_before(rest)?;
+    let call = StreamCall {
         thread,
         call: word.with_key(Key(key)),
         begun,
         ended: Some((end, reply)),
-    })
+    };
+    Some((call, rest))
+}
+
+/// Reads the line of a completed call and its newline with which a text begins, in a section that allows calls. Returns
+/// the call, and the bytes after the newline. `None` does not mean that the line is wrong.
+pub(crate) fn quick_line(text: &[u8]) -> Option<(StreamCall, &[u8])>
+    ensures { IfSome result (λ p. (line : List ℕ) × (text.now ≡ line ++ 10 ∷ p.1.now)
+        × ((section : Section) → takes_calls section ≡ true → line_told section line ≡ Ok (Call p.0))) }
+{
+    let (call, rest) = quick_call(text)?;
+    match rest {
+        [b'\n', more @ ..] => Some((call, more)),
+        _ => None,
+    }
 }

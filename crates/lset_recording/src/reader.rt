@@ -1,13 +1,14 @@
-ghost use Rattle.std.specs.Prelude.{◌≡◌, ◌≢◌, ◌+◌, ◌++◌, ◌∷◌, [], Ok, Err, IfOk, IfErr, OnOk, List, ℕ, IsTrue, MatchOption, false};
+ghost use Rattle.std.specs.Prelude.{◌≡◌, ◌≢◌, ◌+◌, ◌++◌, ◌∷◌, [], Ok, Err, IfOk, IfErr, OnOk, List, ℕ, IsTrue, MatchOption, false, true};
 ghost use Rattle.lset_text.specs.Causes.{fault};
 ghost use Rattle.lset_text.specs.Parts.{Lacks};
-ghost use Rattle.lset_recording.specs.Reading.{RecordingsAreRead, Says, first_line};
+ghost use Rattle.lset_recording.specs.Reading.{RecordingsAreRead, Says, first_line, takes_calls};
 ghost use Rattle.lset_recording.specs.Texts.{Recording};
 ghost use Rattle.lset_recording.specs.Kept.{HasFailed, IsAnswered, IsLineOf, IsRead, IsRefusedAt, newlines};
 
 use crate::kept::Judging;
+use crate::quick::quick_line;
 use crate::recording_judge::RecordingAnswer;
-use crate::recording_lines::LONGEST_LINE;
+use crate::recording_lines::{LONGEST_LINE, Line};
 use arrayvec::ArrayVec;
 use lset_text::{Cause, LineFault};
 use memchr::memchr;
@@ -122,18 +123,57 @@ impl RecordingReader {
         self.newline_in()
     }
 
+    /// Reads the lines of completed calls with which the bytes begin. Returns the bytes after these lines. No bytes of a
+    /// line may be stored, and the section must allow calls.
+    fn quick_calls_in<'a>(&mut self, piece: &'a [u8]) -> Result<&'a [u8], LineFault>
+        requires none { self.old.line.items ≡ [] }
+        requires short { self.old.is_long ≡ false }
+        requires takes { takes_calls self.old.judging.section ≡ true }
+        ensures taken { IfOk result (λ rest. (done : List ℕ) × (piece.now ≡ done ++ rest.now)
+            × ((bytes : List ℕ) → IsRead bytes self.old → IsRead (bytes ++ done) self.new)) }
+        ensures refused { IfErr result (λ fault. (bytes : List ℕ) → IsRead bytes self.old → IsRefusedAt (bytes ++ piece.now) fault) }
+        ensures line { IfErr result (λ fault. (bytes : List ℕ) → IsRead bytes self.old → IsLineOf bytes piece.now fault.line) }
+    {
+        let mut rest = piece;
+        while let Some((call, more)) = quick_line(rest) {
+            if let Err(cause) = self.judging.put(Line::Call(call)) {
+                return Err(self.fault(cause));
+            }
+            rest = more;
+        }
+        Ok(rest)
+    }
+
+    /// Reads the lines of completed calls with which the bytes begin, if a line begins here. Returns the bytes after
+    /// these lines.
+    fn calls_in<'a>(&mut self, piece: &'a [u8]) -> Result<&'a [u8], LineFault>
+        ensures taken { IfOk result (λ rest. (done : List ℕ) × (piece.now ≡ done ++ rest.now)
+            × ((bytes : List ℕ) → IsRead bytes self.old → IsRead (bytes ++ done) self.new)) }
+        ensures refused { IfErr result (λ fault. (bytes : List ℕ) → IsRead bytes self.old → IsRefusedAt (bytes ++ piece.now) fault) }
+        ensures line { IfErr result (λ fault. (bytes : List ℕ) → IsRead bytes self.old → IsLineOf bytes piece.now fault.line) }
+    {
+        if self.holds_none() && self.judging.takes_calls() {
+            self.quick_calls_in(piece)
+        } else {
+            Ok(piece)
+        }
+    }
+
     /// Reads the next bytes. There has been no error so far.
     fn bytes_in(&mut self, piece: &[u8]) -> Result<(), LineFault>
         ensures taken { OnOk result ((bytes : List ℕ) → IsRead bytes self.old → IsRead (bytes ++ piece.now) self.new) }
         ensures refused { IfErr result (λ fault. (bytes : List ℕ) → IsRead bytes self.old → IsRefusedAt (bytes ++ piece.now) fault) }
         ensures line { IfErr result (λ fault. (bytes : List ℕ) → IsRead bytes self.old → IsLineOf bytes piece.now fault.line) }
     {
-        let mut rest = piece;
+        let mut rest = self.calls_in(piece)?;
         while let Some((line, more)) = next_line(rest) {
             if let Err(fault) = self.line_in(line) {
                 return Err(fault);
             }
-            rest = more;
+            rest = match self.calls_in(more) {
+                Ok(rest) => rest,
+                Err(fault) => return Err(fault),
+            };
         }
         self.hold(rest);
         Ok(())

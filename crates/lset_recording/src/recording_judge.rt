@@ -7,7 +7,7 @@ ghost use Rattle.lset_words.specs.History.{MayFollow};
 ghost use Rattle.lset_text.specs.Openings.{is_above};
 ghost use Rattle.lset_judge.specs.Stream.{record_of};
 ghost use Rattle.lset_recording.specs.Texts.{IsRecording, Recording, all_threads};
-ghost use Rattle.lset_recording.specs.Reading.{Comes, GoesOn, IsFormed, IsTaken, IsRefused, IsVerdictOnRecording, SoFar, cause_at_end, cause_if_long, cause_of, ending, is_done, nothing_told, section_after, with_line, with_told};
+ghost use Rattle.lset_recording.specs.Reading.{Comes, GoesOn, IsFormed, IsTaken, IsRefused, IsVerdictOnRecording, SoFar, cause_at_end, cause_if_long, cause_of, ending, is_done, nothing_told, section_after, takes_calls, with_line, with_told};
 ghost use Rattle.lset_recording.specs.Kept.{IsAnswered, IsFirst, IsJudging, IsKept, IsJudgeKept};
 
 use crate::kept::Judging;
@@ -172,7 +172,9 @@ impl Judging {
         }
     }
 
-    fn put(&mut self, line: Line) -> Result<(), Cause>
+    /// Adds a line that is allowed in the section. If it cannot follow the lines before it, returns the cause.
+    #[inline(always)]
+    pub(crate) fn put(&mut self, line: Line) -> Result<(), Cause>
         requires { IsFormed line }
         ensures taken { OnOk result ((s : SoFar) → IsJudging s self.old → Comes s.section line
             → GoesOn s.told line × IsJudging (with_told s line) self.new × (self.new.number ≡ self.old.number + 1)) }
@@ -203,6 +205,13 @@ impl Judging {
     {
         let line = line_told(self.section, line)?;
         self.put(line)
+    }
+
+    /// Returns whether calls are allowed in the current section.
+    pub(crate) fn takes_calls(&self) -> bool
+        ensures { result ≡ takes_calls self.now.section }
+    {
+        self.section.takes_calls()
     }
 
     /// Returns the cause of the error if the next line has too many bytes.

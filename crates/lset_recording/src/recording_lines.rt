@@ -78,7 +78,7 @@ impl Section {
         matches!(self, Section::Opening)
     }
 
-    fn takes_calls(self) -> bool
+    pub(crate) fn takes_calls(self) -> bool
         ensures { result ≡ takes_calls self }
     {
         matches!(self, Section::Opening | Section::Calls)
@@ -264,13 +264,15 @@ pub fn line_told(section: Section, line: &[u8]) -> Result<Line, Cause>
     if section.is_title() {
         return title_told(line);
     }
+    if section.takes_calls() {
+        if let Some((call, rest)) = quick_call(line) {
+            if rest.is_empty() {
+                return Ok(Line::Call(call));
+            }
+        }
+    }
     if line.len() > LONGEST_LINE {
         return Err(Cause::Line);
-    }
-    if section.takes_calls() {
-        if let Some(call) = quick_call(line) {
-            return Ok(Line::Call(call));
-        }
     }
     line_in(section, line)
 }

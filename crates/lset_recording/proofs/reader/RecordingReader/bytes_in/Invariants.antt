@@ -5,7 +5,7 @@ use Rattle.lset_recording.proofs.reader.RecordingReader.bytes_in.Given as goal
 -- Some bytes of the piece have been read.
 abbrev pub invariant-loop-line : goal.invariant-loop-line
 invariant-loop-line l =
-    (done : List ℕ) × (l.piece ≡ done ++ l.rest) × ((bytes : List ℕ) → IsRead bytes l.initial.self → IsRead (bytes ++ done) l.self)
+    (done : List ℕ) × (l.piece ≡ done ++ l.rest) × ((bytes : List ℕ) → IsRead bytes l.fn.self → IsRead (bytes ++ done) l.self)
 
 abbrev pub decreases-loop-line : goal.decreases-loop-line
 decreases-loop-line l = length l.rest
