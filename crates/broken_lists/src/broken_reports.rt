@@ -4,7 +4,7 @@ ghost use Rattle.lset_words.specs.Words.{Opens};
 ghost use Rattle.lset_text.specs.declared.words.Version.TheVariants.{Two};
 ghost use Rattle.lset_schedule.specs.Plan.{opening_in, view};
 
-use crate::broken_runs::broken_world;
+use crate::broken_runs::broken_world_of;
 use crate::lists::BrokenList;
 use lset_replay::{RunCalls, calls_of};
 use lset_report::Report;
@@ -38,7 +38,7 @@ pub fn read_broken_schedule(
 fn run_calls(alloc: Global, broken: BrokenList, schedule: &Schedule) -> Result<RunCalls, AllocError>
     requires { Opens (opening_in (view schedule.now)) }
 {
-    let world = broken_world(alloc, broken, schedule)?;
+    let world = broken_world_of(alloc, broken, schedule)?;
     calls_of(alloc, schedule, world)
 }
 

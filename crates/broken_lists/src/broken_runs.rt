@@ -13,7 +13,7 @@ use std::alloc::{AllocError, Global};
 /// `lset_replay::calls_of` collects the calls of the run and an order of them. If `check_order` refuses this order, some
 /// other order can still explain the calls. `schedule` must be within the limits, as every schedule from `read_schedule`
 /// is. Returns `AllocError` if an allocation fails.
-pub fn broken_world(
+pub fn broken_world_of(
     alloc: Global,
     broken: BrokenList,
     schedule: &Schedule,

@@ -4,7 +4,7 @@ ghost use Rattle.lset_schedule.specs.Plan.{IsSchedule, view};
 
 use crate::trace_command::Trace;
 use crate::trace_command::trace_lines::{Lines, Sink, head_of};
-use broken_lists::{broken_world, read_broken_schedule};
+use broken_lists::{broken_world_of, read_broken_schedule};
 use lset_coarse::CoarseList;
 use lset_fine::FineList;
 use lset_lazy::LazyList;
@@ -90,7 +90,7 @@ pub(crate) fn trace_into<S: Sink>(
         return trace_named(alloc, &schedule, options.chains, sink);
     };
     let schedule = read_broken_schedule(alloc, broken, text)?;
-    let world = broken_world(alloc, broken, &schedule)?;
+    let world = broken_world_of(alloc, broken, &schedule)?;
     let run = TracedRun::opened(alloc, &schedule, world, options.chains)?;
     sink.take(&head_of(alloc, &schedule, Some(broken.name()))?)?;
     trace(&schedule, run, sink)
