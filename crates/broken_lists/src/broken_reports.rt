@@ -4,7 +4,7 @@ ghost use Rattle.lset_words.specs.Words.{Opens};
 ghost use Rattle.lset_text.specs.declared.words.Version.TheVariants.{Two};
 ghost use Rattle.lset_schedule.specs.Plan.{opening_in, view};
 
-use crate::broken_runs::broken_run;
+use crate::broken_runs::broken_world_of;
 use crate::lists::BrokenList;
 use lset_replay::{RunCalls, calls_of};
 use lset_report::Report;
@@ -38,8 +38,8 @@ pub fn read_broken_schedule(
 fn run_calls(alloc: Global, broken: BrokenList, schedule: &Schedule) -> Result<RunCalls, AllocError>
     requires { Opens (opening_in (view schedule.now)) }
 {
-    let run = broken_run(alloc, broken, schedule, false)?;
-    calls_of(alloc, schedule, run)
+    let world = broken_world_of(alloc, broken, schedule)?;
+    calls_of(alloc, schedule, world)
 }
 
 /// Reads a schedule for a broken list, runs it, and returns a report of version 2. The report's order places the calls
@@ -57,7 +57,7 @@ pub fn report_broken(alloc: Global, broken: BrokenList, text: &[u8]) -> Result<R
     let refused = |_| LineFault::at(KIND_LINE, Cause::Memory);
     let calls = run_calls(alloc, broken, &schedule).map_err(refused)?;
     match calls.refused {
-        Some((line, cause)) => Err(LineFault::at(line, cause)),
+        Some(fault) => Err(fault),
         None => Ok(Report {
             version: Version::Two,
             kind: schedule.kind,

@@ -1,7 +1,7 @@
 //! The broken lists. Each is one of the five lists with one check removed.
 //!
 //! `BrokenList` names a broken list, and `flaws` has its steps. A broken list violates the laws of a list. Therefore it
-//! is not a `Machine`, and its state is a `BrokenWorld`. `broken_run` runs a schedule on it. Some of its runs have
+//! is not a `Machine`, and its state is a `BrokenWorld`. `broken_world_of` opens it for a schedule. Some of its runs have
 //! calls that no order explains.
 #![tactic(auto)]
 
@@ -16,6 +16,6 @@ mod flaws;
 mod lists;
 
 pub use broken_reports::{read_broken_schedule, report_broken};
-pub use broken_runs::broken_run;
+pub use broken_runs::broken_world_of;
 pub use broken_world::BrokenWorld;
 pub use lists::{ALL, BrokenList, named};

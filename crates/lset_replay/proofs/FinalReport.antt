@@ -1,5 +1,5 @@
 -- The report at the end of a recorded run.
-use Rattle.std.proofs.Common.{◌≡◌, ℕ, suc, ◌<◌, ◌≤◌, Bool, true, false, List, [], ◌∷◌, length, map, sym, refl, subst, ap, ◌∙◌, arith}
+use Rattle.std.proofs.Common.{◌≡◌, ℕ, suc, ◌<◌, Bool, true, false, List, [], ◌∷◌, length, map, sym, refl, subst, ap, ◌∙◌, arith}
 use Rattle.std.specs.Prelude.{Option, Some, None}
 use Rattle.std.specs.List.{swap}
 use Rattle.std.specs.List.Sorted.{IsPermutation}
@@ -20,7 +20,7 @@ use Rattle.lset_replay.specs.Trace.{trace_at, place_at, Trace}
 use Rattle.lset_replay.specs.PlacedOrder.{point_of, pointed_from, IsOrderOf}
 use Rattle.lset_replay.proofs.KeyChanges.{HoldsKeys}
 use Rattle.lset_replay.proofs.ReplayKept.{PlaceBy, PlaceOf}
-use Rattle.lset_replay.proofs.RecorderReady.{follows, few_calls}
+use Rattle.lset_replay.proofs.RecorderReady.{follows}
 use Rattle.lset_steps.specs.declared.Event.{Event}
 use Rattle.lset_steps.specs.Steps.{Table, Run, event_at, log_of}
 use Rattle.lset_steps.specs.Chain.{View, contents_of, counts_of}
@@ -127,7 +127,7 @@ module _ (q : ℕ) (contents : Contents) (counts : Counts) where
     is_placement order o =
         let ss : List Standing = standing 0 xs (map moment_of ps) in
         let z : (zs : List Standing) × IsPermutation ss zs × (o.sorted ≡ map pointed_of zs) =
-        moved_back pointed_of ss o.sorted (rw (pointed_each 0 xs ps l h) o.moved) in
+        moved_back pointed_of ss o.sorted (rw (pointed_each 0 xs ps l h) o.are.moved) in
         record {
           places = map moment_of ps;
           one_each = length-map ps moment_of ∙ l;
@@ -137,7 +137,7 @@ module _ (q : ℕ) (contents : Contents) (counts : Counts) where
           sorted = z.0;
           moved = z.1;
           rises = λ i j d n m. rw (get_or-map pointed_of z.0 i d (pointed_of d) (omega arith), get_or-map pointed_of z.0 j d (pointed_of d) m)
-              at ((rw z.2 at o.rises) i j (pointed_of d) n (omega (arith, length-map z.0 pointed_of)));
+              at ((rw z.2 at o.are.rises) i j (pointed_of d) n (omega (arith, length-map z.0 pointed_of)));
           in_order = o.is ∙ ap placed_in z.2 ∙ placed_each z.0;
         }
 
@@ -158,13 +158,6 @@ content_once v ks js a b = a.0.2 ∙ ap (keys_in v) (chain_once v 0 a.0.0 b.0.0 
 module _ (T : Table) (accounts : TellsKeys T) (op : Opening) (events : List LineEvent) (k : ℕ) (w : WorldState) (r : Recorder)
     (h : HasFollowed T op events k w r) where
   open shown T op events use {log, contents, counts}
-
-  pub few_places : length r.places.items ≤ k
-  few_places =
-      let kept = kept_then T accounts op events k w r h in
-      let a : length r.places.items ≡ length (calls_at log k) = kept.numbered in
-      let b : length (calls_at log k) ≤ k = few_calls log k in
-      omega arith
 
   pub order_then : (order : List Placed) → IsOrderOf r.places.items order → IsPlacement op.quota (calls_at log k) contents counts order
   order_then order o = placement op k log contents counts (account_then T accounts op events k w r h)

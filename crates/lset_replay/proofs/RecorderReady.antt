@@ -21,7 +21,7 @@ use Rattle.lset_history.proofs.Keys.{has_from, has_false, has_none}
 use Rattle.lset_history.specs.History.{IsLater, MayBegin, has_open}
 use Rattle.lset_history.proofs.Calls.{Traced, if_some, run_of, calls_of, way_of}
 use Rattle.lset_replay.proofs.KeyChanges.{Tells, HoldsKeys, may_change}
-use Rattle.lset_replay.proofs.OpenCalls.{OpenNumber, length_began, length_stepped}
+use Rattle.lset_replay.proofs.OpenCalls.{OpenNumber}
 use Rattle.lset_replay.specs.declared.recorder.Recorder.{Recorder}
 use Rattle.lset_replay.specs.Trace.{Trace, trace_at, trace_after, trace_of, MayStep, MayChange}
 use Rattle.lset_replay.proofs.ReplayKept.{Follows, follows_beginning}
@@ -161,12 +161,3 @@ module _ (op : Opening) (last : ℕ) (log : Log) (contents : Contents) (counts :
           },
           may_change contents k (moments_of r.changes) now.upto now.keys change en.content,
         )
-
--- There are never more calls than events.
-pub few_calls : (log : Log) (k : ℕ) → length (calls_at log k) ≤ k
-few_calls log zero = omega arith
-few_calls log (suc k) = at (log k) refl (few_calls log k)
-  where
-    at : (e : Entry) → log k ≡ e → length (calls_at log k) ≤ k → length (calls_at log (suc k)) ≤ suc k
-    at (began t call) h b = let a = length_began log k t call h in omega arith
-    at (stepped t change reply) h b = let a = length_stepped log k t change reply h in omega arith

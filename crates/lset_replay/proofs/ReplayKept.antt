@@ -1,6 +1,6 @@
 -- The trace after the first events of a run: its history, its pending calls, and their linearization points.
 use Rattle.std.proofs.lemmas.Grind.{common_steps}
-use Rattle.std.proofs.Common.{◌≡◌, ◌≢◌, ℕ, suc, ◌+◌, ◌<◌, ◌≤◌, true, false, inl, inr, List, [], ◌∷◌, ◌++◌, length, map, sym, refl}
+use Rattle.std.proofs.Common.{◌≡◌, ◌≢◌, ℕ, suc, ◌<◌, ◌≤◌, true, false, inl, inr, List, [], ◌∷◌, ◌++◌, length, map, sym, refl}
 use Rattle.std.proofs.Common.{subst, ap, ◌∙◌, arith, length-set, get_or-set_same, get_or-set_other}
 use Rattle.std.specs.Prelude.{All, Option, Some, None}
 use Rattle.std.proofs.lemmas.List.{length-map, get_or_push, get_or_append_left, map-append}
@@ -62,7 +62,7 @@ change_place (Some c) m p = Some (changed_at m)
 
 abbrev pub end_place : (ℕ → List ℕ) → ℕ → Option Reply → OpenCall → Option Linearized → Option Linearized
 end_place changes m None o p = p
-end_place changes m (Some r) o p = settled p (fit changes o r m) r
+end_place changes m (Some r) o p = settled p (fit changes o r m) m r
 
 module _ (m t : ℕ) where
   pub changed_calls : (ch : Option Change) (s : Trace) → (changed_on m t ch s).calls ≡ s.calls
@@ -124,7 +124,7 @@ module _ (m t : ℕ) where
       → place_at (ended_on m t r s).places o.number ≡ end_place s.changes m r o (place_at s.places o.number)
   ended_here None s o e l = refl
   ended_here (Some x) s o e l = rw e (get_or-set_same s.places o.number (settled (place_at s.places o.number)
-      (fit s.changes o x m) x) None l)
+      (fit s.changes o x m) m x) None l)
 
   pub ended_changes : (r : Option Reply) (s : Trace) → (ended_on m t r s).changes ≡ s.changes
   ended_changes None s = refl

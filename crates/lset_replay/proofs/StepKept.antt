@@ -34,7 +34,7 @@ module _ (q : ℕ) (contents : Contents) (counts : Counts) (x : TracedCall) (m :
   changed_place : (ch : Option Change) (r : Option Reply) (p : Option Linearized) (c : ℕ) → p ≡ Some (changed_at c)
       → end_place changes m r o p ≡ Some (changed_at c)
   changed_place ch None p c e = e
-  changed_place ch (Some r) p c e = ap (λ z. settled z (fit changes o r m) r) e
+  changed_place ch (Some r) p c e = ap (λ z. settled z (fit changes o r m) m r) e
 
   place_next : (changed : Option ℕ) (p : Option Linearized) (ch : Option Change) (r : Option Reply)
       → PlaceBy q contents counts x changed None p
@@ -48,7 +48,7 @@ module _ (q : ℕ) (contents : Contents) (counts : Counts) (x : TracedCall) (m :
   place_next None p None (Some a) h f =
       let w : (k : ℕ) × (fit changes o a m ≡ Some k) × IsSmallestFit q contents counts x m a k = f refl refl a refl in (
         w.0,
-        ap (λ z. settled z (fit changes o a m) a) h ∙ ap (λ z. read_at z a) w.1,
+        ap (λ z. settled z (fit changes o a m) m a) h ∙ ap (λ z. Some (read_at z m a)) w.1,
         record { from = w.2.from; upto = w.2.upto; fits = w.2.fits; smallest = w.2.smallest },
       )
 

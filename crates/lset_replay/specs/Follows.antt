@@ -1,13 +1,27 @@
--- The invariant of a replay: the world and the recorder match the events made so far.
-use Rattle.std.specs.Prelude.{◌≡◌, ℕ, ◌<◌, List, length}
+-- What holds while a schedule is run: the world and the recorder match the events made so far.
+use Rattle.std.specs.Prelude.{◌≡◌, ℕ, ◌<◌, List, length, Result}
+use Rattle.lset_text.specs.declared.causes.Cause.{Cause}
+use Rattle.lset_text.specs.declared.causes.Cause.TheVariants as cause
+use Rattle.lset_text.specs.declared.causes.LineFault.{LineFault}
+use Rattle.lset_steps.specs.declared.Event.{Event}
+use Rattle.lset_steps.specs.declared.Told.{Told}
+use Rattle.lset_steps.specs.declared.world.StepFault.TheVariants as step
 use Rattle.lset_steps.specs.Steps.{Table, Run, event_at, log_of}
 use Rattle.lset_steps.specs.Worlds.{WorldState}
+use Rattle.lset_steps.specs.Promises.{HasAccount, ListedContent}
 use Rattle.lset_replay.specs.declared.events.LineEvent.{LineEvent}
 use Rattle.lset_replay.specs.declared.recorder.Recorder.{Recorder}
 use Rattle.lset_replay.specs.Events.{only_events, line_at}
+use Rattle.lset_replay.specs.Made.{HasMade}
 use Rattle.lset_replay.specs.Trace.{trace_at, trace_of}
-use Rattle.lset_replay.specs.Reports.{world_after}
+use Rattle.lset_replay.specs.Reports.{world_after, IsFirstRefused}
 use Rattle.lset_words.specs.Words.{Opening}
+
+-- The events of these worlds are the steps of a list. `state` returns the state of a world.
+pub record AreSteps (T : Table) (W : Type 0) (makes : W → Event → Result Told Cause → W → Type 0) (state : W → WorldState) : Type 0 where
+  pub account : HasAccount T
+  pub listed : ListedContent T
+  pub made : (w : W) (e : Event) (r : Result Told Cause) (w' : W) → makes w e r w' → HasMade T (state w) e r (state w')
 
 -- The first `k` events have been made. `w` is the world after them, and `r` is the recorder.
 pub record HasFollowed (T : Table) (op : Opening) (events : List LineEvent) (k : ℕ) (w : WorldState) (r : Recorder) : Type 0 where
@@ -15,9 +29,21 @@ pub record HasFollowed (T : Table) (op : Opening) (events : List LineEvent) (k :
   pub world : w ≡ world_after T op (only_events events) k
   pub trace : trace_of r ≡ trace_at op (log_of T op (event_at (only_events events))) k
   pub opening_is : r.history.opening ≡ op
+  pub counted : r.last ≡ k
 
 -- The event that follows the first k events.
 pub record ComesNext (es : List LineEvent) (k : ℕ) (next : LineEvent) : Type 0 where
   pub known : k < length es
   pub event_is : event_at (only_events es) k ≡ next.event
   pub line_is : next.line ≡ line_at es k
+
+-- Why a run of a list stops: at the first event that is not enabled, or at a failed allocation.
+abbrev pub IsStoppedBy : Table → Opening → List LineEvent → ℕ → Cause → Type 0
+IsStoppedBy T op events line cause.NoThread = IsFirstRefused T op events line step.NoThread
+IsStoppedBy T op events line cause.Busy = IsFirstRefused T op events line step.Busy
+IsStoppedBy T op events line cause.Idle = IsFirstRefused T op events line step.Idle
+IsStoppedBy T op events line cause.Memory = Unit {0}
+IsStoppedBy T op events line other = ⊥
+
+abbrev pub IsStopped : Table → Opening → List LineEvent → LineFault → Type 0
+IsStopped T op events stopped = IsStoppedBy T op events stopped.line stopped.cause

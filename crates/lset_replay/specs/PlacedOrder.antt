@@ -17,9 +17,14 @@ pointed_from number (None ∷ ps) = pointed_from (suc number) ps
 pointed_from number (Some p ∷ ps) =
     record { point = point_of p; placed = record { call = number; reply = p.reply } } ∷ pointed_from (suc number) ps
 
--- The order is sorted by linearization points: by moment and, at one moment, the change first, then by call number.
-pub record IsOrderOf (ps : List (Option Linearized)) (order : List Placed) : Type 0 where
-  pub sorted : List Pointed
+-- These are the calls that have a linearization point, sorted: by moment and, at one moment, the change first, then by
+-- call number.
+pub record AreSorted (ps : List (Option Linearized)) (sorted : List Pointed) : Type 0 where
   pub moved : IsPermutation (pointed_from 0 ps) sorted
   pub rises : AllPairs IsPlacedBefore sorted
+
+-- The order is that of the sorted calls.
+pub record IsOrderOf (ps : List (Option Linearized)) (order : List Placed) : Type 0 where
+  pub sorted : List Pointed
+  pub are : AreSorted ps sorted
   pub is : order ≡ placed_in sorted

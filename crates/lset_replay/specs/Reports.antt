@@ -46,11 +46,6 @@ pub record IsFirstRefused (T : Table) (op : Opening) (events : List LineEvent)
   pub before : Run T op (event_at (only_events events)) index
   pub refused : Refused (world_after T op (only_events events) index) (event_at (only_events events) index) cause
 
-abbrev pub fault_at : ℕ → StepFault → ReplayFault
-fault_at line step.NoThread = fault.NoThread line
-fault_at line step.Busy = fault.Busy line
-fault_at line step.Idle = fault.Idle line
-
 -- Why a replay fails: the line and the cause of the first event that is not enabled, or a failed allocation.
 abbrev pub IsRefusal : Table → Opening → List LineEvent → ReplayFault → Type 0
 IsRefusal T op events (fault.NoThread line) = IsFirstRefused T op events line step.NoThread

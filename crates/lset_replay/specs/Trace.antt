@@ -54,15 +54,16 @@ fit changes o reply last = first_passing (needs_key o.call reply) (shows changes
 abbrev pub changed_at : ℕ → Linearized
 changed_at moment = record { moment = moment; reply = reply.True; change = true }
 
-abbrev pub read_at : Option ℕ → Reply → Option Linearized
-read_at None reply = None
-read_at (Some moment) reply = Some (record { moment = moment; reply = reply; change = false })
+-- The linearization point of a call that changes nothing: the first moment at which its reply is correct. A call of a
+-- list has such a moment. A call of a broken list can lack one, and its linearization point is then its end.
+abbrev pub read_at : Option ℕ → ℕ → Reply → Linearized
+read_at None end reply = record { moment = end; reply = reply; change = false }
+read_at (Some moment) end reply = record { moment = moment; reply = reply; change = false }
 
--- The linearization point of a completed call: its change if it made one, otherwise the first moment at which its reply
--- is correct.
-abbrev pub settled : Option Linearized → Option ℕ → Reply → Option Linearized
-settled (Some p) moment reply = Some p
-settled None moment reply = read_at moment reply
+-- The linearization point of a completed call: its change if it made one, otherwise that of a call that changes nothing.
+abbrev pub settled : Option Linearized → Option ℕ → ℕ → Reply → Option Linearized
+settled (Some p) moment end reply = Some p
+settled None moment end reply = Some (read_at moment end reply)
 
 -- ---- the trace
 
@@ -107,7 +108,7 @@ abbrev pub ended_by : ℕ → ℕ → Reply → Option OpenCall → Trace → Tr
 ended_by moment thread reply o s = record {
   calls = slice_set s.calls (number_of o) (ended_with (call_numbered s.calls (number_of o)) (moment, reply));
   under_way = slice_set s.under_way thread None;
-  places = slice_set s.places (number_of o) (settled (place_at s.places (number_of o)) (fit_of s.changes o reply moment) reply);
+  places = slice_set s.places (number_of o) (settled (place_at s.places (number_of o)) (fit_of s.changes o reply moment) moment reply);
   changes = s.changes;
 }
 

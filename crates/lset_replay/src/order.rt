@@ -1,15 +1,14 @@
-ghost use Rattle.std.specs.Prelude.{◌≡◌, ◌≤◌, length, IfOk};
-ghost use Rattle.lset_schedule.specs.declared.TheConstants.{MOST_EVENTS};
-ghost use Rattle.lset_replay.specs.PlacedOrder.{pointed_from, IsOrderOf};
+ghost use Rattle.std.specs.Prelude.{◌≡◌, ◌<◌, ◌^◌, length, IfOk};
+ghost use Rattle.lset_replay.specs.PlacedOrder.{pointed_from, AreSorted};
 
 use crate::places::Linearized;
-use lset_report::{Pointed, order_of, sort_by_points};
+use lset_report::{Pointed, sort_by_points};
 use lset_words::{Placed, Point};
 use std::alloc::{AllocError, Global};
 
 /// Returns the calls that have a linearization point, in the order of their numbers.
 fn pointed_calls(alloc: Global, places: &[Option<Linearized>]) -> Result<Vec<Pointed>, AllocError>
-    requires { length places.now ≤ MOST_EVENTS }
+    requires { length places.now < 2 ^ 32 }
     ensures { IfOk result (λ v. v.items ≡ pointed_from 0 places.now) }
 {
     let mut pointed = Vec::with_capacity(alloc, places.len())?;
@@ -32,15 +31,14 @@ fn pointed_calls(alloc: Global, places: &[Option<Linearized>]) -> Result<Vec<Poi
 
 /// Returns the calls in the order of their linearization points: by moment and, at one moment, with the change first
 /// and the other calls by number. Returns `AllocError` if an allocation fails.
-pub(crate) fn in_order(
+pub(crate) fn sorted_places(
     alloc: Global,
     places: &[Option<Linearized>],
-) -> Result<Vec<Placed>, AllocError>
-    requires { length places.now ≤ MOST_EVENTS }
-    ensures { IfOk result (λ v. IsOrderOf places.now v.items) }
+) -> Result<Vec<Pointed>, AllocError>
+    requires { length places.now < 2 ^ 32 }
+    ensures { IfOk result (λ v. AreSorted places.now v.items) }
 {
     let mut pointed = pointed_calls(alloc, places)?;
     sort_by_points(&mut pointed)?;
-    let order = order_of(alloc, &pointed)?;
-    Ok(order)
+    Ok(pointed)
 }

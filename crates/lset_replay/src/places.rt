@@ -50,15 +50,15 @@ impl Linearized {
         }
     }
 
-    /// Creates the linearization point of a call that changes nothing, at a moment at which its reply is correct.
-    /// Returns `None` if there is no such moment.
-    pub fn read(moment: Option<u32>, reply: Reply) -> Option<Linearized>
-        ensures { result ≡ read_at moment reply }
+    /// Creates the linearization point of a call that changes nothing: `moment`, at which its reply is correct, or the
+    /// call's end `end` if there is no such moment.
+    pub fn read(moment: Option<u32>, end: u32, reply: Reply) -> Linearized
+        ensures { result ≡ read_at moment end reply }
     {
-        Some(Linearized {
-            moment: moment?,
+        Linearized {
+            moment: moment.unwrap_or(end),
             reply,
             change: false,
-        })
+        }
     }
 }

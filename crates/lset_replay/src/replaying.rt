@@ -1,63 +1,71 @@
-ghost use Rattle.std.specs.Prelude.{◌≡◌, ◌≤◌, ◌^◌, length, IfOk, OnOk, IfErr};
-ghost use Rattle.std.specs.List.{sum_by};
-ghost use Rattle.lset_schedule.specs.declared.TheConstants.{MOST_EVENTS};
-ghost use Rattle.lset_schedule.specs.Plan.{view, event_count};
+ghost use Rattle.std.specs.Prelude.{◌≡◌, ◌≤◌, ◌^◌, List, length, IfOk, OnOk, IfErr};
+ghost use Rattle.lset_words.specs.Words.{Opening};
+ghost use Rattle.lset_schedule.specs.Plan.{view};
 ghost use Rattle.lset_schedule.specs.Plan as plan;
+ghost use Rattle.lset_steps.specs.Steps.{Table};
+ghost use Rattle.lset_steps.specs.Worlds.{WorldState};
 ghost use Rattle.lset_lists.specs.Tables.{table_of};
 ghost use Rattle.lset_report.specs.Report as report;
 ghost use Rattle.lset_report.specs.Texts.{HasWordsOfVersion};
+ghost use Rattle.lset_replay.specs.declared.events.LineEvent.{LineEvent};
 ghost use Rattle.lset_replay.specs.Events.{IsInLimits, events_from};
-ghost use Rattle.lset_replay.specs.Follows.{HasFollowed};
-ghost use Rattle.lset_replay.specs.Reports.{Replays, IsExplained, IsRefusal, fault_at};
+ghost use Rattle.lset_replay.specs.Follows.{AreSteps, HasFollowed, IsStopped};
+ghost use Rattle.lset_replay.specs.Reports.{Replays, IsExplained, IsRefusal};
 
 use crate::ReplayFault;
 use crate::events::event_of;
-use crate::order::in_order;
+use crate::order::sorted_places;
 use crate::recorder::Recorder;
 use crate::start::world_of;
+use crate::steps::Steps;
 use lset_lists::{List, Task, on_list, placement_explains_runs};
-use lset_report::Report;
+use lset_report::{Report, order_of};
 use lset_schedule::{Line, Schedule};
+use lset_steps::Machine;
 use lset_steps::laws::{has_account, listed_content};
-use lset_steps::{Machine, StepFault, World};
+use lset_text::{Cause, LineFault};
 use std::alloc::Global;
 
-fn refusal(cause: StepFault, line: u64) -> ReplayFault
-    ensures { result ≡ fault_at line cause }
+/// Returns the error of a replay that stopped for this reason. In a run of a list, no cause has the last arm.
+fn refusal(stopped: LineFault) -> ReplayFault
+    ensures { (T : Table) (op : Opening) (events : List LineEvent) → IsStopped T op events stopped → IsRefusal T op events result }
 {
-    match cause {
-        StepFault::NoThread => ReplayFault::NoThread(line),
-        StepFault::Busy => ReplayFault::Busy(line),
-        StepFault::Idle => ReplayFault::Idle(line),
+    match stopped.cause {
+        Cause::NoThread => ReplayFault::NoThread(stopped.line),
+        Cause::Busy => ReplayFault::Busy(stopped.line),
+        Cause::Idle => ReplayFault::Idle(stopped.line),
+        _ => ReplayFault::Memory,
     }
 }
 
-/// Makes and records the events of the lines in turn. `first` is the number of the first line.
-fn follow<M: Machine>(
-    world: &mut World<M>,
+/// Makes and records the events of the lines in turn. `first` is the number of the first line. The error is that of the
+/// first event that is refused; its cause is `Memory` if an allocation failed.
+pub(crate) fn follow<W: Steps>(
+    world: &mut W,
     recorder: &mut Recorder,
     first: u64,
     lines: &[Line],
-) -> Result<(), ReplayFault>
-    requires header { first ≤ 2 ^ 32 }
-    requires few { sum_by event_count lines.now ≤ MOST_EVENTS }
-    requires start { HasFollowed M.table recorder.old.history.opening (events_from first lines.now) 0
-        world.old recorder.old }
-    ensures followed { OnOk result (HasFollowed M.table recorder.old.history.opening (events_from first lines.now)
-        (length (events_from first lines.now)) world.new recorder.new) }
-    ensures refused { IfErr result (λ e. IsRefusal M.table recorder.old.history.opening (events_from first lines.now) e) }
+) -> Result<(), LineFault>
+    requires { first ≤ 2 ^ 32 }
+    ensures followed { (T : Table) (state : W → WorldState) → AreSteps T W W.makes state
+        → HasFollowed T recorder.old.history.opening (events_from first lines.now) 0 (state world.old) recorder.old
+        → OnOk result (HasFollowed T recorder.old.history.opening (events_from first lines.now)
+        (length (events_from first lines.now)) (state world.new) recorder.new) }
+    ensures stopped { (T : Table) (state : W → WorldState) → AreSteps T W W.makes state
+        → HasFollowed T recorder.old.history.opening (events_from first lines.now) 0 (state world.old) recorder.old
+        → IfErr result (IsStopped T recorder.old.history.opening (events_from first lines.now)) }
 {
-    has_account::<M>();
-    listed_content::<M>();
-    let mut events = 0u32;
     for (index, line) in lines.iter().enumerate() {
         let (next, times) = event_of(first + index as u64, *line);
         for _done in 0..times {
-            match world.step(next.event) {
-                Ok(told) => recorder.follow(next.event, told, events + 1)?,
-                Err(cause) => return Err(refusal(cause, next.line)),
+            match world.make(next.event) {
+                Ok(told) => {
+                    if let Err(cause) = recorder.follow(next.event, told) {
+                        return Err(LineFault::at(next.line, cause));
+                    }
+                }
+                Err(cause) => return Err(LineFault::at(next.line, cause)),
             }
-            events += 1;
         }
     }
     Ok(())
@@ -75,13 +83,12 @@ fn replay_on<M: Machine>(alloc: Global, schedule: &Schedule) -> Result<Report, R
     placement_explains_runs::<M>();
     let mut world = world_of::<M>(alloc, schedule)?;
     let mut recorder = Recorder::new(alloc, schedule)?;
-    follow(
-        &mut world,
-        &mut recorder,
-        schedule.first_event_line(),
-        &schedule.lines,
-    )?;
-    let order = in_order(alloc, &recorder.places)?;
+    let first = schedule.first_event_line();
+    if let Err(stopped) = follow(&mut world, &mut recorder, first, &schedule.lines) {
+        return Err(refusal(stopped));
+    }
+    let places = sorted_places(alloc, &recorder.places)?;
+    let order = order_of(alloc, &places)?;
     let keys = world.content()?;
     Ok(Report {
         version: schedule.version,

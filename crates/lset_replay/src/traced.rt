@@ -16,24 +16,19 @@ pub struct CallEnd {
     pub moment: u32,
 }
 
-/// The effect of an event of a run. `moment` is the number of the event, counted from 1. `call` is the number of the
-/// call, counted from 0, if the event began or ended it or changed the set on its behalf. `change` is the key that the
-/// event added (`true`) or removed (`false`), if any. `end` describes the end of the call, if the event ended it.
-#[derive(Clone, Copy)]
-pub struct MadeEvent {
-    pub moment: u32,
-    pub thread: u32,
-    pub call: Option<u32>,
-    pub change: Option<(Key, bool)>,
-    pub end: Option<CallEnd>,
-}
-
 /// An event of a run as shown in a trace: its line number in the schedule's text, its effect, and its thread's state
-/// before and after it. If chains were requested and the event changed the chain, it has the new chain.
+/// before and after it. `moment` is the number of the event, counted from 1. `call` is the number of the thread's
+/// pending call, counted from 0, which the event began, continued or ended. `change` is the key that the event added
+/// (`true`) or removed (`false`), if any. `end` describes the end of the call, if the event ended it. If chains were
+/// requested and the event changed the chain, `chain` is the new chain.
 #[derive(Drop)]
 pub struct TracedEvent {
     pub line: u64,
-    pub made: MadeEvent,
+    pub moment: u32,
+    pub thread: u32,
+    pub call: u32,
+    pub change: Option<(Key, bool)>,
+    pub end: Option<CallEnd>,
     pub deed: Deed,
     pub before: Local,
     pub after: Local,

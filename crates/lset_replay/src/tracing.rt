@@ -1,71 +1,15 @@
 //! Runs a schedule event by event and reports the effect of each.
-
-ghost use Rattle.std.specs.List.Sorted.{IsStrictlyIncreasing};
+ghost use Rattle.lset_words.specs.Words.{Opens};
+ghost use Rattle.lset_schedule.specs.Plan.{opening_in, view};
 
 use crate::events::LineEvent;
-use crate::moments::Moments;
-use crate::places::OpenCall;
-use crate::traced::{CallEnd, Deed, MadeEvent, TracedEvent};
-use lset_steps::{Action, ChainKey, Event, Local, Machine, StepFault, Told, World};
+use crate::recorder::Recorder;
+use crate::steps::Steps;
+use crate::traced::{CallEnd, Deed, TracedEvent};
+use lset_schedule::Schedule;
+use lset_steps::{Action, ChainKey, Event, Local, Told};
 use lset_text::Cause;
-use lset_words::{Call, MOST_THREADS, Reply};
 use std::alloc::{AllocError, Global};
-
-/// The world of a list or of a broken list, in which events can be made.
-pub trait Steps {
-    /// Returns the local state of thread `t`; `None` if there is no such thread.
-    fn held(&self, t: u32) -> Option<Local>;
-
-    /// Returns the next access of thread `t`, and the value that the access will find; `None` if the thread will access
-    /// nothing.
-    fn ahead(&self, t: u32) -> Option<(Action, u64)>;
-
-    /// Makes an event and returns its effect. A refused event changes nothing. The error is `NoThread`, `Busy` or
-    /// `Idle`; on a broken list, it can also be `Lost`.
-    fn make(&mut self, event: Event) -> Result<Told, Cause>;
-
-    /// Walks the chain from head to tail. Returns each key, and whether its node is marked. Returns `AllocError` if an
-    /// allocation fails.
-    fn met(&self) -> Result<Vec<ChainKey>, AllocError>;
-
-    /// Returns the keys of the chain's unmarked nodes in increasing order. Returns `AllocError` if an allocation fails.
-    fn keys(&self) -> Result<Vec<u32>, AllocError>;
-}
-
-impl<M: Machine> Steps for World<M> {
-    fn held(&self, t: u32) -> Option<Local> {
-        self.holds(t)
-    }
-
-    fn ahead(&self, t: u32) -> Option<(Action, u64)> {
-        self.next(t)
-    }
-
-    #[inline(always)]
-    fn make(&mut self, event: Event) -> Result<Told, Cause> {
-        match self.step(event) {
-            Ok(told) => Ok(told),
-            Err(StepFault::NoThread) => Err(Cause::NoThread),
-            Err(StepFault::Busy) => Err(Cause::Busy),
-            Err(StepFault::Idle) => Err(Cause::Idle),
-        }
-    }
-
-    fn met(&self) -> Result<Vec<ChainKey>, AllocError> {
-        self.chain()
-    }
-
-    fn keys(&self) -> Result<Vec<u32>, AllocError> {
-        self.content()
-    }
-}
-
-/// A pending call, and the moment at which it changed the set, if it did.
-#[derive(Clone, Copy)]
-struct Pending {
-    open: OpenCall,
-    changed: Option<u32>,
-}
 
 fn thread_of(event: Event) -> u32 {
     match event {
@@ -87,76 +31,72 @@ fn writes_node(deed: Deed) -> bool {
     }
 }
 
-/// A run that makes its events one by one and reports the effect of each.
+/// A run whose events are reported one by one.
 #[derive(Drop)]
-pub struct Run<W: Steps + Drop> {
+pub struct TracedRun<W: Steps + Drop> {
     alloc: Global,
     world: W,
-    moments: Moments,
-    calls: u32,
-    pending: [Option<Pending>; MOST_THREADS as usize],
+    recorder: Recorder,
     chain: Option<Vec<ChainKey>>,
 }
 
-impl<W: Steps + Drop> Run<W> {
-    /// Creates a run in a world that opens with these keys, before the first event. If `chains` is true, each event
-    /// that changes the chain or a mark in it comes with the new chain. This costs a walk along the chain at each event
-    /// that writes a node's key or link.
-    pub fn opened(alloc: Global, world: W, keys: &[u32], chains: bool) -> Result<Run<W>, AllocError>
-        requires { IsStrictlyIncreasing keys.now }
+impl<W: Steps + Drop> TracedRun<W> {
+    /// Creates the run of a schedule in a world in which no event was made. If `chains` is true, each event that
+    /// changes the chain or a mark in it comes with the new chain. This costs a walk along the chain at each event that
+    /// writes a node's key or link. Returns `AllocError` if an allocation fails.
+    pub fn opened(
+        alloc: Global,
+        schedule: &Schedule,
+        world: W,
+        chains: bool,
+    ) -> Result<TracedRun<W>, AllocError>
+        requires { Opens (opening_in (view schedule.now)) }
     {
         let chain = if chains { Some(world.met()?) } else { None };
-        Ok(Run {
+        Ok(TracedRun {
             alloc,
             world,
-            moments: Moments::opened(alloc, keys)?,
-            calls: 0,
-            pending: [None; MOST_THREADS as usize],
+            recorder: Recorder::new(alloc, schedule)?,
             chain,
         })
     }
 
-    /// Returns the world after the events made so far.
-    pub fn world(&self) -> &W {
-        &self.world
-    }
-
-    /// Returns the number of the latest event, counted from 1; 0 before the first event.
-    pub fn last(&self) -> u32 {
-        self.moments.last()
-    }
-
-    /// Makes an event and returns its effect on the set and on its call. If the event is refused, the inner error is
-    /// the cause. Returns `AllocError` if an allocation fails.
-    #[inline(always)]
-    pub fn step(&mut self, event: Event) -> Result<Result<MadeEvent, Cause>, AllocError> {
-        let told = match self.world.make(event) {
-            Ok(told) => told,
-            Err(cause) => return Ok(Err(cause)),
-        };
-        self.moments.go_on(told.change)?;
-        Ok(self.follow(event, told).ok_or(Cause::Lost))
-    }
-
-    /// Makes an event like `step`, and returns it in the form for a trace.
+    /// Makes an event and returns it in the form for a trace. If the event is refused, the inner error is the cause.
+    /// Returns `AllocError` if an allocation fails.
     pub fn make(&mut self, next: LineEvent) -> Result<Result<TracedEvent, Cause>, AllocError> {
         let ahead = self.look(next.event);
-        let made = match self.step(next.event)? {
-            Ok(made) => made,
+        let thread = thread_of(next.event);
+        let open = self.recorder.open_number(thread);
+        let told = match self.step(next.event) {
+            Ok(told) => told,
+            Err(Cause::Memory) => return Err(AllocError),
             Err(cause) => return Ok(Err(cause)),
         };
-        let (Some((before, deed)), Some(after)) = (ahead, self.world.held(made.thread)) else {
+        let call = open.or(self.recorder.open_number(thread));
+        let (Some((before, deed)), Some(after), Some(call)) = (ahead, self.world.held(thread), call)
+        else {
             return Ok(Err(Cause::Lost));
         };
         let chain = self.changed_chain(deed)?;
         Ok(Ok(TracedEvent {
             line: next.line,
-            made,
+            moment: self.recorder.last,
+            thread,
+            call,
+            change: told.change,
+            end: self.end_of(call, told),
             deed,
             before,
             after,
             chain,
         }))
+    }
+
+    /// Makes and records an event.
+    fn step(&mut self, event: Event) -> Result<Told, Cause> {
+        let told = self.world.make(event)?;
+        self.recorder.follow(event, told)?;
+        Ok(told)
     }
 
     /// Returns the local state of the event's thread before the event, and what the event is about to do. `None` if the
@@ -172,74 +112,12 @@ impl<W: Steps + Drop> Run<W> {
         Some((self.world.held(thread_of(event))?, deed))
     }
 
-    /// Records the effect of an event. Returns `None` if its thread has no call.
-    #[inline(always)]
-    fn follow(&mut self, event: Event, told: Told) -> Option<MadeEvent> {
-        let made = MadeEvent {
-            moment: self.moments.last(),
-            thread: thread_of(event),
-            call: None,
-            change: told.change,
-            end: None,
-        };
-        match event {
-            Event::Begin(_, call) => self.begin(made, call),
-            Event::Go(_) if told.change.is_none() && told.answer.is_none() => Some(made),
-            Event::Go(_) => self.turn(made, told),
-        }
-    }
-
-    // Not inlined: few events begin or end a call or change the set, and the loop over all other events stays small
-    // this way.
-    #[inline(never)]
-    fn begin(&mut self, made: MadeEvent, call: Call) -> Option<MadeEvent> {
-        let seat = self.pending.get_mut(made.thread as usize)?;
-        if seat.is_some() {
-            return None;
-        }
-        let number = self.calls;
-        let begun = made.moment;
-        *seat = Some(Pending {
-            open: OpenCall {
-                number,
-                call,
-                begun,
-            },
-            changed: None,
-        });
-        self.calls = number.saturating_add(1);
-        Some(MadeEvent {
-            call: Some(number),
-            ..made
+    /// Returns the end of a call, if its last event ended it.
+    fn end_of(&self, call: u32, told: Told) -> Option<CallEnd> {
+        Some(CallEnd {
+            reply: told.answer?,
+            moment: self.recorder.moment_of(call)?,
         })
-    }
-
-    #[inline(never)]
-    fn turn(&mut self, made: MadeEvent, told: Told) -> Option<MadeEvent> {
-        let seat = self.pending.get_mut(made.thread as usize)?;
-        let mut pending = (*seat)?;
-        if told.change.is_some() {
-            pending.changed = Some(made.moment);
-        }
-        *seat = Some(pending);
-        let mut end = None;
-        if let Some(reply) = told.answer {
-            *seat = None;
-            end = Some(self.end_of(pending, reply));
-        }
-        Some(MadeEvent {
-            call: Some(pending.open.number),
-            end,
-            ..made
-        })
-    }
-
-    fn end_of(&self, pending: Pending, reply: Reply) -> CallEnd {
-        let moment = match pending.changed {
-            Some(moment) => moment,
-            None => self.moments.fit(pending.open, reply),
-        };
-        CallEnd { reply, moment }
     }
 
     /// Returns the chain after an event, if chains were requested and the chain differs from the last one returned.

@@ -1,7 +1,7 @@
 //! Random schedules on each broken list. For each list, the order of at least one run must be refused.
 
 use crate::prelude::*;
-use broken_lists::{ALL, BrokenList, BrokenWorld, broken_run};
+use broken_lists::{ALL, BrokenList, BrokenWorld, broken_world_of};
 use lset_replay::{Steps, calls_of};
 use lset_schedule::read_schedule;
 use lset_text::{call_word, kind_word};
@@ -55,8 +55,8 @@ fn drawn_schedule(alloc: Global, broken: BrokenList, seed: u64) -> Result<String
 fn is_run_refused(alloc: Global, broken: BrokenList, seed: u64) -> Result<bool, Fail> {
     let text = drawn_schedule(alloc, broken, seed)?;
     let schedule = read_schedule(alloc, text.as_bytes())?;
-    let run = broken_run(alloc, broken, &schedule, false)?;
-    let calls = calls_of(alloc, &schedule, run)?;
+    let world = broken_world_of(alloc, broken, &schedule)?;
+    let calls = calls_of(alloc, &schedule, world)?;
     Ok(
         calls.refused.is_none()
             && check_order(alloc, &calls.history, &calls.order, &calls.keys).is_err(),

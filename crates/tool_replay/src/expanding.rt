@@ -2,9 +2,10 @@ ghost use Rattle.std.specs.Prelude.{IfOk};
 ghost use Rattle.lset_schedule.specs.Plan.{HasWordsOfVersion, view};
 
 use crate::draft::{Draft, DraftLine};
-use crate::stepping::{make_event, steps_to, take_steps};
+use crate::stepping::{steps_to, take_steps};
 use crate::version::smallest_version;
 use lset_lists::{List, Task, on_list};
+use lset_replay::Steps;
 use lset_schedule::{Line, MOST_EVENTS, MOST_STEPS, Schedule};
 use lset_steps::{Event, Machine, World};
 use lset_text::{Cause, LineFault};
@@ -18,7 +19,10 @@ fn make_plain<M: Machine>(world: &mut World<M>, line: Line, left: u32) -> Result
         return Err(Cause::TooMany);
     }
     match line {
-        Line::Begin(thread, call) => make_event(world, Event::Begin(thread, call)),
+        Line::Begin(thread, call) => {
+            world.make(Event::Begin(thread, call))?;
+            Ok(())
+        }
         Line::Go(thread, steps) => take_steps(world, thread, steps),
     }
 }

@@ -1,17 +1,8 @@
 //! Steps a thread a number of times, or until it is at a given row.
 
-use lset_steps::{Event, Machine, StepFault, World};
+use lset_replay::Steps;
+use lset_steps::{Event, Machine, World};
 use lset_text::Cause;
-
-/// Makes an event. The error is the cause to print for the line.
-pub(crate) fn make_event<M: Machine>(world: &mut World<M>, event: Event) -> Result<(), Cause> {
-    match world.step(event) {
-        Ok(_) => Ok(()),
-        Err(StepFault::NoThread) => Err(Cause::NoThread),
-        Err(StepFault::Busy) => Err(Cause::Busy),
-        Err(StepFault::Idle) => Err(Cause::Idle),
-    }
-}
 
 /// Steps a thread until it is at row `row`, at least once and at most `most` times, and returns the number of steps.
 /// Row 0 means that the call has ended. Returns `Waits` if the thread is elsewhere after `most` steps.
@@ -22,7 +13,7 @@ pub(crate) fn steps_to<M: Machine>(
     most: u32,
 ) -> Result<u32, Cause> {
     for taken in 0..most {
-        make_event(world, Event::Go(thread))?;
+        world.make(Event::Go(thread))?;
         if let Some(local) = world.holds(thread)
             && u32::from(local.pc) == row
         {
@@ -39,7 +30,7 @@ pub(crate) fn take_steps<M: Machine>(
     steps: u32,
 ) -> Result<(), Cause> {
     for _taken in 0..steps {
-        make_event(world, Event::Go(thread))?;
+        world.make(Event::Go(thread))?;
     }
     Ok(())
 }

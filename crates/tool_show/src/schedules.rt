@@ -2,7 +2,7 @@ ghost use Rattle.lset_schedule.specs.Plan.{IsSchedule, view};
 
 use lset_lists::{List, Task, on_list};
 use lset_picture::Picture;
-use lset_replay::{RunCalls, calls_of, run_of};
+use lset_replay::{RunCalls, calls_of, world_of};
 use lset_schedule::Schedule;
 use std::alloc::{AllocError, Global};
 
@@ -21,8 +21,8 @@ impl Task for Running<'_> {
     ghost done = { λ task table result. Unit {0} };
 
     fn run<M: List>(self) -> Result<RunCalls, AllocError> {
-        let run = run_of::<M>(self.alloc, self.schedule, false)?;
-        calls_of(self.alloc, self.schedule, run)
+        let world = world_of::<M>(self.alloc, self.schedule)?;
+        calls_of(self.alloc, self.schedule, world)
     }
 }
 
@@ -37,7 +37,7 @@ pub(crate) fn picture_of_replay(alloc: Global, schedule: &Schedule) -> Result<Pi
 {
     let calls = on_list(schedule.kind, Running { alloc, schedule })?;
     let refused = match calls.refused {
-        Some((line, cause)) => Some((line, cause.name())),
+        Some(fault) => Some((fault.line, fault.cause.name())),
         None => None,
     };
     Ok(Picture {

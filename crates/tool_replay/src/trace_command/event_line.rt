@@ -83,15 +83,13 @@ fn put_changes(out: &mut Chunk, before: &Local, after: &Local) {
     }
 }
 
-/// Writes the number of the call that an event began or ended, if any.
-fn put_call(out: &mut Chunk, number: Option<u32>) {
-    if let Some(number) = number {
-        put(out, " call ");
-        put_number(out, u64::from(number));
-    }
+/// Writes the number of a call that an event began or ended.
+fn put_call(out: &mut Chunk, number: u32) {
+    put(out, " call ");
+    put_number(out, u64::from(number));
 }
 
-fn put_begin(out: &mut Chunk, call: Call, number: Option<u32>) {
+fn put_begin(out: &mut Chunk, call: Call, number: u32) {
     put(out, "begin ");
     put(out, call_word(call));
     put(out, " ");
@@ -102,7 +100,7 @@ fn put_begin(out: &mut Chunk, call: Call, number: Option<u32>) {
 /// Writes what the event did, the thread's row after the event, and the registers that changed.
 fn put_deed(out: &mut Chunk, event: &TracedEvent) {
     match event.deed {
-        Deed::Begin(call) => put_begin(out, call, event.made.call),
+        Deed::Begin(call) => put_begin(out, call, event.call),
         Deed::Access(action, seen) => put_access(out, action, seen),
     }
     put(out, " pc ");
@@ -119,7 +117,7 @@ fn put_change(out: &mut Chunk, change: Option<(Key, bool)>) {
     }
 }
 
-fn put_end(out: &mut Chunk, number: Option<u32>, end: CallEnd) {
+fn put_end(out: &mut Chunk, number: u32, end: CallEnd) {
     put(out, " answer ");
     put_reply(out, end.reply);
     put_call(out, number);
@@ -129,18 +127,17 @@ fn put_end(out: &mut Chunk, number: Option<u32>, end: CallEnd) {
 
 /// Appends the line of an event.
 pub(crate) fn put_event(out: &mut Chunk, event: &TracedEvent) {
-    let made = event.made;
     put(out, "event ");
-    put_number(out, u64::from(made.moment));
+    put_number(out, u64::from(event.moment));
     put(out, " line ");
     put_number(out, event.line);
     put(out, " thread ");
-    put_number(out, u64::from(made.thread));
+    put_number(out, u64::from(event.thread));
     put(out, " ");
     put_deed(out, event);
-    put_change(out, made.change);
-    if let Some(end) = made.end {
-        put_end(out, made.call, end);
+    put_change(out, event.change);
+    if let Some(end) = event.end {
+        put_end(out, event.call, end);
     }
     put(out, "\n");
 }

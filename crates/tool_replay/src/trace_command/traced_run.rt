@@ -4,13 +4,13 @@ ghost use Rattle.lset_schedule.specs.Plan.{IsSchedule, view};
 
 use crate::trace_command::Trace;
 use crate::trace_command::trace_lines::{Lines, Sink, head_of};
-use broken_lists::{broken_run, read_broken_schedule};
+use broken_lists::{broken_world_of, read_broken_schedule};
 use lset_coarse::CoarseList;
 use lset_fine::FineList;
 use lset_lazy::LazyList;
 use lset_lock_free::LockFreeList;
 use lset_optimistic::OptimisticList;
-use lset_replay::{Run, Steps, event_of, run_of};
+use lset_replay::{Steps, TracedRun, event_of, world_of};
 use lset_schedule::{Schedule, read_schedule};
 use lset_steps::Machine;
 use lset_words::Kind;
@@ -20,7 +20,7 @@ use tool_base::Trouble;
 /// Traces a run from its first event. Returns 1 if an event is refused, which ends the trace, otherwise 0.
 fn trace<W: Steps + Drop, S: Sink>(
     schedule: &Schedule,
-    run: Run<W>,
+    run: TracedRun<W>,
     sink: &mut S,
 ) -> Result<u8, Trouble> {
     let mut run = run;
@@ -52,7 +52,8 @@ fn trace_on<M: Machine, S: Sink>(
 ) -> Result<u8, Trouble>
     requires { IsSchedule (view schedule.now) }
 {
-    let run = run_of::<M>(alloc, schedule, chains)?;
+    let world = world_of::<M>(alloc, schedule)?;
+    let run = TracedRun::opened(alloc, schedule, world, chains)?;
     sink.take(&head_of(alloc, schedule, None)?)?;
     trace(schedule, run, sink)
 }
@@ -89,7 +90,8 @@ pub(crate) fn trace_into<S: Sink>(
         return trace_named(alloc, &schedule, options.chains, sink);
     };
     let schedule = read_broken_schedule(alloc, broken, text)?;
-    let run = broken_run(alloc, broken, &schedule, options.chains)?;
+    let world = broken_world_of(alloc, broken, &schedule)?;
+    let run = TracedRun::opened(alloc, &schedule, world, options.chains)?;
     sink.take(&head_of(alloc, &schedule, Some(broken.name()))?)?;
     trace(&schedule, run, sink)
 }

@@ -1,69 +1,71 @@
-use Rattle.std.proofs.Common.{◌<◌, subst, arith}
-use Rattle.lset_schedule.specs.declared.TheConstants.{MOST_EVENTS}
+use Rattle.std.proofs.Common.{◌+◌, List, sym, subst, Ok, Err, drop}
+use Rattle.lset_replay.specs.declared.events.LineEvent.{LineEvent}
 use Rattle.lset_replay.specs.Events.{events_from}
 use Rattle.lset_replay.specs.Follows.{HasFollowed}
 use Rattle.lset_replay.proofs.FollowedRuns.{tells_keys}
-use Rattle.lset_replay.proofs.EventLists.{few_behind, next_line, next_event, event_done, line_done, none_behind, all_behind}
-use Rattle.lset_replay.proofs.EventSteps.{ready, followed, stopped}
+use Rattle.lset_replay.proofs.EventLists.{IsAhead, next_line, next_event, event_done, line_done, none_behind, all_behind}
+use Rattle.lset_replay.proofs.EventSteps.{on_way, only_memory, stopped}
 use Rattle.lset_replay.proofs.replaying.follow.Goals as goal
 
-pub overflow_add-events : goal.overflow_add-events
-overflow_add-events g c =
-    let there = next_event c.args.first c.args.lines.now c.loop-index.index c.loop-done.events c.event_of-times.result.1
-    c.event_of-times.result.0 c.loop-done._done c.loop-done.invariant.ahead c.loop-done-test.true in
-    let few : c.loop-done.events < MOST_EVENTS = few_behind c.args.first c.args.lines.now _ MOST_EVENTS _ c.requires.few there in
-    omega arith
-
-pub overflow_add-events-in-loop-done : goal.overflow_add-events-in-loop-done
-overflow_add-events-in-loop-done g c =
-    let there = next_event c.args.first c.args.lines.now c.loop-index.index c.loop-done.events c.event_of-times.result.1
-    c.event_of-times.result.0 c.loop-done._done c.loop-done.invariant.ahead c.loop-done-test.true in
-    let few : c.loop-done.events < MOST_EVENTS = few_behind c.args.first c.args.lines.now _ MOST_EVENTS _ c.requires.few there in
-    omega arith
-
-pub follow-requires : goal.follow-requires
-follow-requires g c =
-    let there = next_event c.args.first c.args.lines.now c.loop-index.index c.loop-done.events c.event_of-times.result.1
-    c.event_of-times.result.0 c.loop-done._done c.loop-done.invariant.ahead c.loop-done-test.true in
-    ready g.M.Machine.table _ _ _ _ _ c.loop-done.invariant.followed _ there
-    (tells_keys _ c.has_account.ensures c.listed_content.ensures) c.in-Ok.ensures.0 c.in-Ok.told c.in-Ok.ensures.2
-
-pub returns-in-Err-clause-refused : goal.returns-in-Err-clause-refused
-returns-in-Err-clause-refused g c =
-    let there = next_event c.args.first c.args.lines.now c.loop-index.index c.loop-done.events c.event_of-times.result.1
-    c.event_of-times.result.0 c.loop-done._done c.loop-done.invariant.ahead c.loop-done-test.true in
-    rw c.refusal.ensures (stopped g.M.Machine.table _ _ _ _ _ c.loop-done.invariant.followed _ there c.in-Err.cause
-    c.in-Err.ensures.0)
-
 pub loop-index-init : goal.loop-index-init
-loop-index-init g c = record { ahead = none_behind c.args.first c.args.lines.now; followed = c.requires.start }
-
-pub loop-done-init : goal.loop-done-init
-loop-done-init g c = record {
-  ahead = next_line c.args.first c.args.lines.now c.loop-index.index c.loop-index.events c.event_of-times.result.1
-      c.event_of-times.result.0 c.loop-index-test.true c.event_of-times.ensures c.loop-index.invariant.ahead;
-  followed = c.loop-index.invariant.followed;
-}
-
-pub loop-done-preserved : goal.loop-done-preserved
-loop-done-preserved g c =
-    let there = next_event c.args.first c.args.lines.now c.loop-index.index c.loop-done.events c.event_of-times.result.1
-    c.event_of-times.result.0 c.loop-done._done c.loop-done.invariant.ahead c.loop-done-test.true in
+loop-index-init g c = λ T state steps start.
+    let es : List LineEvent = events_from c.args.first c.args.lines.now in
     record {
-      ahead = event_done c.args.first c.args.lines.now c.loop-index.index c.loop-done.events c.event_of-times.result.1
-          c.event_of-times.result.0 c.loop-done._done c.loop-done.invariant.ahead c.loop-done-test.true;
-      followed = followed g.M.Machine.table _ _ _ _ _ c.loop-done.invariant.followed _ there
-          c.step.new.self c.follow.new.self c.in-Ok.told c.in-Ok.ensures.0 c.in-Ok.ensures.1 c.in-Ok.ensures.2
-          c.in_ok-follow-in-Ok.ensures.trace c.in_ok-follow-in-Ok.ensures.opening;
+      ahead = subst (λ m. IsAhead es m (events_from (c.args.first + 0) (drop 0 c.args.lines.now))) (sym start.counted)
+          (none_behind c.args.first c.args.lines.now);
+      followed = subst (λ m. HasFollowed T c.args.recorder.now.history.opening es m (state c.args.world.now) c.args.recorder.now)
+          (sym start.counted) start;
     }
 
+pub loop-done-init : goal.loop-done-init
+loop-done-init g c = λ T state steps start.
+    let now = c.loop-index.invariant T state steps start in
+    record {
+      ahead = next_line c.args.first c.args.lines.now c.loop-index.index c.loop-index.recorder.last c.event_of-times.result.1
+          c.event_of-times.result.0 c.loop-index-test.true c.event_of-times.ensures now.ahead;
+      followed = now.followed;
+    }
+
+pub returns-in-Err-follow-clause-stopped : goal.returns-in-Err-follow-clause-stopped
+returns-in-Err-follow-clause-stopped g c = λ T state steps start.
+    let now = c.loop-done.invariant T state steps start in
+    let there = next_event c.args.first c.args.lines.now c.loop-index.index c.loop-done.recorder.last c.event_of-times.result.1
+    c.event_of-times.result.0 c.loop-done._done now.ahead c.loop-done-test.true in
+    rw c.at.ensures (only_memory T (tells_keys T steps.account steps.listed) _ _ _ (state c.make.new.self) _ now.followed _ there
+    c.in-Ok.told (steps.made _ _ (Ok c.in-Ok.told) _ c.in-Ok.ensures) c.in-Err-follow.cause c.in-Err-follow.ensures.memory)
+
+pub returns-in-Err-clause-stopped : goal.returns-in-Err-clause-stopped
+returns-in-Err-clause-stopped g c = λ T state steps start.
+    let now = c.loop-done.invariant T state steps start in
+    let there = next_event c.args.first c.args.lines.now c.loop-index.index c.loop-done.recorder.last c.event_of-times.result.1
+    c.event_of-times.result.0 c.loop-done._done now.ahead c.loop-done-test.true in
+    rw c.at-in-Err.ensures (stopped T _ _ _ _ _ now.followed _ there c.in-Err.cause (state c.make.new.self)
+    (steps.made _ _ (Err c.in-Err.cause) _ c.in-Err.ensures))
+
+pub loop-done-preserved : goal.loop-done-preserved
+loop-done-preserved g c = λ T state steps start.
+    let now = c.loop-done.invariant T state steps start in
+    let there = next_event c.args.first c.args.lines.now c.loop-index.index c.loop-done.recorder.last c.event_of-times.result.1
+    c.event_of-times.result.0 c.loop-done._done now.ahead c.loop-done-test.true in
+    on_way T (tells_keys T steps.account steps.listed) _ _ _ (state c.make.new.self) _ now.followed _ there
+    c.in-Ok.told (steps.made _ _ (Ok c.in-Ok.told) _ c.in-Ok.ensures) c.follow.new.self _ c.in_default.ensures.trace
+    c.in_default.ensures.opening c.in_default.ensures.counted
+    (event_done c.args.first c.args.lines.now c.loop-index.index c.loop-done.recorder.last c.event_of-times.result.1
+    c.event_of-times.result.0 c.loop-done._done now.ahead c.loop-done-test.true)
+
 pub loop-index-preserved : goal.loop-index-preserved
-loop-index-preserved g c = record {
-  ahead = line_done c.args.first c.args.lines.now c.loop-index.index c.loop-done.events c.event_of-times.result.1
-      c.event_of-times.result.0 c.loop-done._done c.loop-done.invariant.ahead c.loop-done-test.false;
-  followed = c.loop-done.invariant.followed;
-}
+loop-index-preserved g c = λ T state steps start.
+    let now = c.loop-done.invariant T state steps start in
+    record {
+      ahead = line_done c.args.first c.args.lines.now c.loop-index.index c.loop-done.recorder.last c.event_of-times.result.1
+          c.event_of-times.result.0 c.loop-done._done now.ahead c.loop-done-test.false;
+      followed = now.followed;
+    }
 
 pub returns-clause-followed : goal.returns-clause-followed
-returns-clause-followed g c = rw
-    (← all_behind c.args.first c.args.lines.now c.loop-index.index c.loop-index.events c.loop-index-test.false c.loop-index.invariant.ahead) c.loop-index.invariant.followed
+returns-clause-followed g c = λ T state steps start.
+    let now = c.loop-index.invariant T state steps start in
+    let es : List LineEvent = events_from c.args.first c.args.lines.now in
+    subst (λ m. HasFollowed T c.args.recorder.now.history.opening es m (state c.loop-index.world) c.loop-index.recorder)
+    (all_behind c.args.first c.args.lines.now c.loop-index.index c.loop-index.recorder.last c.loop-index-test.false now.ahead)
+    now.followed

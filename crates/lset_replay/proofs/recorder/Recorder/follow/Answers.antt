@@ -1,4 +1,4 @@
-use Rattle.std.proofs.Common.{◌≡◌, ℕ, Bool, List, set, ap, Some, refl, ◌∙◌}
+use Rattle.std.proofs.Common.{◌≡◌, ℕ, ◌+◌, Bool, List, set, ap, Some, refl, ◌∙◌}
 use Rattle.std.specs.Prelude.{Option, None}
 use mathlib.Core.Path.{fun_ext}
 use Rattle.lset_words.specs.declared.Key.{Key}
@@ -35,28 +35,36 @@ ended_trace : (r r' : Recorder) (m t : ℕ) (reply : Reply)
     → r'.under_way.items ≡ set r.under_way.items t None
     → r'.places.items ≡ set r.places.items (number_of (open_call_at r.under_way.items t))
     (settled (place_at r.places.items (number_of (open_call_at r.under_way.items t))) (fit_of (moments_of r.changes)
-    (open_call_at r.under_way.items t) reply m) reply)
+    (open_call_at r.under_way.items t) reply m) m reply)
     → r'.changes ≡ r.changes
     → trace_of r' ≡ ended_by m t reply (open_call_at r.under_way.items t) (trace_of r)
 ended_trace r r' m t reply a b c d = same_trace (ap (λ (h : HistoryValue). h.calls) a) b c
     (let f : ChangesValue → ℕ → List ℕ = λ s j. moments_of s j in ap f d)
 
-pub returns-in-Some-answer-clause-trace : goal.returns-in-Some-answer-clause-trace
-returns-in-Some-answer-clause-trace c =
-    let m : ℕ = c.args.moment in
+pub returns-in_ok-end-in-Go-clause-trace : goal.returns-in_ok-end-in-Go-clause-trace
+returns-in_ok-end-in-Go-clause-trace c =
+    let r : Recorder = c.args.self.now in
+    let r' : Recorder = c.match-told.self in
+    let m : ℕ = c.args.self.now.last + 1 in
     let t : ℕ = c.in-Go.thread in
-    let middle : trace_of c.match-told.self ≡ changed_on c.args.moment c.in-Go.thread c.args.told.change
-    (trace_of c.args.self.now) =
+    λ may.
+    let moment : r'.last ≡ m =
     elim c.match-told.branch [
-      | in-Some+in_ok-change-in-Go w ↦ (let i = w.in-Some.is in rw (w.self-is, i)
-          (changed_trace c.args.self.now w.change.new.self c.args.moment c.in-Go.thread w.in-Some.key w.in-Some.present
+      | in-Some+in_ok-change-in-Go w ↦ rw w.self-is w.in_ok-change-in-Go.ensures.counted
+      | in_default w ↦ rw w.self-is refl
+    ] in
+    let middle : trace_of r' ≡ changed_on m t c.args.told.change (trace_of r) =
+    elim c.match-told.branch [
+      | in-Some+in_ok-change-in-Go w ↦ (let i = w.in-Some.is in
+          let turn = (rw i at (rw c.in-Go.is at may).1).1 in
+          rw (w.self-is, i)
+          (changed_trace r w.change.new.self m t w.in-Some.key w.in-Some.present
           w.in_ok-change-in-Go.ensures.history
-          w.in_ok-change-in-Go.ensures.under_way w.in_ok-change-in-Go.ensures.places w.in_ok-change-in-Go.ensures.changes))
+          w.in_ok-change-in-Go.ensures.under_way w.in_ok-change-in-Go.ensures.places (w.in_ok-change-in-Go.ensures.changes turn)))
       | in_default w ↦ (let i = w.in_default.is in rw (w.self-is, i) refl)
     ] in
-    let last : trace_of c.end.new.self ≡ ended_on c.args.moment c.in-Go.thread (Some c.in-Some-answer.reply)
-    (trace_of c.match-told.self) =
-    ended_trace c.match-told.self c.end.new.self c.args.moment c.in-Go.thread c.in-Some-answer.reply c.end.ensures.history
-    c.end.ensures.under_way c.end.ensures.places c.end.ensures.changes in
-    rw (c.in-Go.is, c.in-Some-answer.is) (last ∙ ap (λ (s : Trace). ended_on c.args.moment c.in-Go.thread
-    (Some c.in-Some-answer.reply) s) middle)
+    let last : trace_of c.end.new.self ≡ ended_on r'.last t (Some c.in-Some-answer.reply) (trace_of r') =
+    ended_trace r' c.end.new.self r'.last t c.in-Some-answer.reply c.in_ok-end-in-Go.ensures.history
+    c.in_ok-end-in-Go.ensures.under_way c.in_ok-end-in-Go.ensures.places c.in_ok-end-in-Go.ensures.changes in
+    rw (c.in-Go.is, c.in-Some-answer.is) (last ∙ ap (λ z. ended_on z t (Some c.in-Some-answer.reply) (trace_of r')) moment
+    ∙ ap (λ (s : Trace). ended_on m t (Some c.in-Some-answer.reply) s) middle)

@@ -1,12 +1,12 @@
-use Rattle.std.proofs.Common.{ℕ, suc, ◌≤◌, List, [], ◌∷◌, Option, Some, None, ap, ◌∙◌, arith}
+use Rattle.std.proofs.Common.{ℕ, suc, ◌≤◌, List, [], ◌∷◌, Option, Some, None, arith}
 use Rattle.std.specs.List.{AllByRecursion}
 use Rattle.lset_history.proofs.Lists.{Pairs, all_imply, pairs_std}
 use Rattle.lset_report.specs.declared.order.Pointed.{Pointed}
-use Rattle.lset_report.specs.Order.{placed_in, HasSmallerNumber}
+use Rattle.lset_report.specs.Order.{HasSmallerNumber}
 use Rattle.lset_report.proofs.SortedPlaces.{sorted_rises}
 use Rattle.lset_replay.specs.declared.places.Linearized.{Linearized}
 use Rattle.lset_replay.specs.PlacedOrder.{pointed_from}
-use Rattle.lset_replay.proofs.order.in_order.Goals as goal
+use Rattle.lset_replay.proofs.order.sorted_places.Goals as goal
 
 -- The calls that have a linearization point, in the order of their numbers.
 numbers_from : (n : ℕ) (ps : List (Option Linearized)) → AllByRecursion (λ (x : Pointed). n ≤ x.placed.call) (pointed_from n ps)
@@ -28,8 +28,6 @@ pub returns : goal.returns
 returns c =
     let placed = rw c.in_ok-pointed.ensures at c.in_ok-sort_by_points.ensures in
     record {
-      sorted = c.sort_by_points.new.places.items;
       moved = placed.moved;
       rises = sorted_rises _ _ placed (pairs_std HasSmallerNumber (pointed_from 0 c.args.places.now) (by_numbers 0 c.args.places.now));
-      is = c.in_ok-order.ensures ∙ ap placed_in c.deref.ensures.value;
     }

@@ -1,0 +1,17 @@
+-- What an event does in the world of a list.
+use Rattle.std.specs.Prelude.{◌≡◌, Result, Ok, Err}
+use Rattle.lset_text.specs.declared.causes.Cause.{Cause}
+use Rattle.lset_text.specs.declared.causes.Cause.TheVariants as cause
+use Rattle.lset_steps.specs.declared.Event.{Event}
+use Rattle.lset_steps.specs.declared.Told.{Told}
+use Rattle.lset_steps.specs.declared.world.StepFault.TheVariants as step
+use Rattle.lset_steps.specs.Steps.{Table, Enabled, after, told}
+use Rattle.lset_steps.specs.Worlds.{WorldState, Refused}
+
+-- An enabled event is executed, a refused event changes nothing.
+abbrev pub HasMade : Table → WorldState → Event → Result Told Cause → WorldState → Type 0
+HasMade T w e (Ok answer) w' = Enabled w.state e × (w' ≡ record w { state = after T w.state e }) × (answer ≡ told T w.state e)
+HasMade T w e (Err cause.NoThread) w' = Refused w e step.NoThread × (w' ≡ w)
+HasMade T w e (Err cause.Busy) w' = Refused w e step.Busy × (w' ≡ w)
+HasMade T w e (Err cause.Idle) w' = Refused w e step.Idle × (w' ≡ w)
+HasMade T w e (Err other) w' = ⊥

@@ -1,0 +1,65 @@
+//! Worlds in which a schedule can be run.
+ghost use Rattle.std.specs.Prelude.{Result};
+ghost use Rattle.lset_text.specs.declared.causes.Cause.{Cause};
+ghost use Rattle.lset_steps.specs.declared.Event.{Event};
+ghost use Rattle.lset_steps.specs.declared.Told.{Told};
+ghost use Rattle.lset_replay.specs.Made.{HasMade};
+
+use lset_steps::{Action, ChainKey, Event, Local, Machine, StepFault, Told, World};
+use lset_text::Cause;
+use std::alloc::AllocError;
+
+/// The world of a list or of a broken list, in which events can be made.
+pub trait Steps {
+    /// States what an event does. By default, as for a broken list, an event can do anything.
+    ghost makes: { Self → Event → Result Told Cause → Self → Type 0 } = { λ world event made after. Unit {0} };
+
+    /// Returns the local state of thread `t`; `None` if there is no such thread.
+    fn held(&self, t: u32) -> Option<Local>;
+
+    /// Returns the next access of thread `t`, and the value that the access will find; `None` if the thread will access
+    /// nothing.
+    fn ahead(&self, t: u32) -> Option<(Action, u64)>;
+
+    /// Makes an event and returns its effect. A refused event changes nothing. The error is `NoThread`, `Busy` or
+    /// `Idle`; on a broken list, it can also be `Lost`.
+    fn make(&mut self, event: Event) -> Result<Told, Cause>
+        ensures { makes self.old event result self.new };
+
+    /// Walks the chain from head to tail. Returns each key, and whether its node is marked. Returns `AllocError` if an
+    /// allocation fails.
+    fn met(&self) -> Result<Vec<ChainKey>, AllocError>;
+
+    /// Returns the keys of the chain's unmarked nodes in increasing order. Returns `AllocError` if an allocation fails.
+    fn keys(&self) -> Result<Vec<u32>, AllocError>;
+}
+
+impl<M: Machine> Steps for World<M> {
+    ghost makes = { λ world event made after. HasMade M.table world event made after };
+
+    fn held(&self, t: u32) -> Option<Local> {
+        self.holds(t)
+    }
+
+    fn ahead(&self, t: u32) -> Option<(Action, u64)> {
+        self.next(t)
+    }
+
+    #[inline(always)]
+    fn make(&mut self, event: Event) -> Result<Told, Cause> {
+        match self.step(event) {
+            Ok(told) => Ok(told),
+            Err(StepFault::NoThread) => Err(Cause::NoThread),
+            Err(StepFault::Busy) => Err(Cause::Busy),
+            Err(StepFault::Idle) => Err(Cause::Idle),
+        }
+    }
+
+    fn met(&self) -> Result<Vec<ChainKey>, AllocError> {
+        self.chain()
+    }
+
+    fn keys(&self) -> Result<Vec<u32>, AllocError> {
+        self.content()
+    }
+}
