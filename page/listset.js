@@ -14,6 +14,7 @@
 
 const fs = require("fs");
 const path = require("path");
+const { isatty } = require("tty");
 const { NO_ENGINE, NOT_RUN, onlyKey, startedEngine } = parts();
 
 const LONGEST = 67108864; // bytes of an input that is no recording; what is longer is not read to its end
@@ -343,7 +344,7 @@ function hintOf(engine, { name, isOfFile, texts, values }, said) {
   if (said.startsWith("listset: too long")) return `An input has at most ${LONGEST} bytes; only judge reads more. Make the text shorter`;
   if (cause === "Kind" && texts.lacks !== undefined) return `${texts.lacks} is a check of another list than the one in line 2; listset help replay lists the checks of each list`;
   if (isOfFile && file !== "-") return fileHint(engine, name, file, number, cause);
-  if (cause === "Header") return `${name} reads ${READS[name]}, which begins with ${TITLES[name]}, and the input is empty or begins otherwise. For a text in a file, listset explain FILE says what is wrong`;
+  if (cause === "Header") return `${name} reads ${READS[name]}: line 1 must be ${TITLES[name]}, and the input is empty or begins otherwise. For a text in a file, listset explain FILE says what is wrong`;
   if (cause) return `listset faults ${cause} explains this error; for a text in a file, listset explain FILE says what is wrong`;
   return /cannot read/.test(said) ? `Standard input could not be read. Name a file: listset ${name} FILE` : "";
 }
@@ -552,8 +553,15 @@ function negativeHint([name, ...words], word) {
   return range ? `${value} '${word}' is wrong. ${range}` : `listset help ${name} lists its arguments and options`;
 }
 
+// At a terminal, prints what the command reads from it, and how to end the input. (The script ./listset prints that itself.)
+function tellWhatIsRead({ name, isOfFile, values: [file = "-"] }) {
+  if (!isOfFile || file !== "-" || process.env.LISTSET_ENGINE !== undefined || !isatty(0) || !isatty(2)) return;
+  process.stderr.write(`listset: ${asCalled(`reading ${READS[name] ?? "a text"} from the terminal, up to Ctrl-D (see listset help ${name})`)}\n`);
+}
+
 async function main(given) {
   const words = asked(given);
+  tellWhatIsRead(words);
   const isOther = process.env.LISTSET_ENGINE === "other";
   const engine = words.isBuilt || isOther ? null : await startedEngine(readForEngine);
   if (engine !== null) return write(answerOrTrouble(engine, words), hintOn(engine, words));

@@ -24,7 +24,7 @@ AT_TERMINAL = {
     "judge b.schedule": ["listset: line 1: Header\n", "b.schedule is a schedule, and judge reads recorded calls. For its report: ./listset replay b.schedule"],
     "replay -- -x.calls": ["listset: line 1: Header\n", "./-x.calls has recorded calls, and replay reads a schedule. For the verdict: ./listset judge ./-x.calls\n"],
     "judge it's_unsorted": ["listset: line 3: History\n", r"grep '^call' 'it'\''s_unsorted' | sort -n -k 5,5;", "| ./listset judge\n"],
-    "judge -": ["listset: line 1: Header\n", "judge reads recorded calls, which begins with 'listset-calls 1', and the input is empty or begins otherwise."],
+    "judge -": ["listset: line 1: Header\n", "judge reads recorded calls: line 1 must be 'listset-calls 1', and the input is empty or begins otherwise."],
     "replay b": ["listset: cannot read\n", "b: there is no such file.", "If you mean b.schedule: ./listset replay b.schedule\n"],
     "replay snip": ["listset: cannot read\n", "If you mean the example: ./listset example snip | ./listset replay\n"],
     "show help": ["listset: cannot read\n", "To read about this command: ./listset help show\n"],
