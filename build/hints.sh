@@ -129,6 +129,8 @@ explain_line() {
   file=$(print_file "$command")
   if [ "$cause" = Kind ] && [ -n "${texts[lacks]-}" ]; then
     echo "${texts[lacks]} is a check of another list than the one in line 2; listset help replay lists the checks of each list"
+  elif [ ! -f "$file" ] && [ "$cause" = Header ]; then
+    echo "$command reads $(read_by "$command"): line 1 must be $(title_of "$command"), and the input is empty or begins otherwise. For a text in a file, listset explain FILE says what is wrong"
   elif [ ! -f "$file" ]; then
     echo "listset faults $cause explains this error; for a text in a file, listset explain FILE says what is wrong"
   elif [ "$command" = judge ] && [ "$(stat -c %s -- "$file")" -gt 67108864 ]; then
@@ -151,11 +153,26 @@ explain_refusal() {
   echo "$file has no 'key' lines, so it says that the set is empty at the end. If its final keys are not known, write 'cut' instead of 'end': sed -i '\$s/^end\$/cut/' $file"
 }
 
+# Prints what a name means that is no file's: the command help, an example, or the only file with this name and an ending.
+# Prints nothing for other names.
+print_meant() {
+  local command=$1 name=$2 found
+  found=$(compgen -G "$(printf '%q' "$name").*" 2>/dev/null) || true
+  if [ "$name" = help ]; then
+    echo "To read about this command: listset help $command"
+  elif [ -f "$found" ]; then
+    echo "If you mean $found: listset $command $(quoted "$found")"
+  elif [ "$command" != serve ] && [[ "$name" =~ ^[a-z-]+$ ]] && is_example "$name"; then
+    echo "If you mean the example: listset example $name | listset $command"
+  fi
+}
+
 explain_unread() {
   local file
   file=$(print_file "$1")
   if [ -n "$file" ]; then
     explain_in_a_line "$1" "$file"
+    [ -e "$file" ] || print_meant "$1" "$file"
   elif [ "$1" != serve ] && [ "${values[0]-none}" = "" ]; then
     echo "The name of the file is empty. Perhaps a variable of the shell has no value"
   elif [ -n "$is_input_closed" ]; then
@@ -195,6 +212,31 @@ explain_option() {
   echo "$name '${texts[${name,,}]-}' is wrong. $range"
 }
 
+# Succeeds if an example has this name.
+is_example() {
+  [[ $'\n'$("${engine[@]}" example 2>/dev/null) == *$'\n'"$1 "* ]]
+}
+
+# Explains a wrong name of an example.
+explain_example() {
+  local name=${1##*/}
+  name=${name%.schedule}
+  if [ "$name" != "$1" ] && is_example "$name"; then
+    echo "The name of this example is $name: listset example $name"
+  else
+    echo "There is no example '$1'. listset example lists the names"
+  fi
+}
+
+# Explains a wrong key of judge --only.
+explain_key() {
+  if [[ "$1" =~ ^(0|[1-9][0-9]{0,9})$ ]] && [ "$1" -le 4294967295 ]; then
+    echo "The recording has no call of key $1"
+  else
+    echo "KEY '$1' is wrong. It is a number from 0 to 4294967295"
+  fi
+}
+
 # Explains a missing or wrong argument, using the command's help text.
 explain_value() {
   local command=$1 name=$2 help usage range words at=0
@@ -202,9 +244,9 @@ explain_value() {
   usage=$(sed -n 's/^Usage: //p' <<<"$help")
   read -ra words <<<"$usage"
   case "$command $name" in
-    "example NAME") echo "There is no example '${values[0]-}'. listset example lists the names" && return ;;
+    "example NAME") explain_example "${values[0]-}" && return ;;
     "faults CAUSE") echo "There is no cause '${values[0]-}'. listset faults lists all causes" && return ;;
-    "judge KEY") echo "KEY '${texts[only]-}' is wrong. It is a number from 0 to 4294967295, and the recording has a call of this key" && return ;;
+    "judge KEY") explain_key "${texts[only]-}" && return ;;
     *\ FROM | *\ TO | *\ WIDTH) explain_option "$name" "$(sed -n "s/^ *--${name,,} <[MN]> *//p" <<<"$help")" && return ;;
   esac
   range=$(sed -n "s/^ *\[$name\] *//p" <<<"$help")
@@ -214,7 +256,7 @@ explain_value() {
   if [ $((at - 2)) -ge ${#values[@]} ]; then
     echo "$name is missing. Usage: $usage"
   else
-    echo "$name '${values[at - 2]}' is wrong. $range"
+    echo "$name '${values[at - 2]}' is wrong. $range. Usage: $usage"
   fi
 }
 
@@ -230,9 +272,18 @@ count_before() {
 
 # Explains an argument that the command does not accept.
 explain_word() {
-  local command=$1 word=$2 help usage words name file
+  local command=$1 word=$2 help usage words name file at
   case "$word" in
     -[0-9]*)
+      for ((at = 1; at < ${#given[@]}; at++)); do
+        case "${given[at]} ${given[at - 1]}" in
+          "$word"*\ --only | "$word"*\ --from | "$word"*\ --to | "$word"*\ --width)
+            name=${given[at - 1]#--}
+            texts[$name]=${given[at]}
+            name=${name/only/key}
+            explain_value "$command" "${name^^}" && return ;;
+        esac
+      done
       help=$("${engine[@]}" help "$command" 2>/dev/null)
       usage=$(sed -n 's/^Usage: //p' <<<"$help")
       read -ra words <<<"$usage"
@@ -245,7 +296,12 @@ explain_word() {
     --broken) echo "--broken is an option of example" ;;
     --brief | --only) echo "$word is an option of judge" ;;
     --lacks) echo "--lacks is an option of replay, show and trace" ;;
-    -v | --v | --ver) echo "listset --version prints the version" ;;
+    -v | --v | --ver)
+      if [ "$command" = "$word" ]; then
+        echo "listset --version prints the version"
+      else
+        echo "listset help $command lists its arguments and options"
+      fi ;;
     -*)
       for name in svg from to width brief only chain broken lacks; do
         for file in "${given[@]}"; do
@@ -283,6 +339,8 @@ explain_command() {
     echo "If you mean the file: ${first%%, and *}. $use"
   elif [ "$1" = version ]; then
     echo "listset --version prints the version"
+  elif [ "$1" != "${1,,}" ] && "${engine[@]}" help "${1,,}" >/dev/null 2>&1; then
+    echo "Commands are in lower case: listset ${1,,}"
   elif [ "$1" = prove ] || [ "$1" = unproved ]; then
     echo "If you mean the option of the script: ./listset --$1"
   else

@@ -1,11 +1,20 @@
 """Generates the program's man page, and its completions for bash, zsh and fish, from the output of `listset --help` and
 `listset help COMMAND`.
+
+    python3 build/man_page_and_completions.py man | man -l -       shows the man page
+    source <(python3 build/man_page_and_completions.py bash)       completes in this shell; also: zsh, fish
+
+The program is ./listset, or the one that a second argument names.
 """
 
+import datetime
 import re
 import subprocess
+import sys
 
-import lists
+sys.dont_write_bytecode = True
+import lists  # noqa: E402
+import version_stamp  # noqa: E402
 
 COMMAND = re.compile(r"^  (\w+) +(.+)$", re.M)
 OPTION = re.compile(r"^ +(?:-\w, )?--([\w-]+)(?: <(\w+)>)? +(.*)$", re.M)
@@ -152,3 +161,16 @@ def for_fish(said):
         rows += [f"complete -c listset {seen} -a '{LISTS}'"] * (name in OF_A_LIST)
     examples = "complete -c listset -n '__fish_seen_subcommand_from example' -f -a \"(listset example | string split -f1 ' ')\""
     return "\n".join(["# completions of listset for fish", *rows, examples, ""])
+
+
+def main(words):
+    made = {"man": lambda it: man_page(it, version_stamp.version(), datetime.date.today()), "bash": for_bash, "zsh": for_zsh, "fish": for_fish}
+    if len(words) not in (1, 2) or words[0] not in made:
+        print(__doc__, file=sys.stderr)
+        return 2
+    print(made[words[0]](Help([*words[1:], lists.TOP / "listset"][0])), end="")
+    return 0
+
+
+if __name__ == "__main__":
+    sys.exit(main(sys.argv[1:]))

@@ -14,6 +14,7 @@
 
 const fs = require("fs");
 const path = require("path");
+const { isatty } = require("tty");
 const { NO_ENGINE, NOT_RUN, onlyKey, startedEngine } = parts();
 
 const LONGEST = 67108864; // bytes of an input that is no recording; what is longer is not read to its end
@@ -206,7 +207,7 @@ function readForEngine(input, piece) {
 // Returns the few calls of one key of a recording that show its refusal.
 function keyed(engine, only, file) {
   const bad = { status: WRONG, bytes: Buffer.from("listset: bad KEY\n") };
-  if (!/^(0|[1-9][0-9]{0,9})$/.test(only) || Number(only) >= 2 ** 32) return bad;
+  if (!isKey(only)) return bad;
   const bytes = bytesOf(opened(file));
   if (bytes.length > LONGEST) return { status: 1, bytes: Buffer.from("listset: too long\n") };
   const whole = engine.askBytes("listset_judge", bytes);
@@ -343,7 +344,8 @@ function hintOf(engine, { name, isOfFile, texts, values }, said) {
   if (said.startsWith("listset: too long")) return `An input has at most ${LONGEST} bytes; only judge reads more. Make the text shorter`;
   if (cause === "Kind" && texts.lacks !== undefined) return `${texts.lacks} is a check of another list than the one in line 2; listset help replay lists the checks of each list`;
   if (isOfFile && file !== "-") return fileHint(engine, name, file, number, cause);
-  if (cause) return `listset faults ${cause} explains it; of a text in a file, listset explain FILE says what is wrong there`;
+  if (cause === "Header") return `${name} reads ${READS[name]}: line 1 must be ${TITLES[name]}, and the input is empty or begins otherwise. For a text in a file, listset explain FILE says what is wrong`;
+  if (cause) return `listset faults ${cause} explains this error; for a text in a file, listset explain FILE says what is wrong`;
   return /cannot read/.test(said) ? `Standard input could not be read. Name a file: listset ${name} FILE` : "";
 }
 
@@ -354,10 +356,20 @@ const KINDS = [
   ["listset-report", "is a report", "To check its order: listset check FILE; for its picture: listset show FILE"],
   ["listset-calls", "has recorded calls", "For the verdict: listset judge FILE"],
   ["listset-trace", "is a trace", "No command reads a trace"],
-  ["key ", "has keys for serve", "A server opens with these keys: listset serve KIND SEATS QUOTA PORT SESSIONS FILE"],
+  ["listset-course", "is a course", "No command reads a course: paste it into page/index.html, under Solve"],
+  [/^(key |(listening|sessions|calls) [^ ]*$)/, "has keys for serve", "A server opens with these keys: listset serve KIND SEATS QUOTA PORT SESSIONS FILE"],
 ];
 
 const READS = { replay: "a schedule", trace: "a schedule", check: "a report", draft: "a draft", judge: "recorded calls", show: "a schedule or a report" };
+const SCHEDULE = "'listset-schedule 1' (or 2)";
+const TITLES = {
+  replay: SCHEDULE,
+  trace: SCHEDULE,
+  check: "'listset-report 1' (or 2)",
+  draft: "'listset-draft 2'",
+  judge: "'listset-calls 1'",
+  show: "'listset-schedule 1' or 'listset-report 1' (or 2)",
+};
 
 // Quotes a file name for a shell's command line.
 function quoted(file) {
@@ -368,7 +380,7 @@ function quoted(file) {
 // Returns the kind of a file, and what to do with it; null for a file of no known kind.
 function kindOf(file) {
   const first = lineOf(file, 1);
-  const found = KINDS.find(([title]) => first.startsWith(title));
+  const found = KINDS.find(([title]) => (title instanceof RegExp ? title.test(first) : first.startsWith(title)));
   return found ? { is: `${quoted(file)} ${found[1]}`, use: found[2].replaceAll("FILE", quoted(file)) } : null;
 }
 
@@ -395,8 +407,31 @@ function fileHint(engine, name, file, number, cause) {
   const kind = cause === "Header" ? kindOf(file) : null;
   const isOther = kind !== null && !READS[name].split(" or ").some((it) => kind.is.endsWith(it));
   if (isOther) return `${kind.is}, and ${name} reads ${READS[name]}. ${kind.use}`;
-  return Buffer.from(explained(engine, file, "FILE").bytes).toString().trimEnd().split("\n").at(-1).replaceAll("FILE", quoted(file));
+  const last = Buffer.from(explained(engine, file, "FILE").bytes).toString().trimEnd().split("\n").at(-1).replaceAll("FILE", quoted(file));
+  if (cause === "Header" && last.startsWith("Line 1 must be one of")) return `${quoted(file)} is no text of listset. ${name} reads ${READS[name]}: line 1 must be ${TITLES[name]}, and docs/TEXTS.md has the lines below it`;
+  return last.includes(": there is no such file") ? `${last}\n${meant(engine, name, file)}`.trimEnd() : last;
 }
+
+// Returns what a name means that is no file's: the command help, an example, or the only file with this name and an ending.
+function meant(engine, name, file) {
+  if (file === "help") return `To read about this command: listset help ${name}`;
+  const ended = onlyWithEnding(file);
+  if (ended) return `If you mean ${ended}: listset ${name} ${quoted(ended)}`;
+  return isExample(engine, file) ? `If you mean the example: listset example ${file} | listset ${name}` : "";
+}
+
+// Returns the only file with this name and an ending; an empty text if there is none, or more than one.
+function onlyWithEnding(file) {
+  try {
+    const found = fs.readdirSync(path.dirname(file)).filter((it) => it.startsWith(`${path.basename(file)}.`));
+    const ended = path.join(path.dirname(file), found[0] ?? "");
+    return found.length === 1 && fs.statSync(ended).isFile() ? ended : "";
+  } catch {
+    return "";
+  }
+}
+
+const isExample = (engine, name) => engine.ask("listset_example", name).status === 0;
 
 // Returns the refused line of a recording that is too long for explain, and its cause.
 function longHint(engine, file, number, cause) {
@@ -428,12 +463,22 @@ function valueHint(engine, { name, texts, values }, value) {
   const ofOption = new RegExp(`--${value.toLowerCase()} <[MN]> +(.*)`).exec(help)?.[1];
   if (ofOption) return `${value} '${texts[value.toLowerCase()]}' is wrong. ${ofOption}${ofThisFile(engine, { texts, values }, value)}`;
   const range = new RegExp(`^ +\\[${value}\\] +(.*)`, "m").exec(help)?.[1];
-  if (name === "example") return "listset example lists the names";
-  if (name === "faults") return "listset faults lists all causes";
-  if (value === "KEY") return "KEY is a number from 0 to 4294967295, and the recording has a call of it";
+  if (name === "example") return exampleHint(engine, values[0]);
+  if (name === "faults") return `There is no cause '${values[0]}'. listset faults lists all causes`;
+  if (value === "KEY") return keyHint(texts.only);
   const given = values[usageOf(name).split(" ").indexOf(value) - 2];
-  return given === undefined ? `${value} is missing. Usage: ${usageOf(name)}` : `${value} '${given}' is wrong. ${range}`;
+  return given === undefined ? `${value} is missing. Usage: ${usageOf(name)}` : `${value} '${given}' is wrong. ${range}. Usage: ${usageOf(name)}`;
 }
+
+function exampleHint(engine, given) {
+  const name = path.basename(given).replace(/\.schedule$/, "");
+  if (name !== given && isExample(engine, name)) return `The name of this example is ${name}: listset example ${name}`;
+  return `There is no example '${given}'. listset example lists the names`;
+}
+
+const isKey = (text) => /^(0|[1-9][0-9]{0,9})$/.test(text) && Number(text) < 2 ** 32;
+
+const keyHint = (only) => (isKey(only) ? `The recording has no call of key ${only}` : `KEY '${only}' is wrong. It is a number from 0 to 4294967295`);
 
 // Returns the range of an option of show for the given file.
 function ofThisFile(engine, { texts, values: [file = "-"] }, value) {
@@ -447,19 +492,76 @@ function ofThisFile(engine, { texts, values: [file = "-"] }, value) {
 // Returns a hint with the words that start this script in place of the program's name.
 function asCalled(hint) {
   const called = `node ${quoted(path.relative("", process.argv[1]))}`;
-  return hint.replace(/\blistset (?=(replay|judge|check|show|trace|draft|example|gen|run|serve|faults|explain|help)\b)/g, `${called} `);
+  return hint.replace(/\blistset (?=((replay|judge|check|show|trace|draft|example|gen|run|serve|faults|explain|help)\b|--version|--help))/g, `${called} `);
 }
 
-// Returns a hint for a file that is named without a command.
-function wordHint([word = ""]) {
-  const isFile = fs.existsSync(word) && fs.statSync(word).isFile();
-  if (!isFile) return "";
-  const kind = kindOf(word);
-  return `${asCalled(`If you mean the file: ${kind ? `${kind.is}. ${kind.use}` : `listset explain ${quoted(word)}`}`)}\n`;
+// Returns a hint for wrong arguments and the program's error; an empty text if there is none.
+function wordsHint(given, said) {
+  const [name = ""] = given;
+  const [, word] = /unexpected argument '([^' ]*)/.exec(said) ?? [];
+  if (/unrecognized subcommand/.test(said)) return commandHint(name, said);
+  if (/^error: a value is required/.test(said)) return `listset help ${name} says what it can be`;
+  if (word?.startsWith("-")) return optionHint(given, word);
+  if (!word || COMMANDS[name]?.most > 1) return "";
+  if (name === "example") return "example prints one schedule. Run the command once for each";
+  if (name === "faults") return "faults explains one cause, the last word of an error line. Run the command once for each";
+  return `${name} reads one file. Run the command once for each`;
+}
+
+// Returns a hint for a word in place of a command.
+function commandHint(word, said) {
+  if (fs.existsSync(word) && fs.statSync(word).isFile()) {
+    const kind = kindOf(word);
+    return `If you mean the file: ${kind ? `${kind.is}. ${kind.use}` : `listset explain ${quoted(word)}`}`;
+  }
+  if (/tip:/.test(said)) return "";
+  if (word === "version") return "listset --version prints the version";
+  const isCapital = word !== word.toLowerCase() && Object.hasOwn(COMMANDS, word.toLowerCase());
+  return isCapital ? `Commands are in lower case: listset ${word.toLowerCase()}` : "listset --help lists the commands";
+}
+
+const optionsOf = (name) => [...(COMMANDS[name].options ?? []), ...(COMMANDS[name].flag ? [COMMANDS[name].flag] : [])];
+
+// Returns a hint for an argument that begins with a hyphen.
+function optionHint(given, word) {
+  const [name] = given;
+  if (/^-[0-9]/.test(word)) return negativeHint(given, word);
+  const owners = Object.keys(COMMANDS).filter((it) => optionsOf(it).includes(word));
+  if (owners.length > 0) return `${word} is an option of ${owners.join(", ").replace(/, (\w+)$/, " and $1")}`;
+  if (name === word && /^-(v|-v|-ver)$/.test(word)) return "listset --version prints the version";
+  const all = Object.keys(COMMANDS).flatMap(optionsOf);
+  const single = all.find((it) => given.some((other) => other.split("=")[0] === it.slice(1)));
+  if (single) return `An option has two hyphens: ${single}`;
+  if (["-o", "--out", "--output"].includes(word)) return `The result goes to standard output. To write it to a file: listset ${name} .. > FILE`;
+  const file = given.find((it) => it.startsWith(word) && fs.existsSync(`./${it}`));
+  if (file) return `If you mean the file: listset ${name} ${quoted(file)}`;
+  const alike = Object.hasOwn(COMMANDS, name) && optionsOf(name).find((it) => distance(it, word) <= 2);
+  if (alike) return `If you mean the option: ${alike}`;
+  if (Object.hasOwn(HELP, word.replace(/^-*/, ""))) return `A command has no hyphens: listset ${word.replace(/^-*/, "")}`;
+  return name.startsWith("-") ? "listset --help lists the commands" : `listset help ${name} lists its arguments and options`;
+}
+
+// Returns a hint for a number below 0: the range of the option or argument that it is given for.
+function negativeHint([name, ...words], word) {
+  const at = words.findIndex((it) => it.startsWith(word));
+  const option = Object.keys(VALUE_NAMES).find((it) => it === words[at - 1]);
+  if (option === "--only") return keyHint(words[at]);
+  if (option) return valueHint(null, { name, texts: { [option.slice(2)]: words[at] }, values: [] }, option.slice(2).toUpperCase());
+  const before = words.slice(0, at).filter(isValue).length;
+  const value = (usageOf(name).split(" ")[before + 2] ?? "").replace(/[[\]]/g, "");
+  const range = new RegExp(`^ +\\[?${value}\\]? +(.*)`, "m").exec(HELP[name] ?? "")?.[1];
+  return range ? `${value} '${word}' is wrong. ${range}` : `listset help ${name} lists its arguments and options`;
+}
+
+// At a terminal, prints what the command reads from it, and how to end the input. (The script ./listset prints that itself.)
+function tellWhatIsRead({ name, isOfFile, values: [file = "-"] }) {
+  if (!isOfFile || file !== "-" || process.env.LISTSET_ENGINE !== undefined || !isatty(0) || !isatty(2)) return;
+  process.stderr.write(`listset: ${asCalled(`reading ${READS[name] ?? "a text"} from the terminal, up to Ctrl-D (see listset help ${name})`)}\n`);
 }
 
 async function main(given) {
   const words = asked(given);
+  tellWhatIsRead(words);
   const isOther = process.env.LISTSET_ENGINE === "other";
   const engine = words.isBuilt || isOther ? null : await startedEngine(readForEngine);
   if (engine !== null) return write(answerOrTrouble(engine, words), hintOn(engine, words));
@@ -475,5 +577,6 @@ main(process.argv.slice(2)).catch((fault) => {
   }
   process.exitCode = fault.status;
   if (fault.status === 0) return write({ status: 0, bytes: Buffer.from(fault.message) });
-  process.stderr.write(process.stderr.isTTY ? `${fault.message}${wordHint(process.argv.slice(2))}` : fault.message);
+  const hint = process.stderr.isTTY ? asCalled(wordsHint(process.argv.slice(2), fault.message)) : "";
+  process.stderr.write(hint === "" ? fault.message : `${fault.message}${hint}\n`);
 });

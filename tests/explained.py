@@ -2,8 +2,13 @@
 and how to correct it. tests/hints.py tests what a terminal shows below the fixed line.
 """
 
+import bz2
+import gzip
+import lzma
 import os
+import random
 import re
+import shutil
 
 import pytest
 from harness.programs import ran, wants, well
@@ -28,7 +33,16 @@ ROWS = {
     "byte order mark": ("replay", "\ufeff" + RIGHT, "line 1: Header", [r"\xef\xbb\xbf", r"sed -i '1s/^\xef\xbb\xbf//' FILE"]),
     "byte order mark of a recording": ("judge", "\ufeff" + RIGHT_CALLS, "line 1: Header", [r"sed -i '1s/^\xef\xbb\xbf//' FILE"]),
     "UTF-16": ("replay", RIGHT.encode("utf-16"), "line 1: Header", ["UTF-16", "iconv -f UTF-16 -t UTF-8"]),
-    "packed by gzip": ("judge", b"\x1f\x8b\x08\x00\n", "line 1: Header", ["packed by gzip", "gzip -dc FILE"]),
+    "packed by gzip": (None, gzip.compress(RIGHT_CALLS.encode()), None, ["packed by gzip", "gzip -dc FILE"]),
+    "packed by bzip2": (None, bz2.compress(RIGHT_CALLS.encode()), None, ["packed by bzip2", "bzip2 -dc FILE"]),
+    "packed by xz": (None, lzma.compress(RIGHT_CALLS.encode()), None, ["packed by xz", "xz -dc FILE"]),
+    "packed by zstd": ("judge", b"\x28\xb5\x2f\xfd\x04\n", "line 1: Header", ["packed by zstd", "zstd -dc FILE"]),
+    "packed by zip": ("judge", b"PK\x03\x04\n", "line 1: Header", ["packed by zip", "unzip -p FILE"]),
+    "another version": ("judge", RIGHT_CALLS.replace("calls 1", "calls 2"), "line 1: Header", ["'listset-calls 2' is no title that this version reads", "listset-calls 1"]),
+    "a title in capitals": ("replay", RIGHT.replace("listset", "Listset"), "line 1: Header", ["'Listset-schedule 1' is no title that this version reads", "in lower case"]),
+    "CR alone": (None, RIGHT_CALLS.replace("\n", "\r"), None, ["CR before its end", r"tr '\r' '\n' < FILE > NEW"]),
+    "commas": ("judge", CALLS + ADD.replace(" ", ",") + "end\n", "line 2: Line", ["commas", "sed -i 's/,/ /g' FILE"]),
+    "capitals": ("judge", CALLS + ADD.upper() + "end\n", "line 2: Line", ["lower case", r"sed -i 's/.*/\L&/' FILE"]),
     "a recording for replay": ("replay", RIGHT_CALLS, "line 1: Header", ["recorded calls", "listset judge FILE"]),
     "a report for replay": ("replay", RIGHT_REPORT, "line 1: Header", ["a report", "listset show FILE"]),
     "a schedule for judge": ("judge", RIGHT, "line 1: Header", ["a schedule", "listset replay FILE"]),
@@ -86,6 +100,10 @@ ROWS = {
     "a report that is cut off": ("check", RIGHT_REPORT[:-4], "line 8: NotEnded", ["stops after line 7", "'end'"]),
     "keys": (None, "key 5\nkey 7\nkey 6\n", "line 3: Opening", ["'key 6' comes after 'key 7'", "sort -u -n -k 2,2"]),
     "a comment above the title": (None, "# a run\n" + RIGHT, None, ["no comments", "sed -i '1d' FILE"]),
+    "keys after the lines of a server": (None, "listening 127.0.0.1:1\nsessions 3\ncalls 9\nkey 5\nkey 5\n", "line 5: Opening", ["grep '^key' FILE | sort -u -n -k 2,2 > NEW"]),
+    "lines of a server in another order": (None, "calls 9\nsessions 3\nkey 5\n", "line 2: Line", ["must be 'key K'"]),
+    "opening keys of a schedule": ("replay", SCHEDULE.replace("schedule 1", "schedule 2") + "opening 7\nopening 5\nbegin 0 add 5\n", "line 6: Opening", ["head -n 4 FILE"]),
+    "opening keys of a recording": ("judge", CALLS + "opening 7\nopening 5\n" + ADD + "cut\n", "line 3: Opening", ["grep '^opening' FILE | sort"]),
     "numbers for keys": (None, "5\n7\n", None, ["each line must be 'key K'", "sed -i 's/^/key /' FILE"]),
 }
 
@@ -104,6 +122,47 @@ def test_a_mistake_is_explained(program, name):
     assert all(it in said for it in explained), said
     if line and "Header" not in line:
         assert f"line {line[5:].split(':')[0]} has an error, {line.split(': ')[1]}:\n    " in said, said
+
+
+# A command in an explanation, up to the end of the line
+COMMAND = re.compile(r"(?:sed -i|\(head|\(grep|grep|sort|gzip|bzip2|xz|iconv|tr|echo cut) .*")
+
+
+@pytest.mark.parametrize("name", ROWS)
+def test_a_command_in_an_explanation_corrects_the_line(program, room, name):
+    (room / "listset").symlink_to(program)
+    text = ROWS[name][1]
+    (room / "FILE").write_bytes(text if isinstance(text, bytes) else text.encode())
+    before = well(program, "explain", "FILE", cwd=room)
+    found = COMMAND.search(before.splitlines()[-1])
+    if not found or "packed" in name and not shutil.which(found[0].split()[0]):
+        return
+    done = ran("sh", "-c", found[0].split(";")[0] if found[0].startswith("echo") else found[0], cwd=room, env={**os.environ, "PATH": f"{room}:{os.environ['PATH']}"})
+    assert done.stderr == "", (found[0], done)
+    after = well(program, "explain", "NEW" if (room / "NEW").exists() else "FILE", cwd=room)
+    assert ("listset judge" in found[0] and done.stdout.startswith("ok ")) or error_in(after) != error_in(before), (found[0], after)
+
+
+def error_in(explanation):
+    """Returns the line and the cause of the error that an explanation names, or the whole explanation."""
+    found = re.search(r"line (\d+) has an error, (\w+)", explanation)
+    return found.groups() if found else explanation
+
+
+def test_explain_finds_the_errors_in_keys_that_serve_finds(program, room, few):
+    dice = random.Random(11)
+    lines = ["listening 127.0.0.1:1", "sessions 3", "calls 9", "key 1", "key 2", "key 3", "key 2", "key x", "key", "key 5 5", "calls", "calls 9 9", ""]
+    for _ in range(10 if few else 100):
+        text = "key 0\n" * dice.randrange(2) + "".join(f"{it}\n" for it in sorted(dice.sample(lines, dice.randrange(1, 5)), key=lambda it: dice.random() if dice.random() < 0.3 else lines.index(it)))
+        text = text[: len(text) - dice.choice([0, 0, 0, 1])]
+        (room / "keys").write_text(text)
+        served = ran(program, "serve", "lazy", "1", "4", "0", "0", "keys", cwd=room)
+        explained = well(program, "explain", "keys", cwd=room)
+        due = re.fullmatch(r"listset: line (\d+): (\w+)\n", served.stderr)
+        if text and explained.startswith("keys has keys for serve"):
+            assert error_in(explained) == (due.groups() if due else explained), (text, served, explained)
+        else:
+            assert not text or (due and due.groups() == ("1", "Line")) or text == "\n", (text, served, explained)
 
 
 def test_explain_suggests_no_edit_of_another_programs_file(program):
@@ -137,8 +196,6 @@ def test_a_shell_reads_the_name_in_a_command(program, room, name):
 
 def test_no_text_stops_explain(program, few):
     """Cuts out, repeats or replaces parts of texts. `explain` must succeed and name the same line as the command."""
-    import random
-
     dice = random.Random(7)
     of_commands = {"replay": RIGHT, "draft": DRAFT + "begin 0 add 5\ngo 0 out\n", "check": RIGHT_REPORT, "judge": RIGHT_CALLS}
     for _ in range(40 if few else 400):

@@ -188,6 +188,15 @@ def test_a_mark_of_an_unknown_tool_is_refused(room):
     assert done.returncode and "needs no-such-tool, which build/needs.txt does not list" in done.stdout + done.stderr, done
 
 
+def test_the_man_page_and_the_completions_are_printed(program, room):
+    make = [sys.executable, TOP / "build/man_page_and_completions.py"]
+    page = well(*make, "man", program)
+    assert page.startswith(".TH LISTSET 1 ") and ".SH EXAMPLES" in page and '.SH "listset judge"' in page
+    (room / "bash").write_text(well(*make, "bash", program) + "COMP_WORDS=(listset ju); COMP_CWORD=1; _listset listset ju; echo ${COMPREPLY[*]}\n")
+    assert well("bash", room / "bash") == "judge\n"
+    wants(ran(*make, "dash"), status=2, output="", tells=["man_page_and_completions.py man | man -l -"])
+
+
 # A test with and one without a mark for the command that it runs, and two tests that take one result
 TOOLS = """import subprocess
 import pytest

@@ -1,51 +1,55 @@
-//! Explains errors in the opening keys for `serve`.
+//! Finds errors in the opening keys for `serve`.
 
-use crate::kinds::Place;
 use crate::lined::{Lines, count_fields, field_or_empty, number_at};
-use crate::written::{put_number, put_opening};
 use lset_text::Cause;
-use std::alloc::AllocError;
 
-/// Returns the first line that is wrong for `serve`: its number and the cause. Checks neither the order of the lines
-/// that a server prints before its keys nor the number of keys.
+/// The maximum number of opening keys.
+const MOST_KEYS: usize = 1_048_576;
+
+/// Returns `true` if a line has two fields and the first is `word`.
+fn is_pair(line: &[u8], word: &[u8]) -> bool {
+    field_or_empty(line, 0) == word && count_fields(line) == 2
+}
+
+/// Returns the number of the first line after those that a server prints before its keys: `listening A`, `sessions N` and
+/// `calls N`, in this order, each optional.
+fn first_key_line(lines: &Lines<'_>) -> usize {
+    let mut number = 1usize;
+    for word in [b"listening".as_slice(), b"sessions", b"calls"] {
+        if is_pair(lines.line(number), word) {
+            number = number.saturating_add(1);
+        }
+    }
+    number
+}
+
+/// Returns the first line that is wrong for `serve`: its number and the cause. These are the line and the cause in the
+/// error of `serve`.
 pub fn wrong_key(lines: &Lines<'_>) -> Option<(usize, Cause)> {
     let mut before: Option<u32> = None;
-    for number in 1..lines.count().saturating_add(1) {
+    let last = lines.count();
+    let first = first_key_line(lines);
+    for number in first..last.saturating_add(1) {
         let line = lines.line(number);
-        if number == lines.count() && !lines.is_ended {
+        if number == last && !lines.is_ended {
             return Some((number, Cause::NotEnded));
         }
-        let is_head = matches!(
-            field_or_empty(line, 0),
-            b"listening" | b"sessions" | b"calls"
-        );
-        if is_head && number <= 3 && count_fields(line) == 2 {
-            continue;
-        }
-        if field_or_empty(line, 0) != b"key".as_slice() || count_fields(line) != 2 {
+        if !is_pair(line, b"key") {
             return Some((number, Cause::Line));
         }
         let Some(key) = number_at(line, 1) else {
             return Some((number, Cause::Number));
         };
+        if number.saturating_sub(first) >= MOST_KEYS {
+            return Some((number, Cause::TooMany));
+        }
         if before.is_some_and(|before| before >= key) {
             return Some((number, Cause::Opening));
         }
         before = Some(key);
     }
-    None
-}
-
-/// Explains a wrong line in the opening keys for `serve`.
-pub fn put_key_line(
-    out: &mut String,
-    lines: &Lines<'_>,
-    place: Place<'_>,
-    cause: Cause,
-) -> Result<(), AllocError> {
-    match cause {
-        Cause::Number => put_number(out, place),
-        Cause::Opening => put_opening(out, place, lines.line(place.number.saturating_sub(1))),
-        _ => out.push_str("Each line must be 'key K', as in 'key 5'.\n"),
+    if first > last && !lines.is_ended {
+        return Some((last, Cause::NotEnded));
     }
+    None
 }

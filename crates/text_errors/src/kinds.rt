@@ -1,4 +1,4 @@
-use crate::lined::field_or_empty;
+use crate::lined::{count_fields, field_or_empty};
 
 /// The kind of a text, which its first line determines.
 #[derive(Clone, Copy, PartialEq, Eq)]
@@ -25,8 +25,8 @@ impl TextKind {
             b"listset-calls 1" => TextKind::Recording,
             b"listset-trace 1" => TextKind::Trace,
             b"listset-course 1" => TextKind::Course,
-            _ => match field_or_empty(first, 0) {
-                b"key" | b"listening" | b"sessions" => TextKind::Keys,
+            _ => match (field_or_empty(first, 0), count_fields(first)) {
+                (b"key", _) | (b"listening" | b"sessions" | b"calls", 2) => TextKind::Keys,
                 _ => TextKind::Unknown,
             },
         }

@@ -2,43 +2,27 @@
 
 use crate::kinds::Place;
 use crate::lined::{Lines, count_fields, field, field_or_empty, put_quoted};
-use crate::reported::{CallFields, put_moments};
-use crate::written::{put_no_call, put_number};
-use lset_text::Cause;
+use crate::reported::CallFields;
+use crate::written::put_no_call;
 use std::alloc::AllocError;
 
-const HALF_PENDING: &str =
+pub(crate) const HALF_PENDING: &str =
     "A pending call has '-' for END and for REPLY. This one has '-' for one of them only.\n";
 
-const OF_RECORDING: CallFields = CallFields {
+pub(crate) const OF_RECORDING: CallFields = CallFields {
     thread: 1,
     begin: 4,
     end: 5,
 };
 
-/// Explains a wrong line of a recording after the title.
-pub fn put_recording_line(
-    out: &mut String,
-    lines: &Lines<'_>,
-    place: Place<'_>,
-    cause: Cause,
-) -> Result<(), AllocError> {
-    match cause {
-        Cause::Line => put_recording_form(out, lines, place),
-        Cause::Number if is_half_pending(place.line) => out.push_str(HALF_PENDING),
-        Cause::Number => put_number(out, place),
-        _ => put_moments(out, lines, place, OF_RECORDING),
-    }
-}
-
 /// Returns whether only one of the fields END and REPLY of a call is `-`.
-fn is_half_pending(line: &[u8]) -> bool {
+pub(crate) fn is_half_pending(line: &[u8]) -> bool {
     let (end, reply) = (field_or_empty(line, 5), field_or_empty(line, 6));
     (end == b"-".as_slice()) != (reply == b"-".as_slice())
 }
 
 /// Explains a line of a recording that does not have the form of a line there.
-fn put_recording_form(
+pub(crate) fn put_recording_form(
     out: &mut String,
     lines: &Lines<'_>,
     place: Place<'_>,

@@ -2,8 +2,6 @@
 
 use crate::kinds::{Place, TextKind};
 use crate::lined::{Lines, field, moment_at, number_at};
-use crate::written::put_number;
-use lset_text::Cause;
 use std::alloc::AllocError;
 
 /// Where a call's line has the call's thread and its moments: the indices of these fields.
@@ -20,27 +18,8 @@ const OF_REPORT: CallFields = CallFields {
     end: 6,
 };
 
-/// Explains a wrong line of a report after the header.
-pub fn put_report_line(
-    out: &mut String,
-    lines: &Lines<'_>,
-    place: Place<'_>,
-    cause: Cause,
-) -> Result<(), AllocError> {
-    match cause {
-        Cause::Line => out.push_str(
-            "Expected 'call ID THREAD CALL KEY BEGIN END REPLY' (or 'open' for END and REPLY), then 'place ID REPLY', then 'key K', then 'end'. A report of listset replay has these lines in this order.\n",
-        ),
-        Cause::Number => put_number(out, place),
-        Cause::TooMany => out.push_str(
-            "A report has at most 1000000 calls, 1000000 places, and 1048576 keys (2097152 in version 2).\n",
-        ),
-        _ => put_report_history(out, lines, place),
-    }
-}
-
 /// Explains a report's call that conflicts with the header or with an earlier call.
-fn put_report_history(
+pub(crate) fn put_report_history(
     out: &mut String,
     lines: &Lines<'_>,
     place: Place<'_>,

@@ -1,10 +1,10 @@
 //! Explains errors that occur in every kind of text: encoding, line ends, spaces, comments, a missing title.
 
 use crate::kinds::{Place, TextKind};
-use crate::lined::{Lines, count_fields, field_or_empty};
+use crate::lined::{Lines, count_fields, field_or_empty, put_quoted};
 use std::alloc::AllocError;
 
-/// Explains a text that has no bytes, is in UTF-16, begins with a byte order mark, or is packed by gzip. Returns false, and
+/// Explains a text that has no bytes, is in UTF-16, begins with a byte order mark, or is packed. Returns false, and
 /// writes nothing, for any other text.
 pub fn put_encoding(out: &mut String, file: &str, text: &[u8]) -> Result<bool, AllocError> {
     match text {
@@ -20,13 +20,30 @@ pub fn put_encoding(out: &mut String, file: &str, text: &[u8]) -> Result<bool, A
             out,
             "{file} begins with the bytes \\xef\\xbb\\xbf.\nA byte order mark is before line 1. To remove it: sed -i '1s/^\\xef\\xbb\\xbf//' {file}"
         )?,
-        [0x1f, 0x8b, ..] => writeln!(
-            out,
-            "{file} is packed by gzip.\nThe text is packed. To unpack it: gzip -dc {file} > NEW"
-        )?,
-        _ => return Ok(false),
+        _ => {
+            let Some((format, unpack)) = packing(text) else {
+                return Ok(false);
+            };
+            writeln!(
+                out,
+                "{file} is packed by {format}.\nThe text is packed. To unpack it: {unpack} {file} > NEW"
+            )?;
+        }
     }
     Ok(true)
+}
+
+/// Returns the program that packed a text, and the command that unpacks a file to standard output. Returns `None` if the
+/// text is not packed by a program known here.
+fn packing(text: &[u8]) -> Option<(&'static str, &'static str)> {
+    match text {
+        [0x1f, 0x8b, ..] => Some(("gzip", "gzip -dc")),
+        [b'B', b'Z', b'h', _, 0x31, 0x41, 0x59, ..] => Some(("bzip2", "bzip2 -dc")),
+        [0xfd, b'7', b'z', b'X', b'Z', ..] => Some(("xz", "xz -dc")),
+        [0x28, 0xb5, 0x2f, 0xfd, ..] => Some(("zstd", "zstd -dc")),
+        [b'P', b'K', 0x03, 0x04, ..] => Some(("zip", "unzip -p")),
+        _ => None,
+    }
 }
 
 /// Explains a line that ends with CR LF.
@@ -53,6 +70,14 @@ fn has_spoiled_title(lines: &Lines<'_>) -> bool {
     first.starts_with(b"listset-") || second.starts_with(b"listset-")
 }
 
+/// Returns `true` if a word starts with `listset-`, in lower or upper case.
+fn starts_with_name(word: &[u8]) -> bool {
+    match word.get(..8) {
+        Some(start) => start.eq_ignore_ascii_case(b"listset-"),
+        None => false,
+    }
+}
+
 /// Explains a first line that is not a title. Suggests an edit only if the rest of the text is in a listset format.
 pub fn put_no_title(
     out: &mut String,
@@ -64,6 +89,12 @@ pub fn put_no_title(
     }
     let file = place.file;
     let first = field_or_empty(place.line, 0);
+    if starts_with_name(first) {
+        put_quoted(out, place.line)?;
+        return out.push_str(
+            " is no title that this version reads. Line 1 must be one of these, in lower case: listset-schedule 1 (or 2), listset-draft 2, listset-report 1 (or 2), listset-calls 1.\n",
+        );
+    }
     match (first, count_fields(place.line)) {
         (b"call", 7) | (b"opening", 2) => writeln!(
             out,
@@ -92,6 +123,10 @@ pub fn put_no_title(
 pub fn put_spoiled(out: &mut String, place: Place<'_>) -> Result<bool, AllocError> {
     let (file, number) = (place.file, place.number);
     match place.line {
+        line if has_inner_cr(line) => writeln!(
+            out,
+            "The line has a CR before its end. If every line of the file ends with CR alone, to end each with LF: tr '\\r' '\\n' < {file} > NEW"
+        )?,
         [.., b'\r'] => put_cr(out, file)?,
         [] => writeln!(
             out,
@@ -117,9 +152,53 @@ pub fn put_spoiled(out: &mut String, place: Place<'_>) -> Result<bool, AllocErro
             out,
             "The line has two spaces in a row. Fields are separated by one: sed -i '{number}s/  */ /g' {file}"
         )?,
+        line if line.contains(&b',') && !line.contains(&b' ') => writeln!(
+            out,
+            "The line has commas. Fields are separated by one space: sed -i 's/,/ /g' {file}"
+        )?,
+        line if has_capitals(line) => writeln!(
+            out,
+            "The words of a line are in lower case. To change all lines: sed -i 's/.*/\\L&/' {file}"
+        )?,
         _ => return Ok(false),
     }
     Ok(true)
+}
+
+/// Returns `true` if a line contains a CR and then a byte other than CR.
+fn has_inner_cr(line: &[u8]) -> bool {
+    let mut before = b'.';
+    for byte in line {
+        if before == b'\r' && *byte != b'\r' {
+            return true;
+        }
+        before = *byte;
+    }
+    false
+}
+
+/// Returns `true` if the first word of a line is the first word of some line of a text, except for capitals.
+fn has_capitals(line: &[u8]) -> bool {
+    let first = field_or_empty(line, 0);
+    let words = [
+        b"list".as_slice(),
+        b"threads",
+        b"quota",
+        b"opening",
+        b"begin",
+        b"go",
+        b"call",
+        b"place",
+        b"key",
+        b"end",
+        b"cut",
+    ];
+    for word in words {
+        if first.eq_ignore_ascii_case(word) && first != word {
+            return true;
+        }
+    }
+    false
 }
 
 /// Returns `true` if a line contains two consecutive spaces.

@@ -149,8 +149,16 @@ pub fn put_opening(out: &mut String, place: Place<'_>, above: &[u8]) -> Result<(
     put_quoted(out, place.line)?;
     out.push_str(" comes after ")?;
     put_quoted(out, above)?;
-    writeln!(
-        out,
-        ". Keys must increase: sort these lines. To print a file of keys alone in order: sort -u -n -k 2,2 {file}"
-    )
+    out.push_str(". Keys must increase. To sort them: ")?;
+    match place.kind {
+        TextKind::Keys => writeln!(out, "grep '^key' {file} | sort -u -n -k 2,2 > NEW"),
+        TextKind::Recording => writeln!(
+            out,
+            "(grep '^listset' {file}; grep '^opening' {file} | sort -u -n -k 2,2; grep '^call' {file}; grep '^key' {file} | sort -u -n -k 2,2; grep -E '^(end|cut)' {file}) > NEW"
+        ),
+        _ => writeln!(
+            out,
+            "(head -n 4 {file}; grep '^opening' {file} | sort -u -n -k 2,2; tail -n +5 {file} | grep -v '^opening') > NEW"
+        ),
+    }
 }

@@ -2,9 +2,8 @@ use crate::event_errors::put_event;
 use lset_text::{Cause, cut};
 use std::alloc::{AllocError, Global};
 use text_errors::{
-    Lines, Place, TextKind, put_encoding, put_header, put_key_line, put_no_title, put_not_ended,
-    put_opening, put_recording_line, put_report_line, put_spoiled, put_visible, quoted_name,
-    wrong_key,
+    Lines, Place, TextKind, put_encoding, put_header, put_no_title, put_not_ended, put_opening,
+    put_spoiled, put_visible, put_wrong_line, quoted_name, wrong_key,
 };
 use tool_base::{Answer, LONGEST, Trouble, answer_text};
 use tool_judge::judge_bytes;
@@ -215,9 +214,9 @@ fn put_sentence(
         (Cause::Opening, _) => {
             put_opening(out, place, lines.line(place.number.saturating_sub(1)))
         }
-        (_, TextKind::Report) => put_report_line(out, lines, place, cause),
-        (_, TextKind::Recording) => put_recording_line(out, lines, place, cause),
-        (_, TextKind::Keys) => put_key_line(out, lines, place, cause),
+        (_, TextKind::Report | TextKind::Recording | TextKind::Keys) => {
+            put_wrong_line(out, lines, place, cause)
+        }
         _ => put_event(alloc, out, lines, place, cause),
     }
 }
