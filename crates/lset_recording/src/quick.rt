@@ -65,6 +65,7 @@ fn moment_before(text: &[u8]) -> Option<(u64, &[u8])>
 }
 
 /// Returns the name of a call before the first space, and the bytes after the space.
+#[inline(always)]
 fn word_before(text: &[u8]) -> Option<(CallWord, &[u8])>
     ensures { IfSome result (λ p. (text.now ≡ call_word_text p.0 ++ 32 ∷ p.1.now) × HasWord One p.0) }
 {

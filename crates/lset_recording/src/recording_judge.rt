@@ -130,6 +130,7 @@ impl Judging {
         }
     }
 
+    #[inline(always)]
     fn keep_call(&mut self, call: StreamCall) -> Result<(), Cause>
         requires { IsFormed (Line.Call call) }
         ensures kept { OnOk result ((c : Recording) → IsKept c self.old
@@ -152,6 +153,7 @@ impl Judging {
     }
 
     /// Adds a line to the recording read so far.
+    #[inline(always)]
     fn keep(&mut self, line: Line) -> Result<(), Cause>
         requires { IsFormed line }
         ensures kept { OnOk result ((s : SoFar) → IsJudging s self.old → Comes s.section line
