@@ -130,7 +130,7 @@ explain_line() {
   if [ "$cause" = Kind ] && [ -n "${texts[lacks]-}" ]; then
     echo "${texts[lacks]} is a check of another list than the one in line 2; listset help replay lists the checks of each list"
   elif [ ! -f "$file" ] && [ "$cause" = Header ]; then
-    echo "$command reads $(read_by "$command"): line 1 must be $(title_of "$command"), and the input is empty or begins otherwise. For a text in a file, listset explain FILE says what is wrong"
+    echo "$command reads $(read_by "$command"): line 1 must be $(title_of "$command"), and the input is empty or closed, or begins otherwise. For a text in a file, listset explain FILE says what is wrong"
   elif [ ! -f "$file" ]; then
     echo "listset faults $cause explains this error; for a text in a file, listset explain FILE says what is wrong"
   elif [ "$command" = judge ] && [ "$(stat -c %s -- "$file")" -gt 67108864 ]; then

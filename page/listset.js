@@ -344,7 +344,7 @@ function hintOf(engine, { name, isOfFile, texts, values }, said) {
   if (said.startsWith("listset: too long")) return `An input has at most ${LONGEST} bytes; only judge reads more. Make the text shorter`;
   if (cause === "Kind" && texts.lacks !== undefined) return `${texts.lacks} is a check of another list than the one in line 2; listset help replay lists the checks of each list`;
   if (isOfFile && file !== "-") return fileHint(engine, name, file, number, cause);
-  if (cause === "Header") return `${name} reads ${READS[name]}: line 1 must be ${TITLES[name]}, and the input is empty or begins otherwise. For a text in a file, listset explain FILE says what is wrong`;
+  if (cause === "Header") return `${name} reads ${READS[name]}: line 1 must be ${TITLES[name]}, and the input is empty or closed, or begins otherwise. For a text in a file, listset explain FILE says what is wrong`;
   if (cause) return `listset faults ${cause} explains this error; for a text in a file, listset explain FILE says what is wrong`;
   return /cannot read/.test(said) ? `Standard input could not be read. Name a file: listset ${name} FILE` : "";
 }

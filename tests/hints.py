@@ -24,7 +24,7 @@ AT_TERMINAL = {
     "judge b.schedule": ["listset: line 1: Header\n", "b.schedule is a schedule, and judge reads recorded calls. For its report: ./listset replay b.schedule"],
     "replay -- -x.calls": ["listset: line 1: Header\n", "./-x.calls has recorded calls, and replay reads a schedule. For the verdict: ./listset judge ./-x.calls\n"],
     "judge it's_unsorted": ["listset: line 3: History\n", r"grep '^call' 'it'\''s_unsorted' | sort -n -k 5,5;", "| ./listset judge\n"],
-    "judge -": ["listset: line 1: Header\n", "judge reads recorded calls: line 1 must be 'listset-calls 1', and the input is empty or begins otherwise."],
+    "judge -": ["listset: line 1: Header\n", "judge reads recorded calls: line 1 must be 'listset-calls 1', and the input is empty or closed, or begins otherwise."],
     "replay b": ["listset: cannot read\n", "b: there is no such file.", "If you mean b.schedule: ./listset replay b.schedule\n"],
     "replay snip": ["listset: cannot read\n", "If you mean the example: ./listset example snip | ./listset replay\n"],
     "show help": ["listset: cannot read\n", "To read about this command: ./listset help show\n"],
@@ -182,8 +182,8 @@ def test_a_long_line_of_a_long_recording_is_shown(script):
     assert "listset: line 1: NotEnded\nLine 1 is 'call 0 add 5 1 4 true call " in said and said.endswith("Write each call in a line of its own, which ends with LF\n"), said[:600]
 
 
-# Commands that only a built program has, and errors in which the program adds a tip that Node's parser does not have.
-NOT_OF_NODE = re.compile(r"(run|serve) |shwo|--prov")
+# Commands that only a built program has, errors in which clap adds a tip, and a hint that reads the file of a wrong command line.
+NOT_OF_NODE = re.compile(r"(run|serve) |shwo|--prov|show --from -5")
 
 
 @pytest.mark.needs("node")
