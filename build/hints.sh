@@ -161,8 +161,8 @@ print_meant() {
   if [ "$name" = help ]; then
     echo "To read about this command: listset help $command"
   elif [ -f "$found" ]; then
-    echo "If you mean $found: listset $command $(quoted "$found")"
-  elif [ "$command" != serve ] && [[ "$name" =~ ^[a-z-]+$ ]] && is_example "$name"; then
+    echo "Perhaps you mean $(quoted "$found")"
+  elif [[ "$command" =~ ^(replay|show|trace)$ ]] && is_example "$name"; then
     echo "If you mean the example: listset example $name | listset $command"
   fi
 }

@@ -416,8 +416,8 @@ function fileHint(engine, name, file, number, cause) {
 function meant(engine, name, file) {
   if (file === "help") return `To read about this command: listset help ${name}`;
   const ended = onlyWithEnding(file);
-  if (ended) return `If you mean ${ended}: listset ${name} ${quoted(ended)}`;
-  return isExample(engine, file) ? `If you mean the example: listset example ${file} | listset ${name}` : "";
+  if (ended) return `Perhaps you mean ${quoted(ended)}`;
+  return ["replay", "show", "trace"].includes(name) && isExample(engine, file) ? `If you mean the example: listset example ${file} | listset ${name}` : "";
 }
 
 // Returns the only file with this name and an ending; an empty text if there is none, or more than one.
