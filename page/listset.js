@@ -407,7 +407,8 @@ function fileHint(engine, name, file, number, cause) {
   const kind = cause === "Header" ? kindOf(file) : null;
   const isOther = kind !== null && !READS[name].split(" or ").some((it) => kind.is.endsWith(it));
   if (isOther) return `${kind.is}, and ${name} reads ${READS[name]}. ${kind.use}`;
-  const last = Buffer.from(explained(engine, file, "FILE").bytes).toString().trimEnd().split("\n").at(-1).replaceAll("FILE", quoted(file));
+  const line = Buffer.from(explained(engine, file, "FILE").bytes).toString().trimEnd().split("\n").at(-1);
+  const last = line.replaceAll("FILE", line.startsWith("FILE: ") ? file : quoted(file));
   if (cause === "Header" && last.startsWith("Line 1 must be one of")) return `${quoted(file)} is no text of listset. ${name} reads ${READS[name]}: line 1 must be ${TITLES[name]}, and docs/TEXTS.md has the lines below it`;
   return last.includes(": there is no such file") ? `${last}\n${meant(engine, name, file)}`.trimEnd() : last;
 }
