@@ -340,7 +340,7 @@ function hintOf(engine, { name, isOfFile, texts, values }, said) {
   if (value) return valueHint(engine, { name, texts, values }, value);
   if (said.startsWith("listset: bad NAME: this example")) return `These examples have one: ${brokenExamples(engine).join(", ")}`;
   if (said.startsWith("listset: bad ")) return "";
-  if (said.startsWith("listset: cannot write")) return "The output was closed, as by head, or its device is full: df -h";
+  if (said.startsWith("listset: cannot write")) return "The output was closed, as by head, or its device failed or is full: df -h";
   if (said.startsWith("listset: too long")) return `An input has at most ${LONGEST} bytes; only judge reads more. Make the text shorter`;
   if (cause === "Kind" && texts.lacks !== undefined) return `${texts.lacks} is a check of another list than the one in line 2; listset help replay lists the checks of each list`;
   if (isOfFile && file !== "-") return fileHint(engine, name, file, number, cause);

@@ -6,6 +6,7 @@ import os
 import pty
 import re
 import shutil
+import socket
 import subprocess
 
 import pytest
@@ -149,6 +150,21 @@ def test_a_closed_input_or_output_is_named(script, closed, line, hint):
     status, said = at_terminal(["sh", "-c", words], script)
     assert (status, said.startswith(f"listset: {line}\n{hint}")) == (1, True), said
     wants(ran("sh", "-c", words, cwd=script), status=1, tells=[f"listset: {line}\n"], no=[hint])
+
+
+def test_a_refused_port_is_explained(script):
+    with socket.socket() as taken:
+        taken.bind(("127.0.0.1", 0))
+        port = taken.getsockname()[1]
+        for is_listening, hint in ((False, f"The system refused port {port}."), (True, f"Port {port} is in use, perhaps by another server.")):
+            if is_listening:
+                taken.listen()
+            _, said = at_terminal(["./listset", "serve", "lazy", "1", "4", str(port), "0"], script)
+            assert said == f"listset: cannot listen\n{hint} Use another PORT, or 0 to let the system choose one\n"
+
+
+def test_an_argument_that_is_not_utf_8_is_explained(script):
+    assert at_terminal(["./listset", "judge", b"\xff.calls"], script) == (2, "listset: an argument is not UTF-8\nA file with such a name can be read from standard input: ./listset judge < FILE\n")
 
 
 def test_a_recording_without_final_keys_is_named(script):
