@@ -130,7 +130,7 @@ explain_line() {
   if [ "$cause" = Kind ] && [ -n "${texts[lacks]-}" ]; then
     echo "${texts[lacks]} is a check of another list than the one in line 2; listset help replay lists the checks of each list"
   elif [ ! -f "$file" ] && [ "$cause" = Header ]; then
-    echo "$command reads $(read_by "$command"): line 1 must be $(title_of "$command"), and the input is empty or begins otherwise. For a text in a file, listset explain FILE says what is wrong"
+    echo "$command reads $(read_by "$command"): line 1 must be $(title_of "$command"), and the input is empty or closed, or begins otherwise. For a text in a file, listset explain FILE says what is wrong"
   elif [ ! -f "$file" ]; then
     echo "listset faults $cause explains this error; for a text in a file, listset explain FILE says what is wrong"
   elif [ "$command" = judge ] && [ "$(stat -c %s -- "$file")" -gt 67108864 ]; then
@@ -161,8 +161,8 @@ print_meant() {
   if [ "$name" = help ]; then
     echo "To read about this command: listset help $command"
   elif [ -f "$found" ]; then
-    echo "If you mean $found: listset $command $(quoted "$found")"
-  elif [ "$command" != serve ] && [[ "$name" =~ ^[a-z-]+$ ]] && is_example "$name"; then
+    echo "Perhaps you mean $(quoted "$found")"
+  elif [[ "$command" =~ ^(replay|show|trace)$ ]] && is_example "$name"; then
     echo "If you mean the example: listset example $name | listset $command"
   fi
 }
@@ -183,12 +183,17 @@ explain_unread() {
 }
 
 explain_port() {
-  local port=${values[3]-}
-  if [ "$port" -gt 0 ] && [ "$port" -lt 1024 ] && [ "$(id -u)" != 0 ]; then
-    echo "Ports below 1024 are for root. Use a PORT from 1024 to 65535, or 0 to let the system choose one"
-  else
+  local port=${values[3]-} first=1024
+  read -r first </proc/sys/net/ipv4/ip_unprivileged_port_start || true
+  if [ "$port" = 0 ]; then
+    echo "The system gave the server no port on 127.0.0.1. To see whether the loopback is up: ip address show lo"
+  elif [ "$port" -lt "$first" ] && [ "$(id -u)" != 0 ]; then
+    echo "Ports below $first are for root. Use a PORT from $first to 65535, or 0 to let the system choose one"
+  elif grep -q ":$(printf '%04X' "$port") [0-9A-F]*:0000 0A " /proc/net/tcp /proc/net/tcp6; then
     echo "Port $port is in use, perhaps by another server. Use another PORT, or 0 to let the system choose one"
-  fi
+  else
+    echo "The system refused port $port. Use another PORT, or 0 to let the system choose one"
+  fi 2>/dev/null
 }
 
 # Prints the last moment of the command's file that show can draw. Prints nothing if the command reads standard input.
@@ -384,8 +389,10 @@ explain_error() {
     "listset: cannot read") explain_unread "$1" ;;
     "listset: too long") [ "$1" != judge ] || { echo "Only a recording can have more than 67108864 bytes: line 1 must be 'listset-calls 1', and no line has more than 128 bytes" && return; }
       echo "An input has at most 67108864 bytes; only judge reads more. Make the text shorter" ;;
-    "listset: cannot write") echo "The output was closed, as by head, or its device is full: df -h" ;;
+    "listset: cannot write") echo "The output was closed, as by head, or its device failed or is full: df -h" ;;
     "listset: cannot listen") explain_port ;;
+    "listset: out of memory") echo "The system gave no more memory: free -h; ulimit -v" ;;
+    "listset: an argument is not UTF-8") echo "A file with such a name can be read from standard input: listset $1 < FILE" ;;
     "listset: work: "* | "listset: serve: "*) echo "listset faults ${said##*: } explains this error" ;;
     "listset: bad NAME: this example"*) print_broken ;;
     "listset: bad NAME: "*) ;;

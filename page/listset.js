@@ -340,11 +340,11 @@ function hintOf(engine, { name, isOfFile, texts, values }, said) {
   if (value) return valueHint(engine, { name, texts, values }, value);
   if (said.startsWith("listset: bad NAME: this example")) return `These examples have one: ${brokenExamples(engine).join(", ")}`;
   if (said.startsWith("listset: bad ")) return "";
-  if (said.startsWith("listset: cannot write")) return "The output was closed, as by head, or its device is full: df -h";
+  if (said.startsWith("listset: cannot write")) return "The output was closed, as by head, or its device failed or is full: df -h";
   if (said.startsWith("listset: too long")) return `An input has at most ${LONGEST} bytes; only judge reads more. Make the text shorter`;
   if (cause === "Kind" && texts.lacks !== undefined) return `${texts.lacks} is a check of another list than the one in line 2; listset help replay lists the checks of each list`;
   if (isOfFile && file !== "-") return fileHint(engine, name, file, number, cause);
-  if (cause === "Header") return `${name} reads ${READS[name]}: line 1 must be ${TITLES[name]}, and the input is empty or begins otherwise. For a text in a file, listset explain FILE says what is wrong`;
+  if (cause === "Header") return `${name} reads ${READS[name]}: line 1 must be ${TITLES[name]}, and the input is empty or closed, or begins otherwise. For a text in a file, listset explain FILE says what is wrong`;
   if (cause) return `listset faults ${cause} explains this error; for a text in a file, listset explain FILE says what is wrong`;
   return /cannot read/.test(said) ? `Standard input could not be read. Name a file: listset ${name} FILE` : "";
 }
@@ -407,7 +407,8 @@ function fileHint(engine, name, file, number, cause) {
   const kind = cause === "Header" ? kindOf(file) : null;
   const isOther = kind !== null && !READS[name].split(" or ").some((it) => kind.is.endsWith(it));
   if (isOther) return `${kind.is}, and ${name} reads ${READS[name]}. ${kind.use}`;
-  const last = Buffer.from(explained(engine, file, "FILE").bytes).toString().trimEnd().split("\n").at(-1).replaceAll("FILE", quoted(file));
+  const line = Buffer.from(explained(engine, file, "FILE").bytes).toString().trimEnd().split("\n").at(-1);
+  const last = line.replaceAll("FILE", line.startsWith("FILE: ") ? file : quoted(file));
   if (cause === "Header" && last.startsWith("Line 1 must be one of")) return `${quoted(file)} is no text of listset. ${name} reads ${READS[name]}: line 1 must be ${TITLES[name]}, and docs/TEXTS.md has the lines below it`;
   return last.includes(": there is no such file") ? `${last}\n${meant(engine, name, file)}`.trimEnd() : last;
 }
@@ -416,8 +417,8 @@ function fileHint(engine, name, file, number, cause) {
 function meant(engine, name, file) {
   if (file === "help") return `To read about this command: listset help ${name}`;
   const ended = onlyWithEnding(file);
-  if (ended) return `If you mean ${ended}: listset ${name} ${quoted(ended)}`;
-  return isExample(engine, file) ? `If you mean the example: listset example ${file} | listset ${name}` : "";
+  if (ended) return `Perhaps you mean ${quoted(ended)}`;
+  return ["replay", "show", "trace"].includes(name) && isExample(engine, file) ? `If you mean the example: listset example ${file} | listset ${name}` : "";
 }
 
 // Returns the only file with this name and an ending; an empty text if there is none, or more than one.

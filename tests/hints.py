@@ -6,6 +6,7 @@ import os
 import pty
 import re
 import shutil
+import socket
 import subprocess
 
 import pytest
@@ -24,9 +25,10 @@ AT_TERMINAL = {
     "judge b.schedule": ["listset: line 1: Header\n", "b.schedule is a schedule, and judge reads recorded calls. For its report: ./listset replay b.schedule"],
     "replay -- -x.calls": ["listset: line 1: Header\n", "./-x.calls has recorded calls, and replay reads a schedule. For the verdict: ./listset judge ./-x.calls\n"],
     "judge it's_unsorted": ["listset: line 3: History\n", r"grep '^call' 'it'\''s_unsorted' | sort -n -k 5,5;", "| ./listset judge\n"],
-    "judge -": ["listset: line 1: Header\n", "judge reads recorded calls: line 1 must be 'listset-calls 1', and the input is empty or begins otherwise."],
-    "replay b": ["listset: cannot read\n", "b: there is no such file.", "If you mean b.schedule: ./listset replay b.schedule\n"],
+    "judge -": ["listset: line 1: Header\n", "judge reads recorded calls: line 1 must be 'listset-calls 1', and the input is empty or closed, or begins otherwise."],
+    "replay b": ["listset: cannot read\n", "b: there is no such file.", "Perhaps you mean b.schedule\n"],
     "replay snip": ["listset: cannot read\n", "If you mean the example: ./listset example snip | ./listset replay\n"],
+    "judge snip": ["listset: cannot read\n", "snip: there is no such file. Look at its name, and at the folder that you are in: ls\n"],
     "show help": ["listset: cannot read\n", "To read about this command: ./listset help show\n"],
     "judge -x": ["unexpected argument '-x' found\n", "./listset help judge lists its arguments and options\n"],
     "judge old.calls": ["listset: line 1: Header\n", "'listset-calls 2' is no title that this version reads."],
@@ -150,6 +152,21 @@ def test_a_closed_input_or_output_is_named(script, closed, line, hint):
     wants(ran("sh", "-c", words, cwd=script), status=1, tells=[f"listset: {line}\n"], no=[hint])
 
 
+def test_a_refused_port_is_explained(script):
+    with socket.socket() as taken:
+        taken.bind(("127.0.0.1", 0))
+        port = taken.getsockname()[1]
+        for is_listening, hint in ((False, f"The system refused port {port}."), (True, f"Port {port} is in use, perhaps by another server.")):
+            if is_listening:
+                taken.listen()
+            _, said = at_terminal(["./listset", "serve", "lazy", "1", "4", str(port), "0"], script)
+            assert said == f"listset: cannot listen\n{hint} Use another PORT, or 0 to let the system choose one\n"
+
+
+def test_an_argument_that_is_not_utf_8_is_explained(script):
+    assert at_terminal(["./listset", "judge", b"\xff.calls"], script) == (2, "listset: an argument is not UTF-8\nA file with such a name can be read from standard input: ./listset judge < FILE\n")
+
+
 def test_a_recording_without_final_keys_is_named(script):
     texts = {"none": CALLS + ADD + "end\n", "other": CALLS + ADD + "key 6\nend\n", "bug": CALLS + ADD + "call 1 contains 5 5 6 false\nend\n", "right": CALLS + "end\n"}
     for name, text in texts.items():
@@ -182,8 +199,8 @@ def test_a_long_line_of_a_long_recording_is_shown(script):
     assert "listset: line 1: NotEnded\nLine 1 is 'call 0 add 5 1 4 true call " in said and said.endswith("Write each call in a line of its own, which ends with LF\n"), said[:600]
 
 
-# Commands that only a built program has, and errors in which the program adds a tip that Node's parser does not have.
-NOT_OF_NODE = re.compile(r"(run|serve) |shwo|--prov")
+# Commands that only a built program has, errors in which clap adds a tip, and a hint that reads the file of a wrong command line.
+NOT_OF_NODE = re.compile(r"(run|serve) |shwo|--prov|show --from -5")
 
 
 @pytest.mark.needs("node")

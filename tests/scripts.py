@@ -116,7 +116,7 @@ def test_node_answers_at_once(room):
     done = clone.ran("./listset", "replay", text=example.read_text())
     assert wants(done, output=example.with_suffix(".report").read_text()).stderr == ""
     wants(clone.ran("./listset", "--version", "--long"), output=shown("--version") + f"commit {40 * '0'}\nproof unknown\n")
-    wants(clone.ran("./listset", "run", "lazy"), status=127, tells=["run needs a built program, which only the command rt builds", "Node alone has all other commands"])
+    wants(clone.ran("./listset", "run", "lazy"), status=127, tells=["run needs a built program, which only the command rt builds", "Node alone has every command but run and serve"])
     (clone.tree / "crates/ffi_page/src/lib.rt").write_text("//! Edited.\n")
     wants(clone.ran("./listset", "replay", example), status=127, tells=["were edited", "git stash"])
     wants(clone.ran("./listset", "help", "judge"), output=shown("help judge"))
