@@ -82,7 +82,7 @@ def test_an_operation_that_alone_is_wrong_is_named_with_a_cause(program, path):
     said = ran(program, "judge", path).stdout
     assert "\ncontains(3) returned true, expected false\n" in said
     assert "only contains is wrong: 20 of its 20 answers (found an absent key, and never missed a present key)\n" in said
-    assert "\nanother add or remove of the key ran during 20 of them, only changes of other keys that returned true during 0, neither during 0\n" in said
+    assert "\nduring them ran: an add of the key at 0, a remove of the key at 20, only changes of other keys at 0, none of these at 0\n" in said
     assert "\nlikely: contains does not look at what remove changes first" in said
 
 
@@ -92,6 +92,167 @@ def test_a_few_contradictions_are_listed(program, path):
     path.write_text(text_of(calls, [], [3, 5]))
     said = ran(program, "judge", path).stdout
     assert "\n2 contradictions: key 3 added twice from 30 to 36; key 5 added twice from 50 to 56\n" in said, said
+
+
+def test_a_key_that_went_without_a_call_is_named_and_has_its_recording(program, path):
+    """Key 5 was there first and is missing at the end, and no call is of it."""
+    path.write_text(text_of([Call(0, "add", 1, 1, 2, "true")], [5], [1]))
+    said, alone = ran(program, "judge", path).stdout, ran(program, "judge", "--only", "5", path)
+    assert "\nkey 5 was lost: key 5 is absent at the end\n" in said and "\n1 contradiction: key 5 lost by the end\n" in said, said
+    assert (alone.stdout, alone.returncode) == ("listset-calls 1\nopening 5\nend\n", 0), alone
+    assert ran(program, "judge", "--only", "7", path).returncode == 2
+
+
+class OneSet:
+    """A right set. Each call is a generator, and other calls can run at each of its yields. Each subclass has one bug."""
+
+    def __init__(self, rng):
+        self.rng, self.keys, self.more = rng, set(), set()
+
+    def add(self, thread, key):
+        yield
+        is_new = key not in self.keys
+        self.keys.add(key)
+        return is_new
+
+    def remove(self, thread, key):
+        yield
+        is_there = key in self.keys
+        self.keys.discard(key)
+        return is_there
+
+    def contains(self, thread, key):
+        yield
+        return key in self.keys
+
+
+class CopyOnWrite(OneSet):
+    likely = ("an older copy is written over newer changes",)
+
+    def add(self, thread, key):
+        copy = {*self.keys}
+        yield
+        self.keys = copy | {key}
+        return key not in copy
+
+    def remove(self, thread, key):
+        copy = {*self.keys}
+        yield
+        self.keys = copy - {key}
+        return key in copy
+
+
+class AddLooksFirst(OneSet):
+    likely = ("add checks, then acts", "check, then act", "the reply does not come from the change itself")
+
+    def add(self, thread, key):
+        yield
+        is_new = key not in self.keys
+        yield
+        self.keys.add(key)
+        return is_new
+
+
+class SeenBeforeItIsAdded(OneSet):
+    likely = ("contains finds a key whose add is not finished",)
+
+    def add(self, thread, key):
+        yield
+        while key in self.more:
+            yield
+        if key in self.keys:
+            return False
+        self.more.add(key)
+        yield
+        yield
+        self.more.discard(key)
+        self.keys.add(key)
+        return True
+
+    def contains(self, thread, key):
+        yield
+        return key in self.keys or key in self.more
+
+
+class MarkNotRead(OneSet):
+    likely = ("contains does not look at what remove changes first",)
+
+    def add(self, thread, key):
+        while key in self.more:
+            yield
+        return (yield from super().add(thread, key))
+
+    def remove(self, thread, key):
+        yield
+        if key in self.more or key not in self.keys:
+            return False
+        self.more.add(key)
+        yield
+        yield
+        self.keys.discard(key)
+        self.more.discard(key)
+        return True
+
+
+class TakenLater(OneSet):
+    likely = ("contains reads a copy that removed keys leave only later",)
+
+    def add(self, thread, key):
+        is_new = yield from super().add(thread, key)
+        self.more.add(key)
+        return is_new
+
+    def contains(self, thread, key):
+        if self.rng.random() < 0.05:
+            self.more = {*self.keys}
+        yield
+        return key in self.more
+
+
+class RepeatedCall(OneSet):
+    likely = ("a call is repeated after it took effect",)
+
+    def add(self, thread, key):
+        is_new = yield from super().add(thread, key)
+        return (yield from super().add(thread, key)) if self.rng.random() < 0.02 else is_new
+
+    def remove(self, thread, key):
+        is_there = yield from super().remove(thread, key)
+        return (yield from super().remove(thread, key)) if self.rng.random() < 0.02 else is_there
+
+
+def recorded(kind, seed, keys=4, threads=4, count=6000):
+    """Returns the recording of calls of a set by threads that take turns at random."""
+    rng = random.Random(seed)
+    these, calls, running, moment, thread = kind(rng), [], {}, 0, 0
+    while len(calls) < count or running:
+        thread = thread if rng.random() < 0.9 else rng.randrange(threads)
+        if thread in running:
+            call, steps = running[thread]
+            try:
+                next(steps)
+            except StopIteration as end:
+                moment += 1
+                call += [moment, str(bool(end.value)).lower()]
+                del running[thread]
+        elif len(calls) < count:
+            moment += 1
+            word, key = rng.choice(["add", "remove", "contains"]), rng.randrange(keys)
+            calls.append([thread, word, key, moment])
+            running[thread] = (calls[-1], getattr(these, word)(thread, key))
+        else:
+            thread = rng.choice([*running])
+    lines = [f"call {' '.join(map(str, call))}" for call in calls]
+    return "\n".join(["listset-calls 1", *lines, "cut", ""])
+
+
+@pytest.mark.parametrize("kind", [CopyOnWrite, AddLooksFirst, SeenBeforeItIsAdded, MarkNotRead, TakenLater, RepeatedCall])
+def test_the_likely_cause_of_a_wrong_set_is_its_bug(program, path, kind):
+    guesses = set()
+    for seed in range(4):
+        path.write_text(recorded(kind, seed))
+        guesses |= {*re.findall(r"^likely: (.*)$", ran(program, "judge", path).stdout, re.MULTILINE)}
+    assert guesses and all(guess.startswith(kind.likely) for guess in guesses), guesses
 
 
 def test_few_calls_have_no_likely_cause(program, path):

@@ -201,10 +201,13 @@ function drawnRecording() {
   if (draw(8) === 0) keys = keys.includes(5) ? keys.filter((key) => key !== 5) : [5, ...keys];
   const left = draw(5) === 0 ? null : keys;
   const padding = draw(3) > 0 ? paddingAfter(moment) : [];
-  const lines = [...calls, ...padding].map(({ thread, operation, key, begun, ended, reply }) => `call ${thread} ${operation} ${key} ${begun} ${ended ?? "-"} ${reply ?? "-"}`);
+  return { calls, padding, opening, keys: left, quota: Infinity, text: textOf([...calls, ...padding], opening, left) };
+}
+
+function textOf(calls, opening, left) {
+  const lines = calls.map(({ thread, operation, key, begun, ended, reply }) => `call ${thread} ${operation} ${key} ${begun} ${ended ?? "-"} ${reply ?? "-"}`);
   const ends = left === null ? ["cut"] : [...left.map((key) => `key ${key}`), "end"];
-  const text = ["listset-calls 1", ...opening.map((key) => `opening ${key}`), ...lines, ...ends, ""].join("\n");
-  return { calls, padding, opening, keys: left, quota: Infinity, text };
+  return ["listset-calls 1", ...opening.map((key) => `opening ${key}`), ...lines, ...ends, ""].join("\n");
 }
 
 // Returns right calls of other keys, one after another. A diagnosis of few calls has no likely cause.
@@ -243,7 +246,7 @@ function checkText(ask, it, told) {
   const isOfCount = (line) => /^(contradiction: | {2}(need key|and (no|only)) )/.test(line);
   const lines = ask("listset_why", it.text).text.split("\n").filter((line) => line !== "" && !isOfCount(line));
   const NOTES = [[/^ +<-- expected (\w+)$/, "call expected $1"], [/^ +key \d+ is (\w+)$/, "call leaves $1"], [/^ +<-- one of two$/, "call either"], [/^ +finds key \d+ (\w+)$/, "call finds $1"]];
-  const [isOfPicture, BAR] = [/^thread |^ +\.\.\.$|^-+ also running(?: \(\d+ of \d+\))?$/, /^thread (\d+) +\[(\w+) (\d+)-*(?:(\w+)\]|\.\.) +(\d+) to (\d+|\.\.)(.*)$/];
+  const [isOfPicture, BAR] = [/^thread |^ +\.\.\.$|^-+ also running(?: \(\d+ of (?:\d+|many)\))?$/, /^thread (\d+) +\[(\w+) (\d+)-*(?:(\w+)\]|\.\.) +(\d+) to (\d+|\.\.)(.*)$/];
   const bars = lines.filter((line) => line.startsWith("thread ")).map((line) => {
     const [, thread, operation, key, reply, begun, ended, note] = BAR.exec(line) ?? [];
     const mark = NOTES.find(([pattern]) => pattern.test(note));
@@ -361,6 +364,9 @@ const keysOf = (it) => [...new Set([...it.calls.map(({ key }) => key), ...it.ope
 const inTime = (call, since, until) => call.begun <= until && since <= (call.ended ?? LAST);
 const runsBeside = (it, call, operation) => it.calls.some((one) => one !== call && one.key === call.key && one.operation === operation && isChange(one) && inTime(one, call.begun, call.ended));
 
+// Returns whether another add or remove that holds ran during a call.
+const runsDuring = (it, call, holds) => it.calls.some((one) => one !== call && one.operation !== "contains" && holds(one) && inTime(one, call.begun, call.ended));
+
 function isHeadline(it, why, [key, gone, operation, ofCall, reply, expected]) {
   // if no reply was expected, the call need not be drawn
   const told = expected === undefined ? it.calls.map((call) => ({ call, mark: "-" })) : why.shown;
@@ -407,11 +413,11 @@ function nextCall(it, answer, operation) {
 
 // Decides whether a contradiction of a short list is one: the calls of the key that had begun by its end have no order.
 function isListed(it, told) {
-  const [, key, symptom, since, until] = /^key (\d+) (lost|came back|added twice|removed twice|missed|found, though absent,|contradictory) from (\d+) (?:to (\d+)|on)$/.exec(told) ?? [];
+  const [, key, symptom, since, until] = /^key (\d+) (lost|came back|added twice|removed twice|missed|found, though absent,|contradictory) (?:by the end|from (\d+) to (?:(\d+)|the end))$/.exec(told) ?? [];
   if (key === undefined) return false;
   const calls = ofKey(it, Number(key));
   const last = until === undefined ? LAST : Number(until);
-  const hasTwo = (operation) => calls.filter((call) => call.operation === operation && call.reply === "true" && inTime(call, Number(since), last)).length >= 2;
+  const hasTwo = (operation) => calls.filter((call) => call.operation === operation && call.reply === "true" && inTime(call, Number(since ?? 0), last)).length >= 2;
   if (symptom.endsWith("twice") && !hasTwo(symptom.startsWith("added") ? "add" : "remove")) return false;
   return until === undefined ? !hasOrderOf(it, Number(key)) : !hasOrder(knownBy(calls, last), Number(key), opens(it, Number(key)));
 }
@@ -421,7 +427,7 @@ const OF_WHY = [
   [/^headline (?:key (\d+) (was lost|came back): )?key (\d+) is (present|absent) at the end$/, (it, [key, gone, ofEnd, state]) =>
     it.keys !== null && leftOf(it, Number(ofEnd)) === (state === "present") && !hasOrderOf(it, Number(ofEnd)) && (gone === undefined || (key === ofEnd && isGone(it, Number(key), gone === "was lost", null)))],
   [/^headline the calls of key (\d+) have no order$/, (it, [key]) => !hasOrder(ofKey(it, Number(key)), Number(key), opens(it, Number(key)))],
-  [/^headline (add|remove)\((\d+)\) returned true twice at the same time, expected once$/, (it, [operation, key], why) => {
+  [/^headline (add|remove)\((\d+)\) returned true twice at the same time, expected at most once$/, (it, [operation, key], why) => {
     const both = why.shown.filter(({ mark }) => mark === "either").map(({ call }) => call);
     return both.length === 2 && both.every((call) => call.operation === operation && call.key === Number(key) && call.reply === "true") && inTime(both[0], both[1].begun, both[1].ended);
   }],
@@ -452,13 +458,15 @@ const OF_WHY = [
       why.told = wrongAnswers(it, "contains", aside !== undefined);
       return why.told !== null && isTold(it, why.told, ["contains", atLeast, count, of, found, missed]);
     }],
-  [/^fact (\d+) contradictions?(?: of (?:(\d+) of |all )?(\d+) keys)?; (.*)$/, (it, [count, hit, all, kinds]) => {
+  [/^fact (?:at least )?(\d+) contradictions?(?: of (?:(\d+) of |all )?(\d+) keys)?; (.*)$/, (it, [count, hit, all, kinds]) => {
     const told = kinds.split("; ").map((kind) => kind.split(": "));
     const refused = keysOf(it).filter((key) => !hasOrderOf(it, key)).length;
     return told.every(([kind]) => TALLIED.includes(kind)) && told.reduce((sum, [, many]) => sum + Number(many), 0) === Number(count) && Number(hit ?? all ?? 1) <= refused;
   }],
-  [/^fact at (\d+) of (\d+) losses and returns another key was changed, at (\d+) of (\d+) a call that returned false can have done it$/, (it, [beside, timed, silent, gone]) => {
-    const isBeside = Number(beside) === 0 || it.calls.some((one) => one.operation !== "contains" && one.reply === "true" && it.calls.some((two) => two.key !== one.key && inTime(two, one.begun, one.ended)));
+  [/^fact at (\d+) of (\d+) losses and returns another key was changed \(by an add at (\d+), by a remove at (\d+)\), at (\d+) of (\d+) a call that returned false can have done it$/, (it, [beside, timed, added, removed, silent, gone]) => {
+    const isBesideBy = (count, operations) => Number(count) === 0 || it.calls.some((one) => operations.includes(one.operation) && one.reply === "true" && it.calls.some((two) => two.key !== one.key && inTime(two, one.begun, one.ended)));
+    const [some, ofAdds, ofRemoves] = [beside, added, removed].map(Number);
+    const isBeside = isBesideBy(beside, ["add", "remove"]) && isBesideBy(added, ["add"]) && isBesideBy(removed, ["remove"]) && Math.max(ofAdds, ofRemoves) <= some && some <= ofAdds + ofRemoves;
     const isSilent = Number(silent) === 0 || it.calls.some((one) => one.operation !== "contains" && one.reply === "false" && !hasOrderOf(it, one.key));
     return Number(beside) <= Number(timed) && Number(timed) <= Number(gone) && Number(silent) <= Number(gone) && isBeside && isSilent;
   }],
@@ -466,26 +474,39 @@ const OF_WHY = [
     const told = listed.split("; ");
     return told.length === Number(count) && told.every((one) => isListed(it, one));
   }],
-  [/^fact another add or remove of the key ran during (\d+) of them, only changes of other keys that returned true during (\d+), neither during (\d+)$/, (it, [same, others, neither], { told }) => {
-    const runs = (call, holds) => it.calls.some((one) => one !== call && holds(one) && inTime(one, call.begun, call.ended));
-    const isSame = (call) => runs(call, (one) => one.key === call.key && one.operation !== "contains");
-    const isBeside = (call) => runs(call, (one) => one.key !== call.key && one.operation !== "contains" && one.reply === "true");
-    const counts = [told.wrong.filter(isSame), told.wrong.filter((call) => !isSame(call) && isBeside(call)), told.wrong.filter((call) => !isSame(call) && !isBeside(call))].map((some) => some.length);
-    return `${counts}` === `${[same, others, neither].map(Number)}`;
+  [/^fact during them ran: an add of the key at (\d+), a remove of the key at (\d+), only changes of other keys at (\d+), none of these at (\d+)$/, (it, found, { told }) => {
+    const [isAdded, isRemoved] = ["add", "remove"].map((operation) => (call) => runsDuring(it, call, (one) => one.key === call.key && one.operation === operation));
+    const isSame = (call) => isAdded(call) || isRemoved(call);
+    const isBeside = (call) => runsDuring(it, call, (one) => one.key !== call.key && one.reply === "true");
+    const kinds = [isAdded, isRemoved, (call) => !isSame(call) && isBeside(call), (call) => !isSame(call) && !isBeside(call)];
+    return `${kinds.map((kind) => told.wrong.filter(kind).length)}` === `${found.map(Number)}`;
   }],
-  [/^fact (?:another add or remove of the key|(a change of another key)) ran during it(?:, and no other add or remove of its own key)?$/, (it, [beside], { told }) => {
-    const runs = (call, holds) => it.calls.some((one) => one !== call && one.operation !== "contains" && holds(one) && inTime(one, call.begun, call.ended));
-    const isSame = (call) => runs(call, (one) => one.key === call.key);
-    return told.wrong.some((call) => (beside === undefined ? isSame(call) : !isSame(call) && runs(call, (one) => one.key !== call.key && one.reply === "true")));
+  [/^fact an? (add|remove)( and a remove)? of the key ran during it$/, (it, [operation, both], { told }) => {
+    const operations = both === undefined ? [operation] : ["add", "remove"];
+    const isSaid = (call) => ["add", "remove"].every((one) => runsDuring(it, call, (other) => other.key === call.key && other.operation === one) === operations.includes(one));
+    return told.wrong.some(isSaid);
+  }],
+  [/^fact a change of another key ran during it, and no other add or remove of its own key$/, (it, found, { told }) =>
+    told.wrong.some((call) => !runsDuring(it, call, (one) => one.key === call.key) && runsDuring(it, call, (one) => one.key !== call.key && one.reply === "true"))],
+  [/^fact the change that they do not show had ended, by the same thread before (\d+) of them, by another before (\d+), at most (\d+) moments earlier$/, (it, found, { told }) => {
+    const lastChange = (answer) => ofKey(it, answer.key).filter((call) => isChange(call) && call.ended !== null && (call.operation === "add") !== needsKey(answer) && call.begun <= answer.begun)
+      .sort((one, other) => one.begun - other.begun).at(-1);
+    const changes = told.wrong.map((answer) => ({ answer, change: lastChange(answer) })).filter(({ answer, change }) => change !== undefined && change.ended < answer.begun);
+    const own = changes.filter(({ answer, change }) => answer.thread === change.thread).length;
+    const latest = Math.max(...changes.map(({ answer, change }) => answer.begun - change.ended));
+    return `${[own, changes.length - own, latest]}` === `${found.map(Number)}`;
   }],
   [/^fact the next (add|remove|contains) of the key, with no change between, was right$/, (it, [operation], { told }) =>
     told.wrong.some((answer) => nextCall(it, answer, operation) !== undefined && !told.wrong.includes(nextCall(it, answer, operation)))],
-  [/^fact the next (add|remove|contains) of the key, with no change between: (\d+) times right, (\d+) times wrong again$/, (it, [operation, right, wrong], { told }) => {
+  [/^fact the next (add|remove|contains) of the key, with no change between, was right after (\d+) of them, wrong again after (\d+)$/, (it, [operation, right, wrong], { told }) => {
     const next = told.wrong.map((answer) => [answer, nextCall(it, answer, operation)]).filter(([, one]) => one !== undefined).map(([, one]) => told.wrong.includes(one));
     return told.isAll && next.filter((isWrong) => !isWrong).length === Number(right) && next.filter((isWrong) => isWrong).length === Number(wrong);
   }],
-  [/^fact the first contradiction of the run: the calls of key (\d+) up to moment (\d+)$/, (it, [key, moment]) =>
-    !hasOrder(ofKey(it, Number(key)).filter(({ begun }) => begun <= Number(moment)), Number(key), opens(it, Number(key)))],
+  [/^fact the calls above are of a later contradiction; the first of the run: key (\d+) up to moment (\d+)$/, (it, [key, moment], why) => {
+    const isLater = why.shown.some(({ call }) => (call.ended ?? LAST) > Number(moment));
+    const isFirst = keysOf(it).every((one) => hasOrder(knownBy(ofKey(it, one), Number(moment) - 1), one, opens(it, one)));
+    return isLater && isFirst && !hasOrder(knownBy(ofKey(it, Number(key)), Number(moment)), Number(key), opens(it, Number(key)));
+  }],
   [/^(?:fact|because) at (\d+) of (\d+)(?: wrong answers)? no two calls overlapped(?:: perhaps one thread alone is enough)?$/, (it, [some, all]) => Number(some) <= Number(all) && isWrongAlone(it)],
   [/^because (\d+) of (\d+) are two (add|remove)s that both returned true, \d+ are two (?:add|remove)s$/, (it, [some, all, operation]) => Number(some) <= Number(all) &&
     it.calls.some((one) => one.operation === operation && one.reply === "true" && it.calls.some((two) => two !== one && two.key === one.key && two.operation === operation && two.reply === "true"))],
@@ -499,8 +520,10 @@ const OF_WHY = [
     told !== null && told.wrong.length === Number(all) && told.wrong.every((call) => runsBeside(it, call, operation))],
   [/^because it misses present keys$/, (it, found, { told }) => told !== null && told.wrong.some((call) => !needsKey(call))],
   [/^because it misses present keys and never finds an absent one$/, (it, found, { told }) => told !== null && told.isAll && told.wrong.every((call) => !needsKey(call))],
-  [/^because it is wrong both ways, and add and remove agree$/, (it, found, { told }) => told !== null && told.wrong.some(needsKey) && !told.wrong.every(needsKey)],
-  [/^because (?:remove and contains agree, and add|add and contains agree, and remove) does not$/, (it, found, { told }) => told !== null],
+  [/^because it is wrong both ways, and without it all other calls have an order$/, (it, found, { told }) => told !== null && told.wrong.some(needsKey) && !told.wrong.every(needsKey)],
+  [/^because without these answers all other calls have an order$/, (it, found, { told }) => told !== null],
+  [/^because at (\d+) of the (\d+) wrong answers another add or remove was running, of this key or of others$/, (it, [some, all], { told }) =>
+    told.wrong.length === Number(all) && told.wrong.filter((call) => runsDuring(it, call, () => true)).length === Number(some)],
   [/^because at (\d+) of the (\d+) wrong answers another add or remove of the key, or a change of another key, was running$/, (it, [some, all], { told }) => {
     const isActive = (call) => it.calls.some((one) => one !== call && one.operation !== "contains" && (one.key === call.key || one.reply === "true") && inTime(one, call.begun, call.ended));
     return told.wrong.length === Number(all) && told.wrong.filter(isActive).length === Number(some);
@@ -532,6 +555,56 @@ const OF_WHY = [
   }],
   [/^because all is among the first (\d+) calls of a key$/, (it, [count]) => keysOf(it).some((key) => ofKey(it, key).length >= Number(count))],
 ];
+
+// ---- A key whose calls disagree for long: adds find it present and removes absent, while nothing changes it.
+
+// Returns a recording of one key, in which a change is followed by many answers that disagree, and then, perhaps, by another change. Some answers overlap.
+function drawnSplit() {
+  const [calls, opening] = [[], draw(2) === 0 ? [5] : []];
+  const found = String(draw(2) === 0);
+  const answers = pick([["add", "remove"], ["add", "remove", "contains"], ["remove", "contains"], ["add", "contains"]]);
+  let moment = 0;
+  const make = (thread, operation, reply, length) => calls.push({ thread, operation, key: 5, begun: ++moment, ended: (moment += length), reply });
+  if (draw(2) === 0) make(0, opening.length > 0 ? "remove" : "add", "true", 1 + draw(3));
+  const disagree = () => {
+    for (let left = 210 + draw(90); left > 0; left--) {
+      const operation = pick(answers);
+      make(draw(3), operation, operation === "contains" ? found : "false", 1);
+    }
+  };
+  disagree();
+  for (let changes = draw(3); changes > 0; changes--) {
+    make(0, pick(["add", "remove"]), "true", 1 + draw(3));
+    if (draw(2) === 0) disagree();
+  }
+  return { calls, opening, keys: null, text: textOf(calls, opening, null) };
+}
+
+const answersIn = (it, operation, state, since, until) =>
+  it.calls.filter((call) => call.operation === operation && !isChange(call) && needsKey(call) === state && call.begun > since && call.ended < until).length;
+
+const OF_SPLIT = [
+  [/^headline calls of key (\d+) disagree: (add|contains|add and contains) finds? it present, (remove|contains|remove and contains) absent$/, (it, [key, present, absent], why) => {
+    why.key = Number(key);
+    why.named = [present.split(" and "), absent.split(" and ")];
+    return why.named.every((operations, at) => operations.every((operation) => answersIn(it, operation, at === 0, 0, LAST) > 0));
+  }],
+  [/^fact from (\d+) (?:to (\d+)|on) no change of key (\d+) ran, and (\d+) add found it present, (\d+) remove absent, (\d+) contains (present|absent)$/, (it, [from, to, key, adds, removes, contains, state], why) => {
+    const [since, until] = [Number(from), Number(to ?? LAST)];
+    const isQuiet = it.calls.every((call) => !isChange(call) || call.ended <= since || call.begun >= until);
+    const named = { add: adds, remove: removes, contains };
+    const isNamed = why.named.flat().every((operation) => Number(named[operation]) > 0);
+    const counts = [answersIn(it, "add", true, since, until), answersIn(it, "remove", false, since, until), answersIn(it, "contains", state === "present", since, until)];
+    return Number(key) === why.key && isQuiet && isNamed && `${counts}` === `${[adds, removes, contains].map(Number)}` && counts.reduce((sum, count) => sum + count, 0) >= 200;
+  }],
+];
+
+function checkSplit(ask) {
+  const it = drawnSplit();
+  const lines = ask("listset_why_record", it.text).text.split("\n").filter((line) => /^(headline calls of key \d+ disagree|fact from) /.test(line));
+  if (lines.length !== 0 && lines.length !== 2) result.failed.push(`${lines} on\n${it.text}`);
+  checkSentences(OF_SPLIT, it, lines);
+}
 
 // ---- Runs of broken lists.
 
@@ -679,12 +752,13 @@ async function main() {
   const ask = (name, ...texts) => engine.ask(name, ...texts);
   for (let number = 0; number < CASES; number++) {
     checkRecording(ask);
+    checkSplit(ask);
     checkLacking(ask, Object.keys(LACKING)[number % Object.keys(LACKING).length]);
     checkOwn(ask);
   }
   // (a recording with few calls has few of the facts from which a cause is guessed)
   const isRare = (pattern) => /^\^because|which do not increase|have no order\\\.|at first, and/.test(pattern.source);
-  const properties = [...OF_RECORDING, ...OF_LACKING, ...OF_OWN];
+  const properties = [...OF_RECORDING, ...OF_SPLIT, ...OF_LACKING, ...OF_OWN];
   result.failed.push(...properties.filter(([pattern]) => CASES >= 150 && !met.has(pattern) && !isRare(pattern)).map(([pattern]) => `no case has ${pattern}`));
   console.log(JSON.stringify(result));
 }

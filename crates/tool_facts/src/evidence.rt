@@ -52,16 +52,27 @@ const MOST_MOMENTS: u64 = 200;
 /// The minimum number of losses that are compared with the number of keys.
 const LEAST_LOST: u64 = 10;
 
-/// Returns the places in which a call shows within `MOST_MOMENTS` that a key was lost, in the order of time.
-fn losses_of(alloc: Global, places: &[Place]) -> Result<Vec<Place>, AllocError> {
-    let mut losses = Vec::new(alloc);
+/// Returns the places in which a call shows that a key was lost or came back, in the order of time.
+fn gone_of(alloc: Global, places: &[Place]) -> Result<Vec<Place>, AllocError> {
+    let mut gone = Vec::new(alloc);
     for place in places {
+        if place.is_gone() && place.clash.second.is_some() {
+            gone.push(*place)?;
+        }
+    }
+    gone.sort_unstable_by_key(|place| place.clash.begun());
+    Ok(gone)
+}
+
+/// Returns those of `gone` in which a call shows within `MOST_MOMENTS` that a key was lost.
+fn losses_of(alloc: Global, gone: &[Place]) -> Result<Vec<Place>, AllocError> {
+    let mut losses = Vec::new(alloc);
+    for place in gone {
         let is_short = place.clash.until.saturating_sub(place.clash.begun()) <= MOST_MOMENTS;
         if place.symptom == Symptom::Lost && is_short {
             losses.push(*place)?;
         }
     }
-    losses.sort_unstable_by_key(|place| place.clash.begun());
     Ok(losses)
 }
 
@@ -96,7 +107,9 @@ fn places_of_all(
         found.split = larger_split(found.split, longest_split(alloc, &key)?);
     }
     let calls = &runs.recorded.calls;
-    let losses = losses_of(alloc, &found.places)?;
+    let gone = gone_of(alloc, &found.places)?;
+    found.tally.add_together(&gone);
+    let losses = losses_of(alloc, &gone)?;
     found
         .tally
         .add_times(alloc, &found.places, calls, neighbours, &losses)?;
@@ -112,10 +125,11 @@ fn larger_split(one: Option<Split>, two: Option<Split>) -> Option<Split> {
     let (Some(first), Some(second)) = (one, two) else {
         return one.or(two);
     };
-    let (many, others) = (first.votes(), second.votes());
-    let is_larger = many.present.saturating_add(many.absent)
-        >= others.present.saturating_add(others.absent);
-    if is_larger { one } else { two }
+    if first.size() >= second.size() {
+        one
+    } else {
+        two
+    }
 }
 
 /// Returns the places of the odd operation or, if there is none, of all refused keys.

@@ -158,14 +158,36 @@ impl KeyCalls {
         Ok(found)
     }
 
-    /// Returns the last completed change of the key to this state that had begun by a moment.
+    /// Returns `true` if another add or remove of the key that returned true overlaps a change. Considers only the
+    /// `MOST_OLDER` calls that began last.
+    pub fn has_change_beside(&self, change: Made) -> bool {
+        let end = self.begun_by(change.ended);
+        let earlier = self.calls.get(..end).unwrap_or(&[]);
+        for call in earlier.iter().rev().take(MOST_OLDER) {
+            let is_other = call.begun != change.begun && call.ended > change.begun;
+            if is_other && call.changes() && call.reply.is_some() {
+                return true;
+            }
+        }
+        false
+    }
+
+    /// Returns the last completed change of the key to this state that had begun by a moment. Considers only the
+    /// `MOST_CHANGED` calls that began last.
     pub fn change_before(&self, state: Presence, moment: u64) -> Option<Made> {
         let end = self.begun_by(moment);
         let earlier = self.calls.get(..end).unwrap_or(&[]);
-        let changed = |call: &&Made| call.makes() == Some(state) && call.reply.is_some();
-        earlier.iter().rev().find(changed).copied()
+        for call in earlier.iter().rev().take(MOST_CHANGED) {
+            if call.makes() == Some(state) && call.reply.is_some() {
+                return Some(*call);
+            }
+        }
+        None
     }
 }
+
+/// The maximum number of calls among which the last change is searched.
+const MOST_CHANGED: usize = 1_000;
 
 /// The maximum number of earlier calls that are checked for an overlap.
 const MOST_OLDER: usize = 400;

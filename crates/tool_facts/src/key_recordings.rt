@@ -116,7 +116,8 @@ fn text_of(alloc: Global, key: u32, part: Part<'_>) -> Result<String, AllocError
 }
 
 /// Returns the recording of a key's calls. If they are not linearizable, returns only a part of them that is not
-/// linearizable either. Returns `None` if the key has no calls. Allocates.
+/// linearizable either. Returns `None` if the key has no calls, and its final state is its opening state or unknown.
+/// Allocates.
 pub fn recording_of_key(
     alloc: Global,
     recorded: &Recorded,
@@ -128,13 +129,14 @@ pub fn recording_of_key(
             calls.push(*call)?;
         }
     }
-    if calls.is_empty() {
+    let (opening, left) = (recorded.opens(key), recorded.leaves(key));
+    if calls.is_empty() && left.unwrap_or(opening) == opening {
         return Ok(None);
     }
     let whole = Part {
         calls: &calls,
-        opening: recorded.opens(key),
-        left: recorded.leaves(key),
+        opening,
+        left,
     };
     let part = match failing_moment(alloc, whole.calls, whole.opening, whole.left)? {
         None => whole,

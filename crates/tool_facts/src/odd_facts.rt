@@ -39,8 +39,24 @@ pub struct Odd {
     pub adding: u64,
     /// The number of wrong answers during which another add or remove of the key ran.
     pub same: u64,
+    /// The number of wrong answers during which another add of the key ran, whatever it returned.
+    pub same_adds: u64,
+    /// The number of wrong answers during which another remove of the key ran, whatever it returned.
+    pub same_removes: u64,
+    /// The number of wrong answers before which the change that they did not see had ended, made by the same thread.
+    pub by_same: u64,
+    /// The number of wrong answers before which the change that they did not see had ended, made by another thread.
+    pub by_others: u64,
+    /// The most moments between the end of such a change and the begin of the wrong answer.
+    pub latest: u64,
+    /// Of `by_same` and `by_others`, those at most `SOON` moments before the wrong answer.
+    pub soon: u64,
     /// The number of wrong answers during which another add or remove of the key, or a change of another key ran.
     pub active: u64,
+    /// The number of wrong answers during which another add or remove ran, of any key and whatever it returned.
+    pub writing: u64,
+    /// During how many of 100 of its calls another add or remove ran, of any key and whatever it returned.
+    pub usually_writing: u64,
     /// During how many of 100 of its calls a change of another key ran.
     pub usual: u64,
     /// During how many of 100 of its calls another add or remove of the key, or a change of another key ran.
@@ -173,7 +189,10 @@ pub fn find_odd(
     Ok(None)
 }
 
-/// The adds and removes of a key, whatever they returned, in the order of their begins, each with the latest end of
+/// The maximum number of adds and removes that are searched for one that overlaps an answer.
+const MOST_WRITERS: usize = 100_000;
+
+/// The adds and removes of some calls, whatever they returned, in the order of their begins, each with the latest end of
 /// those up to it.
 #[derive(Drop)]
 struct Writers {
@@ -198,16 +217,18 @@ impl Writers {
         Ok(writers)
     }
 
-    /// Returns whether one of the calls, other than `answer` itself, overlaps `answer`.
-    fn overlap(&self, answer: Made) -> bool {
+    /// Returns whether one of the calls, other than `answer` itself, overlaps `answer`. If an operation is given,
+    /// considers only its calls.
+    fn overlap(&self, answer: Made, operation: Option<Operation>) -> bool {
         let end = self.calls.partition_point(|call| call.begun < answer.ended);
         let calls = self.calls.get(..end).unwrap_or(&[]);
         let latest = self.latest.get(..end).unwrap_or(&[]);
-        for (call, last) in calls.iter().zip(latest).rev() {
+        for (call, last) in calls.iter().zip(latest).rev().take(MOST_WRITERS) {
             if *last < answer.begun {
                 return false;
             }
-            if call.begun != answer.begun && call.ended > answer.begun {
+            let is_sought = operation.unwrap_or(call.operation) == call.operation;
+            if is_sought && call.begun != answer.begun && call.ended > answer.begun {
                 return true;
             }
         }
@@ -278,7 +299,15 @@ fn odd_of(found: &OddFound) -> Odd {
         removing: 0,
         adding: 0,
         same: 0,
+        same_adds: 0,
+        same_removes: 0,
+        by_same: 0,
+        by_others: 0,
+        latest: 0,
+        soon: 0,
         active: 0,
+        writing: 0,
+        usually_writing: 0,
         usual: 0,
         usually_active: 0,
         then_right: 0,
@@ -316,6 +345,7 @@ pub fn places_of_odd(
     let mut odd = odd_of(found);
     let calls = &runs.recorded.calls;
     let crossings = Crossings::of(alloc, calls)?;
+    let writers = Writers::of(alloc, calls)?;
     let begins = begins_of(alloc, &found.answers.wrong)?;
     let mut sound: Option<Sound> = None;
     let mut sound_key: Option<u32> = None;
@@ -331,6 +361,9 @@ pub fn places_of_odd(
             let made = runs.made_of(call.key);
             count_answer(sound, *call, &mut odd, neighbours);
             count_around(&sound.calls, made, *call, &mut odd, &begins);
+            if writers.overlap(*call, None) {
+                more(&mut odd.writing);
+            }
             if places.len() < MOST_PLACED {
                 if let Some(clash) = clash_of(&sound.calls, &sound.stretches, *call) {
                     more(&mut odd.placed);
@@ -342,7 +375,7 @@ pub fn places_of_odd(
             }
         }
     }
-    count_usual(runs, &mut odd, neighbours);
+    count_usual(runs, &mut odd, neighbours, &writers);
     odd.of = count_answers(calls, found.operation);
     odd.never_finds = !finds && is_found(calls, found.operation);
     if odd.operation == Operation::Contains && odd.found == 0 {
@@ -456,6 +489,12 @@ const MOST_KEYS: usize = 16;
 
 /// Returns whether no larger key is shown present just before a call.
 fn is_largest(runs: &Runs<'_>, call: Made) -> bool {
+    let opening = runs.recorded.opening.iter().rev();
+    for key in opening.take(MOST_KEYS.saturating_add(1)) {
+        if *key > call.key && runs.place(*key) == usize::MAX {
+            return false;
+        }
+    }
     for key in runs.used() {
         if *key > call.key
             && is_left_present(runs.made_of(*key), runs.recorded.opens(*key), call.begun)
@@ -516,9 +555,10 @@ fn compare_keys(
 const SAMPLED: usize = 500;
 
 /// Counts during how many of 100 calls of the odd operation, in a sample, other changes ran.
-fn count_usual(runs: &Runs<'_>, odd: &mut Odd, neighbours: &Neighbours) {
+fn count_usual(runs: &Runs<'_>, odd: &mut Odd, neighbours: &Neighbours, writers: &Writers) {
     let calls = &runs.recorded.calls;
-    let (mut beside, mut active, mut tried, mut next) = (0u64, 0u64, 0u64, 0usize);
+    let (mut beside, mut active, mut writing) = (0u64, 0u64, 0u64);
+    let (mut tried, mut next) = (0u64, 0usize);
     let step = calls.len().checked_div(SAMPLED).unwrap_or(0);
     for (index, call) in calls.iter().enumerate() {
         if index >= next && call.operation == odd.operation {
@@ -531,8 +571,12 @@ fn count_usual(runs: &Runs<'_>, odd: &mut Odd, neighbours: &Neighbours) {
             if is_beside || runs_beside(runs.made_of(call.key), *call) {
                 more(&mut active);
             }
+            if writers.overlap(*call, None) {
+                more(&mut writing);
+            }
         }
     }
+    odd.usually_writing = writing.saturating_mul(100).checked_div(tried).unwrap_or(0);
     odd.usual = beside.saturating_mul(100).checked_div(tried).unwrap_or(0);
     odd.usually_active = active.saturating_mul(100).checked_div(tried).unwrap_or(0);
 }
@@ -572,18 +616,46 @@ fn count_answer(sound: &Sound, call: Made, odd: &mut Odd, neighbours: &Neighbour
     if is_beside {
         more(&mut odd.beside);
     }
-    let is_same = sound.writers.overlap(call);
-    if is_same {
+    let is_add = sound.writers.overlap(call, Some(Operation::Add));
+    let is_remove = sound.writers.overlap(call, Some(Operation::Remove));
+    odd.same_adds = odd.same_adds.saturating_add(u64::from(is_add));
+    odd.same_removes = odd.same_removes.saturating_add(u64::from(is_remove));
+    if is_add || is_remove {
         more(&mut odd.same);
     }
-    if is_beside || is_same {
+    if is_beside || is_add || is_remove {
         more(&mut odd.active);
     }
+    count_unseen(&sound.calls, call, other(needs), odd);
     if neighbours.overlap(key, since, until, Some(Operation::Remove)) {
         more(&mut odd.removing);
     }
     if neighbours.overlap(key, since, until, Some(Operation::Add)) {
         more(&mut odd.adding);
+    }
+}
+
+/// At most so many moments after a change a wrong answer begins soon.
+const SOON: u64 = 50;
+
+/// Counts who made the change to the state `was` that a wrong answer did not see, and how long before, if that change
+/// had ended.
+fn count_unseen(sound: &KeyCalls, call: Made, was: Presence, odd: &mut Odd) {
+    let Some(change) = sound.change_before(was, call.begun) else {
+        return;
+    };
+    if change.ended >= call.begun {
+        return;
+    }
+    if change.thread == call.thread {
+        more(&mut odd.by_same);
+    } else {
+        more(&mut odd.by_others);
+    }
+    let late = call.begun.saturating_sub(change.ended);
+    odd.latest = odd.latest.max(late);
+    if late <= SOON {
+        more(&mut odd.soon);
     }
 }
 

@@ -9,17 +9,12 @@ const LEAST: u64 = 3;
 /// The minimum number of answers for a split to count as long.
 const LONG: u64 = 200;
 
-/// How many answers of an operation found a key present, and how many found it absent.
+/// How many answers found a key present, and how many found it absent.
 #[derive(Clone, Copy)]
 pub struct Votes {
     pub present: u64,
     pub absent: u64,
 }
-
-const NO_VOTES: Votes = Votes {
-    present: 0,
-    absent: 0,
-};
 
 /// A split: a period in which no change of a key ran, but calls alternately found the key present and absent.
 #[derive(Clone, Copy)]
@@ -29,8 +24,10 @@ pub struct Split {
     pub since: u64,
     /// The moment at which the next change begins; `NEVER` if there is none.
     pub until: u64,
-    pub adds: Votes,
-    pub removes: Votes,
+    /// How many calls of `add` found the key present.
+    pub adds: u64,
+    /// How many calls of `remove` found the key absent.
+    pub removes: u64,
     pub contains: Votes,
     turns: u64,
     last: Option<Presence>,
@@ -43,28 +40,29 @@ impl Split {
             key,
             since,
             until: NEVER,
-            adds: NO_VOTES,
-            removes: NO_VOTES,
-            contains: NO_VOTES,
+            adds: 0,
+            removes: 0,
+            contains: Votes {
+                present: 0,
+                absent: 0,
+            },
             turns: 0,
             last: None,
         }
     }
 
-    /// Counts a call's answer.
+    /// Counts the answer of a call that changes nothing.
     fn count(&mut self, call: Made) {
         let Some(found) = call.needs() else {
             return;
         };
-        let votes = match call.operation {
-            Operation::Add => &mut self.adds,
-            Operation::Remove => &mut self.removes,
-            Operation::Contains => &mut self.contains,
+        let votes = match (call.operation, found) {
+            (Operation::Add, _) => &mut self.adds,
+            (Operation::Remove, _) => &mut self.removes,
+            (Operation::Contains, Presence::Present) => &mut self.contains.present,
+            (Operation::Contains, Presence::Absent) => &mut self.contains.absent,
         };
-        match found {
-            Presence::Present => votes.present = votes.present.saturating_add(1),
-            Presence::Absent => votes.absent = votes.absent.saturating_add(1),
-        }
+        *votes = votes.saturating_add(1);
         if self.last.is_some() && self.last != Some(found) {
             self.turns = self.turns.saturating_add(1);
         }
@@ -78,12 +76,9 @@ impl Split {
 
     /// Returns how many answers of all operations found the key present, and how many found it absent.
     pub fn votes(&self) -> Votes {
-        let (adds, removes, contains) = (self.adds, self.removes, self.contains);
-        let present = adds.present.saturating_add(contains.present);
-        let absent = removes.absent.saturating_add(contains.absent);
         Votes {
-            present: present.saturating_add(removes.present),
-            absent: absent.saturating_add(adds.absent),
+            present: self.adds.saturating_add(self.contains.present),
+            absent: self.removes.saturating_add(self.contains.absent),
         }
     }
 

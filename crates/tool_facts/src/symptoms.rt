@@ -21,8 +21,6 @@ pub enum Symptom {
     Lost,
     /// An absent key became present without an add that returned true.
     CameBack,
-    /// More calls of the operation returned true than the other calls allow.
-    TooMany(Operation),
     /// No single repair makes the calls linearizable.
     Unclear,
 }

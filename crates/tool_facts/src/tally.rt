@@ -26,6 +26,10 @@ pub struct Tally {
     pub turned: u64,
     /// Of `lost` and `came_back` as shown by a call, those at which a change of another key ran.
     pub beside: u64,
+    /// Of `beside`, those at which an add of another key ran.
+    pub added: u64,
+    /// Of `beside`, those at which a remove of another key ran.
+    pub removed: u64,
     /// Of `lost` and `came_back` as shown by a call, those at which no change of another key ran.
     pub alone: u64,
     /// Of `lost`, those where a remove that returned true ran among the overlapping changes before.
@@ -52,11 +56,17 @@ pub struct Tally {
     pub usually_full: u64,
     /// The percentage of other periods of the same length in which a change of another key ran.
     pub usual: u64,
+    /// Of `lost` and `came_back` as shown by a call, those at whose time another key was lost or came back.
+    pub together: u64,
+    /// The percentage of other periods of the same length in which another key was lost or came back.
+    pub usually_together: u64,
     /// Of `lost` and `came_back` that a call shows: the change before is known.
     pub made: u64,
     /// Of `made`: a change of another key that can have read the set before the change, and written it afterwards,
     /// overlapped the change.
     pub fits: u64,
+    /// Of `made`: another add or remove of the key that returned true overlapped the change.
+    pub own: u64,
     /// At how many contradictions, of all kinds, no call of the recording began while another call was running.
     pub apart: u64,
     /// The number of keys with contradictions.
@@ -101,7 +111,7 @@ impl Tally {
             Symptom::BothTrue(_) => more(&mut self.both_removes),
             Symptom::Missed(_) => more(&mut self.missed),
             Symptom::Found(_) => more(&mut self.found),
-            Symptom::TooMany(_) | Symptom::Unclear => more(&mut self.others),
+            Symptom::Unclear => more(&mut self.others),
         }
     }
 
@@ -143,6 +153,9 @@ impl Tally {
         more(&mut self.made);
         if neighbours.has_since(change, since) {
             more(&mut self.fits);
+        }
+        if key.has_change_beside(change) {
+            more(&mut self.own);
         }
     }
 
@@ -192,7 +205,11 @@ impl Tally {
             if neighbours.unlink_below(key, since, until) {
                 more(&mut self.below);
             }
-            if neighbours.overlap(key, since, until, None) {
+            let is_added = neighbours.overlap(key, since, until, Some(Operation::Add));
+            let is_removed = neighbours.overlap(key, since, until, Some(Operation::Remove));
+            self.added = self.added.saturating_add(u64::from(is_added));
+            self.removed = self.removed.saturating_add(u64::from(is_removed));
+            if is_added || is_removed {
                 more(&mut self.beside);
             } else {
                 more(&mut self.alone);
@@ -206,11 +223,31 @@ impl Tally {
     fn add_swapped(&mut self, places: &[Place], losses: &[Place]) {
         for place in places {
             if let (Symptom::CameBack, Some(first)) = (place.symptom, place.clash.first) {
-                if first.changes() && has_loss_beside(first, losses) {
+                if first.changes() && has_beside(first.key, first.begun, first.ended, losses) {
                     more(&mut self.swapped);
                 }
             }
         }
+    }
+
+    /// Counts how often several keys were lost or came back at the same time, and how often that is so by chance. `gone`
+    /// has all contradictions in which a call shows that a key was lost or came back, ordered by time.
+    pub fn add_together(&mut self, gone: &[Place]) {
+        let (mut beside, mut tried) = (0u64, 0u64);
+        for place in gone {
+            let (since, until) = (place.clash.begun(), place.clash.until);
+            if has_beside(place.key, since, until, gone) {
+                more(&mut self.together);
+            }
+            for later in LATER {
+                let (since, until) = (since.saturating_add(later), until.saturating_add(later));
+                more(&mut tried);
+                if has_beside(place.key, since, until, gone) {
+                    more(&mut beside);
+                }
+            }
+        }
+        self.usually_together = beside.saturating_mul(100).checked_div(tried).unwrap_or(0);
     }
 
     /// Counts what else ran during each contradiction. `calls` are all calls of the recording. `losses` are all
@@ -253,13 +290,13 @@ impl Tally {
     }
 }
 
-/// Returns `true` if another key was lost during a call. `losses` must be ordered by time.
-fn has_loss_beside(call: Made, losses: &[Place]) -> bool {
-    let (since, until) = (call.begun, call.ended);
-    let end = losses.partition_point(|loss| loss.clash.begun() <= until);
-    let earlier = losses.get(..end).unwrap_or(&[]);
-    for loss in earlier.iter().rev().take(MOST_LOSSES) {
-        if loss.key != call.key && loss.clash.until >= since {
+/// Returns `true` if one of some contradictions, of another key, shares time with the period from `since` to `until`.
+/// `places` must be ordered by time.
+fn has_beside(key: u32, since: u64, until: u64, places: &[Place]) -> bool {
+    let end = places.partition_point(|place| place.clash.begun() <= until);
+    let earlier = places.get(..end).unwrap_or(&[]);
+    for place in earlier.iter().rev().take(MOST_LOSSES) {
+        if place.key != key && place.clash.until >= since {
             return true;
         }
     }

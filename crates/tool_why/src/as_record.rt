@@ -42,7 +42,9 @@ pub fn diagnosis_record(alloc: Global, diagnosis: &Diagnosis) -> Result<String, 
         put_call(&mut out, one.call)?;
         put_mark(&mut out, one.mark)?;
     }
-    for call in &diagnosis.beside {
+    let mut beside = Vec::from_slice(alloc, &diagnosis.beside)?;
+    beside.sort_unstable_by_key(|call| call.begun);
+    for call in &beside {
         out.push_str("also ")?;
         put_call(&mut out, *call)?;
         out.push_str("\n")?;

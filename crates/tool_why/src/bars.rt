@@ -1,6 +1,6 @@
 //! Draws a diagnosis, with calls as bars. Bars overlap in columns if their calls overlap in time.
 
-use crate::diagnosis::{Diagnosis, Mark};
+use crate::diagnosis::{Diagnosis, MOST_AROUND, Mark};
 use std::alloc::{AllocError, Global};
 use tool_facts::{Made, NEVER, state_word};
 
@@ -137,10 +137,11 @@ fn is_after_gap(bars: &[Bar], call: Made) -> bool {
     last > 0 && call.begun > last.saturating_add(LONG)
 }
 
-/// Writes the line above the changes of other keys.
-fn put_rule(out: &mut String, diagnosis: &Diagnosis) -> Result<(), AllocError> {
-    let (shown, all) = (diagnosis.beside.len(), diagnosis.beside_count);
-    if shown < all {
+/// Writes the line above the changes of other keys, some of `all`.
+fn put_rule(out: &mut String, shown: usize, all: usize) -> Result<(), AllocError> {
+    if all >= MOST_AROUND {
+        writeln!(out, "---------- also running ({shown} of many)")
+    } else if shown < all {
         writeln!(out, "---------- also running ({shown} of {all})")
     } else {
         out.push_str("---------- also running\n")
@@ -171,17 +172,18 @@ pub(crate) fn put_picture(
     }
     let own = bars.len();
     let room = most.saturating_sub(own.saturating_add(1));
-    if diagnosis.beside.len() <= room {
-        for call in &diagnosis.beside {
-            bars.push(Bar::new(alloc, *call, Mark::Nothing)?)?;
-        }
+    let mut beside = Vec::from_slice(alloc, &diagnosis.beside)?;
+    beside.truncate(room);
+    beside.sort_unstable_by_key(|call| call.begun);
+    for call in &beside {
+        bars.push(Bar::new(alloc, *call, Mark::Nothing)?)?;
     }
     place_all(alloc, &mut bars)?;
     let width = width_of(&bars);
     let gaps = bars.len().saturating_add(count_gaps(&bars, own)) <= most;
     for (i, bar) in bars.iter().enumerate() {
         if i == own {
-            put_rule(out, diagnosis)?;
+            put_rule(out, beside.len(), diagnosis.beside_count)?;
         }
         if gaps && i < own && is_after_gap(&bars, bar.call) {
             let from = bar.from;

@@ -18,6 +18,13 @@ fn put_because_of_found(out: &mut String, odd: &Odd, cause: Cause) -> Result<(),
             out,
             "at {running} of the {found} wrong answers a remove of the key was still running"
         ),
+        Cause::SeenEarly => {
+            let starting = odd.starting;
+            writeln!(
+                out,
+                "at {starting} of the {found} wrong answers an add of the key was still running"
+            )
+        }
         Cause::TakenLater => writeln!(
             out,
             "it {only}finds absent keys, and at {running} of {found} of these answers a remove of the key still ran"
@@ -26,7 +33,10 @@ fn put_because_of_found(out: &mut String, odd: &Odd, cause: Cause) -> Result<(),
             out,
             "before {own} of the {wrong} wrong answers the last call of the key by the same thread left it so"
         ),
-        _ => writeln!(out, "it is wrong both ways, and add and remove agree"),
+        _ => writeln!(
+            out,
+            "it is wrong both ways, and without it all other calls have an order"
+        ),
     }
 }
 
@@ -65,9 +75,11 @@ fn put_because_of_odd(out: &mut String, odd: &Odd, cause: Cause) -> Result<(), A
     let (active, apart, placed) = (odd.active, odd.apart, odd.placed);
     let (count, keys) = (odd.keys, if odd.keys == 1 { "key" } else { "keys" });
     match cause {
-        Cause::MarkNotRead | Cause::TakenLater | Cause::ThreadCache | Cause::LateCopy => {
-            put_because_of_found(out, odd, cause)
-        }
+        Cause::MarkNotRead
+        | Cause::SeenEarly
+        | Cause::TakenLater
+        | Cause::ThreadCache
+        | Cause::LateCopy => put_because_of_found(out, odd, cause),
         Cause::NotSeenYet | Cause::LastKey | Cause::SizeFirst | Cause::Shortcut => {
             put_because_of_missed(out, odd, cause)
         }
@@ -83,7 +95,14 @@ fn put_because_of_odd(out: &mut String, odd: &Odd, cause: Cause) -> Result<(), A
             out,
             "at {adding} of the {missed} wrong answers an add of another key was running"
         ),
-        Cause::MovedKeys | Cause::AddGivesUp => writeln!(
+        Cause::MovedKeys => {
+            let writing = odd.writing;
+            writeln!(
+                out,
+                "at {writing} of the {wrong} wrong answers another add or remove was running, of this key or of others"
+            )
+        }
+        Cause::AddGivesUp => writeln!(
             out,
             "at {active} of the {wrong} wrong answers another add or remove of the key, or a change of another key, was running"
         ),
@@ -91,8 +110,7 @@ fn put_because_of_odd(out: &mut String, odd: &Odd, cause: Cause) -> Result<(), A
             out,
             "at {apart} of {placed} wrong answers no two calls overlapped"
         ),
-        Cause::AddSeesRemoved => writeln!(out, "remove and contains agree, and add does not"),
-        _ => writeln!(out, "add and contains agree, and remove does not"),
+        _ => writeln!(out, "without these answers all other calls have an order"),
     }
 }
 
@@ -138,14 +156,17 @@ fn put_because_of_lost(out: &mut String, tally: &Tally, cause: Cause) -> Result<
     let (added, removed, least) = (tally.displaced, tally.unlinked, tally.least_full);
     write!(out, "keys are lost ({lost}) and never come back, and at ")?;
     match cause {
-        Cause::Displaced => writeln!(out, "{added} of {sharp} short losses another key was added"),
+        Cause::Displaced => writeln!(
+            out,
+            "{added} of {sharp} losses beside one to six changes of other keys one of these is an add"
+        ),
         Cause::Batch => writeln!(
             out,
-            "{removed} of {sharp} short losses another key was removed"
+            "{removed} of {sharp} losses beside one to six changes of other keys one of these is a remove"
         ),
         _ => writeln!(
             out,
-            "{short} short losses at least {least} keys were shown present"
+            "{short} losses that a call shows within 200 moments at least {least} keys were shown present"
         ),
     }
 }
@@ -187,7 +208,12 @@ fn put_because_of_gone(
     let (beside, alone, below, keys) = (tally.beside, tally.alone, tally.below, tally.keys);
     let (swapped, undone) = (tally.swapped, tally.undone);
     let (silent, gone) = (tally.silent, tally.gone());
+    let (added, removed, together) = (tally.added, tally.removed, tally.together);
     match cause {
+        Cause::ReplacedAtOnce => writeln!(
+            out,
+            "at {together} of {timed} losses and returns another key was lost or came back at the same time"
+        ),
         Cause::CarriedOutTwice => writeln!(
             out,
             "keys are lost ({lost}) and come back ({back}), and at {silent} of {gone} a call that returned false can have done it"
@@ -198,19 +224,23 @@ fn put_because_of_gone(
         ),
         Cause::OldCopy => writeln!(
             out,
-            "keys are lost ({lost}) and come back ({back}), two calls return true ({both}), and at {beside} of {timed} another key changes"
+            "keys are lost ({lost}) and come back ({back}), two calls return true ({both}), and at {beside} of {timed} another key changes (by an add at {added}, by a remove at {removed})"
         ),
         Cause::OldLink => writeln!(
             out,
-            "keys are lost ({lost}) more than they come back ({back}), at {beside} of {timed} beside another change"
+            "keys are lost ({lost}) more than they come back ({back}), at {beside} of {timed} beside another change (by an add at {added}, by a remove at {removed})"
         ),
-        Cause::Unlinked => writeln!(
+        Cause::Unlinked if evidence.is_first_spared => writeln!(
             out,
             "at {below} of {timed} losses and returns a smaller key was removed, and the smallest key is never hit"
         ),
+        Cause::Unlinked => writeln!(
+            out,
+            "at {below} of {timed} losses and returns a smaller key was removed, and at {removed} any other key"
+        ),
         Cause::WrittenBack => writeln!(
             out,
-            "keys come back ({back}) and are lost ({lost}), at {beside} of {timed} beside another change"
+            "keys come back ({back}) and are lost ({lost}), at {beside} of {timed} beside another change (by an add at {added}, by a remove at {removed})"
         ),
         Cause::OtherKey => writeln!(
             out,

@@ -4,8 +4,8 @@ use crate::likely::{Cause, likely};
 use lset_words::Presence;
 use std::alloc::{AllocError, Global};
 use tool_facts::{
-    Evidence, Found, KeyCalls, Made, NEVER, Neighbours, Odd, Operation, Place, Recorded, Refused,
-    Runs, Symptom, Tally, evidence_of, find_all, first_of, is_answer, is_expected, other,
+    Clash, Evidence, Found, KeyCalls, Made, NEVER, Neighbours, Odd, Operation, Place, Recorded,
+    Refused, Runs, Symptom, evidence_of, find_all, first_of, is_answer, is_expected, other,
     stretches_of,
 };
 
@@ -44,7 +44,7 @@ pub struct Diagnosis {
     pub wrong: Option<Made>,
     /// The key's calls in the picture, in the order in which they began.
     pub shown: Vec<Shown>,
-    /// Changes of other keys at the same time, in the order of their begins. Of many, the longest.
+    /// Changes of other keys at the same time, of many those that the likely cause names, then the longest.
     pub beside: Vec<Made>,
     /// The number of changes of other keys at the same time.
     pub beside_count: usize,
@@ -63,74 +63,99 @@ pub struct Diagnosis {
     pub until: u64,
 }
 
-/// Returns the most frequent symptom; `None` if there is no lost key, no key that came back, and no pair of changes.
-fn main_symptom(tally: &Tally) -> Option<Symptom> {
-    let counts = [
-        (tally.lost, Symptom::Lost),
-        (tally.came_back, Symptom::CameBack),
-        (tally.both_adds, Symptom::BothTrue(Operation::Add)),
-        (tally.both_removes, Symptom::BothTrue(Operation::Remove)),
-    ];
-    let mut best: Option<Symptom> = None;
-    let mut most = 0;
-    for (count, symptom) in counts {
-        if count > most {
-            best = Some(symptom);
-            most = count;
-        }
+/// The maximum length of the first contradiction of the run for which the first one is preferred to a shorter one.
+const SHORT: u64 = 120;
+
+/// Returns how well a contradiction shows the bug; 0 is best. A contradiction of another kind than the likely cause
+/// explains shows it worst. Otherwise the first contradiction of the run is best, which the verdict names, unless it is
+/// long; then a short contradiction is better than a long one, and one of the key that the verdict names is better than
+/// one of another key.
+fn rank(place: &Place, first: Refused, shows: bool) -> u64 {
+    let is_first = place.key == first.key && place.clash.until == first.moment;
+    let length = place.length();
+    if is_first && shows && length <= SHORT {
+        return 0;
     }
-    best
+    let other_key = if place.key == first.key { 0 } else { OTHER_KEY };
+    let other_kind = if shows { 0 } else { OTHER_KIND };
+    length
+        .saturating_add(1)
+        .saturating_add(other_key)
+        .saturating_add(other_kind)
 }
 
-/// Returns the shortest of some places. A place of `key` is preferred.
-fn clearest(places: &[Place], key: u32) -> Option<Place> {
-    let mut best: Option<Place> = None;
-    for place in places {
-        let is_better = match best {
+/// By how much a contradiction of another key than the verdict's counts as longer.
+const OTHER_KEY: u64 = 1_000_000_000_000;
+
+/// By how much a contradiction of another kind than the likely cause explains counts as longer.
+const OTHER_KIND: u64 = 1_000_000_000_000_000;
+
+/// Returns whether a completed change of another key, by an operation if one is given, ran at a contradiction.
+fn is_beside(place: &Place, neighbours: &Neighbours, operation: Option<Operation>) -> bool {
+    neighbours.overlap(place.key, place.clash.begun(), place.clash.until, operation)
+}
+
+/// Returns whether a contradiction shows what a likely cause explains.
+fn shows(place: &Place, cause: Option<Cause>, is_odd: bool, neighbours: &Neighbours) -> bool {
+    let (since, until) = (place.clash.begun(), place.clash.until);
+    match cause {
+        Some(Cause::AddChecks) => place.symptom == Symptom::BothTrue(Operation::Add),
+        Some(Cause::RemoveChecks) => place.symptom == Symptom::BothTrue(Operation::Remove),
+        Some(Cause::BothCheck | Cause::CheckThenAct) => {
+            matches!(place.symptom, Symptom::BothTrue(_))
+        }
+        Some(Cause::EarlierLook | Cause::MadeAgain | Cause::CarriedOutTwice) => {
+            place.is_gone() && place.silent.is_some()
+        }
+        Some(Cause::GoesOn) => place.symptom == Symptom::Lost && place.clash.stretch.is_some(),
+        Some(Cause::Unlinked | Cause::WrittenBack) => {
+            place.is_gone() && neighbours.unlink_below(place.key, since, until)
+        }
+        Some(Cause::Displaced) => {
+            place.is_gone() && is_beside(place, neighbours, Some(Operation::Add))
+        }
+        Some(Cause::Batch) => {
+            place.is_gone() && is_beside(place, neighbours, Some(Operation::Remove))
+        }
+        Some(Cause::OldLink | Cause::OldCopy | Cause::OtherKey) => {
+            place.is_gone() && is_beside(place, neighbours, None)
+        }
+        Some(Cause::MovedKeys | Cause::AddGivesUp | Cause::RemoveShortcut) => match place.wrong {
+            Some(wrong) => neighbours.overlap(wrong.key, wrong.begun, wrong.ended, None),
             None => true,
-            Some(best) if (place.key == key) != (best.key == key) => place.key == key,
-            Some(best) => place.length() < best.length(),
-        };
-        if is_better {
-            best = Some(*place);
-        }
+        },
+        _ => is_odd || place.is_gone() || matches!(place.symptom, Symptom::BothTrue(_)),
     }
-    best
 }
 
-/// Returns the places with a symptom.
-fn places_with(
-    alloc: Global,
-    places: &[Place],
-    symptom: Symptom,
-) -> Result<Vec<Place>, AllocError> {
-    let mut found = Vec::new(alloc);
-    for place in places {
-        if place.symptom == symptom {
-            found.push(*place)?;
-        }
-    }
-    Ok(found)
-}
-
-/// Returns the place that is shown: the first place in a long split, or the clearest place of the most frequent
-/// symptom, if possible of `key`.
-fn place_shown(alloc: Global, found: &Found, key: u32) -> Result<Option<Place>, AllocError> {
-    if found.odd.is_some() {
-        return Ok(clearest(&found.places, key));
-    }
+/// Returns the place that is shown: the first place in a long split, or the place that shows the bug best.
+fn place_shown(
+    found: &Found,
+    first: Refused,
+    cause: Option<Cause>,
+    neighbours: &Neighbours,
+) -> Option<Place> {
     if let Some(split) = found.split.filter(|split| split.is_long()) {
         for place in &found.places {
             if place.key == split.key && place.clash.until > split.since {
-                return Ok(Some(*place));
+                return Some(*place);
             }
         }
     }
-    if let Some(symptom) = main_symptom(&found.tally) {
-        let places = places_with(alloc, &found.places, symptom)?;
-        return Ok(clearest(&places, key));
+    let mut best: Option<Place> = None;
+    let mut least = u64::MAX;
+    for place in &found.places {
+        let rank = rank(
+            place,
+            first,
+            shows(place, cause, found.odd.is_some(), neighbours),
+        );
+        if best.is_none() || rank < least {
+            best = Some(*place);
+            least = rank;
+        }
     }
-    Ok(clearest(&found.places, key))
+    best
 }
 
 /// The maximum number of contradictions of which each is listed.
@@ -184,8 +209,14 @@ pub fn diagnose(alloc: Global, recorded: &Recorded) -> Result<Option<Diagnosis>,
     };
     let mut diagnosis = begin(alloc, first, was, evidence);
     diagnosis.few = few_of(alloc, &found)?;
-    let Some(place) = place_shown(alloc, &found, first.key)? else {
+    let Some(place) = place_shown(&found, first, diagnosis.cause, &neighbours) else {
         diagnosis.second = found.wrong;
+        if let (Some(odd), Some(wrong)) = (found.odd, found.wrong) {
+            let key = with_one_answer(alloc, runs.calls_of(wrong.key)?, odd, wrong)?;
+            if let Some(place) = place_after(&key, wrong) {
+                diagnosis.show(alloc, &key, place, &neighbours)?;
+            }
+        }
         return Ok(Some(diagnosis));
     };
     let key = runs.calls_of(place.key)?;
@@ -195,6 +226,40 @@ pub fn diagnose(alloc: Global, recorded: &Recorded) -> Result<Option<Diagnosis>,
     };
     diagnosis.show(alloc, &key, place, &neighbours)?;
     Ok(Some(diagnosis))
+}
+
+/// Returns the contradiction of a wrong answer with a later call: the answer leaves the key in a state that the later
+/// call does not need, and no call can have changed the state in between. `key` has no other answer of the faulty
+/// operation.
+fn place_after(key: &KeyCalls, wrong: Made) -> Option<Place> {
+    let was = wrong.needs()?;
+    for call in key.after(wrong.ended).iter().take(MOST_EARLIER) {
+        let is_needed = call.needs() == Some(other(was));
+        if is_needed && !key.may_become(other(was), wrong.begun, call.ended) {
+            let clash = Clash {
+                first: Some(wrong),
+                second: Some(*call),
+                stretch: None,
+                was,
+                since: wrong.begun,
+                until: call.ended,
+            };
+            let symptom = match was {
+                Presence::Present => Symptom::Found(wrong.operation),
+                Presence::Absent => Symptom::Missed(wrong.operation),
+            };
+            return Some(Place {
+                key: key.key,
+                clash,
+                symptom,
+                wrong: Some(wrong),
+                silent: None,
+                is_turned: true,
+                begun: key.begun_by(call.ended),
+            });
+        }
+    }
+    None
 }
 
 /// Returns a key's calls with only one of the faulty operation's answers.
@@ -224,7 +289,36 @@ const MOST_EARLIER: usize = 64;
 const MOST_BESIDE: usize = 3;
 
 /// The maximum number of changes of other keys that are counted.
-const MOST_AROUND: usize = 1_000;
+pub(crate) const MOST_AROUND: usize = 1_000;
+
+/// A change that began more moments before is not shown with a call that finds its state.
+const LONG_AGO: u64 = 200;
+
+/// Returns the time of a contradiction in which changes of other keys are shown: the time of a wrong answer if one of
+/// them ran during it.
+fn time_of(place: &Place, neighbours: &Neighbours) -> (u64, u64) {
+    match place.wrong {
+        Some(wrong) if neighbours.overlap(place.key, wrong.begun, wrong.ended, None) => {
+            (wrong.begun, wrong.ended)
+        }
+        _ => (place.clash.begun(), place.clash.until),
+    }
+}
+
+/// Returns how much a change of another key counts when some are chosen for the picture: those that the likely cause
+/// names first, then the longest.
+fn weight(call: &Made, key: u32, cause: Option<Cause>) -> u64 {
+    let is_named = match cause {
+        Some(Cause::Unlinked | Cause::WrittenBack) => {
+            call.operation == Operation::Remove && call.key < key
+        }
+        Some(Cause::Displaced) => call.operation == Operation::Add,
+        Some(Cause::Batch) => call.operation == Operation::Remove,
+        _ => false,
+    };
+    let length = call.ended.saturating_sub(call.begun);
+    length.saturating_add(if is_named { OTHER_KEY } else { 0 })
+}
 
 /// Adds a call to the picture unless it is already there.
 fn add(shown: &mut Vec<Shown>, call: Made) -> Result<(), AllocError> {
@@ -286,22 +380,32 @@ impl Diagnosis {
         self.symptom = place.symptom;
         self.key = place.key;
         self.was = place.clash.was;
-        self.second = place.clash.second;
+        let is_before = place.wrong.is_some() && place.wrong == place.clash.first;
+        self.second = if is_before {
+            place.wrong
+        } else {
+            place.clash.second
+        };
         self.until = place.clash.until;
         self.show_calls(alloc, key, &place)?;
         self.show_marks(alloc, key, &place)?;
-        self.later = self.call_after(key, &place);
-        self.show_later()?;
-        self.shown.sort_unstable_by_key(|one| one.call.begun);
         if place.clash.until < NEVER {
-            let (since, until) = (place.clash.begun(), place.clash.until);
+            let (since, until) = time_of(&place, neighbours);
             self.beside = neighbours.around(alloc, place.key, since, until, MOST_AROUND)?;
             self.beside_count = self.beside.len();
+            let (key, cause) = (place.key, self.cause);
             self.beside
-                .sort_unstable_by_key(|call| !call.ended.saturating_sub(call.begun));
+                .sort_unstable_by_key(|call| !weight(call, key, cause));
             self.beside.truncate(MOST_BESIDE);
-            self.beside.sort_unstable_by_key(|call| call.begun);
         }
+        let has_room = self.beside.is_empty() || self.shown.len() < MOST_SHOWN;
+        if let Some(second) = place.clash.second.filter(|_| is_before) {
+            self.mark(second, Mark::Finds(other(place.clash.was)));
+        } else if !place.is_gone() || has_room {
+            self.later = self.call_after(key, &place);
+            self.show_later()?;
+        }
+        self.shown.sort_unstable_by_key(|one| one.call.begun);
         Ok(())
     }
 
@@ -318,6 +422,9 @@ impl Diagnosis {
         self.add_if(clash.second)?;
         self.add_if(place.wrong)?;
         self.add_if(place.silent)?;
+        if place.wrong != clash.first {
+            self.show_change(key, clash)?;
+        }
         if let Some(stretch) = clash.stretch {
             self.add_if(stretch.read)?;
             for call in key.after(stretch.begun.saturating_sub(1)) {
@@ -348,6 +455,20 @@ impl Diagnosis {
             }
         }
         Ok(())
+    }
+
+    /// Adds the change that brought the key into the state that the first of the contradicting calls finds, if it is not
+    /// long ago.
+    fn show_change(&mut self, key: &KeyCalls, clash: &Clash) -> Result<(), AllocError> {
+        let Some(first) = clash.first.filter(|first| first.reads()) else {
+            return Ok(());
+        };
+        match key.change_before(clash.was, first.begun) {
+            Some(change) if change.begun.saturating_add(LONG_AGO) >= first.begun => {
+                add(&mut self.shown, change)
+            }
+            _ => Ok(()),
+        }
     }
 
     /// Adds adds and removes of the key that ran during a wrong answer, whatever they returned.
@@ -403,10 +524,8 @@ impl Diagnosis {
             }
         }
         let stretches = stretches_of(alloc, key)?;
-        for call in [place.wrong, place.silent, clash.second]
-            .into_iter()
-            .flatten()
-        {
+        let second = clash.second.filter(|_| place.wrong.is_none());
+        for call in [place.wrong, place.silent, second].into_iter().flatten() {
             if is_expected(alloc, key, &stretches, clash, call)? {
                 self.wrong = Some(call);
                 self.mark(call, Mark::Expected(call.reply == Some(false)));

@@ -83,8 +83,12 @@ pub enum Cause {
     Overflow,
     /// A change of another key writes back an older state.
     WrittenBack,
-    /// A table is replaced while calls still change the old one.
+    /// A table is replaced while calls still change the old one. Each key is hit once.
     Replaced,
+    /// A table or copy is replaced while calls still change the old one. Several keys are hit at once.
+    ReplacedAtOnce,
+    /// `contains` finds a key whose add is not finished.
+    SeenEarly,
 }
 
 /// The minimum number of contradictions that indicate a rule.
@@ -115,11 +119,25 @@ fn is_no_chance(odd: &Odd) -> bool {
     share_of_all(odd.usual, odd.missed) < 250_000
 }
 
-/// Returns whether other adds and removes ran during nearly all wrong answers, and not by chance.
+/// Returns whether changes of its key or of others ran during nearly all wrong answers, and not by chance.
 fn is_beside_others(odd: &Odd) -> bool {
     odd.wrong >= 3
         && is_least(odd.active, odd.wrong, 90)
-        && share_of_all(odd.usually_active, odd.wrong) < 250_000
+        && share_of_all(odd.usually_active, odd.wrong) < 100_000
+}
+
+/// Returns whether changes of its key or of others ran during the wrong answers about as often as during all answers.
+fn is_beside_by_habit(odd: &Odd) -> bool {
+    let share = odd.active.saturating_mul(100).checked_div(odd.wrong);
+    odd.wrong >= 5 && share.unwrap_or(0) <= odd.usually_active.saturating_add(10)
+}
+
+/// Returns whether an add or remove, of any key and whatever it returned, ran during all wrong answers, and not by
+/// chance.
+fn is_beside_writers(odd: &Odd) -> bool {
+    odd.wrong >= 5
+        && odd.writing == odd.wrong
+        && share_of_all(odd.usually_writing, odd.wrong) < 100_000
 }
 
 /// Returns `true` if `some` are at least three quarters of the wrong answers.
@@ -149,9 +167,9 @@ fn cause_of_misses(odd: &Odd) -> Option<Cause> {
         Some(Cause::LastKey)
     } else if needs_no_overlap(odd) {
         Some(Cause::EndsEarly)
-    } else if is_beside_others(odd) || is_removed_beside {
+    } else if is_beside_others(odd) || is_beside_writers(odd) || is_removed_beside {
         Some(Cause::MovedKeys)
-    } else if odd.missed >= 3 && !is_least(odd.active, odd.wrong, 80) {
+    } else if is_beside_by_habit(odd) || (odd.missed >= 3 && !is_least(odd.active, odd.wrong, 80)) {
         Some(Cause::Shortcut)
     } else {
         None
@@ -171,18 +189,33 @@ fn is_own(odd: &Odd) -> bool {
     odd.wrong >= 8 && odd.own == odd.wrong
 }
 
+/// Returns the likely cause if only `contains` is wrong, and it only finds absent keys.
+fn cause_of_finds(odd: &Odd) -> Option<Cause> {
+    let is_once_present = odd.by_same.saturating_add(odd.by_others) > 0;
+    if odd.running.saturating_mul(2) >= odd.found {
+        Some(Cause::MarkNotRead)
+    } else if odd.found >= 3 && is_least(odd.starting, odd.found, 90) {
+        Some(Cause::SeenEarly)
+    } else if odd.starting.saturating_mul(2) < odd.found && is_once_present {
+        Some(Cause::TakenLater)
+    } else {
+        None
+    }
+}
+
 /// Returns the likely cause if only `contains` is wrong.
 fn cause_of_contains(odd: &Odd) -> Option<Cause> {
     if is_own(odd) && odd.found > 0 && odd.running.saturating_mul(2) < odd.wrong {
         Some(Cause::ThreadCache)
     } else if odd.missed > 0 && odd.found > 0 {
-        Some(Cause::LateCopy)
-    } else if odd.found > 0 && odd.running.saturating_mul(2) >= odd.found {
-        Some(Cause::MarkNotRead)
-    } else if odd.found > 0 && odd.starting.saturating_mul(2) < odd.found {
-        Some(Cause::TakenLater)
+        let is_moved = odd.wrong >= 8 && is_least(odd.active, odd.wrong, 95);
+        Some(if is_moved && is_beside_others(odd) {
+            Cause::MovedKeys
+        } else {
+            Cause::LateCopy
+        })
     } else if odd.found > 0 {
-        None
+        cause_of_finds(odd)
     } else {
         cause_of_misses(odd)
     }
@@ -191,7 +224,8 @@ fn cause_of_contains(odd: &Odd) -> Option<Cause> {
 /// Returns the likely cause if only `remove` is wrong.
 fn cause_of_remove(odd: &Odd) -> Cause {
     let is_beside = odd.beside == odd.missed && are_most(odd.adding, odd);
-    if odd.missed >= 3 && is_beside && is_no_chance(odd) {
+    let is_only_beside_adds = !is_least(odd.removing, odd.missed, 60);
+    if odd.missed >= 3 && is_beside && is_only_beside_adds && is_no_chance(odd) {
         Cause::RemoveShortcut
     } else if needs_no_overlap(odd) {
         Cause::EndsEarly
@@ -203,6 +237,14 @@ fn cause_of_remove(odd: &Odd) -> Cause {
 /// Returns the likely cause if add alone is wrong.
 fn cause_of_add(odd: &Odd) -> Option<Cause> {
     let is_lasting = odd.then_wrong.saturating_mul(2) > odd.wrong;
+    if odd
+        .running
+        .saturating_add(odd.by_same)
+        .saturating_add(odd.by_others)
+        == 0
+    {
+        return None;
+    }
     if needs_no_overlap(odd) || is_lasting || odd.running.saturating_mul(2) >= odd.wrong {
         Some(Cause::AddSeesRemoved)
     } else if is_beside_others(odd) {
@@ -219,7 +261,7 @@ fn cause_of_odd(odd: &Odd, keys: u64) -> Option<Cause> {
     match odd.operation {
         Operation::Add => cause_of_add(odd),
         _ if odd.never_finds && is_often => Some(Cause::OneKey),
-        _ if is_some && odd.missed > 0 && odd.found > 0 => Some(Cause::SomeKeys),
+        _ if is_some && odd.is_exact && odd.missed > 0 && odd.found > 0 => Some(Cause::SomeKeys),
         Operation::Remove => Some(cause_of_remove(odd)),
         Operation::Contains => cause_of_contains(odd),
     }
@@ -248,16 +290,71 @@ fn is_carried_out_twice(tally: &Tally) -> bool {
     let (lost, back) = (tally.lost, tally.came_back);
     let is_even = lost < back.saturating_mul(2) && back <= lost.saturating_mul(4);
     let is_alone = tally.fits.saturating_mul(100) <= tally.made.saturating_mul(65);
-    is_even && tally.gone() >= MANY_GONE && is_alone && is_least(tally.silent, tally.gone(), 30)
+    let is_single = tally.both().saturating_mul(20) <= tally.places;
+    let replies = tally.missed.saturating_add(tally.found);
+    is_even
+        && is_single
+        && !is_least(replies, tally.places, 10)
+        && tally.gone() >= MANY_GONE
+        && is_alone
+        && is_least(tally.silent, tally.gone(), 30)
 }
 
 /// The minimum number of losses and returns that show that a change is carried out twice.
 const MANY_GONE: u64 = 15;
 
+/// Returns whether several keys are lost or come back at the same time, more often than by chance.
+fn is_at_once(tally: &Tally) -> bool {
+    let least = tally.usually_together.saturating_add(40);
+    let is_clear = tally.others.saturating_mul(2) <= tally.places && !has_other_replies(tally);
+    is_clear
+        && tally.timed() >= LEAST_TIMED
+        && is_least(tally.together, tally.timed(), least.max(50))
+}
+
+/// Returns whether many single replies are wrong, of calls that change nothing, and one other reply repairs nearly all
+/// losses and returns.
+fn has_other_replies(tally: &Tally) -> bool {
+    let replies = tally.missed.saturating_add(tally.found);
+    is_share(replies, tally.places, 15) && is_least(tally.turned, tally.gone(), 85)
+}
+
+/// Returns the likely cause if keys were lost more often than they came back, or as often, while other keys changed.
+fn cause_of_old_state(evidence: &Evidence) -> Option<Cause> {
+    let tally = &evidence.tally;
+    let (lost, back) = (tally.lost, tally.came_back);
+    let replies = tally.missed.saturating_add(tally.found);
+    let is_twice = is_least(tally.both(), tally.places, 5);
+    let is_often_twice = is_least(tally.both(), tally.places, 15);
+    let is_even = lost.saturating_mul(3) < back.saturating_mul(4);
+    let is_mostly_lost = lost.saturating_mul(10) >= back.saturating_mul(18);
+    let is_below = evidence.keys <= FEW_KEYS && is_least(tally.below, tally.timed(), 85);
+    let is_of_others = !is_least(tally.own, tally.made, 22);
+    let least = if is_twice && is_even && is_of_others {
+        55
+    } else {
+        75
+    };
+    if back == 0 && tally.both() == 0 {
+        None
+    } else if lost >= back.saturating_mul(8) || (is_often_twice && is_mostly_lost) {
+        Some(Cause::OldLink)
+    } else if is_least(replies, tally.places, 10) {
+        None
+    } else if is_below && is_least(tally.removed, tally.timed(), 97) {
+        Some(Cause::Unlinked)
+    } else if is_least(tally.fits, tally.made, least) {
+        Some(Cause::OldCopy)
+    } else if is_below {
+        Some(Cause::WrittenBack)
+    } else {
+        None
+    }
+}
+
 /// Returns the likely cause if keys were lost and came back.
 fn cause_of_gone(evidence: &Evidence) -> Option<Cause> {
     let tally = &evidence.tally;
-    let (lost, back) = (tally.lost, tally.came_back);
     let is_written_over = is_least(tally.fits, tally.made, 60);
     if tally.swapped >= 4 && is_least(tally.swapped, tally.undone, 60) && !is_written_over {
         return Some(Cause::OtherKey);
@@ -265,32 +362,32 @@ fn cause_of_gone(evidence: &Evidence) -> Option<Cause> {
     if tally.timed() < LEAST_TIMED {
         return None;
     }
+    if has_other_replies(tally) {
+        return Some(Cause::EarlierLook);
+    }
     if is_carried_out_twice(tally) {
         return Some(Cause::CarriedOutTwice);
     }
     if !is_share(tally.beside, tally.timed(), 90) {
-        return if evidence.keys > 1 && is_beside_by_chance(tally) {
+        let is_own = is_least(tally.own, tally.made, 60);
+        return if evidence.keys > 1 && is_own && is_beside_by_chance(tally) {
             Some(Cause::NoLock)
         } else {
             None
         };
     }
-    if lost >= back.saturating_mul(2) {
-        Some(Cause::OldLink)
-    } else if is_least(tally.fits, tally.made, 75) && is_least(tally.silent, tally.gone(), 20) {
-        Some(Cause::OldCopy)
-    } else if is_least(tally.below, tally.timed(), 85) {
-        Some(Cause::WrittenBack)
-    } else {
-        None
-    }
+    cause_of_old_state(evidence)
 }
+
+/// With more keys a contradiction takes so long that a smaller key is removed meanwhile by chance.
+const FEW_KEYS: u64 = 16;
 
 /// Returns `true` if keys are lost and come back mostly while a smaller key is removed, but the smallest key never is.
 fn is_unlinked(evidence: &Evidence) -> bool {
     let (tally, timed) = (&evidence.tally, evidence.tally.timed());
     let is_both_ways = tally.lost > 0 && tally.came_back.saturating_mul(4) >= tally.lost;
     is_both_ways
+        && evidence.keys <= FEW_KEYS
         && evidence.is_first_spared
         && timed >= 2 * ENOUGH
         && is_share(tally.below, timed, 75)
@@ -299,14 +396,15 @@ fn is_unlinked(evidence: &Evidence) -> bool {
 /// Returns `true` if calls that returned false can account for nearly all contradicting changes.
 fn is_made_again(tally: &Tally) -> bool {
     let gone = tally.gone();
-    gone >= 2 * ENOUGH && tally.both() == 0 && is_share(tally.silent, gone, 80)
+    gone >= 2 * ENOUGH && tally.both() == 0 && is_share(tally.silent, gone, 70)
 }
 
 /// Returns `true` if replies are not determined by the changes themselves.
 fn is_earlier_look(tally: &Tally) -> bool {
     let (both, gone) = (tally.both(), tally.gone());
     let is_enough = gone >= 2 * ENOUGH && both >= 3 && is_share(both, tally.places, 5);
-    is_enough && is_share(tally.turned, gone, 90)
+    let is_each = gone >= 4 * ENOUGH && is_share(tally.turned, gone, 97);
+    is_each || (is_enough && is_share(tally.turned, gone, 90))
 }
 
 /// Returns `true` if the contradictions occur even without overlapping calls.
@@ -318,7 +416,8 @@ fn needs_no_race(tally: &Tally) -> bool {
 /// can have written back what it read.
 fn is_displaced(tally: &Tally) -> bool {
     let is_alone = !is_least(tally.fits, tally.made, 60);
-    needs_no_race(tally) || (tally.both() == 0 && is_alone)
+    let is_crossed = is_least(tally.crossed, tally.lost, 60);
+    needs_no_race(tally) || (tally.both() == 0 && is_alone && !is_crossed)
 }
 
 /// Returns the likely cause if keys are lost while other keys change, and never come back.
@@ -357,6 +456,7 @@ fn cause_in_one_thread(evidence: &Evidence) -> Option<Cause> {
     }
     match cause_of_losses(tally) {
         Some(cause) => Some(cause),
+        None if is_at_once(tally) => Some(Cause::ReplacedAtOnce),
         None if needs_no_race(tally) && !is_least(tally.others, tally.places, 65) => {
             Some(if evidence.span >= WIDE {
                 Cause::Overflow
@@ -374,12 +474,28 @@ const WIDE: u32 = 0x8000_0000;
 /// The number of calls of a key from which on it is no chance that each key is hit only once.
 const MANY_CALLS: u64 = 30;
 
+/// At least so many pairs of one operation that were both true show that this operation looks first and then acts.
+const LEAST_BOTH: u64 = 3;
+
+/// Returns whether two calls of a key look before either changes it: many contradictions are pairs of calls that both
+/// returned true, or some are, either only of `add` in a set that only loses keys, or of both operations in a set in
+/// which one other reply repairs all losses and returns.
+fn is_check_then_act(tally: &Tally) -> bool {
+    let (adds, removes, both) = (tally.both_adds, tally.both_removes, tally.both());
+    let is_all = tally.places >= 2 && both == tally.places;
+    let is_only_adds = tally.came_back == 0 && removes == 0 && is_share(both, tally.places, 30);
+    let is_balanced = is_least(adds.min(removes), both, 20) && is_share(both, tally.places, 25);
+    let is_repaired = is_least(tally.turned, tally.gone(), 95);
+    let is_often = both >= LEAST_BOTH && is_share(both, tally.places, 40);
+    is_all || is_only_adds || (is_balanced && is_repaired) || is_often
+}
+
 /// Returns which changes look first and then act.
 fn check_then_act(tally: &Tally) -> Cause {
     let (adds, removes) = (tally.both_adds, tally.both_removes);
-    if adds >= ENOUGH && adds >= removes.saturating_mul(10) {
+    if adds >= LEAST_BOTH && adds >= removes.saturating_mul(10) {
         Cause::AddChecks
-    } else if removes >= ENOUGH && removes >= adds.saturating_mul(10) {
+    } else if removes >= LEAST_BOTH && removes >= adds.saturating_mul(10) {
         Cause::RemoveChecks
     } else if tally.both_adds > 0 && tally.both_removes > 0 {
         Cause::BothCheck
@@ -395,15 +511,19 @@ fn cause_of_races(evidence: &Evidence) -> Option<Cause> {
         return Some(Cause::FirstUse);
     }
     let is_mostly_lost = tally.came_back.saturating_mul(4) <= tally.lost;
-    if tally.both() == 0 && is_mostly_lost && is_share(tally.crossed, tally.lost, 60) {
+    let has_few_twice = tally.both().saturating_mul(5) <= tally.places;
+    if has_few_twice && is_mostly_lost && is_share(tally.crossed, tally.lost, 60) {
         return Some(Cause::GoesOn);
     }
-    let is_all_both = tally.places >= 2 && tally.both() == tally.places;
-    if is_all_both || is_share(tally.both(), tally.places, 40) {
-        return Some(check_then_act(tally));
-    }
     if is_earlier_look(tally) {
-        return Some(Cause::EarlierLook);
+        let usual = tally.usually_together.saturating_add(6);
+        let is_of_pairs = tally.both_adds > 0 && tally.both_removes > 0;
+        let is_apart = is_of_pairs && !is_least(tally.together, tally.timed(), usual);
+        return Some(if is_apart {
+            Cause::BothCheck
+        } else {
+            Cause::EarlierLook
+        });
     }
     let calls = evidence.calls.checked_div(evidence.keys).unwrap_or(0);
     if tally.places == tally.keys && tally.keys >= 8 && calls >= MANY_CALLS {
@@ -442,6 +562,9 @@ pub(crate) fn likely(evidence: &Evidence) -> Option<Cause> {
         return Some(Cause::TwoPlaces);
     }
     let tally = &evidence.tally;
+    if is_check_then_act(tally) {
+        return Some(check_then_act(tally));
+    }
     if is_unlinked(evidence) {
         return Some(Cause::Unlinked);
     }

@@ -56,7 +56,7 @@ fn put_contradiction(out: &mut String, diagnosis: &Diagnosis) -> Result<(), Allo
 
 /// Writes the headline for a split.
 fn put_disagreement(out: &mut String, split: &Split) -> Result<(), AllocError> {
-    let (key, adds, removes) = (split.key, split.adds.present, split.removes.absent);
+    let (key, adds, removes) = (split.key, split.adds, split.removes);
     let found = if split.contains.present > 0 {
         if adds > 0 {
             "add and contains find it present, remove"
@@ -84,7 +84,7 @@ pub(crate) fn put_headline(out: &mut String, diagnosis: &Diagnosis) -> Result<()
             let word = operation.word();
             writeln!(
                 out,
-                "{word}({key}) returned true twice at the same time, expected once"
+                "{word}({key}) returned true twice at the same time, expected at most once"
             )
         }
         Symptom::Lost | Symptom::CameBack => put_gone(out, diagnosis),
@@ -180,7 +180,7 @@ fn symptom_text(symptom: Symptom) -> &'static str {
         Symptom::BothTrue(_) => "removed twice",
         Symptom::Lost => "lost",
         Symptom::CameBack => "came back",
-        Symptom::TooMany(_) | Symptom::Unclear => "contradictory",
+        Symptom::Unclear => "contradictory",
     }
 }
 
@@ -191,9 +191,10 @@ fn put_few(out: &mut String, few: &[Place]) -> Result<(), AllocError> {
     for place in few {
         let (key, since, symptom) = (place.key, place.clash.begun(), symptom_text(place.symptom));
         write!(out, "{mark} key {key} {symptom} ")?;
-        match place.clash.until {
-            NEVER => write!(out, "from {since} on")?,
-            until => write!(out, "from {since} to {until}")?,
+        match (since, place.clash.until) {
+            (0, NEVER) => out.push_str("by the end")?,
+            (_, NEVER) => write!(out, "from {since} to the end")?,
+            (_, until) => write!(out, "from {since} to {until}")?,
         }
         mark = ";";
     }
@@ -205,6 +206,9 @@ fn places_len(places: &[Place]) -> u64 {
     u64::try_from(places.len()).unwrap_or(u64::MAX)
 }
 
+/// From this number of contradictions on there can be more of them.
+const MOST_PLACES: u64 = 20_000;
+
 /// Writes the number of contradictions, of keys, and of each kind.
 fn put_tally(out: &mut String, diagnosis: &Diagnosis) -> Result<(), AllocError> {
     let tally = &diagnosis.evidence.tally;
@@ -214,11 +218,13 @@ fn put_tally(out: &mut String, diagnosis: &Diagnosis) -> Result<(), AllocError> 
     if !diagnosis.few.is_empty() {
         return put_few(out, &diagnosis.few);
     }
-    put_count(out, tally.places, "contradiction", "contradictions")?;
     let (keys, all) = (tally.keys, diagnosis.evidence.keys);
-    if keys < all {
+    let is_capped = tally.places >= MOST_PLACES;
+    out.push_str(if is_capped { "at least " } else { "" })?;
+    put_count(out, tally.places, "contradiction", "contradictions")?;
+    if keys < all && !is_capped {
         write!(out, " of {keys} of {all} keys")?;
-    } else if keys > 1 {
+    } else if keys > 1 && !is_capped {
         write!(out, " of all {keys} keys")?;
     }
     put_kinds(out, tally)?;
@@ -228,7 +234,7 @@ fn put_tally(out: &mut String, diagnosis: &Diagnosis) -> Result<(), AllocError> 
 /// Writes how many calls of each operation found the key present and absent.
 fn put_split(out: &mut String, split: &Split) -> Result<(), AllocError> {
     let (key, since) = (split.key, split.since);
-    let (adds, removes) = (split.adds.present, split.removes.absent);
+    let (adds, removes) = (split.adds, split.removes);
     let (votes, state) = if split.contains.present > 0 {
         (split.contains.present, "present")
     } else {
@@ -266,12 +272,13 @@ fn put_apart(out: &mut String, tally: &Tally) -> Result<(), AllocError> {
 fn put_gone_beside(out: &mut String, tally: &Tally) -> Result<(), AllocError> {
     let (beside, timed) = (tally.beside, tally.timed());
     let (silent, gone) = (tally.silent, tally.gone());
+    let (added, removed) = (tally.added, tally.removed);
     if timed == 0 {
         return Ok(());
     }
     writeln!(
         out,
-        "at {beside} of {timed} losses and returns another key was changed, at {silent} of {gone} a call that returned false can have done it"
+        "at {beside} of {timed} losses and returns another key was changed (by an add at {added}, by a remove at {removed}), at {silent} of {gone} a call that returned false can have done it"
     )
 }
 
@@ -279,7 +286,12 @@ fn put_gone_beside(out: &mut String, tally: &Tally) -> Result<(), AllocError> {
 fn put_around_one(out: &mut String, odd: &Odd) -> Result<(), AllocError> {
     let word = odd.operation.word();
     if odd.same > 0 {
-        out.push_str("another add or remove of the key ran during it\n")?;
+        let other = match (odd.same_adds, odd.same_removes) {
+            (0, _) => "a remove",
+            (_, 0) => "an add",
+            _ => "an add and a remove",
+        };
+        writeln!(out, "{other} of the key ran during it")?;
     } else if odd.active > 0 {
         out.push_str(
             "a change of another key ran during it, and no other add or remove of its own key\n",
@@ -299,29 +311,44 @@ fn put_around(out: &mut String, odd: &Odd) -> Result<(), AllocError> {
     if odd.wrong == 1 {
         return put_around_one(out, odd);
     }
-    let (same, other) = (odd.same, odd.active.saturating_sub(odd.same));
-    let neither = odd.wrong.saturating_sub(odd.active);
+    let (adds, removes) = (odd.same_adds, odd.same_removes);
+    let other = odd.active.saturating_sub(odd.same);
+    let none = odd.wrong.saturating_sub(odd.active);
     writeln!(
         out,
-        "another add or remove of the key ran during {same} of them, only changes of other keys that returned true during {other}, neither during {neither}"
+        "during them ran: an add of the key at {adds}, a remove of the key at {removes}, only changes of other keys at {other}, none of these at {none}"
     )?;
+    put_unseen(out, odd)?;
     let (right, wrong, word) = (odd.then_right, odd.then_wrong, odd.operation.word());
     if odd.is_exact && right.saturating_add(wrong) > 0 {
         writeln!(
             out,
-            "the next {word} of the key, with no change between: {right} times right, {wrong} times wrong again"
+            "the next {word} of the key, with no change between, was right after {right} of them, wrong again after {wrong}"
         )?;
     }
     Ok(())
 }
 
-/// Writes the first contradiction of the run, if the picture shows a later one of another key.
+/// Writes who made the changes that the wrong answers did not see, and how long before.
+fn put_unseen(out: &mut String, odd: &Odd) -> Result<(), AllocError> {
+    let (own, others, latest) = (odd.by_same, odd.by_others, odd.latest);
+    if own.saturating_add(others) == 0 {
+        return Ok(());
+    }
+    writeln!(
+        out,
+        "the change that they do not show had ended, by the same thread before {own} of them, by another before {others}, at most {latest} moments earlier"
+    )
+}
+
+/// Writes that the picture shows a later contradiction than the verdict, if it does.
 fn put_first(out: &mut String, diagnosis: &Diagnosis) -> Result<(), AllocError> {
     let (key, moment) = (diagnosis.first_key, diagnosis.first_moment);
-    if key != diagnosis.key && moment < diagnosis.until && moment < NEVER {
+    let is_listed = diagnosis.shown.is_empty() || !diagnosis.few.is_empty();
+    if !is_listed && moment < diagnosis.until && moment < NEVER {
         writeln!(
             out,
-            "the first contradiction of the run: the calls of key {key} up to moment {moment}"
+            "the calls above are of a later contradiction; the first of the run: key {key} up to moment {moment}"
         )?;
     }
     Ok(())
@@ -332,6 +359,8 @@ fn answers_cause_text(cause: Cause) -> &'static str {
     match cause {
         Cause::MarkNotRead =>
             "contains does not look at what remove changes first (a mark, a flag)",
+        Cause::SeenEarly =>
+            "contains finds a key whose add is not finished (a node linked at one level only, a flag that it does not read)",
         Cause::NotSeenYet =>
             "contains does not look at what add changes first (it reads a cache, a counter, a second link)",
         Cause::TakenLater =>
@@ -410,7 +439,8 @@ pub(crate) fn cause_text(cause: Cause) -> &'static str {
             "a node is linked to a neighbour that is being removed (no marks, or marks that are not checked)",
         Cause::WrittenBack =>
             "an older state of a neighbour is written back (a node, a queue of writes, an unchecked mark)",
-        Cause::Replaced => "a table or segment is replaced while calls still change the old one",
+        Cause::Replaced | Cause::ReplacedAtOnce =>
+            "a table, segment or copy is replaced while calls still change the old one (a resize, a compaction, a failover)",
         _ => answers_cause_text(cause),
     }
 }
