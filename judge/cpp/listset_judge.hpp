@@ -147,7 +147,7 @@ struct range {
 // made of words.json by judge/make_words: `longest` in looks at the counter, `part` and `meet` in calls, `patience` in seconds, `soon` in nanoseconds
 constexpr shape PRESETS[] = {{"few keys", 4, 1, 5000, 4, 1}, {"fresh sets", 4, 40, 10, 4, 1}, {"multiples of 64", 4, 1, 5000, 8, 64}, {"one key", 3, 1, 5000, 1, 1}, {"sets that grow", 4, 20, 125, 64, 1}, {"many keys", 4, 1, 2500, 1000, 1}, {"multiples of 1,000", 8, 1, 2500, 8, 1000}};
 constexpr range RANGES[] = {{"threads", 1, 64}, {"threads times calls", 1, 1000000000}, {"keys", 1, 1048576}, {"pauses", 0, 100}, {"runs", 1, 1000000}, {"seconds", 1, 3600}, {"within", 1, 604800}, {"at_least", 0, 100}, {"the sum of shares", 1, 1000000}};
-constexpr unsigned PART = 20000, LONGEST = 100, HOT = 4, ENOUGH = 5, HARDER = 2, PATIENCE = 10, MEET = 250, AWAKE = 300000, WITHIN = 60, STOPS = 32, SOON = 4000;
+constexpr unsigned PART = 20000, LONGEST = 100, HOT = 4, ENOUGH = 5, HARDER = 2, PATIENCE = 10, MEET = 250, AWAKE = 300000, WITHIN = 60, STOPS = 32, PATIENT = 40, MANY = 40, SOON = 4000;
 constexpr const char *OK = "ok: %s calls, and %s of them overlapped a change of their key";
 constexpr const char *FEW = "few calls overlapped, so ok means little: %s calls, and %s of them overlapped a change of their key";
 constexpr const char *TOO_FEW = "too few calls overlapped: %s of %s calls overlapped a change of their key, and at_least requires %s of 100. Use fewer keys, more threads, or a less busy machine";
@@ -325,8 +325,12 @@ struct area {
         const unsigned awake = of.threads <= std::thread::hardware_concurrency() && !is_busy ? AWAKE : LONGEST;
         unsigned looks = 0;
         waits([&] { return looks++, there >= all; }, awake);
-        if (looks > AWAKE) is_busy = true;
+        if (looks > awake + LONGEST) is_busy = true;
     }
+
+    // Whether threads are to be stopped for longer. On a busy machine, a thread seldom loses its processor in the middle
+    // of a call, since it makes all its calls before it does.
+    bool is_shaken() const { return is_busy || of.meets_once; }
 };
 
 inline std::string line_of(const slot &it, unsigned end) {
@@ -355,16 +359,26 @@ inline std::pair<std::string, std::string> lines_of(const area &from) {
 }
 
 // Interrupts its thread a few microseconds after some of its calls have begun, whatever it is doing then, by SIGURG
-// from a timer. Works on Linux only.
+// from a timer. On a busy machine the thread then sleeps until other threads have made calls, up to PATIENT times. Works
+// on Linux only.
 struct stops {
 #ifdef __linux__
     int timer = -1;
     std::mt19937 draw;
 
+    static const area *&run_of_thread() {
+        thread_local const area *run = nullptr;
+        return run;
+    }
+
     static void stop(int) {
         const int before = errno;
         const timespec some = {0, 1000};
-        nanosleep(&some, nullptr);
+        const area *run = run_of_thread();
+        const unsigned seen = run ? run->tickets.load() : 0;
+        unsigned looks = run && run->is_shaken() ? PATIENT : 1;
+        do nanosleep(&some, nullptr);
+        while (--looks > 0 && run->tickets - seen < MANY);
         errno = before;
     }
 
@@ -376,7 +390,8 @@ struct stops {
         syscall(SYS_timer_settime, timer, 0, &in, nullptr);
     }
 
-    stops(bool is_asked, uint64_t seed) : draw(uint32_t(seed)) {
+    stops(bool is_asked, const area &run, uint64_t seed) : draw(uint32_t(seed)) {
+        run_of_thread() = &run;
         struct sigaction rests = {};
         rests.sa_handler = stop;
         rests.sa_flags = SA_RESTART;
@@ -394,9 +409,10 @@ struct stops {
     }
     ~stops() {
         if (timer >= 0) syscall(SYS_timer_delete, timer);
+        run_of_thread() = nullptr;
     }
 #else
-    stops(bool, uint64_t) {}
+    stops(bool, const area &, uint64_t) {}
     void before_call(uint64_t) {}
 #endif
 };
@@ -458,7 +474,7 @@ template <class Make, class K> struct maker {
 
     void call_in_rounds(area &run, unsigned thread, bool is_stopped) {
         std::mt19937 draw(uint32_t(run.seed * 64 + thread));
-        stops own(is_stopped, run.seed * 64 + thread);
+        stops own(is_stopped, run, run.seed * 64 + thread);
         unsigned number = thread;
         if (how.begins) how.begins();
         for (unsigned round = 0; round < run.rounds && run.waits([&] { return run.begun > round; }); round++) {
@@ -570,7 +586,12 @@ template <class Maker> std::string made_in_child(Maker &by, area &run) {
         _exit(0);
     }
     int status = 0;
-    if (!comes_to_end(run, by.how.seconds, [&] { return waitpid(process, &status, WNOHANG) == process; })) {
+    auto has_ended = [&] {
+        if (waitpid(process, &status, WNOHANG) == process) return true;
+        if (by.how.pauses > 0 && run.is_shaken()) kill(process, SIGSTOP), kill(process, SIGCONT);  // (its threads continue in another order)
+        return false;
+    };
+    if (!comes_to_end(run, by.how.seconds, has_ended)) {
         kill(process, SIGKILL);
         waitpid(process, nullptr, 0);
         return say(HUNG, by.how.seconds);

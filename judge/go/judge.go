@@ -1,5 +1,7 @@
 // Package judge tests whether your own concurrent set is linearizable, in one line of a test:
+//
 //	func TestIsLinearizable(t *testing.T) { judge.Check(t, NewMySet) }
+//
 // MySet has Add, Remove and Contains. Goroutines call new sets, and the begin and the end of each call are recorded. A
 // judge decides whether some order of the calls explains their replies.
 //

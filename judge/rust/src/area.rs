@@ -189,6 +189,17 @@ impl Area {
         self.set(At::IsStopping, 1);
     }
 
+    /// Returns the current moment.
+    pub fn moment(&self) -> u32 {
+        self.get(At::Tickets)
+    }
+
+    /// Returns whether threads are to be stopped for longer. On a busy machine, a thread seldom loses its processor in
+    /// the middle of a call, since it makes all its calls before it does.
+    pub fn is_shaken(&self) -> bool {
+        self.options.pauses > 0 && (self.get(At::IsBusy) == 1 || self.get(At::MeetsOnce) == 1)
+    }
+
     pub fn is_here(&self) -> bool {
         self.get(At::IsHere) == 1
     }
@@ -358,7 +369,7 @@ impl<S: Sync> Play<'_, S> {
     /// Makes the calls of one thread, part by part.
     fn call_in_parts(&self, thread: u32, is_stopped: bool) {
         let (area, of, rows) = (self.area, self.of, self.of.rows());
-        let stops = if is_stopped { Stops::of_this_thread() } else { None };
+        let stops = if is_stopped { Stops::of_this_thread(area) } else { None };
         let mut draws = Draws((u64::from(area.get(At::Seed)) << 20) + u64::from(self.one << 6) + u64::from(thread));
         let (mut stopping, mut number) = (Draws(!draws.0), self.one * of.threads + thread);
         for part in 0..of.parts() {
@@ -385,13 +396,14 @@ impl<S: Sync> Play<'_, S> {
     fn meet(&self) -> bool {
         let processors = std::thread::available_parallelism().map_or(1, |it| it.get());
         let may_be_awake = self.of.threads as usize <= processors && self.area.get(At::IsBusy) == 0;
+        let awake = if may_be_awake { AWAKE } else { LONGEST };
         let all = (self.area.next(At::There) - 1) / self.of.threads * self.of.threads + self.of.threads;
         let looks = std::cell::Cell::new(0);
-        let are_there = self.area.waits(if may_be_awake { AWAKE } else { LONGEST }, || {
+        let are_there = self.area.waits(awake, || {
             looks.set(looks.get() + 1);
             self.area.get(At::There) >= all
         });
-        if looks.get() > AWAKE {
+        if looks.get() > awake + LONGEST {
             self.area.set(At::IsBusy, 1);
         }
         are_there
