@@ -107,7 +107,7 @@ class Form:
         """Judges a set. Returns the kind of the result and all output."""
         environment = {name: it for name, it in os.environ.items() if name not in ("CI", "RUST_BACKTRACE") and not name.startswith("LISTSET")}
         environment |= {"LISTSET": str(judge)} if judge else {}
-        environment |= {"TMPDIR": str(self.room), "SET": of, "HOW": how, **also}
+        environment |= {"TMPDIR": str(self.room), "SET": of, "HOW": how, "RUST_TEST_THREADS": "2", **also}  # (with one, cargo's test prints its name first)
         words = [*self.words[:-1], f"-Djava.io.tmpdir={self.room}", self.words[-1]] if self.language == "Java" else self.words
         done = ran(*words, cwd=self.room, env=environment, seconds=SECONDS)
         found = re.search("^verdict: (.*)$", done.stdout, re.M)
@@ -213,6 +213,33 @@ def test_calls_before_a_crash_or_a_hang_are_judged(form, program, of):
     recorded = form.recorded(said)
     assert recorded.endswith("\ncut\n") and recorded.count(" - -\n") == bool(found[2]) + int(found[3] or 0)
     assert recorded.count("\n") > 20_000 or of != "crashes late"
+
+
+@each(LANGUAGES)
+def test_a_process_that_ends_at_any_moment_has_every_call_once(form, program):
+    """The calls are saved part by part while it runs. A call that stands twice, or is missing, has no verdict or another."""
+    _, said = form.told(program, "ends", "threads=4 calls=60000 keys=4 runs=1 pauses=0", TESTS="12")
+    for one in said.split("verdict: ")[1:]:
+        is_early = "the set could not be created: the set ended its process" in one  # (before the first call)
+        assert one.startswith("cut short") and "some order explains the calls" in one or one.startswith("ok") or is_early, one
+    assert said.count("verdict: cut short") > 2, said
+
+
+@each(["C++", "Rust", "Python"])
+def test_a_process_that_ends_when_a_set_is_deleted_is_cut_short(form, program):
+    kind, said = form.told(program, "ends when deleted", "threads=4 calls=100 keys=4 runs=1")
+    assert kind == "cut short" and "the set ended its process with status 3\npending: no call\nbefore that: some order explains" in said, said
+    assert form.recorded(said).count("\ncall ") == 400 and form.recorded(said).endswith("\ncut\n")
+
+
+@each(LANGUAGES)
+def test_a_key_whose_last_outcome_stays_unknown_can_be_there_or_not(form, program):
+    kind, said = form.told(program, "loses contains", f"{FEW} runs=1 record={form.room / 'kept'}")
+    assert kind == "ok", said
+    for recorded in (form.room / "kept").iterdir():
+        assert recorded.read_text().endswith("\ncut\n")
+    kind, said = form.told(program, "loses contains", f"{FEW} opens_with_keys=1")
+    assert kind == "none" and "contains of an opening key had no known outcome in 100 calls" in said, said
 
 
 @each(LANGUAGES)
@@ -520,37 +547,21 @@ def test_a_project_uses_the_package_of_rust(room):
 # ---- published sets
 
 
-def refused(said):
-    """Returns for each set whether its only test refused the set."""
-    return {name: int(it) for name, it in re.findall(r"^(.*): refused in ([01]) of 1 tests$", said, re.M)}
+# The parts of judge/real-sets/run with the commands that each needs, and how many of its sets are correct.
+PUBLISHED = {"libcds": (["g++"], 9), "others": (["g++"], 3), "java": (["javac", "java"], 9), "go": (["go"], 2), "redis": (["redis-server"], 1), "erlang": ([], 1)}
+WRONG = r"libcds .* SkipList|JCTools NonBlocking|without a lock|read at a replica"
 
 
-OF_CPP = {"libcds": (["-lcds"], "cds/init.h"), "others": (["-ltbb", "-lurcu-cds", "-lurcu", "-lck"], "ck_hs.h")}
-
-
-@pytest.mark.needs("g++")
-@pytest.mark.parametrize("name", OF_CPP)
-def test_correct_published_sets_of_cpp_are_not_refused(room, program, lacking, name):
-    libraries, header = OF_CPP[name]
-    if not pathlib.Path("/usr/include", header).exists():
-        lacking("a library is not installed: Debian's packages libcds-dev, libtbb-dev, liburcu-dev and libck-dev")
-    well("g++", "-O1", "-std=c++17", "-pthread", FORMS / "real-sets" / f"{name}.cpp", *libraries, "-o", room / name)
-    found = refused(well(room / name, 1, env={**os.environ, "LISTSET": program, "TMPDIR": str(room)}))
-    right = [it for kind, it in found.items() if not kind.startswith("SkipList")]  # (which is seldom right)
-    assert len(right) == {"libcds": 7, "others": 3}[name] and not any(right), found
+@pytest.mark.parametrize("part", [pytest.param(it, marks=pytest.mark.needs(*needs)) for it, (needs, _) in PUBLISHED.items()])
+def test_no_correct_published_set_is_refused(room, program, lacking, part):
+    done = ran(FORMS / "real-sets/run", 1, part, env={**os.environ, "LISTSET": program, "TMPDIR": str(room)}, seconds=900)
+    if why := re.search("is left out: (.*)", done.stderr):
+        lacking(f"a package is not installed: {why[1]}")
+    rows = re.findall(r"^\| (.*) \| ([01]) of 1 \|$", done.stdout, re.M)
+    right = [it for name, it in rows if not re.search(WRONG, name)]
+    assert done.returncode == 0 and right == ["0"] * PUBLISHED[part][1], done.stdout + done.stderr
+    assert part != "java" or dict(rows)["java.util HashSet, without a lock"] == "1"
 
 
 def test_packages_that_are_not_installed_are_skipped(program):
-    assert ran(FORMS / "real-sets/run", 1, "none", env={**os.environ, "LISTSET": program}).stdout == ""
-
-
-@pytest.mark.needs("javac", "java")
-def test_only_the_wrong_published_sets_of_java_are_refused(room, program, lacking):
-    jar = pathlib.Path("/usr/share/java/jctools-core.jar")
-    if not jar.exists():
-        lacking("JCTools is not installed: Debian's package libjctools-java")
-    well(*in_jvm("javac"), "-cp", jar, "-d", room, FORMS / "java/Judge.java", FORMS / "real-sets/Jctools.java")
-    words = [*in_jvm("java"), f"-Djava.io.tmpdir={room}", "-cp", f"{room}:{jar}", "Jctools", 1]
-    found = refused(well(*words, env={**os.environ, "LISTSET": program}))
-    right = [found[it] for it in ("ConcurrentSkipListSet", "ConcurrentHashMap.newKeySet", "CopyOnWriteArraySet", "synchronizedSet")]
-    assert len(found) == 8 and not any(right) and found["HashSet"] and found["by identity"], found
+    assert ran(FORMS / "real-sets/run", 1, "none", env={**os.environ, "LISTSET": program}).stdout == "| Set | Tests that refused it |\n|---|---|\n"

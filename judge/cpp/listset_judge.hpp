@@ -133,10 +133,11 @@ struct no_verdict : std::runtime_error {
 namespace judging {
 
 // The sizes of a run: the number of threads, of new sets used one after another, of calls per thread and set, and of
-// keys. The keys are the multiples of `times`.
+// keys. The keys are the multiples of `times`. Threads wait for each other after each MEET calls, or only at the beginning.
 struct shape {
     const char *name;
     unsigned threads, sets, calls, keys, times;
+    bool meets_once = false;
 };
 
 struct range {
@@ -147,7 +148,7 @@ struct range {
 // made of words.json by judge/make_words: `longest` in looks at the counter, `part` and `meet` in calls, `patience` in seconds, `soon` in nanoseconds
 constexpr shape PRESETS[] = {{"few keys", 4, 1, 5000, 4, 1}, {"fresh sets", 4, 40, 10, 4, 1}, {"multiples of 64", 4, 1, 5000, 8, 64}, {"one key", 3, 1, 5000, 1, 1}, {"sets that grow", 4, 20, 125, 64, 1}, {"many keys", 4, 1, 2500, 1000, 1}, {"multiples of 1,000", 8, 1, 2500, 8, 1000}};
 constexpr range RANGES[] = {{"threads", 1, 64}, {"threads times calls", 1, 1000000000}, {"keys", 1, 1048576}, {"pauses", 0, 100}, {"runs", 1, 1000000}, {"seconds", 1, 3600}, {"within", 1, 604800}, {"at_least", 0, 100}, {"the sum of shares", 1, 1000000}};
-constexpr unsigned PART = 20000, LONGEST = 100, HOT = 4, ENOUGH = 5, HARDER = 2, PATIENCE = 10, MEET = 250, AWAKE = 300000, WITHIN = 60, STOPS = 32, SOON = 4000;
+constexpr unsigned PART = 20000, LONGEST = 100, HOT = 4, ENOUGH = 5, HARDER = 2, PATIENCE = 10, MEET = 250, AWAKE = 300000, WITHIN = 60, STOPS = 32, PATIENT = 40, MANY = 40, SOON = 4000;
 constexpr const char *OK = "ok: %s calls, and %s of them overlapped a change of their key";
 constexpr const char *FEW = "few calls overlapped, so ok means little: %s calls, and %s of them overlapped a change of their key";
 constexpr const char *TOO_FEW = "too few calls overlapped: %s of %s calls overlapped a change of their key, and at_least requires %s of 100. Use fewer keys, more threads, or a less busy machine";
@@ -159,6 +160,7 @@ constexpr const char *CRASHED = "the set crashed: %s";
 constexpr const char *ENDED_SO = "the set ended its process with status %s";
 constexpr const char *THREW = "a call of the set failed: %s";
 constexpr const char *NOT_MADE = "the set could not be created: %s";
+constexpr const char *NO_OPENING = "contains of an opening key had no known outcome in %s calls";
 constexpr const char *UNDER_WAY = "%s\npending: %s\nbefore that: %s";
 constexpr const char *EXPLAINED = "some order explains the calls";
 constexpr const char *KEY_IS = "; key %s of the recording is %s";
@@ -261,16 +263,23 @@ struct slot {
     std::atomic<unsigned> begin, end;  // 0 until they happen
 };
 
-// The memory of a run, which processes can share. It contains the calls that have not been written to the file yet.
+// How much of a run is in the file: the length of these lines, and the moment up to which they have all calls.
+struct saved {
+    uint64_t length = 0;
+    unsigned moment = 0;
+};
+
+// The memory of a run, which processes can share. It contains the calls that have not been saved in the file yet.
 struct area {
     const shape of;
     const uint64_t seed;
     const unsigned rows, parts, rounds;  // how many calls a thread makes in a part (the last one can have fewer), how many parts a set has, and all sets together
     slot *slots = nullptr;               // the calls, thread by thread
     std::atomic<unsigned> tickets{0}, there{0}, done{0}, begun{0};
-    std::atomic<uint64_t> written{0};  // the length of the file
+    saved saves[2];
+    std::atomic<unsigned> save{0};  // which of them is valid, so that both of its numbers change in one step
     std::atomic<phase> at{GOING};
-    std::atomic<bool> is_stopping{false}, is_busy{false};
+    std::atomic<bool> is_stopping{false}, is_busy{false}, is_end_known{true};
     char why[240] = "";
 
     area(const shape &it, uint64_t of_seed)
@@ -318,8 +327,12 @@ struct area {
         const unsigned awake = of.threads <= std::thread::hardware_concurrency() && !is_busy ? AWAKE : LONGEST;
         unsigned looks = 0;
         waits([&] { return looks++, there >= all; }, awake);
-        if (looks > AWAKE) is_busy = true;
+        if (looks > awake + LONGEST) is_busy = true;
     }
+
+    // Whether threads are to be stopped for longer. On a busy machine, a thread seldom loses its processor in the middle
+    // of a call, since it makes all its calls before it does.
+    bool is_shaken() const { return is_busy || of.meets_once; }
 };
 
 inline std::string line_of(const slot &it, unsigned end) {
@@ -329,15 +342,15 @@ inline std::string line_of(const slot &it, unsigned end) {
     return text + (is_open ? "- -\n" : std::to_string(end) + (it.answer == reply::yes ? " true\n" : " false\n"));
 }
 
-// Returns the lines of the calls in memory, in the order in which they began, and the lines of the pending ones.
-// Threads may still be making calls: a call that begins after this function was called is left out, and a call that
-// ends after it is pending.
+// Returns the lines of the calls that have not been saved, in the order in which they began, and the lines of the
+// pending ones. Threads may still be making calls: a call that begins after this function was called is left out, and a
+// call that ends after it is pending.
 inline std::pair<std::string, std::string> lines_of(const area &from) {
-    const unsigned now = from.tickets;
+    const unsigned now = from.tickets, since = from.saves[from.save].moment;
     std::map<unsigned, std::pair<const slot *, unsigned>> found;
     for (size_t i = 0; i < from.count(); i++) {
-        const unsigned end = from.slots[i].end, begin = from.slots[i].begin;
-        if (begin > 0 && begin <= now) found[begin] = {&from.slots[i], end > now ? 0 : end};
+        const unsigned end = from.slots[i].end, begin = from.slots[i].begin;  // (a call that has begun can have the end of a saved call)
+        if (begin > since && begin <= now) found[begin] = {&from.slots[i], end > now || end < begin ? 0 : end};
     }
     std::string lines, under_way;
     for (const auto &[begin, it] : found) {
@@ -348,16 +361,26 @@ inline std::pair<std::string, std::string> lines_of(const area &from) {
 }
 
 // Interrupts its thread a few microseconds after some of its calls have begun, whatever it is doing then, by SIGURG
-// from a timer. Works on Linux only.
+// from a timer. On a busy machine the thread then sleeps until other threads have made calls, up to PATIENT times. Works
+// on Linux only.
 struct stops {
 #ifdef __linux__
     int timer = -1;
     std::mt19937 draw;
 
+    static const area *&run_of_thread() {
+        thread_local const area *run = nullptr;
+        return run;
+    }
+
     static void stop(int) {
         const int before = errno;
         const timespec some = {0, 1000};
-        nanosleep(&some, nullptr);
+        const area *run = run_of_thread();
+        const unsigned seen = run ? run->tickets.load() : 0;
+        unsigned looks = run && run->is_shaken() ? PATIENT : 1;
+        do nanosleep(&some, nullptr);
+        while (--looks > 0 && run->tickets - seen < MANY);
         errno = before;
     }
 
@@ -369,7 +392,8 @@ struct stops {
         syscall(SYS_timer_settime, timer, 0, &in, nullptr);
     }
 
-    stops(bool is_asked, uint64_t seed) : draw(uint32_t(seed)) {
+    stops(bool is_asked, const area &run, uint64_t seed) : draw(uint32_t(seed)) {
+        run_of_thread() = &run;
         struct sigaction rests = {};
         rests.sa_handler = stop;
         rests.sa_flags = SA_RESTART;
@@ -387,9 +411,10 @@ struct stops {
     }
     ~stops() {
         if (timer >= 0) syscall(SYS_timer_delete, timer);
+        run_of_thread() = nullptr;
     }
 #else
-    stops(bool, uint64_t) {}
+    stops(bool, const area &, uint64_t) {}
     void before_call(uint64_t) {}
 #endif
 };
@@ -434,7 +459,7 @@ template <class Make, class K> struct maker {
         slot *at = run.slots + size_t(thread) * run.rows;
         const unsigned count = std::min(run.rows, run.of.calls - round % run.parts * run.rows);
         for (unsigned i = 0; i < count; i++, at++) {
-            if (i % MEET == 0) run.meet();
+            if (i == 0 || (i % MEET == 0 && !run.of.meets_once)) run.meet();
             const unsigned key = drawn_key(draw);
             at->thread = number;
             at->call = drawn(draw);
@@ -451,7 +476,7 @@ template <class Make, class K> struct maker {
 
     void call_in_rounds(area &run, unsigned thread, bool is_stopped) {
         std::mt19937 draw(uint32_t(run.seed * 64 + thread));
-        stops own(is_stopped, run.seed * 64 + thread);
+        stops own(is_stopped, run, run.seed * 64 + thread);
         unsigned number = thread;
         if (how.begins) how.begins();
         for (unsigned round = 0; round < run.rounds && run.waits([&] { return run.begun > round; }); round++) {
@@ -471,14 +496,21 @@ template <class Make, class K> struct maker {
             reply found = reply::unknown;
             for (unsigned asked = 0; found == reply::unknown && asked < MOST_ASKED; asked++) found = contains(*set, keys[key]);
             if (found == reply::yes) lines += word + std::to_string(round / run.parts * run.of.keys + key) + "\n";
+            if (found == reply::unknown) run.is_end_known = false;
         }
         return lines;
     }
 
     void write(area &run, const std::string &lines) {
         if (!(file << lines << std::flush)) run.fail(UNMADE, "its recording cannot be written");
-        run.written += lines.size();
-        for (size_t i = 0; i < run.count(); i++) run.slots[i].begin = run.slots[i].end = 0;
+    }
+
+    // Writes all calls up to this moment, and before them `lines`. Threads make no calls meanwhile.
+    void save(area &run, const std::string &lines) {
+        const unsigned now = run.save;
+        write(run, lines);
+        run.saves[1 - now] = {run.saves[now].length + lines.size(), run.tickets};
+        run.save = 1 - now;  // (until here, a process that ends leaves the calls in memory)
     }
 
     // Creates each set and starts the threads on it, part by part. Writes each part to the file after its calls have
@@ -493,14 +525,17 @@ template <class Make, class K> struct maker {
                     set = &*own;
                 });
                 if (run.is_stopping) return;
-                write(run, lines + (how.opens_with_keys ? lines_of_keys(run, "opening ", round) : ""));
+                if (how.opens_with_keys) lines += lines_of_keys(run, "opening ", round);
+                if (how.opens_with_keys && !run.is_end_known) return run.fail(UNMADE, say(NO_OPENING, MOST_ASKED));
+                save(run, lines);
             }
             run.begun = round + 1;
             if (!run.waits([&] { return run.done == run.of.threads * (round + 1); })) return;
             if ((round + 1) % run.parts == 0) left += lines_of_keys(run, "key ", round);
-            write(run, lines_of(run).first);
+            if (run.is_stopping) return;
+            save(run, lines_of(run).first);
         }
-        write(run, left + "end\n");
+        write(run, run.is_end_known ? left + "end\n" : "cut\n");  // (not saved: what follows can still cut the run short)
     }
 
     // Runs all threads. They are interrupted during calls if `is_own`, that is, if the process belongs to the set.
@@ -553,7 +588,12 @@ template <class Maker> std::string made_in_child(Maker &by, area &run) {
         _exit(0);
     }
     int status = 0;
-    if (!comes_to_end(run, by.how.seconds, [&] { return waitpid(process, &status, WNOHANG) == process; })) {
+    auto has_ended = [&] {
+        if (waitpid(process, &status, WNOHANG) == process) return true;
+        if (by.how.pauses > 0 && run.is_shaken()) kill(process, SIGSTOP), kill(process, SIGCONT);  // (its threads continue in another order)
+        return false;
+    };
+    if (!comes_to_end(run, by.how.seconds, has_ended)) {
         kill(process, SIGKILL);
         waitpid(process, nullptr, 0);
         return say(HUNG, by.how.seconds);
@@ -699,7 +739,7 @@ struct recording {
 inline std::string cut(const area &run, const std::string &path, const std::string &trouble) {
     if (run.tickets == 0) throw no_verdict(say(NOT_MADE, trouble));
     const auto [lines, under_way] = lines_of(run);
-    std::filesystem::resize_file(path, run.written);
+    std::filesystem::resize_file(path, run.saves[run.save].length);
     std::ofstream(path, std::ios::app) << lines << "cut\n";
     const auto count = std::count(under_way.begin(), under_way.end(), '\n');
     const std::string first = under_way.substr(0, under_way.find('\n'));
@@ -747,13 +787,15 @@ template <class Make, class Key> struct tester {
         return it;
     }
 
-    // Returns a shape whose calls overlap more: with more threads (possibly more than processors) and fewer keys,
-    // unless the options set these numbers. The total number of calls does not grow.
+    // Returns a shape whose calls overlap more: with more threads (possibly more than processors), fewer keys and twice
+    // as many calls, except where the options set them. On a busy machine a thread that waits for another one is not
+    // interrupted in a call, so threads do not wait for each other.
     shape harder(shape it) const {
         const unsigned before = it.threads;
         if (!how.threads) it.threads = std::min(std::max(2 * it.threads, std::thread::hardware_concurrency() + 2), 64u);
-        if (!how.calls) it.calls = std::max(it.calls * before / it.threads, 1u);
+        if (!how.calls) it.calls = 2 * it.calls * before / it.threads + 1;
         if (!how.keys) it.keys = std::max(it.keys / 2, 1u);
+        it.meets_once = true;
         return it;
     }
 

@@ -1,5 +1,7 @@
 // Package judge tests whether your own concurrent set is linearizable, in one line of a test:
+//
 //	func TestIsLinearizable(t *testing.T) { judge.Check(t, NewMySet) }
+//
 // MySet has Add, Remove and Contains. Goroutines call new sets, and the begin and the end of each call are recorded. A
 // judge decides whether some order of the calls explains their replies.
 //
@@ -114,9 +116,13 @@ type shape struct {
 	size
 }
 
-// size contains the numbers of a run: goroutines, new sets used one after another, calls per goroutine and set, and
-// keys. The keys are the multiples of times.
-type size struct{ threads, sets, calls, keys, times int }
+// size has the sizes of a run: the number of goroutines, of new sets used one after another, of calls per goroutine and
+// set, and of keys. The keys are the multiples of times. Goroutines wait for each other after each manyMeet calls, or
+// only at the beginning.
+type size struct {
+	threads, sets, calls, keys, times int
+	meetsOnce                         bool
+}
 
 // rows returns how many calls a goroutine makes in a part. The last part on a set can have fewer.
 func (s size) rows() int {
@@ -156,19 +162,21 @@ func (o Options) shapeOf(seed int64) shape {
 	return s
 }
 
-// harder returns a shape whose calls overlap more: with more goroutines (possibly more than processors) and fewer keys,
-// unless the options set these numbers. The total number of calls does not grow.
+// harder returns a shape whose calls overlap more: with more goroutines (possibly more than processors), fewer keys and
+// twice as many calls, except where the options set them. On a busy machine a goroutine that waits for another one is
+// not interrupted in a call, so goroutines do not wait for each other.
 func (o Options) harder(s shape) shape {
 	before := s.threads
 	if o.Threads == 0 {
 		s.threads = least(most(2*s.threads, runtime.NumCPU()+2), 64)
 	}
 	if o.Calls == 0 {
-		s.calls = most(s.calls*before/s.threads, 1)
+		s.calls = 2*s.calls*before/s.threads + 1
 	}
 	if o.Keys == 0 && s.keys > 1 {
 		s.keys /= 2
 	}
+	s.meetsOnce = true
 	return s
 }
 

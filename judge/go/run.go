@@ -47,10 +47,17 @@ func (t *text) set(to string) { t.length = uint32(copy(t.bytes[:], to)) }
 
 func (t *text) String() string { return string(t.bytes[:t.length]) }
 
+// saved is how much of a run is in the file: the length of these lines, and the moment up to which they have all calls.
+type saved struct {
+	length int64
+	moment uint32
+}
+
 // head has the numbers that the maker and the watcher of a run share.
 type head struct {
-	seed    int64
-	written int64 // the length of the file
+	seed  int64
+	saves [2]saved
+	save  uint32 // which of them is valid, so that both of its numbers change in one step
 	size
 	tickets, there, done, begun uint32
 	at, isStopping, isBusy      uint32
@@ -58,7 +65,7 @@ type head struct {
 	file, why                   text   // why the run failed
 }
 
-// area is the memory of a run, which processes can share. It contains the calls that have not been written to the file
+// area is the memory of a run, which processes can share. It contains the calls that have not been saved in the file
 // yet.
 type area struct {
 	options Options
@@ -83,18 +90,20 @@ func (a *area) lay(memory []byte) {
 	a.slots = unsafe.Slice((*slot)(unsafe.Pointer(&memory[unsafe.Sizeof(head{})])), manyPart)
 }
 
-// lines returns the lines of the calls in memory, in the order in which they began, and the lines of the pending ones.
-// Goroutines may still be making calls: a call that begins after lines was called is left out, and a call that ends
-// after it is pending.
+func (a *area) saved() saved { return a.saves[atomic.LoadUint32(&a.save)] }
+
+// lines returns the lines of the calls that have not been saved, in the order in which they began, and the lines of the
+// pending ones. Goroutines may still be making calls: a call that begins after lines was called is left out, and a call
+// that ends after it is pending.
 func (a *area) lines() (lines, underWay string) {
-	now, of, begins := atomic.LoadUint32(&a.tickets), map[uint32]string{}, []uint32{}
+	now, since, of, begins := atomic.LoadUint32(&a.tickets), a.saved().moment, map[uint32]string{}, []uint32{}
 	for i := range a.slots[:a.threads*a.rows()] {
 		s := &a.slots[i]
 		end, begin := atomic.LoadUint32(&s.end), atomic.LoadUint32(&s.begin)
-		if end > now {
+		if end > now || end < begin { // (a call that has begun can have the end of a saved call)
 			end = 0
 		}
-		if begin > 0 && begin <= now {
+		if begin > since && begin <= now {
 			of[begin], begins = s.line(end), append(begins, begin)
 			if end == 0 {
 				underWay += s.line(0)
@@ -124,6 +133,7 @@ type caller interface {
 	begin()          // must be called once the memory of a run is ready
 	hasEnded() bool  // whether the run has ended
 	trouble() string // the error, if the run has ended with one
+	shake()          // stops a child process for a moment; its goroutines continue in another order
 	stop()           // stops the run; a child process ends
 	close()          // frees the memory of the runs
 }
@@ -136,6 +146,8 @@ func (h *here) begin() { go h.callAll() }
 func (h *here) hasEnded() bool { return atomic.LoadUint32(&h.at) >= over }
 
 func (h *here) trouble() string { return "" }
+
+func (h *here) shake() {}
 
 func (h *here) stop() { atomic.StoreUint32(&h.isStopping, 1) }
 
@@ -157,6 +169,10 @@ func (a *area) made(seed int64, s size, file string, by caller) (trouble string,
 		}
 		if time.Since(since) > time.Duration(a.options.Seconds)*time.Second {
 			trouble = fmt.Sprintf(sayHung, a.options.Seconds)
+		}
+		// (on a busy machine, a thread seldom loses its processor in the middle of a call, since it makes all its calls before it does)
+		if a.options.Pauses > 0 && (atomic.LoadUint32(&a.isBusy) == 1 || a.meetsOnce) {
+			by.shake()
 		}
 	}
 	if trouble == "" {
@@ -209,7 +225,7 @@ func (a *area) meet() bool {
 		looks++
 		return atomic.LoadUint32(&a.there) >= all
 	})
-	if looks > manyAwake {
+	if looks > awake+manyLongest {
 		atomic.StoreUint32(&a.isBusy, 1)
 	}
 	return areThere
@@ -243,7 +259,7 @@ func (a *area) newSet() (set Set) {
 	return set
 }
 
-// lead creates each set and starts the goroutines on it, part by part. It writes each part to the file after its calls
+// lead creates each set and starts the goroutines on it, part by part. It saves each part in the file after its calls
 // have ended.
 func (a *area) lead(on *stage) {
 	defer a.fail(failed, sayThrew)
@@ -252,15 +268,15 @@ func (a *area) lead(on *stage) {
 		panic(err)
 	}
 	defer file.Close()
-	left := ""
-	a.write(file, "listset-calls 1\n")
+	left, isEndKnown := "", true
+	a.saveLines(file, "listset-calls 1\n")
 	for round := 0; round < a.rounds(); round++ {
 		if round%a.parts() == 0 {
 			if on.set = a.newSet(); on.set == nil {
 				return
 			}
-			if a.options.OpensWithKeys {
-				a.write(file, a.linesOfKeys("opening", on.set, round))
+			if a.options.OpensWithKeys && !a.saveOpening(file, on.set, round) {
+				return
 			}
 		}
 		atomic.StoreUint32(&a.begun, uint32(round+1))
@@ -268,22 +284,45 @@ func (a *area) lead(on *stage) {
 			return
 		}
 		if (round+1)%a.parts() == 0 {
-			left += a.linesOfKeys("key", on.set, round)
+			lines, areKnown := a.linesOfKeys("key", on.set, round)
+			left, isEndKnown = left+lines, isEndKnown && areKnown
+		}
+		if atomic.LoadUint32(&a.isStopping) != 0 { // (the run was cut short meanwhile)
+			return
 		}
 		lines, _ := a.lines()
-		a.write(file, lines)
+		a.saveLines(file, lines)
 	}
-	a.write(file, left+"end\n")
+	if !isEndKnown {
+		left = "cut\n"
+	} else {
+		left += "end\n"
+	}
+	a.write(file, left) // (not saved: what follows can still cut the run short)
 }
 
 func (a *area) write(file *os.File, lines string) {
 	if _, err := file.WriteString(lines); err != nil {
 		panic(err)
 	}
-	atomic.AddInt64(&a.written, int64(len(lines)))
-	for i := range a.slots[:a.threads*a.rows()] {
-		a.slots[i] = slot{}
+}
+
+// saveLines writes lines that have all calls up to this moment. Goroutines make no calls meanwhile.
+func (a *area) saveLines(file *os.File, lines string) {
+	a.write(file, lines)
+	other := 1 - atomic.LoadUint32(&a.save)
+	a.saves[other] = saved{a.saved().length + int64(len(lines)), atomic.LoadUint32(&a.tickets)}
+	atomic.StoreUint32(&a.save, other) // (until this step, a process that ends leaves the calls in memory)
+}
+
+func (a *area) saveOpening(file *os.File, set Set, round int) bool {
+	lines, areKnown := a.linesOfKeys("opening", set, round)
+	if areKnown {
+		a.saveLines(file, lines)
+		return true
 	}
+	defer a.fail(unmade, sayNotMade)
+	panic(fmt.Sprintf(sayNoOpening, mostAsked))
 }
 
 // number converts the index of a key to the number with which the set is called.
@@ -298,8 +337,10 @@ func (a *area) number(key int) uint32 {
 // unknown.
 const mostAsked = 100
 
-// linesOfKeys calls Contains for each key, and retries if the outcome is unknown. It returns a line for each key found.
-func (a *area) linesOfKeys(word string, set Set, round int) (lines string) {
+// linesOfKeys calls Contains for each key, and retries if the outcome is unknown. It returns a line for each key found,
+// and whether each outcome became known.
+func (a *area) linesOfKeys(word string, set Set, round int) (lines string, areKnown bool) {
+	areKnown = true
 	for key := 0; key < a.keys; key++ {
 		found := uint32(unknown)
 		for asked := 0; found == unknown && asked < mostAsked; asked++ {
@@ -308,9 +349,10 @@ func (a *area) linesOfKeys(word string, set Set, round int) (lines string) {
 		if found == yes {
 			lines += fmt.Sprintf("%s %d\n", word, round/a.parts()*a.keys+key)
 		}
+		areKnown = areKnown && found != unknown
 		atomic.AddUint32(&a.tickets, 1)
 	}
-	return lines
+	return lines, areKnown
 }
 
 // callInRounds makes the calls of one goroutine, part by part.
@@ -325,7 +367,7 @@ func (a *area) callInRounds(on *stage, thread int) {
 			mine = mine[:left]
 		}
 		for i := range mine {
-			if i%manyMeet == 0 && !a.meet() {
+			if isMet := i > 0 && (i%manyMeet > 0 || a.meetsOnce); !isMet && !a.meet() {
 				return
 			}
 			a.call(on.set, &mine[i], round/a.parts()*a.keys, &number, draw)

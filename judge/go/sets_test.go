@@ -3,6 +3,7 @@ package judge
 import (
 	"errors"
 	"fmt"
+	"math/rand"
 	"os"
 	"runtime"
 	"strconv"
@@ -53,6 +54,8 @@ func newSet() *set {
 		made.keys[1], made.keys[3] = true, true
 	} else if made.is == "not made" {
 		panic("no room")
+	} else if made.is == "ends" {
+		time.AfterFunc(time.Duration(rand.New(rand.NewSource(time.Now().UnixNano())).Intn(40000))*time.Microsecond, func() { os.Exit(3) })
 	}
 	return made
 }
@@ -128,6 +131,9 @@ func (s *set) Remove(key uint32) bool {
 }
 
 func (s *set) Contains(key uint32) bool {
+	if s.is == "loses contains" {
+		panic(NotKnown)
+	}
 	if s.is == "finds all" || s.is == "finds all late" && atomic.AddInt32(&s.calls, 1) > 8000 {
 		return true
 	}

@@ -45,8 +45,9 @@ func (r *recording) judged(by *judgeFound, a *area, trouble string) (int, error)
 	underWay, lines := "", ""
 	if trouble != "" {
 		lines, underWay = a.lines()
-		r.file.Truncate(a.written)
-		r.file.WriteAt([]byte(lines+"cut\n"), a.written)
+		length := a.saved().length
+		r.file.Truncate(length)
+		r.file.WriteAt([]byte(lines+"cut\n"), length)
 	}
 	overlapped, refused, err := by.judged(r.file)
 	if err != nil || refused == "" && trouble == "" {

@@ -60,9 +60,12 @@ public final class Judge {
 
     /**
      * The sizes of a run: the number of threads, of new sets used one after another, of calls per thread and set, and
-     * of keys. The keys are the multiples of {@code times}.
+     * of keys. The keys are the multiples of {@code times}. Threads wait for each other after each MEET calls, or only
+     * at the beginning.
      */
-    private record Shape(String name, int threads, int sets, int calls, int keys, int times) {
+    private record Shape(String name, int threads, int sets, int calls, int keys, int times, boolean meetsOnce) {
+        Shape(String name, int threads, int sets, int calls, int keys, int times) { this(name, threads, sets, calls, keys, times, false); }
+
         long allCalls() { return (long) threads * sets * calls; }
 
         /** Returns how many calls a thread makes in a part. The last part on a set can have fewer. */
@@ -89,6 +92,7 @@ public final class Judge {
     private static final String ENDED_SO = "the set ended its process with status %s";
     private static final String THREW = "a call of the set failed: %s";
     private static final String NOT_MADE = "the set could not be created: %s";
+    private static final String NO_OPENING = "contains of an opening key had no known outcome in %s calls";
     private static final String UNDER_WAY = "%s\npending: %s\nbefore that: %s";
     private static final String EXPLAINED = "some order explains the calls";
     private static final String KEY_IS = "; key %s of the recording is %s";
@@ -219,13 +223,14 @@ public final class Judge {
         }
 
         /**
-         * Returns a shape whose calls overlap more: with more threads (possibly more than processors) and fewer keys,
-         * unless these options set the numbers. The total number of calls does not grow.
+         * Returns a shape whose calls overlap more: with more threads (possibly more than processors), fewer keys and
+         * twice as many calls, except where these options set them. On a busy machine a thread that waits for another
+         * one is not interrupted in a call, so threads do not wait for each other.
          */
         private Shape harder(Shape it) {
             int wanted = Math.max(2 * it.threads, Runtime.getRuntime().availableProcessors() + 2), more = threads > 0 ? it.threads : Math.min(wanted, 64);
-            int less = calls > 0 ? it.calls : Math.max(it.calls * it.threads / more, 1), fewer = keys > 0 ? it.keys : Math.max(it.keys / 2, 1);
-            return new Shape(it.name, more, it.sets, less, fewer, it.times);
+            int ofSet = calls > 0 ? it.calls : 2 * it.calls * it.threads / more + 1, fewer = keys > 0 ? it.keys : Math.max(it.keys / 2, 1);
+            return new Shape(it.name, more, it.sets, ofSet, fewer, it.times, true);
         }
     }
 
@@ -462,13 +467,14 @@ public final class Judge {
         }
     }
 
-    /** The memory of a run, which JVMs can share. It contains the calls that have not been written to the file yet. */
+    /** The memory of a run, which JVMs can share. It contains the calls that have not been saved in the file yet. */
     private record Area(Options how, ByteBuffer memory) {
         private static final VarHandle INT = MethodHandles.byteBufferViewVarHandle(int[].class, ByteOrder.nativeOrder());
-        // Offsets of the fields in the memory. IS_HERE is 1 once the other JVM has started, WRITTEN is the length of
-        // the file, SHAPE has five numbers, WHY and FILE are texts.
-        private static final int TICKETS = 0, THERE = 4, DONE = 8, BEGUN = 12, AT = 16, STOPPING = 20, IS_HERE = 24, IS_BUSY = 28, SEED = 32, WRITTEN = 40,
-            SHAPE = 48, WHY = 68, FILE = WHY + 4 + 240, SLOTS = FILE + 4 + 1024;
+        // Offsets in the memory. IS_HERE: whether the other JVM has started. SAVES: twice what is saved in the file (its
+        // length as a long, and the moment up to which it has all calls), of which SAVE says the valid one. SHAPE: six
+        // numbers. WHY and FILE: texts.
+        private static final int TICKETS = 0, THERE = 4, DONE = 8, BEGUN = 12, AT = 16, STOPPING = 20, IS_HERE = 24, IS_BUSY = 28, SEED = 32, SAVE = 40,
+            SAVES = 48, SAVED = 16, MOMENT = 8, SHAPE = SAVES + 2 * SAVED, WHY = SHAPE + 24, FILE = WHY + 4 + 240, SLOTS = FILE + 4 + 1024;
         private static final int BEGIN = 0, END = 4, CALL = 8, KEY = 12, REPLY = 16, THREAD = 20, SLOT = 24; // offsets in a call; the memory has the calls of one thread after those of another
         private static final int GOING = 1, OVER = 2, FAILED = 3, UNMADE = 4; // the values of AT
         private static final int SIZE = SLOTS + PART * SLOT;
@@ -484,14 +490,14 @@ public final class Judge {
         int next(int at) { return (int) INT.getAndAdd(memory, at, 1) + 1; }
 
         Shape shape() {
-            return new Shape("", get(SHAPE), get(SHAPE + 4), get(SHAPE + 8), get(SHAPE + 12), get(SHAPE + 16));
+            return new Shape("", get(SHAPE), get(SHAPE + 4), get(SHAPE + 8), get(SHAPE + 12), get(SHAPE + 16), get(SHAPE + 20) == 1);
         }
 
         /** Prepares the memory for the run of a seed and starts the run, whose calls are written to the file. */
         void begin(long seed, Shape of, Path file) {
             for (int at = 0; at < SIZE; at += 4) if (at != IS_HERE) memory.putInt(at, 0);
             memory.putLong(SEED, seed);
-            memory.putInt(SHAPE, of.threads).putInt(SHAPE + 4, of.sets).putInt(SHAPE + 8, of.calls).putInt(SHAPE + 12, of.keys).putInt(SHAPE + 16, of.times);
+            memory.putInt(SHAPE, of.threads).putInt(SHAPE + 4, of.sets).putInt(SHAPE + 8, of.calls).putInt(SHAPE + 12, of.keys).putInt(SHAPE + 16, of.times).putInt(SHAPE + 20, of.meetsOnce ? 1 : 0);
             putText(FILE, SLOTS - FILE, file.toString());
             set(AT, GOING);
         }
@@ -509,7 +515,7 @@ public final class Judge {
             return new String(bytes, StandardCharsets.UTF_8);
         }
 
-        /** Returns the lines of the calls in memory. */
+        /** Returns the lines of the calls that have not been saved. */
         private String lines() { return rows().stream().map(Row::line).collect(Collectors.joining()); }
 
         /**
@@ -524,28 +530,37 @@ public final class Judge {
             return pending.size() > 1 ? AND_MORE.formatted(first, pending.size() - 1) : first;
         }
 
-        /** Appends lines for the calls in memory to the file and clears these calls. */
-        void write(String lines) throws IOException {
+        private int saved() { return SAVES + get(SAVE) * SAVED; }
+
+        /** Writes lines behind the saved ones. Returns the length of the file. */
+        long write(String lines) throws IOException {
             try (FileChannel file = FileChannel.open(Path.of(text(FILE)), StandardOpenOption.WRITE)) {
-                long written = memory.getLong(WRITTEN);
+                long length = memory.getLong(saved());
                 ByteBuffer bytes = StandardCharsets.US_ASCII.encode(lines);
-                file.truncate(written);
-                while (bytes.hasRemaining()) file.write(bytes, written + bytes.position());
-                memory.putLong(WRITTEN, written + bytes.limit());
+                file.truncate(length);
+                while (bytes.hasRemaining()) file.write(bytes, length + bytes.position());
+                return length + bytes.limit();
             }
-            for (int at = SLOTS; at < SIZE; at += SLOT) memory.putLong(at, 0);
+        }
+
+        /** Writes lines that have all calls up to this moment, and saves them. Threads make no calls meanwhile. */
+        void save(String lines) throws IOException {
+            int other = 1 - get(SAVE);
+            memory.putLong(SAVES + other * SAVED, write(lines)).putInt(SAVES + other * SAVED + MOMENT, get(TICKETS));
+            set(SAVE, other); // (until this step, a JVM that ends leaves the calls in memory)
         }
 
         /**
-         * Returns the calls in memory, in the order in which they began. Threads may still be making calls: a call that
-         * begins after this method was called is left out, and a call that ends after it is pending.
+         * Returns the calls that have not been saved, in the order in which they began. Threads may still be making
+         * calls: a call that begins after this method was called is left out, and a call that ends after it is pending.
          */
         private List<Row> rows() {
             List<Row> found = new ArrayList<>();
-            int now = get(TICKETS), behind = SLOTS + shape().threads * shape().rows() * SLOT;
+            int now = get(TICKETS), since = get(saved() + MOMENT), behind = SLOTS + shape().threads * shape().rows() * SLOT;
             for (int at = SLOTS; at < behind; at += SLOT) {
-                int ended = get(at + END), end = ended > now ? 0 : ended, begin = get(at + BEGIN), reply = end > 0 ? get(at + REPLY) : Calls.NO;
-                if (begin > 0 && begin <= now) found.add(new Row(get(at + THREAD), get(at + CALL), get(at + KEY), begin, end, reply));
+                int ended = get(at + END), begin = get(at + BEGIN); // (a call that has begun can have the end of a saved call)
+                int end = ended > now || ended < begin ? 0 : ended, reply = end > 0 ? get(at + REPLY) : Calls.NO;
+                if (begin > since && begin <= now) found.add(new Row(get(at + THREAD), get(at + CALL), get(at + KEY), begin, end, reply));
             }
             found.sort(Comparator.comparingInt(Row::begin));
             return found;
@@ -627,28 +642,39 @@ public final class Judge {
         }
 
         /**
-         * Creates each set and starts the threads on it, part by part. Writes each part to the file after its calls
-         * have ended.
+         * Creates each set and starts the threads on it, part by part. Saves each part in the file after its calls have
+         * ended.
          */
         private void lead() throws IOException {
-            StringBuilder left = new StringBuilder();
-            area.write("listset-calls 1\n");
+            List<String> left = new ArrayList<>();
+            area.save("listset-calls 1\n");
             for (int i = 0; i < of.rounds(); i++) {
                 int round = i;
                 if (round % of.parts() == 0) {
                     tried(Area.UNMADE, () -> set.set(calls.make.get()));
                     if (area.get(Area.STOPPING) > 0) return;
-                    if (area.how.opensWithKeys) area.write(linesOfKeys("opening ", round));
+                    if (area.how.opensWithKeys) tried(Area.UNMADE, () -> area.save(opening(round)));
+                    if (area.get(Area.STOPPING) > 0) return;
                 }
                 area.set(Area.BEGUN, round + 1);
                 if (!waits(LONGEST, () -> area.get(Area.DONE) == (round + 1) * of.threads)) return;
-                if ((round + 1) % of.parts() == 0) left.append(linesOfKeys("key ", round));
-                area.write(area.lines());
+                if ((round + 1) % of.parts() == 0) left.add(linesOfKeys("key ", round));
+                if (area.get(Area.STOPPING) > 0) return; // (the run was cut short meanwhile)
+                area.save(area.lines());
             }
-            area.write(left + "end\n");
+            area.write(left.contains(null) ? "cut\n" : String.join("", left) + "end\n"); // (not saved: what follows can still cut the run short)
         }
 
-        /** Calls contains for each key, and retries if the outcome is unknown. Returns a line for each key found. */
+        private String opening(int round) {
+            String lines = linesOfKeys("opening ", round);
+            if (lines == null) throw new IllegalStateException(NO_OPENING.formatted(MOST_ASKED));
+            return lines;
+        }
+
+        /**
+         * Calls contains for each key, and retries if the outcome is unknown. Returns a line for each key found, or
+         * null if an outcome stays unknown.
+         */
         private String linesOfKeys(String word, int round) {
             StringBuilder lines = new StringBuilder();
             for (int key = 0; key < of.keys; key++, area.next(Area.TICKETS)) {
@@ -656,6 +682,7 @@ public final class Judge {
                 int reply = Calls.UNKNOWN;
                 for (int asked = 0; reply == Calls.UNKNOWN && asked < MOST_ASKED; asked++) reply = calls.reply(set.get(), 2, calls.key(key, of.times));
                 if (reply == Calls.YES) lines.append(word).append(number).append('\n');
+                if (reply == Calls.UNKNOWN) return null;
             }
             return lines.toString();
         }
@@ -669,7 +696,8 @@ public final class Judge {
                 if (!waits(LONGEST, () -> area.get(Area.BEGUN) > round)) return;
                 S its = set.get();
                 for (int done = 0; done < count; done++) {
-                    if (done % MEET == 0 && !meets()) return;
+                    boolean isMet = done > 0 && (done % MEET > 0 || of.meetsOnce);
+                    if (!isMet && !meets()) return;
                     int at = Area.SLOTS + (thread * of.rows() + done) * Area.SLOT;
                     if (call(its, at, round / of.parts() * of.keys, number, draw) == Calls.UNKNOWN) number += of.threads;
                 }

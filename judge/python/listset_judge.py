@@ -83,6 +83,7 @@ CRASHED = "the set crashed: %s"
 ENDED_SO = "the set ended its process with status %s"
 THREW = "a call of the set failed: %s"
 NOT_MADE = "the set could not be created: %s"
+NO_OPENING = "contains of an opening key had no known outcome in %s calls"
 UNDER_WAY = "%s\npending: %s\nbefore that: %s"
 EXPLAINED = "some order explains the calls"
 KEY_IS = "; key %s of the recording is %s"
@@ -354,11 +355,12 @@ def key_in(refused: str) -> str:
 
 
 class Run:
-    """A run. Its calls are recorded in memory that is shared with the set's own process, and are written to the file part
-    by part.
+    """A run. Its calls are recorded in memory that is shared with the set's own process, and are saved in the file part by
+    part.
     """
 
     SLOT, COUNT = struct.Struct("=IIIIBB"), struct.Struct("=Q")  # a call: begin, end or 0, thread, key, operation, reply; and the progress of a thread
+    SAVED = struct.Struct("=QI")  # the length of the file, and the begin of the last call in it
     AT = 240  # the offset of the run's progress, after the error
 
     def __init__(self, make, how, shape, seed, file):
@@ -367,18 +369,18 @@ class Run:
         self.most = min(shape.calls, PART // shape.threads)  # the largest number of calls of a thread in a part
         self.parts = -(-shape.calls // self.most)  # of each set
         self.rounds = shape.sets * self.parts
-        # The memory contains, in this order: the error; the progress of the run, of each thread and of `contains`; the
-        # length of the file; the calls.
-        self.at_slots = self.AT + 1 + (shape.threads + 2) * self.COUNT.size
+        # The memory contains, in this order: the error; the progress of the run, of each thread and of `contains`; what is
+        # saved in the file; the calls.
+        self.at_saved = self.AT + 1 + (shape.threads + 1) * self.COUNT.size
+        self.at_slots = self.at_saved + self.SAVED.size
         self.slots = mmap.mmap(-1, self.at_slots + shape.threads * self.most * self.SLOT.size)
 
     def count(self, at, number):
         self.COUNT.pack_into(self.slots, self.AT + 1 + at * self.COUNT.size, number)
 
     @property
-    def written(self):
-        """Returns the length of the file."""
-        return self.COUNT.unpack_from(self.slots, self.at_slots - self.COUNT.size)[0]
+    def saved(self):
+        return self.SAVED.unpack_from(self.slots, self.at_saved)
 
     def fail(self, said, at=GOING):
         """Stores an error. Only the first one is kept."""
@@ -398,12 +400,12 @@ class Run:
         why = self.slots[: self.AT].rstrip(b"\0").decode(errors="replace")
         if self.slots[self.AT] == UNMADE:
             raise NoVerdict(why)
-        rows, trouble = self.rows(), why or trouble
+        rows, trouble, (length, _) = self.rows(), why or trouble, self.saved
         if not trouble:
             return "", ""
-        if not rows and not why and self.written <= len(FIRST_LINE):
+        if not rows and not why and length <= len(FIRST_LINE):
             raise NoVerdict(NOT_MADE % trouble)
-        os.truncate(self.file, self.written)
+        os.truncate(self.file, length)
         with open(self.file, "a") as file:
             file.write("".join(map(line_of, rows)) + "cut\n")
         pending = [line_of(it).strip() for it in rows if not it.end and it.reply != UNKNOWN]
@@ -460,10 +462,10 @@ class Run:
         return True
 
     def rows(self):
-        """Returns the calls in memory, in the order in which they began."""
-        found = self.SLOT.iter_unpack(self.slots[self.at_slots :])
+        """Returns the calls that have not been saved, in the order in which they began."""
+        (_, last), found = self.saved, self.SLOT.iter_unpack(self.slots[self.at_slots :])
         return sorted(Call(begin, 0 if reply == UNKNOWN else end, thread, WORDS[word], key, reply)
-                      for begin, end, thread, key, word, reply in found if begin)
+                      for begin, end, thread, key, word, reply in found if begin > last)
 
     # ---- the thread that creates the sets
 
@@ -492,30 +494,41 @@ class Run:
         left = []
         try:
             with open(self.file, "wb", 0) as file:
-                self.write(file, [FIRST_LINE])
+                self.save(file, [FIRST_LINE], 0)
                 for one in range(self.rounds):
                     if one % self.parts == 0:
                         self.make_set()
                         if self.how.opens_with_keys:
-                            self.write(file, self.lines_of_keys("opening", one))
+                            self.save(file, self.opening(one), 0)
                     self.there.wait()  # no thread begins before all have arrived
                     self.there.wait()
                     if (one + 1) % self.parts == 0:
                         left += self.lines_of_keys("key", one)
                     rows = self.rows()
                     self.check_replies(rows)
-                    self.write(file, map(line_of, rows))
-                self.write(file, [*left, "end\n"])
+                    if self.there.broken:  # (the run was cut short)
+                        return
+                    self.save(file, map(line_of, rows), rows[-1].begin)
+                # (not saved: what follows can still cut the run short)
+                file.write("".join([*left, "end\n"] if None not in left else ["cut\n"]).encode())
         except threading.BrokenBarrierError:
             pass
         finally:
             self.there.abort()
 
-    def write(self, file, lines):
+    def save(self, file, lines, last):
+        """Writes all calls up to the one that begins at `last`, or lines before them."""
         text = "".join(lines).encode()
         file.write(text)
-        self.count(self.shape.threads + 1, self.written + len(text))
-        self.slots[self.at_slots :] = bytes(len(self.slots) - self.at_slots)
+        # (until this step, a process that ends leaves the calls in memory)
+        self.SAVED.pack_into(self.slots, self.at_saved, self.saved[0] + len(text), last)
+
+    def opening(self, one):
+        lines = self.lines_of_keys("opening", one)
+        if None in lines:
+            self.fail(NOT_MADE % (NO_OPENING % MOST_ASKED), UNMADE)
+            raise threading.BrokenBarrierError
+        return lines
 
     def check_replies(self, rows):
         for word in (ADD, REMOVE):
@@ -532,13 +545,16 @@ class Run:
             raise
 
     def lines_of_keys(self, word, one):
-        """Calls `contains` for each key, and retries if the outcome is unknown. Returns a line for each key found."""
+        """Calls `contains` for each key, and retries if the outcome is unknown. Returns a line for each key found, and None
+        for a key whose outcome stays unknown.
+        """
         first, lines = one // self.parts * self.shape.keys, []
         for number in range(self.shape.keys):
             key = self.how.key_of(number, self.shape)
             replies = (self.replies_of[2](key) for _ in range(MOST_ASKED))
-            if next((it for it in replies if it is not None), False):
-                lines.append(f"{word} {first + number}\n")
+            found = next((it for it in replies if it is not None), None)
+            if found or found is None:
+                lines.append(found and f"{word} {first + number}\n")
             self.count(self.shape.threads, first + number)
         return lines
 

@@ -1,7 +1,9 @@
 // Judges the sets of libcds (Debian's package libcds-dev), each in a number of tests:
 //     g++ -O2 -std=c++17 -pthread libcds.cpp -lcds -o libcds && ./libcds 20
 #include "tests.hpp"
+#include <cds/container/cuckoo_set.h>
 #include <cds/container/ellen_bintree_set_hp.h>
+#include <cds/container/feldman_hashset_hp.h>
 #include <cds/container/lazy_list_hp.h>
 #include <cds/container/michael_list_hp.h>
 #include <cds/container/michael_set.h>
@@ -46,6 +48,24 @@ struct split : cds::container::split_list::traits {
     struct ordered_list_traits : by_less<cds::container::michael_list::traits> { };
 };
 
+struct first_hash {
+    size_t operator()(unsigned key) const { return key * size_t{0x9E3779B97F4A7C15} >> 32; }
+};
+struct second_hash {
+    size_t operator()(unsigned key) const { return key * size_t{0xC2B2AE3D27D4EB4F} >> 32; }
+};
+struct of_cuckoo : cds::container::cuckoo::traits {
+    using hash = cds::opt::hash_tuple<first_hash, second_hash>;
+    using equal_to = std::equal_to<unsigned>;
+};
+// A key is its own hash.
+struct own_hash {
+    const unsigned &operator()(const unsigned &key) const { return key; }
+};
+struct of_feldman : cds::container::feldman_hashset::traits {
+    using hash_accessor = own_hash;
+};
+
 // A hash table whose buckets are lists.
 template <class List> struct Hashed : cds::container::MichaelHashSet<cds::gc::HP, List, hashed> {
     Hashed() : cds::container::MichaelHashSet<cds::gc::HP, List, hashed>(64, 4) { }
@@ -67,4 +87,6 @@ int main(int, char **words) {
     judge<Hashed<LazyList<gc, unsigned, by_less<lazy_list::traits>>>>("MichaelHashSet of LazyList", words, attach);
     judge<SplitListSet<gc, unsigned, split>>("SplitListSet", words, attach);
     judge<StripedSet<std::set<unsigned>, cds::opt::hash<std::hash<unsigned>>, cds::opt::less<std::less<unsigned>>>>("StripedSet", words, attach);
+    judge<CuckooSet<unsigned, of_cuckoo>>("CuckooSet", words, attach);
+    judge<FeldmanHashSet<gc, unsigned, of_feldman>>("FeldmanHashSet", words, attach);
 }

@@ -2,7 +2,8 @@
 #include "../cpp/listset_judge.hpp"
 #include <iostream>
 
-// `words` are the arguments: the number of tests and, optionally, the name of the only set to judge.
+// `words` are the arguments: the number of tests and, optionally, the name of the only set to judge. Prints a row of the
+// table, and the shortest refusal on standard error.
 template <class S> void judge(const char *name, char **words, void (*begins)() = nullptr) {
     const unsigned tests = words[1] ? unsigned(std::stoul(words[1])) : 1;
     if (words[1] && words[2] && words[2] != std::string(name)) return;
@@ -16,5 +17,6 @@ template <class S> void judge(const char *name, char **words, void (*begins)() =
         if (refused++ == 0 || verdict.said.size() < shortest.size()) shortest = verdict.said;
         std::remove(verdict.file.c_str());
     }
-    std::cout << name << ": refused in " << refused << " of " << tests << " tests\n" << shortest << (refused ? "\n" : "") << std::flush;
+    std::cout << "| " << name << " | " << refused << " of " << tests << " |" << std::endl;
+    if (refused) std::cerr << name << ":\n" << shortest << std::endl;
 }

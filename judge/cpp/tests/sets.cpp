@@ -30,6 +30,11 @@ struct Set : Right<unsigned> {
     Set() {
         if (is == "opens") keys = {1, 3};
         if (is == "not made") throw std::runtime_error("no room");
+        if (is == "ends") std::thread([] { std::this_thread::sleep_for(std::chrono::microseconds(std::random_device()() % 40'000)), _exit(3); }).detach();
+    }
+    // Ends the process when the set is deleted, as a sanitizer does.
+    ~Set() {
+        if (is == "ends when deleted") _exit(3);
     }
     // Returns the set of a key: the whole set or, with "first use", a set for this key alone. The first call of the
     // key creates it; two calls can both create it.
@@ -59,7 +64,7 @@ struct Set : Right<unsigned> {
         while (is == "hangs") std::this_thread::sleep_for(std::chrono::hours(1));
     }
     auto add(unsigned key) {
-        if (is == "check then act" && contains(key)) return std::optional(false);
+        if (is == "check then act" && *contains(key)) return std::optional(false);
         if (is == "check then act") std::this_thread::yield(), right::add(key);
         return is == "check then act" ? std::optional(true) : called([&] { return part(key).right::add(place(key)); });
     }
@@ -67,7 +72,8 @@ struct Set : Right<unsigned> {
         if (is != "not known" && is != "again" && is != "finds all late") stop();
         return called([&] { return part(key).right::remove(place(key)); });
     }
-    bool contains(unsigned key) {
+    std::optional<bool> contains(unsigned key) {
+        if (is == "loses contains") return std::nullopt;
         return is == "finds all" || (is == "finds all late" && ++calls > 8000) || part(key).right::contains(place(key));
     }
 };

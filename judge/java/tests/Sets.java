@@ -4,6 +4,7 @@ import java.util.Map;
 import java.util.Set;
 import java.util.concurrent.ConcurrentHashMap;
 import java.util.concurrent.ConcurrentSkipListSet;
+import java.util.concurrent.ThreadLocalRandom;
 import java.util.concurrent.atomic.AtomicInteger;
 import java.util.concurrent.locks.LockSupport;
 import java.util.function.BooleanSupplier;
@@ -21,10 +22,17 @@ final class Sets {
         private final String is = System.getenv("SET");
         private final AtomicInteger calls = new AtomicInteger();
         private final Map<Object, Set<Integer>> parts = new ConcurrentHashMap<>();
+        private static final AtomicInteger MADE = new AtomicInteger();
 
         Named() {
             if (is.equals("opens")) addAll(Set.of(1, 3));
             if (is.equals("not made")) throw new IllegalStateException("no room");
+            if (is.equals("ends") && MADE.incrementAndGet() > 1) new Thread(this::end).start(); // (the first set only shows that the other JVM can create one)
+        }
+
+        private void end() {
+            LockSupport.parkNanos(ThreadLocalRandom.current().nextInt(40_000_000));
+            Runtime.getRuntime().halt(3);
         }
 
         /** Returns the key that the set uses for this one. With "collides", it is the remainder, so different keys are treated as one. */
@@ -70,6 +78,7 @@ final class Sets {
         }
 
         @Override public boolean contains(Object key) {
+            if (is.equals("loses contains")) throw new Judge.NotKnown();
             if (is.equals("finds all") || is.equals("finds all late") && calls.incrementAndGet() > 8000) return true;
             return is.equals("first use") ? part(key).contains(key) : super.contains(place(key));
         }

@@ -4,6 +4,7 @@ often as TESTS says. Prints the result and its kind.
 
 import os
 import pathlib
+import random
 import sys
 import threading
 import time
@@ -39,6 +40,13 @@ class Named(Right):
             self.keys = {1, 3}
         if name == "not made":
             raise RuntimeError("no room")
+        if name == "ends":
+            threading.Timer(random.random() * 0.04, os._exit, [3]).start()
+
+    def __del__(self):
+        """Can end the process when the set is deleted."""
+        if self.name == "ends when deleted":
+            os._exit(3)
 
     def part(self, key):
         """Returns the set of a key: the whole set or, with "first use", a set for this key alone. The first call of the
@@ -83,6 +91,8 @@ class Named(Right):
         return self.called(self.part(key).remove, key)
 
     def __contains__(self, key):
+        if self.name == "loses contains":
+            return None
         is_late = self.name == "finds all late"
         self.calls += is_late
         return self.name == "finds all" or is_late and self.calls > 8000 or self.part(key).__contains__(self.place(key))

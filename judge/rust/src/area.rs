@@ -23,8 +23,8 @@ const OVER: u32 = 2;
 const FAILED: u32 = 3;
 const UNMADE: u32 = 4;
 
-/// The positions of a run's numbers in memory, such as the counter of moments, the progress, and the length of the
-/// file.
+/// The positions of a run's numbers in memory, such as the counter of moments, the progress, and which numbers say what
+/// is saved in the file.
 #[derive(Clone, Copy)]
 enum At {
     Tickets,
@@ -42,18 +42,19 @@ enum At {
     Calls,
     Keys,
     Times,
-    Written,
-    WrittenHigh,
-    Why,
+    MeetsOnce,
+    Save,
+    Saves,
 }
 
-const WHY: usize = At::Why as usize; // from here on a text, one byte per number: why the run failed;
+const SAVES: usize = At::Saves as usize; // twice what is saved: two halves of the length of the file, and the moment up to which it has all calls;
+const WHY: usize = SAVES + 6; // then a text, one byte per number: why the run failed;
 const FILE: usize = WHY + 240; // then the path of the file;
 const SLOTS: usize = FILE + 1024; // then the calls,
 const SLOT: usize = 6; // each with end, begin, thread, word, key and reply. Begin and end are 0 until they happen
 const SIZE: usize = SLOTS + PART as usize * SLOT;
 
-/// The memory of a run. It contains the calls that have not been written to the file yet.
+/// The memory of a run. It contains the calls that have not been saved in the file yet.
 pub struct Area {
     memory: Memory,
     pub options: Options,
@@ -63,12 +64,14 @@ pub struct Area {
 struct Row([u32; SLOT]);
 
 impl Row {
-    /// Returns the call as it was at a moment; `None` if the call had not begun then.
-    fn as_of(mut self, now: u32) -> Option<Row> {
-        if self.0[0] > now {
+    /// Returns the call as it was at the moment `now`; `None` if it had not begun then, or was saved at the moment
+    /// `saved`. A call that has begun can have the end of a saved call.
+    fn as_of(mut self, now: u32, saved: u32) -> Option<Row> {
+        let [end, begin, ..] = self.0;
+        if end > now || end < begin {
             self.0[0] = 0;
         }
-        Some(self).filter(|it| (1..=now).contains(&it.0[1]))
+        Some(self).filter(|_| saved < begin && begin <= now)
     }
 
     fn is_under_way(&self) -> bool {
@@ -123,33 +126,44 @@ impl Area {
     fn shape(&self) -> Shape {
         let [threads, sets, calls, keys, times] =
             [At::Threads, At::Sets, At::Calls, At::Keys, At::Times].map(|it| self.get(it));
-        Shape { name: "", threads, sets, calls, keys, times }
+        Shape { name: "", threads, sets, calls, keys, times, meets_once: self.get(At::MeetsOnce) == 1 }
     }
 
     // ---- its file
 
-    /// Appends lines for the calls in memory to the file and clears these calls.
-    pub fn write(&self, lines: &str) -> io::Result<()> {
-        let written = u64::from(self.get(At::WrittenHigh)) << 32 | u64::from(self.get(At::Written));
+    /// Writes lines behind the saved ones. Returns the length of the file.
+    pub fn write(&self, lines: &str) -> io::Result<u64> {
+        let [low, high, _] = self.saved();
+        let length = u64::from(high) << 32 | u64::from(low);
         let mut file = File::options().write(true).open(self.text(FILE))?;
-        file.set_len(written)?;
-        file.seek(SeekFrom::Start(written))?;
+        file.set_len(length)?;
+        file.seek(SeekFrom::Start(length))?;
         file.write_all(lines.as_bytes())?;
-        let written = written + lines.len() as u64;
-        self.set(At::WrittenHigh, (written >> 32) as u32);
-        self.set(At::Written, written as u32);
-        self.memory[SLOTS..].iter().for_each(|it| it.store(0, Relaxed));
-        Ok(())
+        Ok(length + lines.len() as u64)
     }
 
-    /// Returns the lines of the calls in memory, in the order in which they began, and the lines of the pending ones.
-    /// Threads may still be making calls: a call that begins after this function was called is left out, and a call
-    /// that ends after it is pending.
+    /// Writes lines and saves them. They have all calls up to this moment. Threads make no calls meanwhile.
+    fn save(&self, lines: &str) {
+        let length = self.write(lines).expect(WRITABLE);
+        let other = 1 - self.get(At::Save);
+        let numbers = [length as u32, (length >> 32) as u32, self.get(At::Tickets)];
+        self.memory[SAVES + 3 * other as usize..].iter().zip(numbers).for_each(|(to, it)| to.store(it, SeqCst));
+        self.set(At::Save, other); // (until this step, a process that ends leaves the calls in memory)
+    }
+
+    fn saved(&self) -> [u32; 3] {
+        let first = SAVES + 3 * self.get(At::Save) as usize;
+        std::array::from_fn(|it| self.memory[first + it].load(SeqCst))
+    }
+
+    /// Returns the lines of the calls that have not been saved, in the order in which they began, and the lines of the
+    /// pending ones. Threads may still be making calls: a call that begins after this function was called is left out,
+    /// and a call that ends after it is pending.
     pub fn lines(&self) -> (String, String) {
-        let now = self.get(At::Tickets);
+        let (now, [_, _, saved]) = (self.get(At::Tickets), self.saved());
         let slots = self.memory[SLOTS..].chunks(SLOT);
         let numbers = |slot: &[AtomicU32]| Row(std::array::from_fn(|it| slot[it].load(SeqCst)));
-        let mut rows: Vec<Row> = slots.filter_map(|it| numbers(it).as_of(now)).collect();
+        let mut rows: Vec<Row> = slots.filter_map(|it| numbers(it).as_of(now, saved)).collect();
         rows.sort_unstable_by_key(|it| it.0[1]);
         (rows.iter().map(Row::line).collect(), rows.iter().filter(|it| it.is_under_way()).map(Row::line).collect())
     }
@@ -163,6 +177,7 @@ impl Area {
         let shape =
             [(At::Threads, of.threads), (At::Sets, of.sets), (At::Calls, of.calls), (At::Keys, of.keys), (At::Times, of.times)];
         shape.into_iter().for_each(|(at, it)| self.set(at, it));
+        self.set(At::MeetsOnce, of.meets_once.into());
         self.set(At::Seed, seed as u32);
         self.set(At::Numbers, of.threads * of.sets);
         self.set(At::IsHere, is_here);
@@ -172,6 +187,17 @@ impl Area {
 
     pub fn stop(&self) {
         self.set(At::IsStopping, 1);
+    }
+
+    /// Returns the current moment.
+    pub fn moment(&self) -> u32 {
+        self.get(At::Tickets)
+    }
+
+    /// Returns whether threads are to be stopped for longer. On a busy machine, a thread seldom loses its processor in
+    /// the middle of a call, since it makes all its calls before it does.
+    pub fn is_shaken(&self) -> bool {
+        self.options.pauses > 0 && (self.get(At::IsBusy) == 1 || self.get(At::MeetsOnce) == 1)
     }
 
     pub fn is_here(&self) -> bool {
@@ -224,22 +250,26 @@ impl Area {
 
     /// Creates the sets of a run and calls them.
     pub(crate) fn call_all<S: Sync>(&self, source: &Source<S>) {
-        let (of, mut left) = (self.shape(), String::new());
-        self.tried(|| self.write("listset-calls 1\n").expect(WRITABLE));
+        let (of, mut left) = (self.shape(), Some(String::new()));
+        self.tried(|| self.save("listset-calls 1\n"));
         for one in 0..of.sets {
             match catch_unwind(AssertUnwindSafe(source.make)) {
                 Err(why) => self.fail(UNMADE, why),
                 // (`move`, because dropping the set can panic too)
                 Ok(set) => {
                     let left = &mut left;
-                    self.tried(move || *left += &Play { area: self, set: &set, reply: source.reply, of, one }.all());
+                    self.tried(move || {
+                        let keys = Play { area: self, set: &set, reply: source.reply, of, one }.all();
+                        *left = left.take().zip(keys).map(|(before, keys)| before + &keys);
+                    });
                 }
             }
             if self.get(At::IsStopping) == 1 {
                 return;
             }
         }
-        self.tried(|| self.write(&format!("{left}end\n")).expect(WRITABLE));
+        let end = left.map_or_else(|| "cut\n".to_string(), |keys| keys + "end\n");
+        self.tried(|| _ = self.write(&end).expect(WRITABLE)); // (not saved: what follows can still cut the run short)
         let _ = self.at(At::Phase).compare_exchange(GOING, OVER, SeqCst, SeqCst);
     }
 
@@ -286,9 +316,9 @@ struct Play<'a, S> {
 }
 
 impl<S: Sync> Play<'_, S> {
-    /// Runs all threads on the set. Returns the lines of the final keys.
-    fn all(&self) -> String {
-        let mut left = String::new();
+    /// Runs all threads on the set. Returns the lines of the final keys if they are known.
+    fn all(&self) -> Option<String> {
+        let mut left = Some(String::new());
         let is_stopped = self.area.memory.is_shared() && self.area.options.pauses > 0;
         std::thread::scope(|scope| {
             for thread in 0..self.of.threads {
@@ -299,13 +329,16 @@ impl<S: Sync> Play<'_, S> {
         left
     }
 
-    /// Starts each part of the calls, waits until it has ended, and writes it to the file.
-    fn lead(&self) -> String {
+    /// Starts each part of the calls, waits until it has ended, and saves it in the file.
+    fn lead(&self) -> Option<String> {
         let area = self.area;
         if area.options.opens_with_keys {
-            area.write(&self.lines_of_keys("opening")).expect(WRITABLE);
+            match self.lines_of_keys("opening") {
+                Some(lines) => area.save(&lines),
+                None => area.fail(UNMADE, Box::new(say(NO_OPENING, &[&MOST_ASKED]))),
+            }
         }
-        let mut left = String::new();
+        let mut left = Some(String::new());
         for round in self.one * self.of.parts() + 1..=(self.one + 1) * self.of.parts() {
             area.set(At::Begun, round);
             if !area.waits(LONGEST, || area.get(At::Done) == round * self.of.threads) {
@@ -314,24 +347,29 @@ impl<S: Sync> Play<'_, S> {
             if round == (self.one + 1) * self.of.parts() {
                 left = self.lines_of_keys("key");
             }
-            area.write(&area.lines().0).expect(WRITABLE);
+            if area.get(At::IsStopping) == 1 {
+                break; // (the run was cut short meanwhile)
+            }
+            area.save(&area.lines().0);
         }
         left
     }
 
-    /// Calls `contains` for each key, and retries if the outcome is unknown. Returns a line for each key found.
-    fn lines_of_keys(&self, word: &str) -> String {
-        let is_there = |key: &u32| {
+    /// Calls `contains` for each key, and retries if the outcome is unknown. Returns a line for each key found, or `None`
+    /// if an outcome stays unknown.
+    fn lines_of_keys(&self, word: &str) -> Option<String> {
+        let line = |key: u32| {
             self.area.next(At::Tickets);
-            (0..MOST_ASKED).find_map(|_| (self.reply)(self.set, 2, key * self.of.times)) == Some(true)
+            let is_there = (0..MOST_ASKED).find_map(|_| (self.reply)(self.set, 2, key * self.of.times))?;
+            Some(if is_there { format!("{word} {}\n", self.one * self.of.keys + key) } else { String::new() })
         };
-        (0..self.of.keys).filter(is_there).map(|key| format!("{word} {}\n", self.one * self.of.keys + key)).collect()
+        (0..self.of.keys).map(line).collect()
     }
 
     /// Makes the calls of one thread, part by part.
     fn call_in_parts(&self, thread: u32, is_stopped: bool) {
         let (area, of, rows) = (self.area, self.of, self.of.rows());
-        let stops = if is_stopped { Stops::of_this_thread() } else { None };
+        let stops = if is_stopped { Stops::of_this_thread(area) } else { None };
         let mut draws = Draws((u64::from(area.get(At::Seed)) << 20) + u64::from(self.one << 6) + u64::from(thread));
         let (mut stopping, mut number) = (Draws(!draws.0), self.one * of.threads + thread);
         for part in 0..of.parts() {
@@ -339,7 +377,8 @@ impl<S: Sync> Play<'_, S> {
                 return;
             }
             for row in 0..rows.min(of.calls - part * rows) {
-                if row % MEET == 0 && !self.meet() {
+                let is_met = row > 0 && (row % MEET > 0 || of.meets_once);
+                if !is_met && !self.meet() {
                     return;
                 }
                 let is_due = stopping.below(of.sets * of.calls) < STOPS;
@@ -357,13 +396,14 @@ impl<S: Sync> Play<'_, S> {
     fn meet(&self) -> bool {
         let processors = std::thread::available_parallelism().map_or(1, |it| it.get());
         let may_be_awake = self.of.threads as usize <= processors && self.area.get(At::IsBusy) == 0;
+        let awake = if may_be_awake { AWAKE } else { LONGEST };
         let all = (self.area.next(At::There) - 1) / self.of.threads * self.of.threads + self.of.threads;
         let looks = std::cell::Cell::new(0);
-        let are_there = self.area.waits(if may_be_awake { AWAKE } else { LONGEST }, || {
+        let are_there = self.area.waits(awake, || {
             looks.set(looks.get() + 1);
             self.area.get(At::There) >= all
         });
-        if looks.get() > AWAKE {
+        if looks.get() > awake + LONGEST {
             self.area.set(At::IsBusy, 1);
         }
         are_there

@@ -103,7 +103,8 @@ pub(crate) struct Range {
 }
 
 /// The sizes of a run: the number of threads, of new sets used one after another, of calls per thread and set, and of
-/// keys. The keys are the multiples of `times`.
+/// keys. The keys are the multiples of `times`. Threads wait for each other after each `MEET` calls, or only at the
+/// beginning.
 #[derive(Clone, Copy)]
 pub(crate) struct Shape {
     name: &'static str,
@@ -112,6 +113,7 @@ pub(crate) struct Shape {
     calls: u32,
     keys: u32,
     times: u32,
+    meets_once: bool,
 }
 
 impl Shape {
@@ -172,14 +174,15 @@ impl Options {
         Ok(it)
     }
 
-    /// Returns a shape whose calls overlap more: with more threads (possibly more than processors) and fewer keys,
-    /// unless these options set the numbers. The total number of calls does not grow.
+    /// Returns a shape whose calls overlap more: with more threads (possibly more than processors), fewer keys and twice
+    /// as many calls, except where these options set them. On a busy machine a thread that waits for another one is not
+    /// interrupted in a call, so threads do not wait for each other.
     fn harder(&self, it: Shape) -> Shape {
         let processors = std::thread::available_parallelism().map_or(1, |it| it.get()) as u32;
         let threads = if self.threads == 0 { (2 * it.threads).max(processors + 2).min(64) } else { it.threads };
-        let calls = if self.calls == 0 { (it.calls * it.threads / threads).max(1) } else { it.calls };
+        let calls = if self.calls == 0 { 2 * it.calls * it.threads / threads + 1 } else { it.calls };
         let keys = if self.keys == 0 { (it.keys / 2).max(1) } else { it.keys };
-        Shape { threads, calls, keys, ..it }
+        Shape { threads, calls, keys, meets_once: true, ..it }
     }
 
     /// Returns the shapes of all presets, modified by these options.

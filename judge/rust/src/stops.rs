@@ -1,7 +1,14 @@
-//! Interrupts a thread during its calls for at least a microsecond, with a timer that sends SIGURG to the thread.
+//! Interrupts a thread during its calls for at least a microsecond, with a timer that sends SIGURG to the thread. On a busy
+//! machine, the thread then sleeps until other threads have made calls, up to `PATIENT` times.
 
 #[cfg(all(target_os = "linux", any(target_arch = "x86_64", target_arch = "aarch64")))]
 mod timer {
+    use std::cell::Cell;
+    use std::ptr::null;
+
+    use crate::area::Area;
+    use crate::words::{MANY, PATIENT};
+
     const URGENT: i32 = 23; // SIGURG
     const MONOTONIC: usize = 1;
     const TO_THREAD: i32 = 4; // SIGEV_THREAD_ID
@@ -27,10 +34,16 @@ mod timer {
         rest: [i32; 11],
     }
 
+    thread_local! {
+        /// The run for which this thread makes calls.
+        static RUN: Cell<*const Area> = const { Cell::new(null()) };
+    }
+
     pub struct Stops(i32);
 
     impl Stops {
-        pub fn of_this_thread() -> Option<Stops> {
+        pub fn of_this_thread(area: &Area) -> Option<Stops> {
+            RUN.with(|run| run.set(area));
             let mut timer = -1i32;
             // SAFETY: the numbers are those of Linux, the event outlives the call, and the handler only sleeps.
             unsafe {
@@ -56,12 +69,22 @@ mod timer {
         fn drop(&mut self) {
             // SAFETY: the timer belongs to this thread.
             unsafe { syscall(DELETE, self.0 as usize) };
+            RUN.with(|run| run.set(null()));
         }
     }
 
     extern "C" fn stop(_: i32) {
-        // SAFETY: a signal handler may call `usleep`.
-        unsafe { usleep(1) };
+        // SAFETY: the area outlives the `Stops` of its threads, and a signal handler may read atomic numbers.
+        let area = unsafe { RUN.with(Cell::get).as_ref() };
+        let seen = area.map_or(0, Area::moment);
+        let looks = if area.map_or(false, Area::is_shaken) { PATIENT } else { 1 };
+        for _ in 0..looks {
+            // SAFETY: a signal handler may call `usleep`.
+            unsafe { usleep(1) };
+            if area.map_or(true, |it| it.moment().wrapping_sub(seen) >= MANY) {
+                break;
+            }
+        }
     }
 }
 
@@ -70,7 +93,7 @@ mod timer {
     pub struct Stops;
 
     impl Stops {
-        pub fn of_this_thread() -> Option<Stops> {
+        pub fn of_this_thread(_: &crate::area::Area) -> Option<Stops> {
             None
         }
 

@@ -4,13 +4,13 @@ use crate::{Range, Shape};
 
 // made of words.json by judge/make_words
 pub(crate) const PRESETS: [Shape; 7] = [
-    Shape { name: "few keys", threads: 4, sets: 1, calls: 5000, keys: 4, times: 1 },
-    Shape { name: "fresh sets", threads: 4, sets: 40, calls: 10, keys: 4, times: 1 },
-    Shape { name: "multiples of 64", threads: 4, sets: 1, calls: 5000, keys: 8, times: 64 },
-    Shape { name: "one key", threads: 3, sets: 1, calls: 5000, keys: 1, times: 1 },
-    Shape { name: "sets that grow", threads: 4, sets: 20, calls: 125, keys: 64, times: 1 },
-    Shape { name: "many keys", threads: 4, sets: 1, calls: 2500, keys: 1000, times: 1 },
-    Shape { name: "multiples of 1,000", threads: 8, sets: 1, calls: 2500, keys: 8, times: 1000 },
+    Shape { name: "few keys", threads: 4, sets: 1, calls: 5000, keys: 4, times: 1, meets_once: false },
+    Shape { name: "fresh sets", threads: 4, sets: 40, calls: 10, keys: 4, times: 1, meets_once: false },
+    Shape { name: "multiples of 64", threads: 4, sets: 1, calls: 5000, keys: 8, times: 64, meets_once: false },
+    Shape { name: "one key", threads: 3, sets: 1, calls: 5000, keys: 1, times: 1, meets_once: false },
+    Shape { name: "sets that grow", threads: 4, sets: 20, calls: 125, keys: 64, times: 1, meets_once: false },
+    Shape { name: "many keys", threads: 4, sets: 1, calls: 2500, keys: 1000, times: 1, meets_once: false },
+    Shape { name: "multiples of 1,000", threads: 8, sets: 1, calls: 2500, keys: 8, times: 1000, meets_once: false },
 ];
 pub(crate) const RANGES: [Range; 9] = [
     Range { name: "threads", least: 1, most: 64 },
@@ -33,6 +33,8 @@ pub const MEET: u32 = 250;
 pub const AWAKE: u32 = 300000;
 pub const WITHIN: u32 = 60;
 pub const STOPS: u32 = 32;
+pub const PATIENT: u32 = 40;
+pub const MANY: u32 = 40;
 pub const SOON: u32 = 4000;
 pub const OK: &str = "ok: %s calls, and %s of them overlapped a change of their key";
 pub const FEW: &str = "few calls overlapped, so ok means little: %s calls, and %s of them overlapped a change of their key";
@@ -45,6 +47,7 @@ pub const CRASHED: &str = "the set crashed: %s";
 pub const ENDED_SO: &str = "the set ended its process with status %s";
 pub const THREW: &str = "a call of the set failed: %s";
 pub const NOT_MADE: &str = "the set could not be created: %s";
+pub const NO_OPENING: &str = "contains of an opening key had no known outcome in %s calls";
 pub const UNDER_WAY: &str = "%s\npending: %s\nbefore that: %s";
 pub const EXPLAINED: &str = "some order explains the calls";
 pub const KEY_IS: &str = "; key %s of the recording is %s";

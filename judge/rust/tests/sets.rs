@@ -3,8 +3,8 @@
 use std::collections::{BTreeMap, BTreeSet};
 use std::sync::atomic::{AtomicU32, Ordering::SeqCst};
 use std::sync::{Arc, Mutex};
-use std::thread::{sleep, yield_now};
-use std::time::Duration;
+use std::thread::{sleep, spawn, yield_now};
+use std::time::{Duration, SystemTime, UNIX_EPOCH};
 
 use listset_judge::{judge, judge_keys, Failure, Options, Verdict};
 
@@ -37,6 +37,13 @@ impl Set {
     fn new() -> Self {
         let is = std::env::var("SET").unwrap();
         assert_ne!(is, "not made", "no room");
+        if is == "ends" {
+            let time = SystemTime::now().duration_since(UNIX_EPOCH).unwrap().subsec_nanos();
+            spawn(move || {
+                sleep(Duration::from_micros(u64::from(time % 40_000)));
+                std::process::exit(3)
+            });
+        }
         let keys = if is == "opens" { BTreeSet::from([1, 3]) } else { BTreeSet::new() };
         Set { is, keys: Right(Mutex::new(keys)), calls: AtomicU32::new(0), parts: Mutex::default() }
     }
@@ -85,7 +92,7 @@ impl Set {
         if self.is != "check then act" {
             return self.called(Right::add, key);
         }
-        let is_new = !self.contains(key);
+        let is_new = self.contains(key) == Some(false);
         yield_now();
         if is_new {
             self.keys.add(&key);
@@ -100,9 +107,18 @@ impl Set {
         self.called(Right::remove, key)
     }
 
-    fn contains(&self, key: u32) -> bool {
+    fn contains(&self, key: u32) -> Option<bool> {
         let is_late = self.is == "finds all late" && self.calls.fetch_add(1, SeqCst) >= 8000;
-        self.is == "finds all" || is_late || self.call(Right::contains, key)
+        (self.is != "loses contains").then(|| self.is == "finds all" || is_late || self.call(Right::contains, key))
+    }
+}
+
+impl Drop for Set {
+    /// Can end the process when the set is dropped.
+    fn drop(&mut self) {
+        if self.is == "ends when deleted" {
+            std::process::exit(3);
+        }
     }
 }
 
