@@ -93,7 +93,8 @@ function turnTo(at) {
 function draw() {
   const { sides, at } = shown;
   if (sides === null) return;
-  const button = (_, thread) => tag("button", { "data-do": "turn", "data-thread": thread }, `${chipOf(thread)} next step`);
+  const wordsOf = (call) => (call === undefined ? "is done" : `next step <span class="roomy">of ${call}</span>`);
+  const button = (_, thread) => tag("button", { "data-do": "turn", "data-thread": thread }, `${chipOf(thread)} ${wordsOf(sides.callOf(thread, at))}`);
   redraw(sidesPart("turns"), sides.program.map(button).join(" "));
   const words = `turn ${at} of ${sides.turns.length}`;
   Object.assign(sidesPart("slider"), { max: sides.turns.length, value: at });

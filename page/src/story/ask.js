@@ -24,7 +24,7 @@ export const QUESTIONS = [
       { text: "To 9, and waits there", says: "Like every thread, it has to lock the head on its way." },
     ],
     why: "<b>Not even the head.</b> First A has to release it. Then B goes hand over hand: it releases the head only after it has locked 5.",
-    lacks: "hand-over-hand", without: { question: "A adds 5, and releases 3 too early. B removes 3.", opening: [3, 9], lines: ["begin 0 add 5", "go 0 7", "begin 1 remove 3", "go 1 8", "go 0 7"] },
+    lacks: "hand-over-hand", without: { question: "A adds 5, and releases 3 too early. B removes 3. Is 5 in the list at the end?", opening: [3, 9], lines: ["begin 0 add 5", "go 0 7", "begin 1 remove 3", "go 1 8", "go 0 7"] },
     broken: "5 is lost: B unlinked its pred.",
   },
   {

@@ -143,9 +143,12 @@ function nextPress(figure, { help, ledger }) {
 
 async function showMe() {
   const { figure } = scene;
+  if (figure.isBusy) {
+    await figure.hurry();
+    if (now.scene.stage !== "task") return;
+  }
   const { stage } = now.scene;
-  if (figure.isBusy) figure.isHurried = true;
-  else if (stage === "guess") return guessed(-1);
+  if (stage === "guess") return guessed(-1);
   else if (stage === "playing" && isLecture()) return playOn();
   else if (stage === "moment") pressedMoment("{}", 1);
   else if (stage === "again") figure.again();

@@ -141,8 +141,8 @@ export function drawLedger(run) {
 export const isOddRun = (run) => run.promised().join() !== run.has().join();
 
 // Returns the thread whose letter is this key, or -1.
-export function threadOfKey({ key, ctrlKey, metaKey, altKey }) {
-  if (!now.prefs.letters || ctrlKey || metaKey || altKey || !/^[a-z]$/.test(key)) return -1;
+export function threadOfKey({ key, ctrlKey, metaKey, altKey, repeat }) {
+  if (!now.prefs.letters || repeat || ctrlKey || metaKey || altKey || !/^[a-z]$/.test(key)) return -1;
   return key.charCodeAt(0) - "a".charCodeAt(0);
 }
 

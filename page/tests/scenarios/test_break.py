@@ -112,11 +112,11 @@ def test_a_run_that_does_not_break_the_list_is_reported(visitor):
     assert "not broken this time" in visitor.text("#prompt") and visitor.is_seen("[data-again]")
 
 
-def test_a_level_has_the_same_number_everywhere(visitor):
+def test_a_list_has_the_same_number_everywhere(visitor):
     visitor.open("#break")
-    assert visitor.text(".card[href='#break=7'] i").endswith(" level 7")
+    assert visitor.text(".card[href='#break=7'] i").endswith(" list 7")
     visitor.open("#break=7")
-    assert visitor.is_seen("#figure") and "level 7" in visitor.script("return document.querySelector('.kicker').textContent")
+    assert visitor.is_seen("#figure") and "list 7" in visitor.script("return document.querySelector('.kicker').textContent")
 
 
 def test_a_key_does_not_begin_a_second_call(visitor):
