@@ -168,6 +168,24 @@ function tracedOf(engine, lacks, text) {
   return made.text.startsWith("listset-trace") ? new (inPage("Trace"))(made.text, inPage("versionOf")(text)) : null;
 }
 
+// Returns the events of a run of a correct list at which a ring is drawn wrongly. The legend says that a ring is the earliest moment at which the
+// answer of a call without changes is correct.
+function ringsWrong(trace) {
+  const keysAt = [new Set(trace.opening)];
+  for (const { put, took } of trace.events()) {
+    const keys = new Set(keysAt.at(-1));
+    if (put !== undefined) keys.add(put);
+    keys.delete(took);
+    keysAt.push(keys);
+  }
+  const answer = ({ operation, key, reply }, keys) => {
+    if (operation === "ceiling") return `at-${Math.min(...[...keys].filter((one) => one >= key))}`.replace("at-Infinity", "nothing");
+    return reply === "full" && !keys.has(key) ? "full" : String(operation === "add" ? !keys.has(key) : keys.has(key));
+  };
+  const earliest = (call) => keysAt.findIndex((keys, moment) => moment >= call.begun && answer(call, keys) === call.reply);
+  return trace.calls.filter((call) => !call.changes && call.ended !== null && earliest(call) !== call.at).map(({ at }) => at);
+}
+
 async function main() {
   const engine = await startedEngine();
   const lists = [...Object.keys(inPage("LISTS")).map((kind) => [null, kind]), ...Object.entries(inPage("LACKING"))];
@@ -176,8 +194,10 @@ async function main() {
     const generated = Array.from({ length: RUNS }, (_, index) => runOf(engine, kind, lacks, index + 1));
     const runs = [...generated, ...runsByHand(engine, lacks)].filter((run) => run !== null);
     const sentences = runs.flatMap(readRun);
+    const rings = lacks === null ? runs.flatMap(ringsWrong) : [];
     const wrong = sentences.filter((one) => one.wrong.length > 0);
     count += sentences.length;
+    if (rings.length > 0) result.failed.push(`${kind}: ${rings.length} rings are not at the earliest moment`);
     if (runs.length > 0 && wrong.length === 0) result.passed++;
     else result.failed.push(`${lacks ?? kind}: of ${runs.length} runs, ${wrong.length} sentences are false: ${JSON.stringify(wrong.slice(0, 2))}`);
   }

@@ -56,11 +56,11 @@ function looked() {
 // Returns what is left to do if a key is outside the list, or why a run that looks broken is not.
 function notYet(run, { kind, isExplained }) {
   const lost = run.promised().filter((key) => !run.has().includes(key));
-  if (run.trace.calls.some(({ ended }) => ended === null)) return lost.length === 0 ? "" : `${lost.join(" and ")} is no longer in the list. Now let each call return.`;
+  if (run.trace.calls.some(({ ended }) => ended === null)) return lost.length === 0 ? "" : `${lost.join(" and ")} ${lost.length === 1 ? "is" : "are"} not in the list. Now let each call return.`;
   const order = isExplained ? "and one order explains these answers" : "and whether an order explains these answers is not known";
   if (kind === "points") return `That looks wrong. But calls that overlap can take effect in either order, ${order}: not broken yet.`;
   const hasEach = scene.figure.shown.every((thread) => run.trace.calls.some((call) => call.thread === thread));
-  return hasEach ? "Every call has returned, and one order explains the answers: not broken this time. Start over, or begin another call." : "";
+  return hasEach && kind === "explained" ? "Every call has returned, and one order explains the answers: not broken this time. Start over, or begin another call." : "";
 }
 
 const whyOf = ({ why }, wasShown) => {

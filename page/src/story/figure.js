@@ -34,6 +34,7 @@ export class Figure {
   stripWide = 0;
   scroll = 0;
   said = null; // the sentence shown in place of that of the step
+  /** @type {(value?: any) => void} */
   wake = () => {}; // ends the wait between two steps
   onStep = null;
   onFork = null;
