@@ -2,7 +2,7 @@
 import { CLASSICS } from "../../made/classics.js";
 import { drawJudged, drawOwnOrder, judgeScale, momentOfReport } from "../draw/judged_bars.js";
 import { byId, redraw } from "../page/dom.js";
-import { askNow, dispatch, exampleShown, held, isJudging, now, say } from "../page/now.js";
+import { askNow, dispatch, exampleShown, held, isJudging, isLecture, LINES_OF_SLIDE, now, say } from "../page/now.js";
 import { addressOf, partsOfSeed } from "../run/address.js";
 import { askList } from "../run/broken.js";
 import { exerciseOf, LEVELS, MOST_JUDGED, OwnAnswer, repliesOf, verdictOn, wordOfAnswer } from "../run/judged.js";
@@ -56,8 +56,8 @@ class Judging {
   }
 
   drag(event) {
-    const left = judgePart("bars").firstElementChild.getBoundingClientRect().left;
-    this.place(this.held, this.scale.momentAt(event.clientX - left));
+    const { left, width } = judgePart("bars").firstElementChild.getBoundingClientRect();
+    this.place(this.held, this.scale.momentAt((event.clientX - left) * (this.scale.width / width))); // a slide draws the bars larger
   }
 
   place(call, at) {
@@ -102,7 +102,9 @@ class Judging {
   draw() {
     const { level, calls } = this.exercise;
     this.count = now.run.count;
-    this.scale = judgeScale(this.exercise, Math.max(300, judgePart("bars").clientWidth));
+    const zoom = isLecture() ? innerHeight / LINES_OF_SLIDE : 1;
+    judgePart("bars").style.setProperty("--zoom", String(zoom));
+    this.scale = judgeScale(this.exercise, Math.max(300, judgePart("bars").clientWidth / zoom));
     judgePart("task").textContent = `${now.task.kind === "seed" ? `Run ${partsOfSeed(now.task.id).number}. ` : ""}${LEVELS[level].task}`;
     judgePart("none").hidden = level !== "claim";
     redraw(judgePart("bars"), drawJudged(this));
