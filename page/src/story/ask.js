@@ -36,7 +36,7 @@ export const QUESTIONS = [
       { text: "It notices, and starts again", right: true, says: "" },
       { text: "It waits for B", says: "B’s call has returned, and it holds no lock." },
     ],
-    why: "<b>It notices.</b> A checks whether its pred still points to its curr. The head points to 7 now. So A releases both locks, and walks again.",
+    why: "<b>It notices.</b> A checks whether its pred still points to its curr. The head points to 7 now, and 7 would be lost if A wrote. So A releases both locks, and walks again.",
   },
   {
     name: "stale-pred", list: "optimistic", title: "A pred that is gone", opening: [3], hides: [6, 7],

@@ -19,7 +19,7 @@ function html(place) {
   const name = levelOf(place);
   const at = TEN.indexOf(name);
   const next = TEN[(at + 1) % TEN.length];
-  const kicker = `<a href="#break">Break it</a> · list ${numberOfLevel(name)} · ${LISTS[LACKING[name]].name} without one check`;
+  const kicker = `<a href="#break">Break it</a> · ${LISTS[LACKING[name]].name} without one check · #break=${numberOfLevel(name)}`;
   return `${onStage(head(kicker, BREAK_LEVELS[name].story))}
     ${foot(backLink(wayBack(place, { href: "#break", words: "All lists" })), hintAndOn(wayOn(place, { href: `#break=${numberOfLevel(next)}`, words: "Next list →" })))}`;
 }

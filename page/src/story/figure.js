@@ -36,6 +36,7 @@ export class Figure {
   said = null; // the sentence shown in place of that of the step
   /** @type {(value?: any) => void} */
   wake = () => {}; // ends the wait between two steps
+  onShown = null;
   onStep = null;
   onFork = null;
 
@@ -154,6 +155,7 @@ export class Figure {
       this.part("said").setAttribute("aria-live", count < total ? "off" : "polite"); // of a play only the last sentence is read out
       this.isBusy = count < total;
       this.draw(true);
+      this.onShown?.();
       if (this.isSlow) await this.wait(fallTime()); // what is lost is seen before it is said
       if (count < total) await this.wait(BIT);
     }

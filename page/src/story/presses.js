@@ -40,7 +40,7 @@ const WORDS = {
   letgo: () => "release pred",
   locks: () => "lock pred and curr",
   again: (_, row) => (row === 8 ? "check that pred points to curr" : "walk again"),
-  check: () => "check the marks",
+  check: () => "check the marks and the arrow",
   mark: ({ key }) => `mark ${key}: removed`,
   tidy: ({ key }) => `unlink ${key}`,
   look: () => "read the mark",

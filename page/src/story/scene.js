@@ -45,6 +45,7 @@ export function leaveScene() {
   takeFigure(null);
   Object.assign(scene, { key: "", view: null });
   byId("scene").innerHTML = "";
+  scrollTo(0, 0);
 }
 
 export function renderScene({ place, scene: state }) {
@@ -128,7 +129,7 @@ export function replyTo(options, chosen, isToCome) {
 }
 
 export function drawLedger(run) {
-  const [promised, has] = [run.promised(), run.has()];
+  const [promised, has] = [run.promised(run.count), run.has()];
   const all = [...new Set([...promised, ...has])].sort((one, other) => one - other);
   const cell = (keys, others) => (key) => {
     const isIn = keys.includes(key);

@@ -119,7 +119,6 @@ def test_show_a_step_continues_from_the_current_event(visitor):
         assert "lost" in visitor.text(".why b") or "no longer in the list" in visitor.text(".why b"), address
     visitor.open("#story=5")
     visitor.step("aabb")  # A holds its locks before B has removed anything, so no key can be lost any more
-    visitor.click("#show-me")
     assert "Start over" in visitor.text("#prompt") and visitor.text("#show-me") == "Start over"
     visitor.click("#show-me")
     assert not visitor.is_seen("[data-undo]") and visitor.text("#show-me") == "Show a step"
