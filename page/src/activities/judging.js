@@ -2,7 +2,7 @@
 import { CLASSICS } from "../../made/classics.js";
 import { drawJudged, drawOwnOrder, judgeScale, momentOfReport } from "../draw/judged_bars.js";
 import { byId, redraw } from "../page/dom.js";
-import { askNow, dispatch, exampleShown, held, isJudging, isLecture, LINES_OF_SLIDE, now, say } from "../page/now.js";
+import { askNow, dispatch, exampleShown, held, isJudging, isLecture, now, say } from "../page/now.js";
 import { addressOf, partsOfSeed } from "../run/address.js";
 import { askList } from "../run/broken.js";
 import { exerciseOf, LEVELS, MOST_JUDGED, OwnAnswer, repliesOf, verdictOn, wordOfAnswer } from "../run/judged.js";
@@ -12,6 +12,7 @@ import { keepJudged } from "../story/progress.js";
 
 const HALF_STEPS = { ArrowLeft: -0.5, ArrowDown: -0.5, ArrowRight: 0.5, ArrowUp: 0.5 };
 const SLIDER_KEYS = { ...HALF_STEPS, PageDown: -5, PageUp: 5, Home: -Infinity, End: Infinity };
+const LINES_OF_SLIDE = 560; // pixels of the height for which the bars are laid out; a slide enlarges them to its own height
 const judgePart = (name) => byId(`judge-${name}`);
 
 class Judging {

@@ -12,7 +12,7 @@ const WIDEST = 800; // pixels of a drawing, before it is made larger
 const recorded = { text: "" }; // what stands in the box when another activity is shown
 const recordedPart = (name) => byId(`recorded-${name}`);
 
-const PARTS = `<p class="prose">The templates in the folder <code>judge</code> run a stress test on your own set. They record when each
+const PARTS = `<p class="prose">The templates in the folder <code>judge</code> of this page’s repository run a stress test on your own set. They record when each
     call begins and ends, and save every recording that fails. Paste its text, or open the file: the proved <code>judge</code> says whether any order
     explains the calls.</p>
   <div class="halves"><div><textarea id="recorded-text" rows="9" spellcheck="false" autocapitalize="off" wrap="off" aria-label="recorded calls"

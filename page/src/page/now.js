@@ -33,7 +33,6 @@ export function announce(what, ...given) {
 }
 
 export const isLecture = () => now.place.view === "lecture";
-export const LINES_OF_SLIDE = 450; // pixels of the height for which the bars of calls are laid out; a slide enlarges them to its own height
 export const isSceneSlide = () => isLecture() && now.place.screen === "scene"; // whose figure takes the height that is left
 export const isJudging = () => now.exercise !== null;
 export const hiddenOutcomes = () => (isJudging() ? LEVELS[now.exercise.level].hidden : []);

@@ -70,7 +70,8 @@ function draw(state) {
 // Keeps the table beside the picture: both are of the same event.
 function redrawLedger() {
   const ledger = part(".ledger");
-  if (ledger !== null) ledger.outerHTML = drawLedger(scene.figure.run);
+  const { run } = scene.figure;
+  if (ledger !== null) ledger.outerHTML = drawLedger(run, run.count);
 }
 
 function looked() {

@@ -128,8 +128,8 @@ export function replyTo(options, chosen, isToCome) {
   return `<p class="you ${right ? "right" : "wrong"}"><b>${said}</b> ${right ? (isToCome ? says || "Let us see." : "") : says}</p>`;
 }
 
-export function drawLedger(run) {
-  const [promised, has] = [run.promised(run.count), run.has()];
+export function drawLedger(run, count = run.trace.total) {
+  const [promised, has] = [run.promised(count), run.has()];
   const all = [...new Set([...promised, ...has])].sort((one, other) => one - other);
   const cell = (keys, others) => (key) => {
     const isIn = keys.includes(key);
