@@ -20,7 +20,7 @@ const PRESETS = [
 const PICTURE = '<header class="line"><h2></h2> <a class="small">Watch this run</a></header><div class="pair"></div>';
 const SIDES = ["one", "other"];
 const QUOTA = 4;
-const shown = { sides: null, at: 0, figures: [] }; // at: how many turns are shown
+const shown = { sides: null, figures: [] }; // `at` of the scene: how many turns are shown
 const sidesPart = (name) => byId(`sides-${name}`);
 const listsOf = ({ given }) => (given.sides ?? "coarse.lazy").split(".");
 
@@ -50,10 +50,10 @@ function begin({ given }) {
   sidesPart("program").value = programText(Array.from(program, (own) => own ?? []));
   sidesPart("opening").value = opening.replaceAll(".", " ");
   for (const name of SIDES) sidesPart(name).onchange = () => beginSides();
-  sidesPart("slider").oninput = () => turnTo(Number(sidesPart("slider").value));
+  sidesPart("slider").oninput = ({ target }) => turnTo(Number(target.value));
   Object.assign(shown, { sides: null, figures: [] });
   beginSides(turns.split(".").filter((thread) => thread !== "").map(Number));
-  if (now.place.slide > 0) shown.at = 0; // a slide goes through its turns
+  if (now.place.slide > 0) turnTo(0); // a slide goes through its turns
 }
 
 function beginSides(turns = []) {
@@ -71,29 +71,24 @@ function beginSides(turns = []) {
   }
 }
 
-function takeTurns() {
-  shown.at = shown.sides.turns.length;
-  setScene({ text: addressOfSides() });
-}
+const takeTurns = () => setScene({ text: addressOfSides(), at: shown.sides.turns.length });
 
 // Continues from the current turn, and drops the later ones.
 function turnOf(thread) {
-  const { sides, at } = shown;
-  if (at < sides.turns.length) beginSides(sides.turns.slice(0, at));
+  const { turns } = shown.sides;
+  if (now.scene.at < turns.length) beginSides(turns.slice(0, now.scene.at));
   const isMade = shown.sides.turn(thread);
   takeTurns();
   if (!isMade) part("#scene-said").innerHTML = `${chipOf(thread)} has ended all its calls in both lists.`;
 }
 
-function turnTo(at) {
-  shown.at = Math.min(Math.max(at, 0), shown.sides.turns.length);
-  draw();
-}
+const turnTo = (at) => setScene({ at: Math.min(Math.max(at, 0), shown.sides.turns.length) });
 
-function draw() {
-  const { sides, at } = shown;
+function draw({ at }) {
+  const { sides } = shown;
   if (sides === null) return;
-  const button = (_, thread) => tag("button", { "data-do": "turn", "data-thread": thread }, `${chipOf(thread)} next step`);
+  const wordsOf = (call) => (call === undefined ? "is done" : `next step <span class="roomy">of ${call}</span>`);
+  const button = (_, thread) => tag("button", { "data-do": "turn", "data-thread": thread }, `${chipOf(thread)} ${wordsOf(sides.callOf(thread, at))}`);
   redraw(sidesPart("turns"), sides.program.map(button).join(" "));
   const words = `turn ${at} of ${sides.turns.length}`;
   Object.assign(sidesPart("slider"), { max: sides.turns.length, value: at });
@@ -116,7 +111,8 @@ function figuresOf(sides) {
 const end = () => shown.figures.splice(0).forEach((figure) => figure.end());
 
 function drawSide({ run, counts }, figure) {
-  const { at, sides: { turns } } = shown;
+  const { at } = now.scene;
+  const { turns } = shown.sides;
   const count = counts[at];
   const box = figure.box.parentElement;
   box.querySelector("h2").innerHTML = `${LISTS[run.trace.kind].name} <small>${count} events</small>`;
@@ -137,18 +133,19 @@ function addressOfSides() {
 }
 
 function press(event) {
-  const { sides, at } = shown;
+  const { sides } = shown;
   const by = { ArrowRight: 1, PageDown: 1, ArrowLeft: -1, PageUp: -1, Home: -Infinity, End: Infinity }[event.key];
   if (sides === null) return;
   if (by !== undefined) {
     event.preventDefault();
-    turnTo(at + by);
+    turnTo(now.scene.at + by);
   } else if (threadOfKey(event) in sides.program) turnOf(threadOfKey(event));
 }
 
 function goes(by) {
-  const isThere = shown.at + by >= 0 && shown.at + by <= shown.sides.turns.length;
-  if (isThere) turnTo(shown.at + by);
+  const at = now.scene.at + by;
+  const isThere = at >= 0 && at <= shown.sides.turns.length;
+  if (isThere) turnTo(at);
   return isThere;
 }
 
@@ -164,7 +161,7 @@ export const compareView = {
   deeds: {
     begin: () => beginSides(),
     copy: () => copyText(linkTo(addressOfSides()), "The link is copied."),
-    back: () => turnTo(shown.at - 1),
+    back: () => turnTo(now.scene.at - 1),
     turn: ({ dataset }) => turnOf(Number(dataset.thread)),
     lecture: toggleLecture,
   },

@@ -47,12 +47,12 @@ function breakHtml() {
   const cardOf = (name) => {
     const { story, lacks } = BREAK_LEVELS[name];
     const state = isBrokenOnce(name) ? { says: lacks, state: "done" } : {};
-    return { href: `#break=${numberOfLevel(name)}`, list: `${LIST_WORDS[LACKING[name]]} · level ${numberOfLevel(name)}`, title: story, ...state };
+    return { href: `#break=${numberOfLevel(name)}`, list: `${LIST_WORDS[LACKING[name]]} · #break=${numberOfLevel(name)}`, title: story, ...state };
   };
   const count = TEN.filter(isBrokenOnce).length;
   const next = TEN.find((name) => !isBrokenOnce(name)) ?? TEN[0];
   const words = `Ten lists, from one lock to none. Each lacks one check. Let A and B step until a number is lost, or two
-    answers cannot both be right. Then name the missing check. (Each list keeps its level number, so that links stay valid.)`;
+    answers cannot both be right. Then name the missing check.`;
   const top = lead(words, count === 0 ? "" : `<b>${count}</b> of ${TEN.length} broken`);
   return `${head("", "Break it", top, "title")}${cards(TEN.map(cardOf))}
     <h2>Three more</h2>${cards(THREE_MORE.map(cardOf))}${foot("", goOn(`#break=${numberOfLevel(next)}`, count, Infinity))}`;

@@ -187,4 +187,4 @@ export const THREE_MORE = ["new-slot", "mark-in-ceiling", "mark-in-contains"];
 const NUMBERED = Object.keys(BREAK_LEVELS);
 export const numberOfLevel = (name) => NUMBERED.indexOf(name) + 1;
 export const levelOfNumber = (number) => NUMBERED[Number(number) - 1];
-export const whyWrong = (name, sentence) => `No: ${BREAK_LEVELS[name].others[sentence]}. Look for the line that this list executes differently.`;
+export const whyWrong = (name, sentence) => `No: ${BREAK_LEVELS[name].others[sentence]}. Step with the code open: one line is not executed as it is written.`;

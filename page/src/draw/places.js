@@ -8,6 +8,8 @@ export const LIST_LOCK = 40; // above a list with one lock
 const MARGIN = 8;
 const WIDEST = 190; // of a node
 const BESIDE = 18; // between two nodes that are not in the chain
+const AROUND = 10; // such nodes, where they are in a gap of the chain
+const NARROWEST = 60; // of a node
 const BESIDE_HANDS = 2; // between two hands in a row, so that their edges meet
 const MOST_POINTING = 6; // threads whose hands are drawn
 
@@ -121,9 +123,9 @@ function nodesAside(state, chain, important, most) {
   return { shown, more: aside.length - shown.length };
 }
 
-// Places the nodes outside the chain below the gap where their keys belong, side by side.
-function placeAside(state, chain, shown, places, { width, down, spare }) {
-  const { width: node, gap, row, key, y } = places.head;
+// Places the nodes outside the chain below the gap where their keys belong, side by side. In a gap they are as narrow as it asks for.
+function placeAside(state, chain, shown, places, { width, down, spare, isLow }) {
+  const { width: widest, gap, row, key, y } = places.head;
   const groups = new Map();
   for (const name of shown) {
     const before = chain.findLast((other) => keyNumber(state.nodes[other].key) < keyNumber(state.nodes[name].key)) ?? "head";
@@ -131,7 +133,8 @@ function placeAside(state, chain, shown, places, { width, down, spare }) {
   }
   let free = 2;
   for (const [before, names] of groups) {
-    const middle = places[before].x + node + gap / 2;
+    const middle = places[before].x + widest + gap / 2;
+    const node = isLow ? Math.min(widest, Math.max(NARROWEST, (gap - 2 * AROUND - (names.length - 1) * BESIDE) / names.length)) : widest;
     const wanted = middle - (names.length * (node + BESIDE) - BESIDE) / 2;
     let x = Math.max(free, Math.min(wanted, width - names.length * (node + BESIDE)));
     for (const name of names) {

@@ -116,8 +116,8 @@ export function contentsIn(trace, first, last) {
   return parts;
 }
 
-// The keys in the set at the end of a run by the points of its calls; below, the keys of the unmarked nodes in the chain of a state.
-export const promisedKeys = (trace) => contentsIn(trace, trace.total + 1, trace.total + 1)[0].keys;
+// The keys in the set after some events by the points of the calls; below, the keys of the unmarked nodes in the chain of a state.
+export const promisedKeys = (trace, count = trace.total) => contentsIn(trace, count + 1, count + 1)[0].keys;
 
 export function keysInChain(state) {
   const inside = state.chain().filter((name) => name !== "head" && name !== "tail" && !state.nodes[name].link.endsWith("*"));

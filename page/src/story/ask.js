@@ -24,7 +24,7 @@ export const QUESTIONS = [
       { text: "To 9, and waits there", says: "Like every thread, it has to lock the head on its way." },
     ],
     why: "<b>Not even the head.</b> First A has to release it. Then B goes hand over hand: it releases the head only after it has locked 5.",
-    lacks: "hand-over-hand", without: { question: "A adds 5, and releases 3 too early. B removes 3.", opening: [3, 9], lines: ["begin 0 add 5", "go 0 7", "begin 1 remove 3", "go 1 8", "go 0 7"] },
+    lacks: "hand-over-hand", without: { question: "A adds 5, and releases 3 too early. B removes 3. Is 5 in the list at the end?", opening: [3, 9], lines: ["begin 0 add 5", "go 0 7", "begin 1 remove 3", "go 1 8", "go 0 7"] },
     broken: "5 is lost: B unlinked its pred.",
   },
   {
@@ -36,7 +36,7 @@ export const QUESTIONS = [
       { text: "It notices, and starts again", right: true, says: "" },
       { text: "It waits for B", says: "B’s call has returned, and it holds no lock." },
     ],
-    why: "<b>It notices.</b> A checks whether its pred still points to its curr. The head points to 7 now. So A releases both locks, and walks again.",
+    why: "<b>It notices.</b> A checks whether its pred still points to its curr. The head points to 7 now, and 7 would be lost if A wrote. So A releases both locks, and walks again.",
   },
   {
     name: "stale-pred", list: "optimistic", title: "A pred that is gone", opening: [3], hides: [6, 7],

@@ -36,7 +36,7 @@ function lessonTask(name) {
 function levelTask(number) {
   const name = levelOfNumber(number);
   if (name === undefined || name === NO_TASK) return null;
-  const title = `Level ${number}, ${LISTS[LACKING[name]].name}`;
+  const title = `${LISTS[LACKING[name]].name}, #break=${number}`;
   return { id: `break ${name}`, kind: "Break", title, says: BREAK_LEVELS[name].story, href: `#break=${number}` };
 }
 
@@ -80,7 +80,7 @@ export function tasksOf(given) {
       return task === null ? [] : [task];
     });
   const learn = taken(wordsIn(given.learn), lessonTask, "lesson");
-  const levels = taken(wordsIn(given.break), levelTask, "level");
+  const levels = taken(wordsIn(given.break), levelTask, "list");
   return { tasks: [...learn, ...levels, ...taken(wordsIn(given.judge, ","), seedTask, "run")], unknown };
 }
 

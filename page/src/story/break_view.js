@@ -6,6 +6,7 @@ import { askNow, now } from "../page/now.js";
 import { addressOf } from "../run/address.js";
 import { departureOf, isTaskDone, NO_TASK } from "../run/broken.js";
 import { wayBack, wayOn } from "./assignment.js";
+import { isNarrow } from "./figure_parts.js";
 import { isBrokenOnce, isNamed, keepBrokenLine, keepNamed } from "./progress.js";
 import { runOfText } from "./live_run.js";
 import { backLink, drawHintAndOn, drawLedger, onStage, foot, head, hintAndOn, isOddRun, LACKS_ONE, numberOfKey, optionButtons, pressThread, scene, setScene, takeFreeFigure, showPrompt } from "./scene.js";
@@ -18,7 +19,7 @@ function html(place) {
   const name = levelOf(place);
   const at = TEN.indexOf(name);
   const next = TEN[(at + 1) % TEN.length];
-  const kicker = `<a href="#break">Break it</a> · level ${numberOfLevel(name)} · ${LISTS[LACKING[name]].name} without one check`;
+  const kicker = `<a href="#break">Break it</a> · ${LISTS[LACKING[name]].name} without one check · #break=${numberOfLevel(name)}`;
   return `${onStage(head(kicker, BREAK_LEVELS[name].story))}
     ${foot(backLink(wayBack(place, { href: "#break", words: "All lists" })), hintAndOn(wayOn(place, { href: `#break=${numberOfLevel(next)}`, words: "Next list →" })))}`;
 }
@@ -55,11 +56,11 @@ function looked() {
 // Returns what is left to do if a key is outside the list, or why a run that looks broken is not.
 function notYet(run, { kind, isExplained }) {
   const lost = run.promised().filter((key) => !run.has().includes(key));
-  if (run.trace.calls.some(({ ended }) => ended === null)) return lost.length === 0 ? "" : `${lost.join(" and ")} is no longer in the list. Now let each call return.`;
+  if (run.trace.calls.some(({ ended }) => ended === null)) return lost.length === 0 ? "" : `${lost.join(" and ")} ${lost.length === 1 ? "is" : "are"} not in the list. Now let each call return.`;
   const order = isExplained ? "and one order explains these answers" : "and whether an order explains these answers is not known";
   if (kind === "points") return `That looks wrong. But calls that overlap can take effect in either order, ${order}: not broken yet.`;
   const hasEach = scene.figure.shown.every((thread) => run.trace.calls.some((call) => call.thread === thread));
-  return hasEach ? "Every call has returned, and one order explains the answers: not broken this time. Start over, or begin another call." : "";
+  return hasEach && kind === "explained" ? "Every call has returned, and one order explains the answers: not broken this time. Start over, or begin another call." : "";
 }
 
 const whyOf = ({ why }, wasShown) => {
@@ -72,7 +73,7 @@ const NOBODY_KNOWS = "No run is known that breaks this list. Try it, and say why
 function taskHtml({ hints, note }) {
   const items = BREAK_LEVELS[nameNow()].hints.slice(0, hints).map((text) => `<li>${text}</li>`);
   const list = items.length === 0 ? "" : `<ol class="hints">${items.join("")}</ol>`;
-  const ask = nameNow() === NO_TASK ? NOBODY_KNOWS : "Step A and B until a number is missing that an add reported as added, or until two answers contradict each other.";
+  const ask = nameNow() === NO_TASK ? NOBODY_KNOWS : "Step A and B until a number is missing although its add returned true, or until two answers contradict each other.";
   return `<p class="ask">${ask}</p>${note === "" ? "" : `<p class="again">${note}</p>`}${list}`;
 }
 
@@ -107,7 +108,7 @@ function strike() {
   if (figure.spec.struck !== undefined) return;
   figure.spec.struck = missing;
   figure.part("code-note").textContent = lacks;
-  figure.part("codebox").open = true;
+  figure.part("codebox").open = !isNarrow(); // on a phone it would cover the reply
   figure.draw();
 }
 
@@ -140,7 +141,7 @@ function afresh() {
 
 export const breakView = {
   kind: "ask-one",
-  fault: ({ id }) => (levelOfNumber(id) === undefined ? `there is no level ${id}` : null),
+  fault: ({ id }) => (levelOfNumber(id) === undefined ? `there is no list ${id} to break` : null),
   title: (place) => `Break it: ${BREAK_LEVELS[levelOf(place)].story}`,
   html, begin, draw,
   press: (event) => {

@@ -34,6 +34,9 @@ export class Figure {
   stripWide = 0;
   scroll = 0;
   said = null; // the sentence shown in place of that of the step
+  /** @type {(value?: any) => void} */
+  wake = () => {}; // ends the wait between two steps
+  onShown = null;
   onStep = null;
   onFork = null;
 
@@ -93,10 +96,10 @@ export class Figure {
     this.past.push([...this.run.lines]);
   }
 
-  // Makes the next steps of a thread. An idle thread begins its call first.
+  // Makes the next steps of a thread. An idle thread begins its call first. A press while steps are shown makes its own steps after them.
   async step(thread) {
-    if (!this.isOpen) return;
-    if (this.isBusy) return void (this.isHurried = true);
+    while (this.isOpen && this.isBusy && !this.isEnded) await this.hurry();
+    if (!this.isOpen || this.isEnded) return;
     const [call] = this.left(thread);
     if (this.run.isIdle(thread) && call === undefined) return;
     this.leaves();
@@ -122,7 +125,20 @@ export class Figure {
     if (!this.isEnded) this.onStep?.(this);
   }
 
-  // Plays the steps between two events. Another press skips to the last of them.
+  // Shows the rest of the steps at once. Returns a promise of their end.
+  hurry() {
+    this.isHurried = true;
+    this.wake();
+    return this.playing;
+  }
+
+  // Waits between two steps, until a press comes.
+  wait(time) {
+    this.isBusy = true;
+    return Promise.race([sleep(time), new Promise((done) => (this.wake = done))]);
+  }
+
+  // Plays the steps between two events.
   show(from, total = this.run.trace.total) {
     return (this.playing = this.showSteps(from, total));
   }
@@ -139,8 +155,9 @@ export class Figure {
       this.part("said").setAttribute("aria-live", count < total ? "off" : "polite"); // of a play only the last sentence is read out
       this.isBusy = count < total;
       this.draw(true);
-      if (this.isSlow) await sleep(fallTime()); // what is lost is seen before it is said
-      if (count < total) await sleep(BIT);
+      this.onShown?.();
+      if (this.isSlow) await this.wait(fallTime()); // what is lost is seen before it is said
+      if (count < total) await this.wait(BIT);
     }
     this.isBusy = false;
     markBusy(false);

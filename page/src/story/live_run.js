@@ -34,9 +34,9 @@ export class ShownRun {
     return this.state.threads[thread].pc === 0;
   }
 
-  // The keys in the set according to the replies, and the keys that a walk over the list finds.
-  promised() {
-    return promisedKeys(this.trace);
+  // The keys in the set after some events, according to the replies, and the keys that a walk over the list finds.
+  promised(count = this.trace.total) {
+    return promisedKeys(this.trace, count);
   }
 
   has() {
@@ -183,13 +183,15 @@ function placeOf({ state: { nodes, lock, threads }, trace }) {
 
 /**
  * Returns the fewest presses that continue a run to a broken one, as thread numbers, or null if no presses do. `calls` has the calls of each thread.
- * @param {RunSpec} spec @param {string[]} lines @param {Record<number, any[]>} calls @returns {number[] | null}
+ * Returns undefined if `most` states are not enough to know it.
+ * @param {RunSpec} spec @param {string[]} lines @param {Record<number, any[]>} calls @returns {number[] | null | undefined}
  */
-export function waysOn(spec, lines, calls) {
+export function waysOn(spec, lines, calls, most = Infinity) {
   const seen = new Set();
   const waiting = [{ lines, way: [] }];
   for (const { lines: begun, way } of waiting) {
     const run = new LiveRun({ ...spec, lines: begun });
+    if (seen.size >= most) return undefined;
     if (seen.has(placeOf(run))) continue; // as after a press that changes nothing, of a thread that waits
     seen.add(placeOf(run));
     const left = (thread) => calls[thread].slice(run.trace.calls.filter((call) => call.thread === thread).length);

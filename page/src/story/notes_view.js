@@ -2,6 +2,7 @@
 import { LECTURE, slideAddress } from "../data/lecture.js";
 import { drawStage } from "../draw/stage.js";
 import { HERE, keptUnder } from "../page/kept.js";
+import { now } from "../page/now.js";
 import { tag } from "../run/markup.js";
 import { lockShown } from "./figure_parts.js";
 import { LiveRun } from "./live_run.js";
@@ -55,9 +56,8 @@ function drawNotes({ at }) {
 }
 
 function turn({ key }) {
-  const by = { ArrowRight: 1, PageDown: 1, ArrowLeft: -1, PageUp: -1 }[key];
-  const at = Number(part("h1").textContent.split(".")[0]) - 1 + (by ?? 0);
-  if (by !== undefined && LECTURE[at] !== undefined) setScene({ at });
+  const at = now.scene.at + ({ ArrowRight: 1, PageDown: 1, ArrowLeft: -1, PageUp: -1 }[key] ?? 0);
+  if (LECTURE[at] !== undefined) setScene({ at });
 }
 
 export const notesView = {

@@ -6,7 +6,7 @@ import { keepStory, keptStory, startAfresh } from "./progress.js";
 import { waysOn } from "./live_run.js";
 import { SCREENS } from "./path.js";
 import { barHtml, dots, drawBar, endHtml, GONE, HERO, LAST, openContents, promptOf, welcome } from "./path_parts.js";
-import { head, numberOfKey, onStage, openScene, part, pressThread, scene, setScene, takeFigure, showPrompt, threadOfKey } from "./scene.js";
+import { drawLedger, head, numberOfKey, onStage, openScene, part, pressThread, scene, setScene, takeFigure, showPrompt, threadOfKey } from "./scene.js";
 import { toSlide } from "./slide.js";
 
 // The address names a screen and a part of it: #story=4 is the first part of screen 4, #story=4.2 the second.
@@ -53,7 +53,7 @@ function begin(place) {
   if (screen === null) return;
   const isGuess = screen.ask !== undefined;
   const figure = takeFigure(new Figure(part("#figure"), { ...screen.figure, isPath: true, restart: screen.play && (() => openScene(now.place)) }));
-  figure.onStep = looked;
+  Object.assign(figure, { onStep: looked, onShown: redrawLedger });
   figure.box.classList.toggle("hides-points", screen.figure.hidesPoints === true);
   setScene({ stage: isGuess ? "guess" : "task" });
   if (isGuess) figure.set({ isOpen: false, isGuess: true });
@@ -67,16 +67,29 @@ function draw(state) {
   byId("scene").dataset.stage = state.stage;
 }
 
+// Keeps the table beside the picture: both are of the same event.
+function redrawLedger() {
+  const ledger = part(".ledger");
+  const { run } = scene.figure;
+  if (ledger !== null) ledger.outerHTML = drawLedger(run, run.count);
+}
+
 function looked() {
   const screen = here();
   const { stage } = now.scene;
   if (stage === "playing") return;
-  const met = stage === "again" ? null : screen.goal?.(scene.figure) ?? null;
+  const met = screen.goal?.(scene.figure) ?? null;
   if (stage === "done" && (met !== null || screen.goal === undefined)) return focusOn();
-  if (met?.again !== undefined) setScene({ stage: "again", note: met.again });
+  if (met?.again !== undefined) startOver(met.again);
   else if (met !== null) done();
+  else if (screen.ledger && waysFrom(scene.figure, FEW) === null) startOver(HOPELESS);
   else setScene({ stage: "task", note: "" }); // a press was taken back
 }
+
+const FEW = 30; // runs that are tried after each press, to say early that none goes wrong any more
+const HOPELESS = "From here nothing can go wrong any more.";
+const startOver = (why) => setScene({ stage: "again", note: `${why} Start over. ${here().hint}` });
+const waysFrom = ({ spec, run }, most) => waysOn(spec, run.lines, spec.calls, most);
 
 async function guessed(index) {
   const screen = here();
@@ -136,23 +149,26 @@ function focusOn() {
 
 // Returns the presses that complete the task from here: found by a search if the task can fail, else those of its help.
 function nextPress(figure, { help, ledger }) {
-  if (ledger) return waysOn(figure.spec, figure.run.lines, figure.spec.calls)?.[0];
+  if (ledger) return waysFrom(figure, Infinity)?.[0];
   const isOver = (thread) => figure.run.isIdle(thread) && figure.left(thread).length === 0;
   return [...help.slice(figure.past.length).map(([thread]) => thread), ...figure.shown].find((thread) => !isOver(thread));
 }
 
 async function showMe() {
   const { figure } = scene;
+  if (figure.isBusy) {
+    await figure.hurry();
+    if (now.scene.stage !== "task") return;
+  }
   const { stage } = now.scene;
-  if (figure.isBusy) figure.isHurried = true;
-  else if (stage === "guess") return guessed(-1);
+  if (stage === "guess") return guessed(-1);
   else if (stage === "playing" && isLecture()) return playOn();
   else if (stage === "moment") pressedMoment("{}", 1);
   else if (stage === "again") figure.again();
   else if (stage === "task") {
     const next = nextPress(figure, here());
     if (next !== undefined) return figure.step(next);
-    setScene({ stage: "again", note: "From here nothing can go wrong any more. Start over." });
+    startOver(HOPELESS);
   }
 }
 

@@ -39,8 +39,8 @@ const WORDS = {
   next: () => "lock the next node",
   letgo: () => "release pred",
   locks: () => "lock pred and curr",
-  again: () => "walk again",
-  check: () => "check the marks",
+  again: (_, row) => (row === 8 ? "check that pred points to curr" : "walk again"),
+  check: () => "check the marks and the arrow",
   mark: ({ key }) => `mark ${key}: removed`,
   tidy: ({ key }) => `unlink ${key}`,
   look: () => "read the mark",
@@ -50,4 +50,12 @@ const WORDS = {
   tidytry: ({ key }) => `try to unlink ${key}`,
 };
 
-export const phaseText = (phase, call) => WORDS[phase](call);
+// What a list without one of these steps does in its place, in words that do not give the missing check away.
+const WORDS_OF_BROKEN = {
+  next: () => "walk to the next node",
+  check: () => "check pred and curr",
+  look: () => "answer",
+  make: ({ key }) => `write ${key} into a node`,
+};
+
+export const phaseText = (phase, call, row, lacks) => ((lacks !== null && WORDS_OF_BROKEN[phase]) || WORDS[phase])(call, row);

@@ -1,7 +1,7 @@
 // Writes one short sentence about an event, for readers without the book: nodes by their keys, threads by their letters.
 import { callText, chipOf, keyText } from "../run/markup.js";
 import { isLock, ownerIn } from "../run/outcomes.js";
-import { linkTarget } from "../run/state.js";
+import { keyNumber, linkTarget } from "../run/state.js";
 import { phaseAt } from "./presses.js";
 
 const bold = (text) => `<b>${text}</b>`;
@@ -23,7 +23,7 @@ export function saidOf(moment, { plain = false } = {}) {
 }
 
 function deedSaid(moment, plain) {
-  const { trace, state, event, before, held } = moment;
+  const { trace, state, event, before } = moment;
   const { kind } = trace;
   if (event.deed === "begin") return `begins ${bold(callText(event.call))}.`;
   const owner = ownerIn(event.word);
@@ -31,7 +31,7 @@ function deedSaid(moment, plain) {
   if (isLock(event.word)) return lockSaid(event, who, plain, event.changes.pc === before.pc);
   const phase = phaseAt(kind, before.pc, plain);
   const key = event.call.key;
-  if (event.deed === "load" && event.word.endsWith(".key")) return keySaid(event, owner, key, phase, held);
+  if (event.deed === "load" && event.word.endsWith(".key")) return keySaid(moment, owner, key, phase);
   if (event.deed === "load") return linkSaid(moment, owner, who, phase);
   if (phase === "make") return nodeSaid(moment, owner, key);
   return writeSaid(moment, owner, who);
@@ -45,43 +45,60 @@ function lockSaid(event, who, plain, waits) {
   return `wants ${what}, but ${chipOf(event.saw.slice(1))} holds it. ${bold(waits ? "It waits." : "It continues all the same.")}`;
 }
 
-function keySaid(event, owner, key, phase, held) {
+// Decides whether the list has the key's place just before a node: other threads can have changed the list since the walk passed.
+function isPlaceOf(state, key, owner) {
+  const chain = state.chain();
+  const at = chain.indexOf(owner);
+  return at > 0 && keyNumber(state.nodes[chain[at - 1]].key) < key;
+}
+
+function keySaid({ state, event, before, held }, owner, key, phase) {
   if (phase === "again") {
     if (held.pc === 14 && held.reply === "none") return `is past the place of its pred: ${bold("pred is no longer in the list.")} It starts again.`;
-    return held.node === held.pred ? "meets its pred: it is still in the list." : "walks on: this is not its pred.";
+    if (held.node === held.pred) return "meets its pred: it is still in the list.";
+    return held.pc === before.pc + 1 ? `takes this node for its pred, ${bold("since the key is the same.")}` : "walks on: this is not its pred.";
   }
-  if (owner === "tail") return "has reached the tail: here is the place.";
+  const isPlace = isPlaceOf(state, key, owner);
+  if (owner === "tail") return `has reached the tail${isPlace ? ": here is the place" : ""}.`;
   const seen = Number(event.saw);
   if (seen < key) return `reads ${bold(seen)}: too small, so it walks on.`;
   if (event.call.operation === "ceiling") return `reads ${bold(seen)}: big enough.`;
   if (seen === key) return `reads ${bold(seen)}: found.`;
-  return `reads ${bold(seen)}: too big. The place of ${key} is just before it.`;
+  return `reads ${bold(seen)}: too big${isPlace ? `. The place of ${key} is just before it` : ", so it stops here"}.`;
 }
 
 function linkSaid(moment, owner, who, phase) {
   const { trace, state, event, held, before } = moment;
   const isMarked = event.saw.endsWith("*");
   const to = nodeName(state, linkTarget(event.saw));
-  if (phase === "look" || (event.answer !== undefined && isMarked)) return isMarked ? `sees the mark: ${bold(`this ${who} has been removed.`)}` : `sees no mark: ${who} is in the set.`;
+  const isPred = owner === before.pred;
+  if (phase === "look" || (event.answer !== undefined && isMarked)) return lookSaid(state, event, owner, who, isMarked);
   if (phase === "check") {
     if (held.reply === "none" && held.pc === 13) {
-      if (owner === before.pred && isMarked) return `sees a mark on its pred: ${bold("it was removed meanwhile.")} It starts again.`;
+      if (isPred && isMarked) return `sees a mark on its pred: ${bold("it was removed meanwhile.")} It starts again.`;
       return isMarked ? `sees a mark on ${who}. It starts again.` : `sees that ${who} points to ${to} now. It starts again.`;
     }
-    return owner === before.pred ? "sees no mark on its pred, which still points to curr." : `sees no mark on ${who} either. It can write.`;
+    if (isMarked) return `reads the arrow of ${isPred ? "its pred" : who}, and ${bold("does not look at the mark.")}`;
+    return isPred ? "sees no mark on its pred, which still points to curr." : `sees no mark on ${who} either: the check succeeds.`;
   }
   if (phase === "again") {
-    if (owner === before.pred && before.pc === 8) {
-      if (held.pc === 14 && held.reply === "none") return `sees that ${who} points to ${to} now: ${bold("something was linked in between.")} It starts again.`;
-      return "sees that pred still points to curr.";
-    }
-    return `walks from ${who} once more.`;
+    if (!isPred || before.pc !== 8) return `walks from ${who} once more.`;
+    if (held.pc !== 14 || held.reply !== "none") return "sees that pred still points to curr.";
+    const why = state.chain().includes(before.curr) ? "something was linked in between." : "curr was unlinked.";
+    return `sees that ${who} points to ${to} now: ${bold(why)} It starts again.`;
   }
   if (phase === "unlink" || before.pc === 8) return `reads what comes after ${who}: ${to}.`;
   if (trace.kind === "lock-free" && event.changes.curr === undefined) {
-    return isMarked ? `meets ${who}, which is marked: it will unlink it on its way.` : `reads the arrow of ${who}: no mark.`;
+    return isMarked ? `meets ${who}, which is marked: it tries to unlink it.` : `reads the arrow of ${who}: no mark.`;
   }
   return owner === "head" ? `starts at the head: curr is at ${to}.` : `moves on: curr is at ${to}.`;
+}
+
+// Writes what the last read of a call without changes finds. Only a broken list answers true at a mark, or leaves a removed node unmarked.
+function lookSaid(state, { answer }, owner, who, isMarked) {
+  if (isMarked && /^(true|at-)/.test(answer ?? "")) return `takes ${who} to be in the set: ${bold("it does not look at the mark.")}`;
+  if (isMarked) return `sees the mark: ${bold(`this ${who} has been removed.`)}`;
+  return `sees no mark${state.chain().includes(owner) ? `: ${who} is in the set` : ` on ${who}`}.`;
 }
 
 // Only a broken list uses a node twice.
@@ -96,8 +113,8 @@ function writeSaid(moment, owner, who) {
   const key = event.call.key;
   const to = nodeName(state, linkTarget(event.to ?? ""));
   const isDone = event.deed === "store" || event.saw === event.from;
-  if (event.to.endsWith("*")) {
-    if (isDone) return `marks ${who}: ${bold(`${key} is removed.`)}`;
+  if (event.to.endsWith("*") && event.call.operation === "remove") {
+    if (isDone) return `marks ${who}${who === String(key) ? `: ${bold(`${key} is removed.`)}` : `. ${bold(`Its key is not ${key} any more.`)}`}`;
     return event.saw.endsWith("*") ? `wants to mark ${who}, but it is marked already. ${bold("It was too late")}, and walks again.` : `tries to mark ${who}, but its arrow has changed. It walks again.`;
   }
   if (event.put !== undefined) {
@@ -106,7 +123,8 @@ function writeSaid(moment, owner, who) {
   }
   if (!isDone) {
     const rest = event.answer !== undefined ? "That does not matter: the mark counts." : "It walks again.";
-    return `tries to change the arrow of ${who}, but the arrow has changed. ${rest}`;
+    const isMarked = event.saw.endsWith("*") && !event.from.endsWith("*");
+    return `tries to change the arrow of ${who}, but ${isMarked ? `${who} has been marked` : "the arrow has changed"}. ${rest}`;
   }
   const chain = state.chain();
   const curr = nodeName(state, before.curr);

@@ -45,6 +45,7 @@ export function leaveScene() {
   takeFigure(null);
   Object.assign(scene, { key: "", view: null });
   byId("scene").innerHTML = "";
+  scrollTo(0, 0);
 }
 
 export function renderScene({ place, scene: state }) {
@@ -127,8 +128,8 @@ export function replyTo(options, chosen, isToCome) {
   return `<p class="you ${right ? "right" : "wrong"}"><b>${said}</b> ${right ? (isToCome ? says || "Let us see." : "") : says}</p>`;
 }
 
-export function drawLedger(run) {
-  const [promised, has] = [run.promised(), run.has()];
+export function drawLedger(run, count = run.trace.total) {
+  const [promised, has] = [run.promised(count), run.has()];
   const all = [...new Set([...promised, ...has])].sort((one, other) => one - other);
   const cell = (keys, others) => (key) => {
     const isIn = keys.includes(key);
@@ -141,8 +142,8 @@ export function drawLedger(run) {
 export const isOddRun = (run) => run.promised().join() !== run.has().join();
 
 // Returns the thread whose letter is this key, or -1.
-export function threadOfKey({ key, ctrlKey, metaKey, altKey }) {
-  if (!now.prefs.letters || ctrlKey || metaKey || altKey || !/^[a-z]$/.test(key)) return -1;
+export function threadOfKey({ key, ctrlKey, metaKey, altKey, repeat }) {
+  if (!now.prefs.letters || repeat || ctrlKey || metaKey || altKey || !/^[a-z]$/.test(key)) return -1;
   return key.charCodeAt(0) - "a".charCodeAt(0);
 }
 

@@ -43,6 +43,14 @@ export class Sides {
     return next === undefined ? null : this.sides.map(() => `begin ${thread} ${next}`);
   }
 
+  // Returns the call whose next step the thread makes after `at` turns, or undefined if all its calls have returned in both lists.
+  callOf(thread, at) {
+    const isBegun = ({ counts }) => ({ begun }) => begun <= counts[at];
+    const begunIn = (side) => side.run.trace.callsOf[thread].filter(isBegun(side));
+    const isPending = this.sides.some((side) => begunIn(side).some(({ ended }) => ended === null || ended > side.counts[at]));
+    return this.program[thread][begunIn(this.sides[0]).length - (isPending ? 1 : 0)];
+  }
+
   turn(thread) {
     const lines = this.linesOf(thread);
     if (lines === null || this.turns.length === MOST_TURNS) return false;

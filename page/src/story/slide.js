@@ -5,7 +5,7 @@ import { goByHand } from "../page/play.js";
 import { scene } from "./scene.js";
 
 const queue = { last: Promise.resolve(), waiting: 0 };
-const hurry = () => scene.figure?.isBusy && (scene.figure.isHurried = true);
+const hurry = () => scene.figure?.isBusy && scene.figure.hurry();
 
 // Runs the keys one after the other. Steps of earlier keys are then shown without delay.
 function inTurn(deed) {

@@ -62,7 +62,7 @@ question
 goal
   call C of 0: contains, key 5, answers false
   call R of 1: remove, key 5, answers true, begins after C, ends during C
-  say A contains of thread 0 answers false; a remove of thread 1 begins after it, and answers true while it is pending.
+  say The contains of thread 0 answers false. A remove of thread 1 begins after it, and answers true while it is pending.
 `;
 
 // ---- Homework: ticked lessons, levels and numbered runs become one link.

@@ -94,6 +94,28 @@ def test_each_tab_stop_is_visible_and_can_be_left(visitor, size):
     assert hidden == [], "\n".join(hidden)
 
 
+NAMED = {"button", "link", "textbox", "searchbox", "spinbutton", "slider", "combobox", "listbox", "checkbox", "image", "DisclosureTriangle", "Date"}
+
+
+def test_each_control_and_figure_has_a_name(visitor):
+    if visitor.name != "chromium":
+        pytest.skip("only Chromium's driver reads its tree of accessible names")
+    visitor.open("#read")
+    nameless = []
+    for address in PLACES:
+        go(visitor, address)
+        if address.startswith(("#story", "#ask=", "#break=", "#learn=", "#code=")):
+            visitor.step("ab")
+        nodes = visitor.devtools("Accessibility.getFullAXTree")["nodes"]
+        seen = [it for it in nodes if not it["ignored"] and it["role"]["value"] in NAMED]
+        assert len(seen) > 8, address
+        for it in seen:
+            if not it.get("name", {}).get("value", "").strip():
+                part = visitor.devtools("DOM.describeNode", backendNodeId=it["backendDOMNodeId"])["node"]
+                nameless.append(f"{address}: {it['role']['value']} {part['nodeName']} {part.get('attributes')}")
+    assert nameless == [], "\n".join(nameless)
+
+
 def test_touch_targets_have_40_pixels(visitor):
     if visitor.name != "chromium":
         pytest.skip("only Chromium's driver has a finger")

@@ -19,7 +19,7 @@ def won(visitor):
 def test_a_won_level_does_not_give_away_its_answer(visitor):
     won(visitor)
     assert visitor.text(".reveal .why").startswith("Broken.") and visitor.is_seen("[data-option]")
-    assert "break lock" not in visitor.text("main") and "Level" not in visitor.title
+    assert "break lock" not in visitor.text("main")
     assert visitor.inside("return JSON.parse(localStorage.getItem('listset-broken')).lock").startswith("break lock #list=coarse")
 
 
@@ -114,11 +114,11 @@ def test_a_run_that_does_not_break_the_list_is_reported(visitor):
     assert "not broken this time" in visitor.text("#prompt") and visitor.is_seen("[data-again]")
 
 
-def test_a_level_has_the_same_number_everywhere(visitor):
+def test_a_list_has_the_same_number_everywhere(visitor):
     visitor.open("#break")
-    assert visitor.text(".card[href='#break=7'] i").endswith(" level 7")
+    assert visitor.text(".card[href='#break=7'] i").endswith(" #break=7")
     visitor.open("#break=7")
-    assert visitor.is_seen("#figure") and "level 7" in visitor.script("return document.querySelector('.kicker').textContent")
+    assert visitor.is_seen("#figure") and "#break=7" in visitor.script("return document.querySelector('.kicker').textContent")
 
 
 def test_a_key_does_not_begin_a_second_call(visitor):

@@ -15,6 +15,17 @@ def test_the_judge_button_is_visible(visitor):
     assert visitor.in_window("#judge-ask")
 
 
+def test_a_run_to_judge_opens_at_its_top(visitor):
+    visitor.size(1366, 760)
+    visitor.open("#judge")
+    for link in ("#judge-seed-go", "#scene .card[href='#example=snip&judge']"):
+        visitor.click(link)
+        visitor.wait("return document.body.dataset.screen === 'stage'")
+        assert visitor.script("return scrollY") == 0 and visitor.in_window("#judge-task"), link
+        visitor.back()
+        visitor.wait("return document.getElementById('recorded-text') !== null")
+
+
 def test_points_placed_with_keys_keep_the_focus(visitor):
     visitor.open("#example=snip&judge")
     visitor.script("document.querySelector('#judge-bars [data-call]').focus()")

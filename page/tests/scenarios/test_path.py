@@ -57,6 +57,13 @@ def test_the_last_press_focuses_the_next_button_and_can_be_undone(visitor):
     assert not visitor.is_seen(".reveal") and "Press the blue button" in visitor.text("#prompt")
 
 
+def test_each_fast_press_makes_its_own_steps(visitor):
+    visitor.open("#story=2")
+    visitor.press("a", "b", "a", "a")
+    visitor.idle()
+    assert visitor.inside("return listsets.scene.figure.past.length") == 4 and "add(5) returns true" in visitor.text(".said")
+
+
 def test_buttons_do_not_move(visitor):
     visitor.open("#story=5")
     places = set()
@@ -112,7 +119,6 @@ def test_show_a_step_continues_from_the_current_event(visitor):
         assert "lost" in visitor.text(".why b") or "no longer in the list" in visitor.text(".why b"), address
     visitor.open("#story=5")
     visitor.step("aabb")  # A holds its locks before B has removed anything, so no key can be lost any more
-    visitor.click("#show-me")
     assert "Start over" in visitor.text("#prompt") and visitor.text("#show-me") == "Start over"
     visitor.click("#show-me")
     assert not visitor.is_seen("[data-undo]") and visitor.text("#show-me") == "Show a step"

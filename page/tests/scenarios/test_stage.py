@@ -20,7 +20,11 @@ const isStage = document.querySelector(".on-stage") !== null;
 for (const it of all(".list svg text")) if (sizeOf(it) < least - .05) found.push(`${sizeOf(it).toFixed(1)} px: ${nameOf(it)}`);
 for (const it of all(".strip svg text")) if (sizeOf(it) < 11) found.push(`${sizeOf(it).toFixed(1)} px: ${nameOf(it)}`);
 for (const list of all(".list:has(svg)")) {
-  const box = boxOf(list);
+  const box = boxOf(list), nodes = [...list.querySelectorAll(".node .box")];
+  for (const [at, one] of nodes.entries()) for (const other of nodes.slice(at + 1)) {
+    const [a, b] = [boxOf(one), boxOf(other)];
+    if (Math.min(a.right, b.right) - Math.max(a.left, b.left) > 5 && Math.min(a.bottom, b.bottom) - Math.max(a.top, b.top) > 5) found.push(`two nodes overlap: ${nameOf(one.parentElement)}`);
+  }
   for (const it of list.querySelectorAll("text, .box, rect.hot")) {
     const { left, right, top, bottom } = boxOf(it);
     if (left < box.left - 2 || right > box.right + 2 || top < box.top - 2 || bottom > box.bottom + 2) found.push(`cut: ${nameOf(it)}`);
@@ -35,6 +39,10 @@ if (isStage) {
     const { left, right, top, bottom, width } = boxOf(it);
     if (width > 0 && (bottom > foot + 1 || right > innerWidth + 1 || left < -1 || top < -1)) found.push(`under a bar or outside: ${nameOf(it)}`);
   }
+}
+for (const leave of all("#leave")) for (const it of all("#scene :is(button, a)")) {
+  const [a, b] = [boxOf(leave), boxOf(it)];
+  if (a.left < b.right && b.left < a.right && a.top < b.bottom && b.top < a.bottom) found.push(`under the number of the slide: ${nameOf(it)}`);
 }
 if (document.documentElement.scrollWidth > document.documentElement.clientWidth) found.push("the page is wider than its window");
 return found"""
@@ -122,6 +130,9 @@ def test_questions_are_readable(walk):
         walk.visitor.press("1")
         walk.visitor.revealed()
         walk.look(f"#ask={name}, answered")
+        if walk.visitor.is_seen("[data-do=without]"):
+            walk.visitor.click("[data-do=without]")
+            walk.look(f"#ask={name}, without the check")
     walk.visitor.press("a")
     walk.look("a branch")
 
@@ -133,8 +144,15 @@ def test_levels_are_readable(walk):
         walk.visitor.step("aabb")
         walk.look(f"#break={number}, stepped")
         walk.stays(before, f"#break={number}")
+        for _ in range(3):
+            walk.visitor.click("#hint")
+        walk.look(f"#break={number}, hints")
         if name != "mark-in-contains":
             walk.go(walk.visitor.inside("return listsets.addressOf(given[0], 99, given[1])", (SCHEDULES / f"{name}.schedule").read_text(), name))
+            lacks, wrong = walk.visitor.inside("const { lacks, others } = listsets.BREAK_LEVELS[given[0]]; return [lacks, Object.keys(others)[0]]", name)
+            for answer in (wrong, lacks):
+                walk.visitor.click("[data-option]", answer)
+                walk.look(f"#break={number}, {answer}")
 
 
 def test_lessons_are_readable(walk):

@@ -53,7 +53,7 @@ def test_notes_follow_the_slides_and_a_handout_can_be_printed(visitor):
 
 def test_an_assignment_names_its_unknown_tasks(visitor):
     visitor.open("#assignment=x&learn=no-such&break=99&judge=bad")
-    assert "lesson no-such, level 99, run bad" in visitor.text("#scene")
+    assert "lesson no-such, list 99, run bad" in visitor.text("#scene")
 
 
 def test_completed_tasks_are_ticked_and_handed_in(visitor):
@@ -103,7 +103,7 @@ def test_hand_ins_of_a_class_are_checked(visitor):
     visitor.wait("return document.querySelectorAll('.class tbody tr').length === 33", seconds=60)
     told = visitor.text("#in-said")
     assert "34 files: 33 students, 0 merged, 1 without a hand-in. 31 with all 2 tasks." in told and "notes.txt" in told
-    assert "too many students have the same one: Level 1, CoarseList" in told
+    assert "too many students have the same one: CoarseList, #break=1" in told
     row = lambda name: visitor.script("return [...document.querySelectorAll('.class tbody tr')].find((it) => it.innerText.includes(arguments[0])).innerText", name)
     assert "2 of 2 with Student 8 (1008), Student 9 (1009)" in row("Student 7\t") and " of 2 with" not in row("Student 6\t")
     assert "2 rows with this name, since a number is missing: max.txt, max-2.txt" in row("Max Maier")
@@ -170,13 +170,13 @@ def test_one_key_leads_through_the_lecture(visitor):
         assert visitor.script("""return document.documentElement.scrollHeight <= innerHeight + 1
             && [...document.querySelectorAll('.codebox[open] .lines')].every((it) => it.scrollHeight <= it.clientHeight + 1
             && it.getBoundingClientRect().bottom <= it.closest('.fig').getBoundingClientRect().bottom)"""), visitor.hash
-        assert visitor.text("#leave").startswith(f"{len(seen)} of {len(slides)}")
-        visitor.press("Space" if at % 2 else "PageDown")
-        visitor.script("return new Promise((done) => setTimeout(done, 300))")
-        if visitor.hash != seen[-1]:
-            seen.append(visitor.hash)
+        where, number = visitor.script("return [location.hash, document.getElementById('leave').innerText]")
+        seen += [where] if where != seen[-1] else []
+        assert number.startswith(f"{len(seen)} of {len(slides)}")
         if seen == slides:
             break
+        visitor.press("Space" if at % 2 else "PageDown")
+        visitor.script("return new Promise((done) => setTimeout(done, 300))")
     assert seen == slides
     visitor.press("PageUp")
     visitor.wait("return location.hash === arguments[0]", slides[-2])

@@ -166,9 +166,9 @@ class Browser:
         self.at.command("size", {"width": width, "height": height})
 
     def devtools(self, name, **given):
-        """Sends a Chrome DevTools Protocol command. Does nothing in other browsers."""
+        """Sends a Chrome DevTools Protocol command, and returns its answer. Does nothing in other browsers."""
         if self.name == "chromium":
-            self.at.command("devtools", {"cmd": name, "params": given})
+            return self.at.command("devtools", {"cmd": name, "params": given})
 
     def script(self, text, *given):
         return self.at.command("script", {"script": text, "args": list(given)})
