@@ -2,7 +2,7 @@
 import { CLASSICS } from "../../made/classics.js";
 import { drawJudged, drawOwnOrder, judgeScale, momentOfReport } from "../draw/judged_bars.js";
 import { byId, redraw } from "../page/dom.js";
-import { askNow, dispatch, exampleShown, held, isJudging, isLecture, now, say } from "../page/now.js";
+import { askNow, dispatch, exampleShown, held, isJudging, now, say } from "../page/now.js";
 import { addressOf, partsOfSeed } from "../run/address.js";
 import { askList } from "../run/broken.js";
 import { exerciseOf, LEVELS, MOST_JUDGED, OwnAnswer, repliesOf, verdictOn, wordOfAnswer } from "../run/judged.js";
@@ -12,7 +12,6 @@ import { keepJudged } from "../story/progress.js";
 
 const HALF_STEPS = { ArrowLeft: -0.5, ArrowDown: -0.5, ArrowRight: 0.5, ArrowUp: 0.5 };
 const SLIDER_KEYS = { ...HALF_STEPS, PageDown: -5, PageUp: 5, Home: -Infinity, End: Infinity };
-const LINES_OF_SLIDE = 560; // pixels of the height for which the bars are laid out; a slide enlarges them to its own height
 const judgePart = (name) => byId(`judge-${name}`);
 
 class Judging {
@@ -57,8 +56,8 @@ class Judging {
   }
 
   drag(event) {
-    const { left, width } = judgePart("bars").firstElementChild.getBoundingClientRect();
-    this.place(this.held, this.scale.momentAt((event.clientX - left) * (this.scale.width / width))); // a slide draws the bars larger
+    const left = judgePart("bars").firstElementChild.getBoundingClientRect().left;
+    this.place(this.held, this.scale.momentAt(event.clientX - left));
   }
 
   place(call, at) {
@@ -103,9 +102,7 @@ class Judging {
   draw() {
     const { level, calls } = this.exercise;
     this.count = now.run.count;
-    const zoom = isLecture() ? innerHeight / LINES_OF_SLIDE : 1;
-    judgePart("bars").style.setProperty("--zoom", String(zoom));
-    this.scale = judgeScale(this.exercise, Math.max(300, judgePart("bars").clientWidth / zoom));
+    this.scale = judgeScale(this.exercise, Math.max(300, judgePart("bars").clientWidth));
     judgePart("task").textContent = `${now.task.kind === "seed" ? `Run ${partsOfSeed(now.task.id).number}. ` : ""}${LEVELS[level].task}`;
     judgePart("none").hidden = level !== "claim";
     redraw(judgePart("bars"), drawJudged(this));

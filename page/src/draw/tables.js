@@ -101,7 +101,7 @@ function drawWindow(scale, total, x) {
 // Names the row of the set's contents. A broken list can have other keys than the points of its calls imply.
 function nameOfContents({ lacks }) {
   if (lacks === null) return label({ class: "name", x: 6, y: 17 }, "set");
-  const lines = ["should", "have"].map((words, line) => label({ class: "name", x: 0, y: 10 + 12 * line, style: "font-size:11px;letter-spacing:-.5px" }, words));
+  const lines = ["should", "have"].map((words, line) => label({ class: "name", x: 0, y: 10 + 12 * line, style: "font-size:12px;letter-spacing:-.6px" }, words));
   return tag("g", {}, title(`${BY_POINTS}; the list may have other keys`), ...lines);
 }
 const BY_POINTS = "the set by the linearization points of the calls";
