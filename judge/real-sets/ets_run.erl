@@ -1,13 +1,13 @@
-%% Records calls of four processes on public tables of ETS, as docs/YOUR-SET.md says under "By hand". Writes 20 recordings
+%% Records calls of four processes on public tables of ETS, as docs/YOUR-SET.md says under "By hand". Writes 5 recordings
 %% into this folder: `erlc ets_run.erl && erl -noshell -run ets_run main SEED`.
 -module(ets_run).
 -export([main/1]).
 
--define(CALLS, 5000).
+-define(CALLS, 2000).
 -define(KEYS, 4).
 
 main([Seed]) ->
-    [record(20 * list_to_integer(Seed) + Run, integer_to_list(Run) ++ ".calls") || Run <- lists:seq(1, 20)],
+    [record(5 * list_to_integer(Seed) + Run, integer_to_list(Run) ++ ".calls") || Run <- lists:seq(1, 5)],
     halt().
 
 record(Seed, File) ->
