@@ -330,9 +330,9 @@ struct area {
         if (looks > awake + LONGEST) is_busy = true;
     }
 
-    // Whether threads are to be stopped for longer. On a busy machine, a thread seldom loses its processor in the middle
+    // Whether threads are to be interrupted for longer. On a busy machine, a thread seldom loses its processor in the middle
     // of a call, since it makes all its calls before it does.
-    bool is_shaken() const { return is_busy || of.meets_once; }
+    bool interrupts_longer() const { return is_busy || of.meets_once; }
 };
 
 inline std::string line_of(const slot &it, unsigned end) {
@@ -378,7 +378,7 @@ struct stops {
         const timespec some = {0, 1000};
         const area *run = run_of_thread();
         const unsigned seen = run ? run->tickets.load() : 0;
-        unsigned looks = run && run->is_shaken() ? PATIENT : 1;
+        unsigned looks = run && run->interrupts_longer() ? PATIENT : 1;
         do nanosleep(&some, nullptr);
         while (--looks > 0 && run->tickets - seen < MANY);
         errno = before;
@@ -588,12 +588,7 @@ template <class Maker> std::string made_in_child(Maker &by, area &run) {
         _exit(0);
     }
     int status = 0;
-    auto has_ended = [&] {
-        if (waitpid(process, &status, WNOHANG) == process) return true;
-        if (by.how.pauses > 0 && run.is_shaken()) kill(process, SIGSTOP), kill(process, SIGCONT);  // (its threads continue in another order)
-        return false;
-    };
-    if (!comes_to_end(run, by.how.seconds, has_ended)) {
+    if (!comes_to_end(run, by.how.seconds, [&] { return waitpid(process, &status, WNOHANG) == process; })) {
         kill(process, SIGKILL);
         waitpid(process, nullptr, 0);
         return say(HUNG, by.how.seconds);

@@ -116,11 +116,6 @@ func (c *child) trouble() string {
 	return fmt.Sprintf(sayCrashed, c.process.ProcessState)
 }
 
-func (c *child) shake() {
-	c.process.Process.Signal(syscall.SIGSTOP)
-	c.process.Process.Signal(syscall.SIGCONT)
-}
-
 func (c *child) stop() {
 	c.process.Process.Kill()
 	<-c.over

@@ -133,7 +133,6 @@ type caller interface {
 	begin()          // must be called once the memory of a run is ready
 	hasEnded() bool  // whether the run has ended
 	trouble() string // the error, if the run has ended with one
-	shake()          // stops a child process for a moment; its goroutines continue in another order
 	stop()           // stops the run; a child process ends
 	close()          // frees the memory of the runs
 }
@@ -146,8 +145,6 @@ func (h *here) begin() { go h.callAll() }
 func (h *here) hasEnded() bool { return atomic.LoadUint32(&h.at) >= over }
 
 func (h *here) trouble() string { return "" }
-
-func (h *here) shake() {}
 
 func (h *here) stop() { atomic.StoreUint32(&h.isStopping, 1) }
 
@@ -169,10 +166,6 @@ func (a *area) made(seed int64, s size, file string, by caller) (trouble string,
 		}
 		if time.Since(since) > time.Duration(a.options.Seconds)*time.Second {
 			trouble = fmt.Sprintf(sayHung, a.options.Seconds)
-		}
-		// (on a busy machine, a thread seldom loses its processor in the middle of a call, since it makes all its calls before it does)
-		if a.options.Pauses > 0 && (atomic.LoadUint32(&a.isBusy) == 1 || a.meetsOnce) {
-			by.shake()
 		}
 	}
 	if trouble == "" {

@@ -194,10 +194,10 @@ impl Area {
         self.get(At::Tickets)
     }
 
-    /// Returns whether threads are to be stopped for longer. On a busy machine, a thread seldom loses its processor in
-    /// the middle of a call, since it makes all its calls before it does.
-    pub fn is_shaken(&self) -> bool {
-        self.options.pauses > 0 && (self.get(At::IsBusy) == 1 || self.get(At::MeetsOnce) == 1)
+    /// Returns whether threads are to be interrupted for longer. On a busy machine, a thread seldom loses its processor
+    /// in the middle of a call, since it makes all its calls before it does.
+    pub fn interrupts_longer(&self) -> bool {
+        self.get(At::IsBusy) == 1 || self.get(At::MeetsOnce) == 1
     }
 
     pub fn is_here(&self) -> bool {

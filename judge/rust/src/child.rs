@@ -80,14 +80,7 @@ impl Runner {
         let area = &self.area;
         area.begin(seed, of, file);
         if let Some(child) = &self.child {
-            let trouble = area.watch(&|| {
-                let mut child = child.borrow_mut();
-                let trouble = trouble_of(&mut child);
-                if trouble.is_none() && area.is_shaken() {
-                    shake(&child);
-                }
-                trouble
-            })?;
+            let trouble = area.watch(&|| trouble_of(&mut child.borrow_mut()))?;
             if trouble.is_some() {
                 self.end_child(); // (so that a set that hung does not go on while its run is judged)
             }
@@ -153,24 +146,6 @@ fn serve<S: Sync>(source: &Source<S>, options: &Options) -> ! {
         None => std::process::exit(1),
     }
 }
-
-/// Stops a process for a moment. Its threads continue in another order.
-#[cfg(target_os = "linux")]
-fn shake(child: &Child) {
-    extern "C" {
-        fn kill(process: i32, signal: i32) -> i32;
-    }
-    const STOP: i32 = 19;
-    const CONTINUE: i32 = 18;
-    // SAFETY: the process has not been waited for, so its number belongs to no other process.
-    unsafe {
-        kill(child.id() as i32, STOP);
-        kill(child.id() as i32, CONTINUE);
-    }
-}
-
-#[cfg(not(target_os = "linux"))]
-fn shake(_: &Child) {}
 
 /// Returns how the child process has ended, if it has.
 fn trouble_of(child: &mut Child) -> Option<String> {

@@ -77,7 +77,7 @@ mod timer {
         // SAFETY: the area outlives the `Stops` of its threads, and a signal handler may read atomic numbers.
         let area = unsafe { RUN.with(Cell::get).as_ref() };
         let seen = area.map_or(0, Area::moment);
-        let looks = if area.map_or(false, Area::is_shaken) { PATIENT } else { 1 };
+        let looks = if area.map_or(false, Area::interrupts_longer) { PATIENT } else { 1 };
         for _ in 0..looks {
             // SAFETY: a signal handler may call `usleep`.
             unsafe { usleep(1) };
