@@ -126,22 +126,6 @@ class OneSet:
         return key in self.keys
 
 
-class CopyOnWrite(OneSet):
-    likely = ("an older copy is written over newer changes",)
-
-    def add(self, thread, key):
-        copy = {*self.keys}
-        yield
-        self.keys = copy | {key}
-        return key not in copy
-
-    def remove(self, thread, key):
-        copy = {*self.keys}
-        yield
-        self.keys = copy - {key}
-        return key in copy
-
-
 class AddLooksFirst(OneSet):
     likely = ("add checks, then acts", "check, then act", "the reply does not come from the change itself")
 
@@ -246,7 +230,7 @@ def recorded(kind, seed, keys=4, threads=4, count=6000):
     return "\n".join(["listset-calls 1", *lines, "cut", ""])
 
 
-@pytest.mark.parametrize("kind", [CopyOnWrite, AddLooksFirst, SeenBeforeItIsAdded, MarkNotRead, TakenLater, RepeatedCall])
+@pytest.mark.parametrize("kind", [AddLooksFirst, SeenBeforeItIsAdded, MarkNotRead, TakenLater, RepeatedCall])
 def test_the_likely_cause_of_a_wrong_set_is_its_bug(program, path, kind):
     guesses = set()
     for seed in range(4):

@@ -601,7 +601,7 @@ const OF_SPLIT = [
 
 function checkSplit(ask) {
   const it = drawnSplit();
-  const lines = ask("listset_why_record", it.text).text.split("\n").filter((line) => /^(headline calls of key \d+ disagree|fact from) /.test(line));
+  const lines = ask("listset_why_record", it.text).text.split("\n").filter((line) => /^(headline calls of key \d+ disagree:|fact from) /.test(line));
   if (lines.length !== 0 && lines.length !== 2) result.failed.push(`${lines} on\n${it.text}`);
   checkSentences(OF_SPLIT, it, lines);
 }
