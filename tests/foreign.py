@@ -53,11 +53,9 @@ class InstalledLibraries:
         return made
 
     def flags(self):
-        """Returns the compiler flags for the installed library, from pkg-config if that is installed."""
-        flags = [self.include, f"-L{self.library}", "-llistset"]
-        if shutil.which("pkg-config"):
-            how = {**os.environ, "PKG_CONFIG_PATH": str(self.library / "pkgconfig")}
-            flags = well("pkg-config", "--cflags", "--libs", "listset", env=how).split()
+        """Returns the compiler flags for the installed library, from pkg-config."""
+        how = {**os.environ, "PKG_CONFIG_PATH": str(self.library / "pkgconfig")}
+        flags = well("pkg-config", "--cflags", "--libs", "listset", env=how).split()
         return [*flags, f"-Wl,-rpath,{self.library}"]
 
     def page(self, language, ending, name, before=""):
@@ -175,7 +173,7 @@ def test_each_list_opens_with_the_most_keys(installed):
     well(installed.built(TOP / "tests" / "harness" / "largest_set.c"))
 
 
-@needs("gcc")
+@needs("gcc", "pkg-config")
 def test_programs_in_c_use_sets_and_judge(installed):
     made = installed.room / "first"
     well("gcc", "-std=c99", *WARN, FIRST / "judge.c", *installed.flags(), "-o", made)
@@ -184,7 +182,7 @@ def test_programs_in_c_use_sets_and_judge(installed):
     installed.first_set(made)
 
 
-@needs("g++")
+@needs("g++", "gcc", "pkg-config")
 def test_programs_in_cpp_use_sets_and_judge(installed):
     made, first, how = installed.room / "made", installed.room / "first", [MEMORY] if installed.works(MEMORY) else []
     # With optimization and a sanitizer, g++ would take three times as long. The page's programs compile the header with
@@ -202,7 +200,7 @@ def test_programs_in_cpp_use_sets_and_judge(installed):
     installed.first_judge(first)
 
 
-@needs("g++")
+@needs("g++", "gcc", "pkg-config")
 def test_calls_of_a_renewed_set_are_linearizable(installed):
     """Sets of each list are renewed while eight threads add and remove the same keys. Their calls are judged."""
     made, flags = installed.room / "made", ["-std=c++17", *WARN, "-pthread", TESTS / "renewed.cpp", *installed.flags()]

@@ -17,6 +17,7 @@ import your_set_page
 from harness.programs import LONG, TOP, UNPROVED, ran, well
 
 needs = pytest.mark.needs
+pytestmark = needs("gcc")  # build/release links the program with gcc's libraries
 
 SCHEDULES = TOP / "examples" / "schedules"
 REPLAYED_EXAMPLES = ["snip", "opens-with-keys", "read-in-anothers-step", "two-removers"]

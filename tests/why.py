@@ -82,7 +82,7 @@ def test_an_operation_that_alone_is_wrong_is_named_with_a_cause(program, path):
     said = ran(program, "judge", path).stdout
     assert "\ncontains(3) returned true, expected false\n" in said
     assert "only contains is wrong: 20 of its 20 answers (found an absent key, and never missed a present key)\n" in said
-    assert "\nduring them ran: an add of the key at 0, a remove of the key at 20, only changes of other keys at 0, none of these at 0\n" in said
+    assert "\nan add of the key ran during 0 of them, a remove of the key during 20, only changes of other keys that returned true during 0, none of these during 0\n" in said
     assert "\nlikely: contains does not look at what remove changes first" in said
 
 

@@ -474,7 +474,7 @@ const OF_WHY = [
     const told = listed.split("; ");
     return told.length === Number(count) && told.every((one) => isListed(it, one));
   }],
-  [/^fact during them ran: an add of the key at (\d+), a remove of the key at (\d+), only changes of other keys at (\d+), none of these at (\d+)$/, (it, found, { told }) => {
+  [/^fact an add of the key ran during (\d+) of them, a remove of the key during (\d+), only changes of other keys that returned true during (\d+), none of these during (\d+)$/, (it, found, { told }) => {
     const [isAdded, isRemoved] = ["add", "remove"].map((operation) => (call) => runsDuring(it, call, (one) => one.key === call.key && one.operation === operation));
     const isSame = (call) => isAdded(call) || isRemoved(call);
     const isBeside = (call) => runsDuring(it, call, (one) => one.key !== call.key && one.reply === "true");
@@ -488,7 +488,7 @@ const OF_WHY = [
   }],
   [/^fact a change of another key ran during it, and no other add or remove of its own key$/, (it, found, { told }) =>
     told.wrong.some((call) => !runsDuring(it, call, (one) => one.key === call.key) && runsDuring(it, call, (one) => one.key !== call.key && one.reply === "true"))],
-  [/^fact the change that they do not show had ended, by the same thread before (\d+) of them, by another before (\d+), at most (\d+) moments earlier$/, (it, found, { told }) => {
+  [/^fact the last completed change that they contradict was made by the same thread before (\d+) of them and by another before (\d+), and had ended at most (\d+) moments earlier$/, (it, found, { told }) => {
     const lastChange = (answer) => ofKey(it, answer.key).filter((call) => isChange(call) && call.ended !== null && (call.operation === "add") !== needsKey(answer) && call.begun <= answer.begun)
       .sort((one, other) => one.begun - other.begun).at(-1);
     const changes = told.wrong.map((answer) => ({ answer, change: lastChange(answer) })).filter(({ answer, change }) => change !== undefined && change.ended < answer.begun);

@@ -147,16 +147,20 @@ impl Made {
         }
     }
 
-    /// Returns the call as it was at a moment: pending if it ended later.
-    pub fn cut_at(self, moment: u64) -> Made {
+    /// Returns the call as it was at a moment: pending if it ended later. Returns `None` if it ended later and changed
+    /// nothing, since such a call cannot have changed its key before.
+    pub fn cut_at(self, moment: u64) -> Option<Made> {
         if self.ended <= moment {
-            return self;
+            return Some(self);
         }
-        Made {
+        if self.reads() {
+            return None;
+        }
+        Some(Made {
             ended: NEVER,
             reply: None,
             ..self
-        }
+        })
     }
 
     /// Returns `true` if the call overlaps the time from `since` to `until`.

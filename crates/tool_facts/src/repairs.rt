@@ -63,7 +63,9 @@ fn calls_around(
         if calls.len() >= MOST_AROUND {
             return Ok(None);
         }
-        calls.push(call.cut_at(until.saturating_sub(1)))?;
+        if let Some(cut) = call.cut_at(until.saturating_sub(1)) {
+            calls.push(cut)?;
+        }
     }
     let left = if until == NEVER { key.left } else { None };
     Ok(Some(Around {

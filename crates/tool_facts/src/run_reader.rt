@@ -153,8 +153,9 @@ impl RunReader {
         Ok(None)
     }
 
-    /// Returns the first `count` calls as a recording that was cut off just before the next call began. Returns `None`
-    /// unless more than `count` calls were read, or if a line has the wrong form. Allocates.
+    /// Returns the first `count` calls as a recording that was cut off just before the next call began, without the calls
+    /// that ended later and changed nothing. Returns `None` unless more than `count` calls were read, or if a line has
+    /// the wrong form. Allocates.
     pub fn first_calls(&self, count: usize) -> Result<Option<Recorded>, AllocError> {
         let Some(next) = self.recorded.calls.get(count) else {
             return Ok(None);
@@ -165,7 +166,9 @@ impl RunReader {
         let moment = next.begun.saturating_sub(1);
         let mut calls = Vec::new(self.alloc);
         for call in self.recorded.calls.get(..count).unwrap_or(&[]) {
-            calls.push(call.cut_at(moment))?;
+            if let Some(cut) = call.cut_at(moment) {
+                calls.push(cut)?;
+            }
         }
         Ok(Some(Recorded {
             opening: Vec::from_slice(self.alloc, &self.recorded.opening)?,

@@ -19,7 +19,8 @@ struct Counted {
     is_from_opening: bool,
 }
 
-/// Returns the calls of a key that had begun by a moment, as they were at that moment.
+/// Returns the calls of a key that had begun by a moment, as they were at that moment, without those that ended later
+/// and changed nothing.
 fn calls_by(
     alloc: Global,
     recorded: &Recorded,
@@ -32,7 +33,9 @@ fn calls_by(
             break;
         }
         if call.key == key {
-            calls.push(call.cut_at(moment))?;
+            if let Some(cut) = call.cut_at(moment) {
+                calls.push(cut)?;
+            }
         }
     }
     Ok(calls)

@@ -13,9 +13,8 @@ use tool_facts::{Recorded, RunReader};
 /// The maximum number of lines that are not blank, with the verdict and without the line that a test adds.
 const MOST_LINES: usize = 15;
 
-/// Writes the scope, the duration and the likely cause.
-fn put_facts(out: &mut String, diagnosis: &Diagnosis) -> Result<(), AllocError> {
-    put_known(out, diagnosis)?;
+/// Writes the likely cause, and the facts that it rests on.
+fn put_guess(out: &mut String, diagnosis: &Diagnosis) -> Result<(), AllocError> {
     if let Some(cause) = diagnosis.cause {
         let text = cause_text(cause);
         writeln!(out, "likely: {text}")?;
@@ -30,26 +29,48 @@ fn lines_of(text: &str) -> usize {
     text.lines().filter(|line| !line.is_empty()).count()
 }
 
+/// Writes the lines of the known facts without `extra` of them. The first two lines remain if enough others can be left
+/// out.
+fn put_some(out: &mut String, known: &str, extra: usize) -> Result<(), AllocError> {
+    let from = lines_of(known).saturating_sub(extra).max(1).min(2);
+    let end = from.saturating_add(extra);
+    for (i, line) in known.lines().enumerate() {
+        if i < from || i >= end {
+            out.push_str(line)?;
+            out.push_str("\n")?;
+        }
+    }
+    Ok(())
+}
+
 /// Returns the message of a diagnosis, without the verdict. The message and the `used` lines above it have at most 15
-/// lines that are not blank. Allocates.
+/// lines that are not blank, unless the calls of the key alone need more. Some known facts are left out for this.
+/// Allocates.
 pub fn diagnosis_text(
     alloc: Global,
     diagnosis: &Diagnosis,
     used: usize,
 ) -> Result<String, AllocError> {
-    let mut facts = String::new(alloc);
-    put_facts(&mut facts, diagnosis)?;
-    let taken = lines_of(&facts).saturating_add(used).saturating_add(1);
-    let room = MOST_LINES.saturating_sub(taken);
+    let mut known = String::new(alloc);
+    put_known(&mut known, diagnosis)?;
+    let mut guess = String::new(alloc);
+    put_guess(&mut guess, diagnosis)?;
+    let facts = lines_of(&known).saturating_add(lines_of(&guess));
+    let taken = facts.saturating_add(used).saturating_add(1);
+    let mut picture = String::new(alloc);
+    if !diagnosis.shown.is_empty() {
+        let room = MOST_LINES.saturating_sub(taken);
+        picture.push_str("\n")?;
+        put_picture(alloc, &mut picture, diagnosis, room)?;
+    }
+    let lines = taken.saturating_add(lines_of(&picture));
     let mut out = String::new(alloc);
     out.push_str("\n")?;
     put_headline(&mut out, diagnosis)?;
-    if !diagnosis.shown.is_empty() {
-        out.push_str("\n")?;
-        put_picture(alloc, &mut out, diagnosis, room)?;
-    }
+    out.push_str(picture.as_str())?;
     out.push_str("\n")?;
-    out.push_str(facts.as_str())?;
+    put_some(&mut out, known.as_str(), lines.saturating_sub(MOST_LINES))?;
+    out.push_str(guess.as_str())?;
     Ok(out)
 }
 

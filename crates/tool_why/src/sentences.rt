@@ -316,7 +316,7 @@ fn put_around(out: &mut String, odd: &Odd) -> Result<(), AllocError> {
     let none = odd.wrong.saturating_sub(odd.active);
     writeln!(
         out,
-        "during them ran: an add of the key at {adds}, a remove of the key at {removes}, only changes of other keys at {other}, none of these at {none}"
+        "an add of the key ran during {adds} of them, a remove of the key during {removes}, only changes of other keys that returned true during {other}, none of these during {none}"
     )?;
     put_unseen(out, odd)?;
     let (right, wrong, word) = (odd.then_right, odd.then_wrong, odd.operation.word());
@@ -329,7 +329,7 @@ fn put_around(out: &mut String, odd: &Odd) -> Result<(), AllocError> {
     Ok(())
 }
 
-/// Writes who made the changes that the wrong answers did not see, and how long before.
+/// Writes who made the last completed changes that the wrong answers contradict, and how long before.
 fn put_unseen(out: &mut String, odd: &Odd) -> Result<(), AllocError> {
     let (own, others, latest) = (odd.by_same, odd.by_others, odd.latest);
     if own.saturating_add(others) == 0 {
@@ -337,7 +337,7 @@ fn put_unseen(out: &mut String, odd: &Odd) -> Result<(), AllocError> {
     }
     writeln!(
         out,
-        "the change that they do not show had ended, by the same thread before {own} of them, by another before {others}, at most {latest} moments earlier"
+        "the last completed change that they contradict was made by the same thread before {own} of them and by another before {others}, and had ended at most {latest} moments earlier"
     )
 }
 
