@@ -89,6 +89,7 @@ title_of() {
     check) echo "'listset-report 1' (or 2)" ;;
     draft) echo "'listset-draft 2'" ;;
     judge) echo "'listset-calls 1'" ;;
+    serve) echo "'key K'" ;;
     *) echo "'listset-schedule 1' or 'listset-report 1' (or 2)" ;;
   esac
 }

@@ -89,7 +89,7 @@ ROWS = {
     "1.5": ("judge", CALLS + "call 0 add 5 1.5 4 true\nend\n", "line 2: Number", ["BEGIN '1.5'", "point"]),
     "a key abc": ("judge", CALLS + "call 0 add abc 1 4 true\nend\n", "line 2: Number", ["KEY 'abc'", "from 0 to 4294967295", "a number of its own for each key"]),
     "a thread main": ("judge", CALLS + "call main add 5 1 4 true\nend\n", "line 2: Number", ["THREAD 'main'", "Number the threads"]),
-    "no end": ("judge", CALLS + ADD, "line 3: NotEnded", ["stops after line 2", "'end'", "'cut'", "echo cut >> FILE"]),
+    "no end": ("judge", CALLS + ADD, "line 3: NotEnded", ["stops after line 2", "echo end >> FILE", "echo cut >> FILE"]),
     "keys do not increase": ("judge", CALLS + ADD + "key 7\nkey 5\nend\n", "line 4: Opening", ["'key 5' comes after 'key 7'", "increase"]),
     "a line after the end": ("judge", RIGHT_CALLS + "\n", "line 5: Line", ["is empty"]),
     "a call after the end": ("judge", RIGHT_CALLS + ADD, "line 5: Line", ["ended with line 4"]),

@@ -225,7 +225,7 @@ pub fn put_not_ended(out: &mut String, place: Place<'_>, is_line: bool) -> Resul
     match place.kind {
         TextKind::Recording => writeln!(
             out,
-            "The text stops after line {last}: its last line must be 'end', or, without key lines, 'cut' if the final keys are not known. To add that: echo cut >> {file}"
+            "The text stops after line {last}. If its 'key' lines are all final keys, add the last line: echo end >> {file}; if the final keys are not known and there is no 'key' line: echo cut >> {file}"
         ),
         _ => writeln!(
             out,
