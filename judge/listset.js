@@ -235,6 +235,7 @@ var require_only = __commonJS({
 // listset.js
 var fs = require("fs");
 var path = require("path");
+var { isatty } = require("tty");
 var { NO_ENGINE, NOT_RUN, onlyKey, startedEngine } = parts();
 var LONGEST = 67108864;
 var WRONG = 2;
@@ -406,7 +407,7 @@ function readForEngine(input, piece) {
 }
 function keyed(engine, only, file) {
   const bad = { status: WRONG, bytes: Buffer.from("listset: bad KEY\n") };
-  if (!/^(0|[1-9][0-9]{0,9})$/.test(only) || Number(only) >= 2 ** 32)
+  if (!isKey(only))
     return bad;
   const bytes = bytesOf2(opened(file));
   if (bytes.length > LONGEST)
@@ -536,15 +537,17 @@ function hintOf(engine, { name, isOfFile, texts, values }, said) {
   if (said.startsWith("listset: bad "))
     return "";
   if (said.startsWith("listset: cannot write"))
-    return "The output was closed, as by head, or its device is full: df -h";
+    return "The output was closed, as by head, or its device failed or is full: df -h";
   if (said.startsWith("listset: too long"))
     return `An input has at most ${LONGEST} bytes; only judge reads more. Make the text shorter`;
   if (cause === "Kind" && texts.lacks !== void 0)
     return `${texts.lacks} is a check of another list than the one in line 2; listset help replay lists the checks of each list`;
   if (isOfFile && file !== "-")
     return fileHint(engine, name, file, number, cause);
+  if (cause === "Header")
+    return `${name} reads ${READS[name]}: line 1 must be ${TITLES[name]}, and the input is empty or closed, or begins otherwise. For a text in a file, listset explain FILE says what is wrong`;
   if (cause)
-    return `listset faults ${cause} explains it; of a text in a file, listset explain FILE says what is wrong there`;
+    return `listset faults ${cause} explains this error; for a text in a file, listset explain FILE says what is wrong`;
   return /cannot read/.test(said) ? `Standard input could not be read. Name a file: listset ${name} FILE` : "";
 }
 var KINDS = [
@@ -553,16 +556,26 @@ var KINDS = [
   ["listset-report", "is a report", "To check its order: listset check FILE; for its picture: listset show FILE"],
   ["listset-calls", "has recorded calls", "For the verdict: listset judge FILE"],
   ["listset-trace", "is a trace", "No command reads a trace"],
-  ["key ", "has keys for serve", "A server opens with these keys: listset serve KIND SEATS QUOTA PORT SESSIONS FILE"]
+  ["listset-course", "is a course", "No command reads a course: paste it into page/index.html, under Solve"],
+  [/^(key |(listening|sessions|calls) [^ ]*$)/, "has keys for serve", "A server opens with these keys: listset serve KIND SEATS QUOTA PORT SESSIONS FILE"]
 ];
 var READS = { replay: "a schedule", trace: "a schedule", check: "a report", draft: "a draft", judge: "recorded calls", show: "a schedule or a report" };
+var SCHEDULE = "'listset-schedule 1' (or 2)";
+var TITLES = {
+  replay: SCHEDULE,
+  trace: SCHEDULE,
+  check: "'listset-report 1' (or 2)",
+  draft: "'listset-draft 2'",
+  judge: "'listset-calls 1'",
+  show: "'listset-schedule 1' or 'listset-report 1' (or 2)"
+};
 function quoted(file) {
   const name = file.startsWith("-") ? `./${file}` : file;
   return /^[\w./+:=@%,\u0080-\uffff-]+$/.test(name) ? name : `'${name.replaceAll("'", "'\\''")}'`;
 }
 function kindOf(file) {
   const first = lineOf(file, 1);
-  const found = KINDS.find(([title]) => first.startsWith(title));
+  const found = KINDS.find(([title]) => title instanceof RegExp ? title.test(first) : first.startsWith(title));
   return found ? { is: `${quoted(file)} ${found[1]}`, use: found[2].replaceAll("FILE", quoted(file)) } : null;
 }
 function lineOf(file, number) {
@@ -590,8 +603,31 @@ function fileHint(engine, name, file, number, cause) {
   const isOther = kind !== null && !READS[name].split(" or ").some((it) => kind.is.endsWith(it));
   if (isOther)
     return `${kind.is}, and ${name} reads ${READS[name]}. ${kind.use}`;
-  return Buffer.from(explained(engine, file, "FILE").bytes).toString().trimEnd().split("\n").at(-1).replaceAll("FILE", quoted(file));
+  const line = Buffer.from(explained(engine, file, "FILE").bytes).toString().trimEnd().split("\n").at(-1);
+  const last = line.replaceAll("FILE", line.startsWith("FILE: ") ? file : quoted(file));
+  if (cause === "Header" && last.startsWith("Line 1 must be one of"))
+    return `${quoted(file)} is no text of listset. ${name} reads ${READS[name]}: line 1 must be ${TITLES[name]}, and docs/TEXTS.md has the lines below it`;
+  return last.includes(": there is no such file") ? `${last}
+${meant(engine, name, file)}`.trimEnd() : last;
 }
+function meant(engine, name, file) {
+  if (file === "help")
+    return `To read about this command: listset help ${name}`;
+  const ended = onlyWithEnding(file);
+  if (ended)
+    return `Perhaps you mean ${quoted(ended)}`;
+  return ["replay", "show", "trace"].includes(name) && isExample(engine, file) ? `If you mean the example: listset example ${file} | listset ${name}` : "";
+}
+function onlyWithEnding(file) {
+  try {
+    const found = fs.readdirSync(path.dirname(file)).filter((it) => it.startsWith(`${path.basename(file)}.`));
+    const ended = path.join(path.dirname(file), found[0] ?? "");
+    return found.length === 1 && fs.statSync(ended).isFile() ? ended : "";
+  } catch {
+    return "";
+  }
+}
+var isExample = (engine, name) => engine.ask("listset_example", name).status === 0;
 function longHint(engine, file, number, cause) {
   const [, part] = engine.ask("listset_fault", cause).text.split(", in recorded calls; exit status 1\n");
   const [why] = part.split("\n\n");
@@ -620,14 +656,22 @@ function valueHint(engine, { name, texts, values }, value) {
     return `${value} '${texts[value.toLowerCase()]}' is wrong. ${ofOption}${ofThisFile(engine, { texts, values }, value)}`;
   const range = new RegExp(`^ +\\[${value}\\] +(.*)`, "m").exec(help)?.[1];
   if (name === "example")
-    return "listset example lists the names";
+    return exampleHint(engine, values[0]);
   if (name === "faults")
-    return "listset faults lists all causes";
+    return `There is no cause '${values[0]}'. listset faults lists all causes`;
   if (value === "KEY")
-    return "KEY is a number from 0 to 4294967295, and the recording has a call of it";
+    return keyHint(texts.only);
   const given = values[usageOf(name).split(" ").indexOf(value) - 2];
-  return given === void 0 ? `${value} is missing. Usage: ${usageOf(name)}` : `${value} '${given}' is wrong. ${range}`;
+  return given === void 0 ? `${value} is missing. Usage: ${usageOf(name)}` : `${value} '${given}' is wrong. ${range}. Usage: ${usageOf(name)}`;
 }
+function exampleHint(engine, given) {
+  const name = path.basename(given).replace(/\.schedule$/, "");
+  if (name !== given && isExample(engine, name))
+    return `The name of this example is ${name}: listset example ${name}`;
+  return `There is no example '${given}'. listset example lists the names`;
+}
+var isKey = (text) => /^(0|[1-9][0-9]{0,9})$/.test(text) && Number(text) < 2 ** 32;
+var keyHint = (only) => isKey(only) ? `The recording has no call of key ${only}` : `KEY '${only}' is wrong. It is a number from 0 to 4294967295`;
 function ofThisFile(engine, { texts, values: [file = "-"] }, value) {
   if (value === "TO")
     return `; here, ${texts.from ?? 1} or a later one`;
@@ -639,18 +683,84 @@ function ofThisFile(engine, { texts, values: [file = "-"] }, value) {
 }
 function asCalled(hint) {
   const called = `node ${quoted(path.relative("", process.argv[1]))}`;
-  return hint.replace(/\blistset (?=(replay|judge|check|show|trace|draft|example|gen|run|serve|faults|explain|help)\b)/g, `${called} `);
+  return hint.replace(/\blistset (?=((replay|judge|check|show|trace|draft|example|gen|run|serve|faults|explain|help)\b|--version|--help))/g, `${called} `);
 }
-function wordHint([word = ""]) {
-  const isFile = fs.existsSync(word) && fs.statSync(word).isFile();
-  if (!isFile)
+function wordsHint(given, said) {
+  const [name = ""] = given;
+  const [, word] = /unexpected argument '([^' ]*)/.exec(said) ?? [];
+  if (/unrecognized subcommand/.test(said))
+    return commandHint(name, said);
+  if (/^error: a value is required/.test(said))
+    return `listset help ${name} says what it can be`;
+  if (word?.startsWith("-"))
+    return optionHint(given, word);
+  if (!word || COMMANDS[name]?.most > 1)
     return "";
-  const kind = kindOf(word);
-  return `${asCalled(`If you mean the file: ${kind ? `${kind.is}. ${kind.use}` : `listset explain ${quoted(word)}`}`)}
-`;
+  if (name === "example")
+    return "example prints one schedule. Run the command once for each";
+  if (name === "faults")
+    return "faults explains one cause, the last word of an error line. Run the command once for each";
+  return `${name} reads one file. Run the command once for each`;
+}
+function commandHint(word, said) {
+  if (fs.existsSync(word) && fs.statSync(word).isFile()) {
+    const kind = kindOf(word);
+    return `If you mean the file: ${kind ? `${kind.is}. ${kind.use}` : `listset explain ${quoted(word)}`}`;
+  }
+  if (/tip:/.test(said))
+    return "";
+  if (word === "version")
+    return "listset --version prints the version";
+  const isCapital = word !== word.toLowerCase() && Object.hasOwn(COMMANDS, word.toLowerCase());
+  return isCapital ? `Commands are in lower case: listset ${word.toLowerCase()}` : "listset --help lists the commands";
+}
+var optionsOf = (name) => [...COMMANDS[name].options ?? [], ...COMMANDS[name].flag ? [COMMANDS[name].flag] : []];
+function optionHint(given, word) {
+  const [name] = given;
+  if (/^-[0-9]/.test(word))
+    return negativeHint(given, word);
+  const owners = Object.keys(COMMANDS).filter((it) => optionsOf(it).includes(word));
+  if (owners.length > 0)
+    return `${word} is an option of ${owners.join(", ").replace(/, (\w+)$/, " and $1")}`;
+  if (name === word && /^-(v|-v|-ver)$/.test(word))
+    return "listset --version prints the version";
+  const all = Object.keys(COMMANDS).flatMap(optionsOf);
+  const single = all.find((it) => given.some((other) => other.split("=")[0] === it.slice(1)));
+  if (single)
+    return `An option has two hyphens: ${single}`;
+  if (["-o", "--out", "--output"].includes(word))
+    return `The result goes to standard output. To write it to a file: listset ${name} .. > FILE`;
+  const file = given.find((it) => it.startsWith(word) && fs.existsSync(`./${it}`));
+  if (file)
+    return `If you mean the file: listset ${name} ${quoted(file)}`;
+  const alike = Object.hasOwn(COMMANDS, name) && optionsOf(name).find((it) => distance(it, word) <= 2);
+  if (alike)
+    return `If you mean the option: ${alike}`;
+  if (Object.hasOwn(HELP, word.replace(/^-*/, "")))
+    return `A command has no hyphens: listset ${word.replace(/^-*/, "")}`;
+  return name.startsWith("-") ? "listset --help lists the commands" : `listset help ${name} lists its arguments and options`;
+}
+function negativeHint([name, ...words], word) {
+  const at = words.findIndex((it) => it.startsWith(word));
+  const option = Object.keys(VALUE_NAMES).find((it) => it === words[at - 1]);
+  if (option === "--only")
+    return keyHint(words[at]);
+  if (option)
+    return valueHint(null, { name, texts: { [option.slice(2)]: words[at] }, values: [] }, option.slice(2).toUpperCase());
+  const before = words.slice(0, at).filter(isValue).length;
+  const value = (usageOf(name).split(" ")[before + 2] ?? "").replace(/[[\]]/g, "");
+  const range = new RegExp(`^ +\\[?${value}\\]? +(.*)`, "m").exec(HELP[name] ?? "")?.[1];
+  return range ? `${value} '${word}' is wrong. ${range}` : `listset help ${name} lists its arguments and options`;
+}
+function tellWhatIsRead({ name, isOfFile, values: [file = "-"] }) {
+  if (!isOfFile || file !== "-" || process.env.LISTSET_ENGINE !== void 0 || !isatty(0) || !isatty(2))
+    return;
+  process.stderr.write(`listset: ${asCalled(`reading ${READS[name] ?? "a text"} from the terminal, up to Ctrl-D (see listset help ${name})`)}
+`);
 }
 async function main(given) {
   const words = asked(given);
+  tellWhatIsRead(words);
   const isOther = process.env.LISTSET_ENGINE === "other";
   const engine = words.isBuilt || isOther ? null : await startedEngine(readForEngine);
   if (engine !== null)
@@ -670,5 +780,7 @@ main(process.argv.slice(2)).catch((fault) => {
   process.exitCode = fault.status;
   if (fault.status === 0)
     return write({ status: 0, bytes: Buffer.from(fault.message) });
-  process.stderr.write(process.stderr.isTTY ? `${fault.message}${wordHint(process.argv.slice(2))}` : fault.message);
+  const hint = process.stderr.isTTY ? asCalled(wordsHint(process.argv.slice(2), fault.message)) : "";
+  process.stderr.write(hint === "" ? fault.message : `${fault.message}${hint}
+`);
 });
