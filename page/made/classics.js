@@ -16,7 +16,7 @@ export const CLASSICS = {
  },
  "full": {
   "question": "A thread with one slot adds 5, removes it and adds 7. Is there a slot for 7?",
-  "turnsOn": "No: each slot is used once, so no thread ever reaches a node whose key has changed. full changes nothing, and is correct from the begin of its call.",
+  "turnsOn": "No: each slot is used once, so no thread ever reaches a node whose key has changed. The reply full is correct as soon as its call begins.",
   "without": "If a slot is used again, the key of a node changes while other threads can be at that node (new-slot).",
   "turns": [
    14,
