@@ -38,5 +38,8 @@ function goesOnStage(by) {
   return isThere;
 }
 
-export const goOnSlide = (by) =>
-  inTurn(async () => (now.place.screen === "stage" ? goesOnStage(by) : await scene.view?.goes?.(by)) || toSlide(by));
+// Goes on or back. If steps are being shown and nothing else is left on the slide, the press only shows the rest of these steps.
+export function goOnSlide(by) {
+  const isPlaying = scene.figure?.isBusy === true;
+  return inTurn(async () => (now.place.screen === "stage" ? goesOnStage(by) : await scene.view?.goes?.(by)) || isPlaying || toSlide(by));
+}
