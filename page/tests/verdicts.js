@@ -6,6 +6,7 @@
 const fs = require("fs");
 const path = require("path");
 const { inPage, startedEngine } = require("../in_node.js");
+const kindsOf = require("./kinds.js");
 
 const CASES = Number(process.argv[2] ?? 150); // for each kind
 const result = { passed: 0, failed: [] };
@@ -225,6 +226,14 @@ function checkRecording(ask) {
   if (kind === "none") checkWhy(ask, it);
 }
 
+// Checks the verdict on a recording of a kind, and its diagnosis.
+function checkKind(ask, drawn) {
+  const it = drawn();
+  const isOk = keysOf(it).every((key) => hasOrderOf(it, key));
+  if (/^verdict ok/m.test(ask("listset_judge_record", it.text).text) !== isOk) result.failed.push(`the verdict is wrong on\n${it.text}`);
+  else if (!isOk) checkWhy(ask, it);
+}
+
 // Returns the call in the recording that a line of a diagnosis describes.
 function callOfLine(it, words) {
   const [thread, operation, key, begun] = words;
@@ -241,7 +250,7 @@ function checkWhy(ask, it) {
   return checkText(ask, it, told);
 }
 
-// Checks that the text of a diagnosis contains the statements in its record, and a bar for each call.
+// Checks that the text of a diagnosis contains the statements in its record, and a bar for each call. A long text leaves out facts.
 function checkText(ask, it, told) {
   const isOfCount = (line) => /^(contradiction: | {2}(need key|and (no|only)) )/.test(line);
   const lines = ask("listset_why", it.text).text.split("\n").filter((line) => line !== "" && !isOfCount(line));
@@ -258,7 +267,10 @@ function checkText(ask, it, told) {
   const isDrawn = bars.every((bar) => due.some((one) => toldOf(one).call === bar.call && toldOf(one).says === bar.says)) && due.filter(({ says }) => says !== "also").every(hasBar);
   const prefixes = { headline: "", fact: "", likely: "likely: ", because: "  because " };
   const statements = told.filter(({ call }) => call === undefined).map(({ says }) => says.replace(/^(\w+) /, (_, word) => prefixes[word]));
-  const isSame = lines.filter((line) => !isOfPicture.test(line)).join("\n") === statements.join("\n");
+  const printed = lines.filter((line) => !isOfPicture.test(line));
+  const isFact = (statement) => told.some(({ says }) => says === `fact ${statement}`);
+  const leftOut = statements.filter((statement) => !printed.includes(statement));
+  const isSame = printed.join("\n") === statements.filter((statement) => printed.includes(statement)).join("\n") && leftOut.every(isFact) && (leftOut.length === 0 || lines.length >= 10);
   if (isDrawn && isSame) return result.passed++;
   return result.failed.push(`the text and the record differ:\n${lines.join("\n")}\n${JSON.stringify(told)} on\n${it.text}`);
 }
@@ -512,6 +524,8 @@ const OF_WHY = [
     it.calls.some((one) => one.operation === operation && one.reply === "true" && it.calls.some((two) => two !== one && two.key === one.key && two.operation === operation && two.reply === "true"))],
   [/^because (\d+) of (\d+) are two calls that both returned true$/, (it, [some, all]) => Number(some) <= Number(all) &&
     it.calls.some((one) => isChange(one) && one.reply === "true" && it.calls.some((two) => two !== one && two.key === one.key && two.operation === one.operation && two.reply === "true"))],
+  [/^because at (\d+) of (\d+) losses and returns another key was lost or came back at the same time$/, (it, [some, all]) =>
+    Number(some) <= Number(all) && keysOf(it).filter((key) => !hasOrderOf(it, key)).length >= 2],
   [/^likely (.*)$/, (it, found, why) => why.because.length === 1],
   [/^because an? (add|remove) of the key was still running at the wrong answer$/, (it, [operation], { told }) => told !== null && told.wrong.some((call) => runsBeside(it, call, operation))],
   [/^because (?:it (?:only )?finds absent keys, and )?at (\d+) of (?:the )?(\d+) (?:wrong answers|of these answers) an? (add|remove) of the key (?:was still running|still ran)$/,
@@ -756,6 +770,7 @@ async function main() {
     checkLacking(ask, Object.keys(LACKING)[number % Object.keys(LACKING).length]);
     checkOwn(ask);
   }
+  for (const drawn of kindsOf({ draw, pick, replyOf, keysAfter, paddingAfter })) for (let number = 0; number < CASES; number++) checkKind(ask, drawn);
   // (a recording with few calls has few of the facts from which a cause is guessed)
   const isRare = (pattern) => /^\^because|which do not increase|have no order\\\.|at first, and/.test(pattern.source);
   const properties = [...OF_RECORDING, ...OF_SPLIT, ...OF_LACKING, ...OF_OWN];

@@ -1,0 +1,135 @@
+// Kinds of random recordings for verdicts.js: dense calls of one key, three keys, one operation alone, many keys with a short run each, changes of
+// other keys all the time, long gaps and large moments, and opening and final keys that are never called.
+"use strict";
+
+// Returns the kinds: functions that draw a recording. The arguments are the random numbers and the sequential set of verdicts.js.
+module.exports = ({ draw, pick, replyOf, keysAfter, paddingAfter }) => {
+  // Makes calls of some keys with a sequential set, some of them with a fault.
+  function simulated({ keys, threads, count, opening, faults, rate, pending, operations, gap, start, thread0 }) {
+    const calls = [];
+    let set = [...opening];
+    const open = new Map();
+    const history = [set];
+    let moment = start;
+    const next = () => { moment += gap(); return moment; };
+    let names = Array.from({ length: threads }, (_, at) => thread0 + at);
+    let fresh = thread0 + threads;
+    const take = (call) => {
+      call.reply = replyOf(call, set, true);
+      set = call.reply === "true" && call.operation !== "contains" ? keysAfter(call, set) : set;
+      call.taken = true;
+      history.push(set);
+    };
+    while (calls.length < count || open.size > 0) {
+      const idle = names.filter((thread) => !open.has(thread));
+      if (calls.length < count && idle.length > 0 && (open.size === 0 || draw(5) < 3)) {
+        const call = { thread: pick(idle), operation: pick(operations), key: pick(keys), begun: next(), ended: null, reply: null };
+        calls.push(call);
+        open.set(call.thread, call);
+        if (draw(3) === 0) take(call);
+      } else {
+        const call = pick([...open.values()]);
+        open.delete(call.thread);
+        if (draw(100) < pending) {
+          if (draw(2) === 0 && !call.taken) take(call);
+          call.reply = null;
+          names = names.map((name) => (name === call.thread ? fresh : name));
+          fresh++;
+          continue;
+        }
+        if (!call.taken) take(call);
+        if (draw(100) < rate) fault(pick(faults), call);
+        call.ended = next();
+      }
+      if (draw(100) < rate / 4 && faults.includes("gone")) set = set.includes(keys[0]) ? set.filter((key) => key !== keys[0]) : [...set, keys[0]].sort((a, b) => a - b);
+    }
+    function fault(kind, call) {
+      if (kind === "reply") call.reply = call.reply === "true" ? "false" : "true";
+      if (kind === "read" && call.operation === "contains") call.reply = call.reply === "true" ? "false" : "true";
+      if (kind === "miss" && call.operation === "contains") call.reply = "false";
+      if (kind === "find" && call.operation === "contains") call.reply = "true";
+      if (kind === "twice" && call.operation !== "contains") call.reply = "true";
+      if (kind === "refuse" && call.operation !== "contains") call.reply = "false";
+      if (kind === "lose") set = set.filter((key) => key !== call.key);
+      if (kind === "back" && !set.includes(call.key)) set = [...set, call.key].sort((a, b) => a - b);
+      if (kind === "undo") set = history[Math.max(0, history.length - 1 - draw(4))];
+    }
+    for (const call of calls) delete call.taken;
+    return { calls, set, moment, fresh };
+  }
+
+  const FAULTS = ["reply", "read", "miss", "find", "twice", "refuse", "lose", "back", "undo", "gone"];
+  const someFaults = () => (draw(3) === 0 ? FAULTS : [pick(FAULTS)]);
+
+  function recordingOf(calls, opening, keys, padding = []) {
+    calls.sort((one, other) => one.begun - other.begun);
+    opening = [...opening].sort((one, other) => one - other);
+    keys = keys === null ? null : [...new Set(keys)].sort((one, other) => one - other);
+    const lines = [...calls, ...padding].sort((one, other) => one.begun - other.begun)
+      .map(({ thread, operation, key, begun, ended, reply }) => `call ${thread} ${operation} ${key} ${begun} ${ended ?? "-"} ${reply ?? "-"}`);
+    const ends = keys === null ? ["cut"] : [...keys.map((key) => `key ${key}`), "end"];
+    const text = ["listset-calls 1", ...opening.map((key) => `opening ${key}`), ...lines, ...ends, ""].join("\n");
+    return { calls, padding, opening, keys, quota: Infinity, text };
+  }
+
+  const leftWith = (set) => (draw(6) === 0 ? null : draw(8) === 0 ? (set.includes(5) ? set.filter((key) => key !== 5) : [5, ...set]) : set);
+  const short = () => 1 + draw(3);
+
+  return [
+    function dense() {
+      const opening = draw(2) === 0 ? [5] : [];
+      const { calls, set, moment } = simulated({ keys: [5], threads: 2 + draw(3), count: 3 + draw(8), opening, faults: someFaults(), rate: 20 + draw(40), pending: draw(3) === 0 ? 15 : 0, operations: ["add", "remove", "contains"], gap: () => 1, start: 0, thread0: 0 });
+      return recordingOf(calls, opening, leftWith(set), draw(2) === 0 ? paddingAfter(moment).map((call) => ({ ...call, thread: 50 })) : []);
+    },
+    function three() {
+      const all = [0, 5, 4294967295];
+      const opening = all.filter(() => draw(3) === 0);
+      const { calls, set } = simulated({ keys: all, threads: 3 + draw(2), count: 6 + draw(12), opening, faults: someFaults(), rate: 10 + draw(30), pending: draw(3) === 0 ? 10 : 0, operations: ["add", "remove", "contains"], gap: short, start: 0, thread0: 0 });
+      return recordingOf(calls, opening, leftWith(set));
+    },
+    function alone() {
+      const operations = pick([["contains"], ["add"], ["remove"], ["add", "remove"], ["add", "contains"], ["remove", "contains"]]);
+      const opening = draw(2) === 0 ? [5] : [];
+      const { calls, set, moment } = simulated({ keys: [5], threads: 1 + draw(3), count: 1 + draw(11), opening, faults: someFaults(), rate: 30, pending: draw(4) === 0 ? 15 : 0, operations, gap: short, start: 0, thread0: 0 });
+      return recordingOf(calls, opening, leftWith(set), draw(2) === 0 ? paddingAfter(moment).map((call) => ({ ...call, thread: 50 })) : []);
+    },
+    function blocks() { // many keys, each with a short run of its own; enough calls and answers for a guess
+      const many = 5 + draw(8);
+      const faults = someFaults();
+      const [rate, sequential, alike, threads] = [20 + draw(60), draw(2) === 0, draw(2) === 0, 1 + draw(3)];
+      const operations = pick([["add", "remove", "contains"], ["add", "remove", "contains", "contains"], ["add", "contains"], ["add", "remove"]]);
+      const [calls, opening, left] = [[], [], []];
+      let start = 0;
+      for (let key = 1; key <= many; key++) {
+        const its = draw(4) === 0 ? [key] : [];
+        const made = simulated({ keys: [key], threads, count: alike ? 7 : 4 + draw(6), opening: its, faults: draw(3) === 0 ? [] : faults, rate: draw(3) === 0 ? 0 : rate, pending: draw(8) === 0 ? 8 : 0, operations, gap: () => (sequential ? 1 : 1 + draw(9)) * 16, start, thread0: key * 10 });
+        calls.push(...made.calls.map((call) => ({ ...call, begun: call.begun + key, ended: call.ended === null ? null : call.ended + key })));
+        if (sequential) start = made.moment + 16;
+        opening.push(...its);
+        left.push(...made.set);
+      }
+      if (draw(4) === 0) { opening.push(90); if (draw(3) > 0) left.push(90); }
+      return recordingOf(calls, opening, draw(6) === 0 ? null : left);
+    },
+    function beside() { // changes of other keys run all the time
+      const opening = draw(2) === 0 ? [5] : [];
+      const made = simulated({ keys: [5], threads: 2 + draw(2), count: 3 + draw(6), opening, faults: someFaults(), rate: 30, pending: draw(5) === 0 ? 10 : 0, operations: ["add", "remove", "contains"], gap: () => 4 * (1 + draw(3)), start: 1, thread0: 0 });
+      const others = simulated({ keys: [3, 8], threads: 2, count: 10 + draw(14), opening: [], faults: [], rate: 0, pending: draw(5) === 0 ? 5 : 0, operations: ["add", "remove"], gap: () => 2 * (1 + draw(3)), start: 2, thread0: 20 });
+      const calls = [...made.calls.map((call) => ({ ...call, begun: call.begun * 2, ended: call.ended === null ? null : call.ended * 2 })), ...others.calls.map((call) => ({ ...call, begun: call.begun * 2 + 1, ended: call.ended === null ? null : call.ended * 2 + 1 }))];
+      return recordingOf(calls, opening, draw(6) === 0 ? null : [...made.set, ...others.set]);
+    },
+    function gaps() { // long times between calls, and huge moments
+      const opening = draw(2) === 0 ? [5] : [];
+      const { calls, set } = simulated({ keys: [5, 7], threads: 3, count: 3 + draw(7), opening, faults: someFaults(), rate: 30, pending: draw(4) === 0 ? 10 : 0, operations: ["add", "remove", "contains"], gap: () => pick([1, 2, 99, 100, 101, 150, 5000, 1e9, 2e9, 1e12]), start: pick([0, 1e15, 3]), thread0: 0 });
+      return recordingOf(calls, opening, leftWith(set));
+    },
+    function ends() { // opening and final keys, few calls or none
+      const all = [1, 5, 7, 9];
+      const opening = all.filter(() => draw(2) === 0);
+      const left = draw(5) === 0 ? null : opening.filter(() => draw(5) > 0).concat(all.filter(() => draw(8) === 0));
+      const { calls, set } = simulated({ keys: [5], threads: 2, count: draw(4), opening, faults: someFaults(), rate: 30, pending: 10, operations: ["add", "remove", "contains"], gap: short, start: 0, thread0: 0 });
+      const its = left === null ? null : [...new Set(left)].filter((key) => key !== 5).concat(set.includes(5) === (draw(5) > 0) ? [5] : []);
+      return recordingOf(calls, opening, its);
+    },
+  ];
+};
