@@ -67,11 +67,13 @@ function draw(state) {
   byId("scene").dataset.stage = state.stage;
 }
 
-// Keeps the table beside the picture: both are of the same event.
+// Keeps the table beside the picture: both are of the same event. A table that stays the same is not read out again.
 function redrawLedger() {
   const ledger = part(".ledger");
   const { run } = scene.figure;
-  if (ledger !== null) ledger.outerHTML = drawLedger(run, run.count);
+  const drawn = document.createElement("template");
+  drawn.innerHTML = drawLedger(run, run.count);
+  if (ledger !== null && ledger.outerHTML !== drawn.innerHTML) ledger.replaceWith(drawn.content);
 }
 
 function looked() {
