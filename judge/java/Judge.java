@@ -471,7 +471,7 @@ public final class Judge {
     private record Area(Options how, ByteBuffer memory) {
         private static final VarHandle INT = MethodHandles.byteBufferViewVarHandle(int[].class, ByteOrder.nativeOrder());
         // Offsets in the memory. IS_HERE: whether the other JVM has started. SAVES: twice what is saved in the file (its
-        // length as a long, and the moment up to which it has all calls), of which SAVE says the valid one. SHAPE: six
+        // length as a long, and the moment up to which it has all calls); SAVE names the valid one. SHAPE: six
         // numbers. WHY and FILE: texts.
         private static final int TICKETS = 0, THERE = 4, DONE = 8, BEGUN = 12, AT = 16, STOPPING = 20, IS_HERE = 24, IS_BUSY = 28, SEED = 32, SAVE = 40,
             SAVES = 48, SAVED = 16, MOMENT = 8, SHAPE = SAVES + 2 * SAVED, WHY = SHAPE + 24, FILE = WHY + 4 + 240, SLOTS = FILE + 4 + 1024;

@@ -38,7 +38,7 @@ function goesOnStage(by) {
   return isThere;
 }
 
-// Goes on or back. If steps are being shown and nothing else is left on the slide, the press only shows the rest of these steps.
+// Moves forward or back. If steps are being shown and nothing else is left on the slide, a press only shows the rest of these steps.
 export function goOnSlide(by) {
   const isPlaying = scene.figure?.isBusy === true;
   return inTurn(async () => (now.place.screen === "stage" ? goesOnStage(by) : await scene.view?.goes?.(by)) || isPlaying || toSlide(by));
