@@ -39,6 +39,13 @@ def wait_for(room, names):
     return not has_ended or all(note_of(room, it).exists() for it in names)
 
 
+def wait_for_those_below(room, names):
+    """Waits like `wait_for` until the crates below these are proved, and lets the proofs run first (nice)."""
+    os.nice(10)
+    if not wait_for(room, [it for it in crates_txt.below(names) if it not in names]):
+        raise toolchain.NotBuilt("a crate below is not proved")
+
+
 def prove(room, names, tell, is_whole=False):
     """Proves these crates in the folder `room` and returns the exit status of rt ci. Each line of output is passed to
     `tell`, with the copy's folder replaced by that of this repository. The libraries remain in `room`. If `is_whole`,

@@ -48,26 +48,14 @@ IsCeiling content k (Some x) = (k ≤ x) × content x × ((j : ℕ) → k ≤ j 
 -- [Fits]: states that the sequential set returns this reply and does not change, if it has this content and this count
 -- for the thread.
 abbrev pub Fits : ℕ → Content → ℕ → Call → Reply → Type 0
-Fits quota content count (Add k) True = ⊥
 Fits quota content count (Add k) False = content k.0
 Fits quota content count (Add k) Full = (content k.0 → ⊥) × (count ≡ quota)
-Fits quota content count (Add k) (At x) = ⊥
-Fits quota content count (Add k) Nothing = ⊥
-Fits quota content count (Remove k) True = ⊥
 Fits quota content count (Remove k) False = content k.0 → ⊥
-Fits quota content count (Remove k) Full = ⊥
-Fits quota content count (Remove k) (At x) = ⊥
-Fits quota content count (Remove k) Nothing = ⊥
 Fits quota content count (Contains k) True = content k.0
 Fits quota content count (Contains k) False = content k.0 → ⊥
-Fits quota content count (Contains k) Full = ⊥
-Fits quota content count (Contains k) (At x) = ⊥
-Fits quota content count (Contains k) Nothing = ⊥
-Fits quota content count (Ceiling k) True = ⊥
-Fits quota content count (Ceiling k) False = ⊥
-Fits quota content count (Ceiling k) Full = ⊥
 Fits quota content count (Ceiling k) (At x) = IsCeiling content k.0 (Some x.0)
 Fits quota content count (Ceiling k) Nothing = IsCeiling content k.0 None
+Fits quota content count call reply = ⊥
 
 -- The content at each moment. `Counts` is each thread's count at each moment.
 abbrev pub Contents : Type 1
