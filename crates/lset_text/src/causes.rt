@@ -23,27 +23,25 @@ pub enum Cause {
     /// In a report or a recording, the line is not of a kind that can follow the lines above it: `place 0 maybe`;
     /// `place 0 true` below a `key` line; in version 1 `place 0 at-5`; in a recording `call 0 add 5 1 8 full`.
     Line,
-    /// The field must be a number, but is not a number or is out of range: `begin 0 add 05`, `go 0 10001`, `place 01
-    /// true`.
+    /// The field is not a number, or is out of range: `begin 0 add 05`, `go 0 10001`, `place 01 true`.
     Number,
-    /// With this line, the file has more events, opening keys, calls, places or keys than are allowed: the hundredth
-    /// line `go 0 10000`.
+    /// This line exceeds the limit of events, opening keys, calls, places or keys in a file: the hundredth line `go 0
+    /// 10000`.
     TooMany,
-    /// The opening key is not above the opening key in the line before: `opening 9` twice.
+    /// The key is not above the opening key before it: `opening 9` twice.
     Opening,
-    /// The call contradicts the calls above it: `call 1 0 add 7 8 9 true` below `call 0 0 add 5 1 8 true`, since two
-    /// calls cannot begin or end at one moment (8).
+    /// The call contradicts the calls above it: `call 1 0 add 7 8 9 true` below `call 0 0 add 5 1 8 true`, since moment
+    /// 8 is taken.
     History,
     /// The line has no newline at its end, or the text ends too early: a report or a recording without `end`.
     NotEnded,
-    /// No thread has this number: `go 1 1` with `threads 1`, which is thread 0.
+    /// No thread has this number: `go 1 1` with `threads 1`.
     NoThread,
     /// The thread already has a pending call: `begin 0 add 5`, then `begin 0 add 6`.
     Busy,
     /// The thread has no pending call: `go 0 8`, if the call has only seven steps.
     Idle,
-    /// A broken list (one with a check removed) cannot make this step: the step would access a word outside the list's
-    /// table.
+    /// A broken list (with a check removed) cannot make this step: it would access a word outside its table.
     Lost,
     /// The thread cannot reach the given step: `go 1 out`, if the thread waits for a lock of another thread.
     Waits,
