@@ -1,5 +1,4 @@
--- Lemmas about histories: one without calls, a prefix of one, and the effect of appending a call or ending a pending
--- call.
+-- How histories grow: a history without calls, a prefix of a history, and a history after a call begins or ends.
 use Rattle.std.proofs.Common.{◌≡◌, ℕ, ◌<◌, ◌≢◌, List, [], ◌∷◌, ◌++◌, length, get_or, Option, Some, None, subst, arith}
 use Rattle.std.proofs.Common.{length-append}
 use Rattle.std.proofs.Math.Seq.{get_or-append_seam}
@@ -14,11 +13,9 @@ use Rattle.lset_words.specs.History.{IsCall, Follows, MayFollow, IsHistory, call
 use Rattle.lset_history.specs.History.{IsLater, IsOpen, ended_with}
 use Rattle.lset_history.proofs.Pairs.{pairs_set}
 
--- A list without calls is a history.
 pub empty_history : (threads : ℕ) → IsHistory threads []
 empty_history threads = record { each = λ k d b. absurd (omega arith); pairs = λ i j d a b. absurd (omega arith) }
 
--- A prefix of a history is a history.
 pub history_front : (threads : ℕ) (xs ys : List CallRecord) → IsHistory threads (xs ++ ys) → IsHistory threads xs
 history_front threads xs ys h = record {
   each = λ k d b. subst (IsCall threads) (get_or_append_left xs ys d k b) (h.each k d (longer k b));
@@ -29,7 +26,6 @@ history_front threads xs ys h = record {
     longer : (k : ℕ) → k < length xs → k < length (xs ++ ys)
     longer k b = omega (arith, length-append xs ys)
 
--- Each call of a history can be appended to the calls before it.
 pub may_follow_at : (threads : ℕ) (front more : List CallRecord) (x : CallRecord)
     → IsHistory threads (front ++ x ∷ more) → MayFollow threads front x
 may_follow_at threads front more x h = record {
@@ -42,7 +38,6 @@ may_follow_at threads front more x h = record {
     low : length front < length (front ++ x ∷ more)
     low = omega (arith, length-append front (x ∷ more))
 
--- If a call can follow the calls of a history, appending the call makes a history.
 pub history_begun : (threads : ℕ) (calls : List CallRecord) (x : CallRecord)
     → IsHistory threads calls → MayFollow threads calls x → IsHistory threads (calls ++ x ∷ [])
 history_begun threads calls x h may = record {

@@ -1,5 +1,5 @@
--- The calls of a log at every moment of an account: facts about each call and each pair of calls, and which calls
--- exist.
+-- What is true of the calls of a log at each moment, if the log has an account: of each call, of each pair of calls,
+-- and which calls exist.
 use Rattle.std.proofs.Common.{rules, ◌≡◌, ◌≢◌, ℕ, zero, suc, ◌<◌, ◌≤◌, ◌⊎◌, Bool, true, false, ◌||◌, inl, inr, List, [], ◌∷◌, ◌++◌, map, length}
 use Rattle.std.proofs.Common.{sym, refl, ap, ◌∙◌, arith}
 use Rattle.std.specs.Prelude.{slice_index_or, Option, Some, None, is_some, IfSome, IsSomeAnd, All, AllPairs, if◌then◌else◌}
@@ -18,7 +18,7 @@ use Rattle.lset_history.specs.Placement.{traced_at, no_traced}
 use Rattle.lset_words.specs.Words.{Opening}
 use Rattle.lset_words.proofs.Numbers.{equal_test, unequal_test, same_or_not}
 
--- A RUN: its log, its contents and its counts.
+-- A run: its log and, at each moment, the keys of the set and each thread's number of successful adds.
 pub record Run : Type 1 where
   pub threads : ℕ
   pub quota : ℕ
@@ -30,13 +30,13 @@ abbrev pub run_of : ℕ → ℕ → Log → Contents → Counts → Run
 run_of threads quota log contents counts =
     record { threads = threads; quota = quota; log = log; contents = contents; counts = counts }
 
--- The entry that begins a call.
+-- States that the log's entry just before the moment `begun` is the begin of this call.
 pub record Beginning (r : Run) (thread : ℕ) (call : Call) (begun : ℕ) : Type 0 where
   pub before : ℕ
   pub is : begun ≡ suc before
   pub entry : r.log before ≡ began thread call
 
--- The entry at which a call makes its change.
+-- States that the log's entry just before the moment `changed` is the change by this call.
 pub record ChangeAt (r : Run) (thread : ℕ) (call : Call) (begun changed : ℕ) : Type 0 where
   pub before : ℕ
   pub is : changed ≡ suc before
@@ -46,7 +46,8 @@ pub record ChangeAt (r : Run) (thread : ℕ) (call : Call) (begun changed : ℕ)
   pub entry : r.log before ≡ stepped thread (Some change) reply
   pub may : MayChange r.quota (r.counts before thread) call false (Some change)
 
--- The entry at which a call ends with a correct reply, after its change, if any.
+-- States that the log's entry just before the moment `end` is the end of this call with a correct reply. If the call
+-- makes a change, it does so earlier or in this step.
 pub record EndAt (r : Run) (thread : ℕ) (call : Call) (begun : ℕ) (changed : Option ℕ) (end : ℕ) (reply : Reply) : Type 0 where
   pub before : ℕ
   pub is : end ≡ suc before
@@ -56,14 +57,14 @@ pub record EndAt (r : Run) (thread : ℕ) (call : Call) (begun : ℕ) (changed :
   pub after_change : (m : ℕ) → changed ≡ Some m → m ≤ end
   pub right : RightReply (is_some changed) r.quota r.contents r.counts begun end thread call (Some reply)
 
--- The log's recursive functions, and their values for a pending call.
+-- States that the functions that compute a thread's pending call from the log have the values that belong to this call.
 pub record OpenAt (r : Run) (k thread : ℕ) (call : Call) (begun : ℕ) (changed : Option ℕ) : Type 0 where
   pub is : is_open r.log thread k ≡ true
   pub call_is : last_call r.log thread k ≡ call
   pub begun_is : begun_at r.log thread k ≡ begun
   pub changed_is : has_changed r.log thread k ≡ is_some changed
 
--- The facts about each call at moment k.
+-- What is true of each call at moment k.
 pub record Traced (r : Run) (k : ℕ) (x : TracedCall) : Type 0 where
   pub of_a_thread : x.thread < r.threads
   pub begins : Beginning r x.thread x.call x.begun
@@ -73,7 +74,7 @@ pub record Traced (r : Run) (k : ℕ) (x : TracedCall) : Type 0 where
   pub ends : (m : ℕ) (reply : Reply) → x.ended ≡ Some (m, reply)
       → (m ≤ k) × EndAt r x.thread x.call x.begun x.changed m reply
 
--- The facts about two calls if `x` has the smaller number.
+-- What is true of two calls if `x` has the smaller number.
 pub record Later (x y : TracedCall) : Type 0 where
   pub begins : x.begun < y.begun
   pub one_thread : x.thread ≡ y.thread → IsSomeAnd x.ended (λ (e : ℕ × Reply). e.0 < y.begun)
@@ -85,18 +86,17 @@ IsOpenOf t x = (x.thread ≡ t) × (x.ended ≡ None)
 abbrev pub SomeCall : (TracedCall → Type 0) → List TracedCall → Type 0
 SomeCall P xs = (i : ℕ) × (i < length xs) × P (traced_at xs i)
 
--- If every value that an option can have satisfies `P`, the option does.
 pub if_some : {A : Type 0} (o : Option A) (P : A → Type 0) → ((x : A) → o ≡ Some x → P x) → IfSome o P
 if_some None P f = tt
 if_some (Some x) P f = f x refl
 
--- States which calls exist at moment k.
+-- States that the list has exactly the calls that exist at moment k.
 pub record Calls (r : Run) (k : ℕ) (xs : List TracedCall) : Type 0 where
   pub each : All (Traced r k) xs
   pub pairs : AllPairs Later xs
-  -- Each pending call of the log is in the list.
+  -- If the log has a pending call of thread `t`, this call is in the list.
   pub opens : (t : ℕ) → is_open r.log t k ≡ true → SomeCall (IsOpenOf t) xs
-  -- For each change, the list has the call that made it.
+  -- If the log has a change, the call that made it is in the list.
   pub changers : (j t : ℕ) (change : Change) (reply : Option Reply) → j < k → r.log j ≡ stepped t (Some change) reply
       → SomeCall (λ x. x.changed ≡ Some (suc j)) xs
 
@@ -117,7 +117,7 @@ stays_open : {r : Run} {k t begun : ℕ} {call : Call} {changed : Option ℕ} (e
     → OpenAt r k t call begun changed → OpenAt r (suc k) t call begun changed
 stays_open e at other o = grind (arith, nat_tests)
 
--- No entry changes a completed call.
+-- An entry of the log does not change a call that is completed, or whose thread does not make the entry.
 waits : {r : Run} {k : ℕ} {x : TracedCall} → (x.ended ≡ None → thread_of (r.log k) ≢ x.thread) → Traced r k x
     → Traced r (suc k) x
 waits other t = record {
@@ -145,7 +145,6 @@ begins {k = k} {t = t} e l =
       ends = λ m y c. absurd cc;
     }
 
--- Two calls of a thread do not overlap: the earlier one has ended before the later one begins.
 starts : {r : Run} {k t : ℕ} {call : Call} {x : TracedCall} → is_open r.log t k ≡ false → Traced r k x → Later x (new_call k t call)
 starts {k = k} {t = t} {x = x} shut p = record { begins = omega arith; one_thread = λ same. ended x.ended refl same }
   where
@@ -183,7 +182,7 @@ after_beginning {r} {k} {t} {call} {xs} e l shut h = record {
     before : {j u : ℕ} {change : Change} {reply : Option Reply} → j < suc k → r.log j ≡ stepped u (Some change) reply → j < k
     before m f = search rules
 
--- A STEP
+-- A step of thread `t` between moments k and k + 1, as the log and the account describe it.
 pub record Stepping (r : Run) (k t : ℕ) (change : Option Change) (reply : Option Reply) : Type 0 where
   pub entry : r.log k ≡ stepped t change reply
   pub of_a_thread : t < r.threads
@@ -195,14 +194,13 @@ pub record Stepping (r : Run) (k t : ℕ) (change : Option Change) (reply : Opti
 abbrev pub step_of : ℕ → ℕ → Option Change → Option Reply → TracedCall → TracedCall
 step_of k t change reply x = if is_under_way t x then traced_on (suc k) change reply x else x
 
--- A call that `is_under_way` accepts is pending and belongs to thread `t`.
 pub way_of : (t : ℕ) (x : TracedCall) → is_under_way t x ≡ true → (t ≡ x.thread) × (x.ended ≡ None)
 way_of t x u = (grind (arith, nat_tests), grind (arith, nat_tests))
 
 pub is_way : (t : ℕ) (x : TracedCall) → x.thread ≡ t → x.ended ≡ None → is_under_way t x ≡ true
 is_way t x e n = rw (equal_test x.thread t e, n) refl
 
--- The change and the end that a call has after its step.
+-- A call has its change or its end either from earlier moments or from this step.
 changed_as : (m n : ℕ) (change : Option Change) (before : Option ℕ) → changed_by m change before ≡ Some n
     → ((change ≡ None) × (before ≡ Some n)) ⊎ ((c : Change) × (change ≡ Some c) × (n ≡ m))
 changed_as m n None before e = inl (refl, e)
@@ -223,7 +221,7 @@ may_be : (quota count : ℕ) (call here : Call) (b : Bool) (c : Change) → here
 may_be quota count call here b (key, true) e m = (sym e ∙ m.0, refl, m.2)
 may_be quota count call here b (key, false) e m = (sym e ∙ m.0, refl)
 
--- Lemmas about the pending call whose thread makes the step.
+-- Facts about the pending call of the thread that makes the step.
 module _ {r : Run} {k : ℕ} {change : Option Change} {reply : Option Reply} {x : TracedCall} (s : Stepping r k x.thread change reply)
     (none : x.ended ≡ None) (p : Traced r k x) where
   here : OpenAt r k x.thread x.call x.begun x.changed
@@ -346,7 +344,8 @@ module _ {r : Run} {k t : ℕ} {change : Option Change} {reply : Option Reply} (
       opens_as : (u : ℕ) (y : Option Reply) (b : Bool) → open_after (stepped t change y) u b ≡ true → (b ≡ true) × (t ≡ u → y ≡ None)
       opens_as u y b o = (grind (arith, nat_tests), grind (arith, nat_tests))
 
--- The facts hold at every moment of the run.
+-- At each moment of a run with an account, the list of its calls has the properties in `Calls`. By induction over the
+-- moments.
 pub calls_of : (op : Opening) (last : ℕ) (log : Log) (contents : Contents) (counts : Counts)
     → Account op last log contents counts
     → (k : ℕ) → k ≤ last → Calls (run_of op.threads op.quota log contents counts) k (calls_at log k)

@@ -1,4 +1,5 @@
--- A test for the smallest key at or above another key at a moment, if all keys are below 2^32.
+-- A test that can be computed: is a key the smallest present key at or above another key at a moment? All keys must be
+-- below 2^32.
 use Rattle.std.proofs.Common.{rules, ◌≡◌, ℕ, ◌+◌, ◌-◌, ◌<◌, ◌≤◌, ◌⊎◌, inl, inr, true, List, refl, subst, ap, arith}
 use Rattle.std.specs.Prelude.{Option, Some, None}
 use Rattle.lset_words.proofs.Numbers.{same_number, equal_test}
@@ -42,7 +43,6 @@ module _ (changes : ℕ → List ℕ) (bounded : IsBounded changes) (key : ℕ) 
       order : (j k : ℕ) → (j ≡ k) ⊎ ((j < k) ⊎ (k < j))
       order j k = grind arith
 
-  -- The test is true if and only if the key is the smallest.
   pub tested : (found : Option ℕ) (m : ℕ) → has_ceiling changes key found m ≡ true → CeilingAt changes key found m
   tested found m e = subst (λ o. CeilingAt changes key o m) (same_key_is (smallest_present changes key m) found e) (smallest_is m)
 
@@ -56,7 +56,6 @@ module _ (changes : ℕ → List ℕ) (bounded : IsBounded changes) (key : ℕ) 
   first_tested found from to (Some k) h =
       (h.0, h.1, passes_test found k h.2, λ m a b p. h.3 m a b (tested found m p))
 
-  -- The search finds the first moment at which the test is true.
   pub ceiling_search : (found : Option ℕ) (from to : ℕ) (o : Option ℕ) → from ≤ to →
       IsFirst (CeilingAt changes key found) from to o → o ≡ first_passing true (has_ceiling changes key found) from (to - from)
   ceiling_search found from to o l h =
@@ -65,7 +64,6 @@ module _ (changes : ℕ → List ℕ) (bounded : IsBounded changes) (key : ℕ) 
       (first_tested found from to o h)
       (first_passing_is true (has_ceiling changes key found) from (to - from) to (omega arith))
 
--- If two contents have the same keys, `ceiling` finds the same key in both.
 pub ceiling_by : (P Q : Content) (k : ℕ) (o : Option ℕ) → ((j : ℕ) → P j → Q j) → ((j : ℕ) → Q j → P j) → IsCeiling P k o →
     IsCeiling Q k o
 ceiling_by P Q k None f g h = λ j a q. h j a (g j q)

@@ -1,4 +1,4 @@
--- How one more change of a key affects whether keys are present.
+-- How one more change of a key affects the moments at which the key is present.
 use Rattle.std.proofs.lemmas.Grind.{common_steps}
 use Rattle.std.proofs.Common.{◌≡◌, ◌≢◌, ℕ, zero, suc, ◌<◌, ◌≤◌, Bool, true, false, not, List, [], ◌∷◌, ◌++◌, length, get_or}
 use Rattle.std.proofs.Common.{sym, refl, ap, ◌∙◌, arith}
@@ -13,8 +13,7 @@ abbrev pub turned : ℕ → Bool → Bool
 turned zero b = b
 turned (suc i) b = turned i (not b)
 
--- If the first i changes are at most m and the others are after m, the key's presence at m is the first presence,
--- negated i times.
+-- A key's presence at moment m is its presence before all changes, negated once for each change that is at most m.
 pub state_between : (b : Bool) (ms : List ℕ) (i m : ℕ) → i ≤ length ms → ((j : ℕ) → j < i → get_or ms j 0 ≤ m)
     → (i < length ms → m < get_or ms i 0) → state_at b ms m ≡ turned i b
 state_between b [] zero m l f g = refl
@@ -29,7 +28,6 @@ state_past b [] m f = refl
 state_past b (x ∷ ms) m f = rw (le-ltb m x (f 0 (omega arith)))
     (state_past (not b) ms m (λ j n. f (suc j) (omega arith)))
 
--- A change later than all others does not affect earlier moments.
 pub state_before_change : (b : Bool) (ms : List ℕ) (at m : ℕ) → m < at → state_at b (ms ++ at ∷ []) m ≡ state_at b ms m
 state_before_change b [] at m l = rw (lt-ltb m at l) refl
 state_before_change b (x ∷ ms) at m l = ap (λ z. if nat_lt m x then b else z) (state_before_change (not b) ms at m l)
@@ -57,12 +55,10 @@ module _ (changes : ℕ → List ℕ) (key at : ℕ) where
       (state_from_change false (changes key) at at (λ j n. let a : get_or (changes key) j 0 < at =
       All-get_or (λ x. x < at) (changes key) j 0 n h in omega arith) (omega arith))
 
--- From the last change on, a key's presence is its final presence.
 pub present_past : (changes : ℕ → List ℕ) (k m : ℕ) → All (λ x. x ≤ m) (changes k)
     → is_present changes k m ≡ is_present_now changes k
 present_past changes k m h = state_past false (changes k) m (λ j n. All-get_or (λ x. x ≤ m) (changes k) j 0 n h)
 
--- If all changes are at most at moment k, they and a change at a later moment `at` are at most at `at`.
 all_pushed : (ms : List ℕ) (k at : ℕ) → All (λ x. x ≤ k) ms → k ≤ at → All (λ x. x ≤ at) (ms ++ at ∷ [])
 all_pushed ms k at h l = grind (arith, common_steps)
 
@@ -82,7 +78,6 @@ all_upto_change changes key k at j h l = by_test (j == key)
     by_test true = all_pushed (changes j) k at h l
     by_test false = all_upto_later (changes j) k at l h
 
--- One more change of a key negates its final presence.
 state_after_change : (b : Bool) (ms : List ℕ) (at : ℕ) → state_after b (ms ++ at ∷ []) ≡ not (state_after b ms)
 state_after_change b [] at = refl
 state_after_change b (m ∷ ms) at = state_after_change (not b) ms at

@@ -1,5 +1,5 @@
--- The loop from the last place of an order to the first. It keeps the smallest end so far, and finds calls that are too
--- early.
+-- The loop of the checker from the end of an order to its beginning. The loop keeps the smallest end seen so far: a
+-- call that begins after this end is too early in the order.
 use Rattle.std.proofs.Common.{rules, ◌≡◌, ℕ, ◌<◌, ◌≤◌, List, length, Option, Some, None, refl, subst, inl, inr, ◌⊎◌}
 use Rattle.std.proofs.Common.{suc, arith}
 use Rattle.std.proofs.lemmas.Bool.{cases_order, cases_lt}
@@ -10,7 +10,7 @@ use Rattle.lset_words.specs.declared.history.Placed.{Placed}
 use Rattle.lset_history.specs.Checks.{smallest_with}
 use Rattle.lset_history.specs.Faults.{place_at, placed_call, IsTooEarly, Passes, RefusesFirst}
 
--- States that the call at place i or a later place ended before a given moment.
+-- States that a call ended before this moment. `EndsFrom`, below: that some call at index i of the order or later did.
 abbrev pub EndsBefore : ℕ → Option (ℕ × Reply) → Type 0
 EndsBefore moment ended = IsSomeAnd ended (λ (end : ℕ × Reply). end.0 < moment)
 
@@ -18,12 +18,12 @@ abbrev pub EndsFrom : List CallRecord → List Placed → ℕ → ℕ → Type 0
 EndsFrom calls order i moment =
     (later : ℕ) × (i ≤ later) × (later < length order) × EndsBefore moment (placed_call calls order later).ended
 
--- `smallest` is the smallest end among the calls at place i and later, or `None` if none of them has ended.
+-- States that `smallest` is the smallest end among the calls at index i and later, or `None` if none of them has ended.
 pub record EndsSmallest (calls : List CallRecord) (order : List Placed) (i : ℕ) (smallest : Option ℕ) : Type 0 where
   pub below : (moment : ℕ) → IsSomeAnd smallest (λ end. end < moment) → EndsFrom calls order i moment
   pub ends : (moment : ℕ) → EndsFrom calls order i moment → IsSomeAnd smallest (λ end. end < moment)
 
--- The first place from i on whose call is too early.
+-- The first call from index i on that is too early in the order.
 pub record EarlyFrom (calls : List CallRecord) (order : List Placed) (i number : ℕ) : Type 0 where
   pub place : ℕ
   pub from : i ≤ place
@@ -37,7 +37,7 @@ FindsEarly calls order i early =
     MatchOption early ((place : ℕ) → i ≤ place → place < length order → IsTooEarly calls order place → ⊥)
     (EarlyFrom calls order i)
 
--- A place from j on is j itself or a later place. (The loop moves from place j + 1 to place j.)
+-- A call at index j or later is at index j or later than j. The loop goes from index j + 1 to index j.
 first_or_later : (calls : List CallRecord) (order : List Placed) (j moment : ℕ) → EndsFrom calls order j moment
     → EndsBefore moment (placed_call calls order j).ended ⊎ EndsFrom calls order (suc j) moment
 first_or_later calls order j moment (k, from, inside, ends) =
@@ -73,7 +73,7 @@ pub smallest_more : (calls : List CallRecord) (order : List Placed) (j : ℕ) (s
 smallest_more calls order j smallest ended inside e h = smallest_by calls order j smallest ended
     (λ m here. (j, omega arith, inside, rw e at here)) (λ m from. rw e (first_or_later calls order j m from)) h
 
--- The loop decides whether place j itself is too early.
+-- What the loop knows decides whether the call at index j is too early.
 too_early_here : (calls : List CallRecord) (order : List Placed) (j : ℕ)
     → EndsFrom calls order (suc j) (placed_call calls order j).begun → IsTooEarly calls order j
 too_early_here calls order j (k, from, inside, ends) = (k, omega arith, inside, ends)
@@ -115,7 +115,6 @@ early_later calls order j moment smallest early e h other found = later early fo
       ];
     }
 
--- When the loop has ended, it has found the first call that is too early, or there is none.
 pub early_first : (calls : List CallRecord) (order : List Placed) (early : Option ℕ) → FindsEarly calls order 0 early
     → MatchOption early (Passes (IsTooEarly calls order) order) (RefusesFirst (IsTooEarly calls order) order)
 early_first calls order None found = λ place inside. found place (omega arith) inside

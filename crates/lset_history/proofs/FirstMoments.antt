@@ -1,4 +1,4 @@
--- The first moment at which a predicate holds, and how it depends on the last moment searched.
+-- The first moment at which a predicate holds: by computation, unique, and with different last moments of the search.
 use Rattle.std.proofs.Common.{◌≡◌, ℕ, zero, suc, ◌+◌, ◌<◌, ◌≤◌, ◌⊎◌, inl, inr, Bool, true, false, refl, ap, subst, arith}
 use Rattle.std.specs.Prelude.{Option, Some, None}
 use Rattle.lset_history.specs.Changes.{IsFirst, is_same, first_passing}
@@ -33,13 +33,11 @@ first_passing_is asked f first (suc n) last e = elim (same_or_not asked (f first
       (first_passing_is asked f (suc first) n last (omega arith)))
 ]
 
--- Equivalent predicates have the same first moment.
 pub first_same : (P Q : ℕ → Type 0) → ((m : ℕ) → P m → Q m) → ((m : ℕ) → Q m → P m) → (first last : ℕ) (o : Option ℕ)
     → IsFirst P first last o → IsFirst Q first last o
 first_same P Q to from first last None h = λ m a b q. h m a b (from m q)
 first_same P Q to from first last (Some k) h = (h.0, h.1, to k h.2, λ m a b q. h.3 m a b (from m q))
 
--- The first moment is unique.
 pub one_first : (P : ℕ → Type 0) (first last : ℕ) (o p : Option ℕ) → IsFirst P first last o → IsFirst P first last p → o ≡ p
 one_first P first last None None h g = refl
 one_first P first last None (Some k) h g = absurd (h k g.0 g.1 g.2)

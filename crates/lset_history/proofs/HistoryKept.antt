@@ -1,4 +1,4 @@
--- The begin and the end of a call preserve the invariant of a history.
+-- The invariant of a history still holds after a call begins or ends.
 use Rattle.std.proofs.Common.{◌≡◌, ℕ, suc, zero, ◌<◌, ◌≤◌, ◌^◌, ◌≢◌, ◌==◌, ◌&&◌, ◌||◌, Bool, true, false, List, [], ◌∷◌, ◌++◌}
 use Rattle.std.proofs.Common.{length, get_or, max, Option, Some, None, is_none, is_some, not, refl, sym, ap, ◌∙◌, subst}
 use Rattle.std.proofs.Common.{arith, inl, inr, ◌⊎◌, replicate}
@@ -115,7 +115,6 @@ begun_follows h x may e = record {
     not_at None at h = tt
     not_at (Some z) at h = λ same. omega arith
 
--- If a thread can begin a call, all its earlier calls have ended.
 idle_thread : (threads : ℕ) (calls : List CallRecord) (x : CallRecord) → MayFollow threads calls x → has_open calls x.thread ≡ false
 idle_thread threads calls x may = list_any_none (is_open_of x.thread) calls (λ k d b. elim (cases_eq (get_or calls k d).thread x.thread) [
   | inl same ↦ and_right _ _ (none_left _ _ ((may.follows k d b).none_open same))
@@ -136,7 +135,7 @@ others_begun calls x t other =
     (and_left (x.thread == t) (is_none x.ended) (ne_eqb x.thread t (λ same. other (sym same))))
     ∙ or-false (has_open calls t)
 
--- The fields of the history determine whether a call can begin.
+-- The fields of `History` decide whether a call can begin: the thread's flag, and the latest moment.
 pub may_begin : (h : HistoryValue) (busy : List Bool) (latest thread at : ℕ)
     → IsKept h busy latest → thread < h.opening.threads → get_or busy thread false ≡ false → latest < at → MayBegin h thread at
 may_begin h busy latest thread at kept low idle above = record {
@@ -149,7 +148,6 @@ pub too_early : (h : HistoryValue) (busy : List Bool) (latest at : ℕ) → IsKe
     → IsLater h.calls at → ⊥
 too_early h busy latest at kept low = not_later h.calls at (let l = kept.latest_is in omega arith)
 
--- Each call begins at a moment greater than its number.
 above_number : (threads : ℕ) (calls : List CallRecord) → IsHistory threads calls → (k : ℕ) → k < length calls
     → k < (call_numbered calls k).begun
 above_number threads calls h zero low =
@@ -195,7 +193,6 @@ flag_is None false e = e
 flag_is (Some x) true e = e
 flag_is o b e = refl
 
--- The invariant still holds if the opening keys are replaced.
 pub kept_reopened : (h : HistoryValue) (busy : List Bool) (latest : ℕ) (keys : List ℕ) → IsKept h busy latest
     → Opens (record h.opening { keys = keys }) → IsKept (record h { opening = record h.opening { keys = keys } }) busy latest
 kept_reopened h busy latest keys kept opens = record {
@@ -208,7 +205,7 @@ kept_reopened h busy latest keys kept opens = record {
   fits = kept.fits;
 }
 
--- When a call ends, all other calls of its thread have already ended.
+-- While a call is pending, all other calls of its thread have ended.
 alone : (threads : ℕ) (calls : List CallRecord) (n k : ℕ) → IsHistory threads calls → IsOpen calls n → (k < n) ⊎ (n < k)
     → k < length calls
     → (call_numbered calls k).thread ≡ (call_numbered calls n).thread → is_none (call_numbered calls k).ended ≡ false
@@ -277,13 +274,12 @@ kept_ended h busy latest n at reply kept still above fits = record {
     here : (t : ℕ) → t < h.opening.threads → t ≡ x.thread → x.thread < length busy
     here t low same = let f = kept.flags in omega arith
 
--- A call's thread is below the maximum number of threads.
 thread_of_call : (h : HistoryValue) (busy : List Bool) (latest n : ℕ) → IsKept h busy latest → n < length h.calls
     → (call_numbered h.calls n).thread < MOST_THREADS
 thread_of_call h busy latest n kept inside =
     let c : IsCall h.opening.threads (call_numbered h.calls n) = kept.history.each n no_call inside in omega (arith, c.of_a_thread, kept.opens.within.few)
 
--- The fields of the history determine whether a call can end.
+-- The fields of `History` decide whether a call can end: the call's record, and the latest moment.
 pub call_read : (calls : List CallRecord) (n : ℕ) (x : CallRecord) → n < length calls → x ≡ get_or calls n x
     → x ≡ call_numbered calls n
 call_read calls n x inside e = e ∙ get_or_default calls n x no_call inside
@@ -316,7 +312,6 @@ pub thread_read : (h : HistoryValue) (busy : List Bool) (latest n : ℕ) (x : Ca
     → IsKept h busy latest → n < length h.calls → x ≡ call_numbered h.calls n → x.thread < MOST_THREADS
 thread_read h busy latest n x kept inside e = rw e (thread_of_call h busy latest n kept inside)
 
--- The invariant holds of a history without calls.
 pub kept_new : (op : Opening) → Opens op → IsKept (record { opening = op; calls = [] }) (replicate MOST_THREADS false) 0
 kept_new op o = record {
   opens = o;

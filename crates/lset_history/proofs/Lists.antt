@@ -1,5 +1,4 @@
--- Recursive predicates on lists: about each element, about each pair of an earlier and a later element, and about some
--- element.
+-- Recursive predicates on lists: of each element, of each pair of elements, and of some element.
 use Rattle.std.proofs.Common.{◌≡◌, ℕ, zero, suc, ◌<◌, ◌⊎◌, Bool, true, false, inl, inr, List, [], ◌∷◌, ◌++◌, length, get_or, map}
 use Rattle.std.proofs.Common.{refl, subst, ap, ◌∙◌, arith}
 use Rattle.std.proofs.lemmas.List.{length-map, get_or-map}
@@ -9,12 +8,12 @@ use Rattle.std.proofs.lemmas.List.Elements.{All-from_recursion, recursion_from_A
 use Rattle.std.proofs.lemmas.List.Kept.{AllPairs-cons}
 use Rattle.std.proofs.lemmas.Bool.{cases_Bool}
 
--- States that R relates each element to each later element.
+-- States that R holds of each element and each later element.
 abbrev pub Pairs : {X : Type 0} → (X → X → Type 0) → List X → Type 0
 Pairs R [] = Unit {0}
 Pairs R (x ∷ xs) = AllByRecursion (R x) xs × Pairs R xs
 
--- States that some element satisfies P.
+-- States that P holds of some element.
 abbrev pub SomeOf : {X : Type 0} → (X → Type 0) → List X → Type 0
 SomeOf P [] = ⊥
 SomeOf P (x ∷ xs) = P x ⊎ SomeOf P xs
@@ -92,7 +91,6 @@ module _ {X : Type 0} (P : X → Type 0) where
   all_at (x ∷ xs) d zero l a = a.0
   all_at (x ∷ xs) d (suc i) l a = all_at xs d i (omega arith) a.1
 
--- If some element of the list equals y, then y is in the list.
 pub some_contains : {X : Type 0} (y : X) (xs : List X) → SomeOf (λ x. x ≡ y) xs → Contains xs y
 some_contains y [] a = absurd a
 some_contains y (x ∷ xs) (inl a) = (0, omega arith, a)
@@ -109,7 +107,7 @@ contains_some y (x ∷ xs) (suc k, l, e) = inr (contains_some y xs (k, omega ari
 pub contains_map : {X Y : Type 0} (f : X → Y) (xs : List X) (x : X) → Contains xs x → Contains (map f xs) (f x)
 contains_map f xs x (k, l, e) = (k, omega (arith, length-map xs f), get_or-map f xs k x (f x) l ∙ ap f e)
 
--- Returns an element that satisfies P.
+-- Finds an element of which P holds.
 pub some_one : {X : Type 0} (P : X → Type 0) (xs : List X) → SomeOf P xs → (z : X) × P z × SomeOf (λ x. x ≡ z) xs
 some_one P [] s = absurd s
 some_one P (x ∷ xs) (inl p) = (x, p, inl refl)
@@ -120,7 +118,6 @@ some_all P y [] s a = absurd s
 some_all P y (x ∷ xs) (inl e) a = subst P e a.0
 some_all P y (x ∷ xs) (inr s) a = some_all P y xs s a.1
 
--- If P holds of each element, and R and P imply S, then S relates each pair that R relates.
 pub pairs_imply : {X : Type 0} (P : X → Type 0) (R S : X → X → Type 0) → ((x y : X) → P x → P y → R x y → S x y) → (xs : List X)
     → AllByRecursion P xs → Pairs R xs → Pairs S xs
 pairs_imply P R S f [] a b = tt
@@ -153,11 +150,9 @@ module _ {X : Type 0} (R : X → X → Type 0) where
     pairs_rec xs (λ i j d l m. a (suc i) (suc j) d (omega arith) (omega arith)),
   )
 
--- If no element passes the test, the filtered list is empty.
 pub filter_none : {X : Type 0} (p : X → Bool) (xs : List X) → AllByRecursion (λ x. p x ≡ false) xs → filter p xs ≡ []
 filter_none p [] a = refl
 filter_none p (x ∷ xs) a = let e : p x ≡ false = a.0 in rw e (filter_none p xs a.1)
 
--- Each element of the filtered list passes the test.
 pub all_left : {X : Type 0} (p : X → Bool) (xs : List X) → AllByRecursion (λ x. p x ≡ true) (filter p xs)
 all_left p xs = recursion_from_All (λ x. p x ≡ true) (filter p xs) (filter_passes p xs)

@@ -1,4 +1,4 @@
--- The calls of a run, sorted into the order of placement. The sorted list exists and is unique.
+-- The calls of a run can be sorted by their linearization points in exactly one way.
 use Rattle.std.proofs.Common.{◌≡◌, ◌<◌, ◌⊎◌, inl, inr, List, [], ◌∷◌, refl, sym, subst, ◌∙◌, arith}
 use Rattle.std.specs.List.{AllByRecursion}
 use Rattle.std.specs.List.Sorted.{IsPermutation}

@@ -1,4 +1,5 @@
--- The placement theorem: the order of placement linearizes a run's history and leaves the run's last content.
+-- The placement theorem: the order of a run's calls by their linearization points linearizes the history, and leaves
+-- the keys that the run leaves.
 use Rattle.std.proofs.Common.{◌≡◌, ◌≢◌, ℕ, zero, suc, ◌<◌, ◌≤◌, true, false, inl, inr, List, [], ◌∷◌, sym, refl, subst, ap}
 use Rattle.std.proofs.Common.{◌∙◌, arith, length, map}
 use Rattle.std.specs.Prelude.{◌==◌, Option, Some, None, IfSome, IsSomeAnd, slice_index, Contains, All, AllPairs}
@@ -35,15 +36,15 @@ use Rattle.lset_history.proofs.SetStates.{Shows, keys_after, counts_after, set_a
 use Rattle.lset_history.proofs.Standings.{Stood, Changing, changing, Reading, IsStanding, during, ended_place, EndedPlace, reading, stood}
 use Rattle.lset_history.proofs.Standings.{has_place}
 
--- Converts a call with a linearization point to a call with its reply in the order.
+-- Returns the call with its thread and its reply, as an element of an order.
 abbrev pub answered_of : Standing → Answered
 answered_of s = record { thread = s.traced.thread; call = s.traced.call; reply = reply_by s.traced.changed s.traced.ended }
 
--- States that the set returns the replies of these calls in turn, and that its state changes from s to t.
+-- States that a set in state s returns the replies of these calls one after another, and is in state t after them.
 abbrev Leads : ℕ → SetState → SetState → List Standing → Type 0
 Leads quota s t xs = IsLegal quota s (map answered_of xs) × (set_left s (map answered_of xs) ≡ t)
 
--- States that the set returns the reply of one call, and that its state changes from s to t.
+-- States that a set in state s returns the reply of this call, and is in state t after it.
 abbrev LeadsTo : ℕ → SetState → SetState → Standing → Type 0
 LeadsTo quota s t x = let b = answered_of x in
     (reply_to quota s b.thread b.call ≡ b.reply) × (after_call s b.thread b.call b.reply ≡ t)
@@ -92,11 +93,11 @@ reading_stays r s state h same increasing n =
         → reply_by changed ended ≡ h.end.1
     replied changed ended e f = rw (e, f) refl
 
--- States that the call at the later place does not precede the call at the earlier place.
+-- States that the call at the later place of the order does not end before the call at the earlier place begins.
 abbrev InTime : List CallRecord → Placed → Placed → Type 0
 InTime history p q = Precedes (call_numbered history q.call) (call_numbered history p.call) → ⊥
 
--- States that the call makes a change at moment m.
+-- States that the call changes the set at moment m.
 abbrev ChangesIn : ℕ → Standing → Type 0
 ChangesIn m q = (makes_change q ≡ true) × (q.moment ≡ m)
 
@@ -128,7 +129,6 @@ module _ (op : Opening) (last : ℕ) (log : Log) (contents : Contents) (counts :
   shown : (k : ℕ) → k ≤ last → Shows op.threads (contents k) (counts k) (set_at op log k)
   shown = shows_at op last log contents counts a
 
-  -- The call numbered i in the history is the record of the traced call i.
   record_is : (i : ℕ) → call_numbered history i ≡ record_of (traced_at calls i)
   record_is i = get_or-map record_of calls i no_traced
 
@@ -176,13 +176,12 @@ module _ (op : Opening) (last : ℕ) (log : Log) (contents : Contents) (counts :
       reading_stays r x (set_at op log x.moment) (reading h still) w.keys w.increasing
       (w.numbers x.traced.thread h.trace.of_a_thread)
 
-  -- A call that ends at its linearization point or later has not ended before the point.
   no_end : (o : Option (ℕ × Reply)) (moment begun : ℕ) → IfSome o (λ (e : ℕ × Reply). moment ≤ e.0)
       → IsSomeAnd o (λ (e : ℕ × Reply). e.0 < begun) → begun ≤ moment → ⊥
   no_end None moment begun f p l = p
   no_end (Some e) moment begun f p l = omega arith
 
-  -- Two different calls never change the set at the same moment.
+  -- No two calls change the set at the same moment, since each moment has one event.
   clash : (s q : Standing) → Stands s → Stands q → s.number < q.number → s.moment ≡ q.moment → makes_change s ≡ true
       → makes_change q ≡ true → ⊥
   clash s q h i l e f g =
@@ -208,7 +207,7 @@ module _ (op : Opening) (last : ℕ) (log : Log) (contents : Contents) (counts :
         | inr f ↦ grind arith
       ]
 
-  -- States that each call of the list has its linearization point after moment j, or at j without a change.
+  -- States that each of these calls takes effect after moment j, or reads the set at moment j.
   abbrev Late : ℕ → List Standing → Type 0
   Late m xs = AllByRecursion (λ q. (m ≤ q.moment) × (makes_change q ≡ true → m < q.moment)) xs
 
@@ -221,12 +220,13 @@ module _ (op : Opening) (last : ℕ) (log : Log) (contents : Contents) (counts :
   none_due m i (q ∷ xs) late l (inl s) = let b : m < q.moment = late.0.1 s.0 in omega (arith, s.1)
   none_due m i (q ∷ xs) late l (inr s) = none_due m i xs late.1 l s
 
-  -- States that each change after moment j was made by a call of the list.
+  -- States that each change after moment j was made by one of these calls.
   abbrev Due : ℕ → List Standing → Type 0
   Due j xs = (i t : ℕ) (change : Change) (reply : Option Reply) → j ≤ i → i < last → log i ≡ stepped t (Some change) reply
       → SomeOf (ChangesIn (suc i)) xs
 
-  -- The order is legal, beginning with the set at moment j.
+  -- A set in the state of moment j returns the replies of all later calls, in their sorted order. By induction over the
+  -- calls: between two changes, the set stays the same.
   leads : (xs : List Standing) (j : ℕ) → j ≤ last → AllByRecursion Stands xs → Pairs ComesBefore xs → Late j xs → Due j xs
       → Leads op.quota (set_at op log j) (set_at op log last) xs
   leads [] j l s b late due = (tt, sym (quiet j last l due))
@@ -271,7 +271,6 @@ module _ (op : Opening) (last : ℕ) (log : Log) (contents : Contents) (counts :
     pairs : Pairs ComesBefore sorted
     pairs = pairs_rec ComesBefore sorted rises
 
-    -- A call that has a linearization point is in the sorted list.
     some_sorted : (P : Standing → Type 0) → SomeOf P ss → (z : Standing) × P z × Contains sorted z
     some_sorted P s =
         let o : (z : Standing) × P z × SomeOf (λ x. x ≡ z) ss = some_one P ss s in
@@ -334,14 +333,12 @@ module _ (op : Opening) (last : ℕ) (log : Log) (contents : Contents) (counts :
     placed_linearizes : Linearizes op.quota (opening_set op) history (map placed_of sorted)
     placed_linearizes = record { known = is_known; once = is_once; ended = is_ended; legal = is_legal; in_time = is_in_time }
 
--- The placement theorem: a run's order of placement linearizes its history.
 pub linearizes : (op : Opening) (last : ℕ) (log : Log) (contents : Contents) (counts : Counts) (order : List Placed)
     → Account op last log contents counts → IsPlacement op.quota (calls_at log last) contents counts order
     → Linearizes op.quota (opening_set op) (history_at log last) order
 linearizes op last log contents counts order a p = rw p.in_order
     (placed_linearizes op last log contents counts a p.places p.stands p.sorted p.moved p.rises)
 
--- After the order's calls, the set has the run's last content and counts.
 pub leaves_set : (op : Opening) (last : ℕ) (log : Log) (contents : Contents) (counts : Counts) (order : List Placed)
     → Account op last log contents counts → IsPlacement op.quota (calls_at log last) contents counts order
     → Shows op.threads (contents last) (counts last) (set_left (opening_set op) (map (answered (history_at log last)) order))
@@ -350,7 +347,6 @@ leaves_set op last log contents counts order a p = rw (
   leaves op last log contents counts a p.places p.stands p.sorted p.moved p.rises,
 ) (shows_at op last log contents counts a last (omega arith))
 
--- After the order's calls, the set's keys are the keys of the run's last content, in increasing order.
 pub leaves_keys : (op : Opening) (last : ℕ) (log : Log) (contents : Contents) (counts : Counts) (order : List Placed)
     → Account op last log contents counts → IsPlacement op.quota (calls_at log last) contents counts order
     → (keys : List ℕ) → IsStrictlyIncreasing keys

@@ -19,7 +19,7 @@ module _ (r : Run) (k : ℕ) where
     ends_later = if_some x.ended (λ e. x.begun < e.0) (λ e i. (t.ends e.0 e.1 i).1.later);
   }
 
-  -- Each begin and each end is an entry of the log. If two of them are at the same moment, they are the same entry.
+  -- Two begins or ends cannot be at one moment, since each entry of the log is one event.
   end_no_beginning : (x y : TracedCall) (e : ℕ × Reply) → Traced r k x → EndAt r y.thread y.call y.begun y.changed e.0 e.1
       → e.0 ≢ x.begun
   end_no_beginning x y e t d f = cc
@@ -39,7 +39,6 @@ module _ (r : Run) (k : ℕ) where
     none_open = l.one_thread;
   }
 
--- The log of a run determines a history.
 pub is_history : (op : Opening) (last : ℕ) (log : Log) (contents : Contents) (counts : Counts)
     → Account op last log contents counts → (k : ℕ) → k ≤ last → IsHistory op.threads (history_at log k)
 is_history op last log contents counts a k l =

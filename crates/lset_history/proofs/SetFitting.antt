@@ -1,4 +1,4 @@
--- [Fits] agrees with the sequential set: a reply fits if the set returns it to a call that changes nothing.
+-- [Fits] agrees with the sequential set: a reply fits if and only if the set returns it and the call changes nothing.
 use Rattle.std.proofs.Common.{◌≡◌, ℕ, ◌+◌, ◌<◌, ◌≤◌, ◌⊎◌, inl, inr, List, [], ◌∷◌, sym, refl, ap, ◌∙◌, arith, true, false, subst}
 use Rattle.std.specs.Prelude.{Contains, nat_lt, ◌==◌}
 use Rattle.std.proofs.lemmas.Bool.{cases_Bool}
@@ -16,7 +16,7 @@ use Rattle.lset_words.specs.Account.{Content, Fits}
 use Rattle.lset_history.specs.Laws.{IncreasesFor}
 use Rattle.lset_history.proofs.Keys.{has_true, has_from, has_false, has_none, with_keeps, without_from, member_or_not}
 
--- States that the key is in the list, and that no key of the list is between k and this key.
+-- States that x is the smallest key of the list at or above k.
 abbrev pub IsCeilingIn : ℕ → List ℕ → ℕ → Type 0
 IsCeilingIn k xs x = (k ≤ x) × Contains xs x × ((j : ℕ) → k ≤ j → j < x → Contains xs j → ⊥)
 
@@ -83,7 +83,6 @@ none_ceiling k (y ∷ ys) e j a m = elim (cases_Bool (nat_lt y k)) [
   | inr f ↦ (let g : At (record { 0 = y }) ≡ Nothing = rw f at e in absurd (cc))
 ]
 
--- Either the list has no key at or above k, or it has a smallest one.
 pub ceiling_cases : (k : ℕ) (xs : List ℕ) → (ceiling_in k xs ≡ Nothing) ⊎ ((x : Key) × (ceiling_in k xs ≡ At x))
 ceiling_cases k [] = inl refl
 ceiling_cases k (y ∷ ys) = elim (cases_Bool (nat_lt y k)) [
@@ -91,7 +90,6 @@ ceiling_cases k (y ∷ ys) = elim (cases_Bool (nat_lt y k)) [
   | inr f ↦ rw f (inr (record { 0 = y }, refl))
 ]
 
--- The set replies to a `Ceiling` with `At` or `Nothing` only.
 pub ceiling_not : {A : Type 0} (k : ℕ) (xs : List ℕ) (r : Reply) → ceiling_in k xs ≡ r → ((x : Key) → At x ≡ r → ⊥) →
     (Nothing ≡ r → ⊥) → A
 ceiling_not k xs r e f g = elim (ceiling_cases k xs) [
@@ -111,7 +109,7 @@ pub increases_for : (call : Call) (keys : List ℕ) → IncreasesFrom 0 keys →
 increases_for (call.Ceiling k) keys r = increasing_from_increases 0 keys r
 increases_for call keys r = tt
 
--- States that the set returns this reply and does not change.
+-- States that the set returns this reply and that the call changes nothing.
 abbrev pub Replies : ℕ → SetState → ℕ → Call → Reply → Type 0
 Replies quota s thread call reply = (reply_to quota s thread call ≡ reply) × (after_call s thread call reply ≡ s)
 
@@ -128,7 +126,6 @@ module _ (quota : ℕ) (content : Content) (s : SetState) (same : SameKeys conte
   is_none : (k : ℕ) → has_key k s.keys ≡ false → content k → ⊥
   is_none k e h = has_none k s.keys e ((same k).0 h)
 
-  -- If a reply fits, the set returns it.
   pub replies_from_fits : (thread count : ℕ) (call : Call) (reply : Reply) → IncreasesFor call s.keys → count_of s thread ≡ count
       → Fits quota content count call reply → Replies quota s thread call reply
   replies_from_fits t n (call.Add k) False increasing e f = let a : has_key k.0 s.keys ≡ true = member k.0 f in (rw a refl, refl)
@@ -158,7 +155,6 @@ module _ (quota : ℕ) (content : Content) (s : SetState) (same : SameKeys conte
   )
   replies_from_fits t n call reply increasing e f = absurd f
 
-  -- If the set returns a reply and does not change, the reply fits.
   pub fits_from_replies : (thread count : ℕ) (call : Call) (reply : Reply) → IncreasesFor call s.keys → count_of s thread ≡ count
       → Replies quota s thread call reply → Fits quota content count call reply
   fits_from_replies t n (call.Add k) y increasing e f = elim (cases_Bool (has_key k.0 s.keys)) [
@@ -191,7 +187,7 @@ module _ (quota : ℕ) (content : Content) (s : SetState) (same : SameKeys conte
   fits_from_replies t n (call.Ceiling k) reply.Nothing increasing e f = λ j lo m. none_ceiling k.0 s.keys f.0 j lo ((same j).0 m)
   fits_from_replies t n (call.Ceiling k) y increasing e f = ceiling_not k.0 s.keys y f.0 (λ x g. cc) (λ g. cc)
 
-  -- For a content given by a list of keys, it is decidable whether a reply fits.
+  -- If the keys are given by a list, each reply fits or does not fit: this can be decided.
   present : (k : ℕ) → content k ⊎ (content k → ⊥)
   present k = elim (member_or_not k s.keys) [ inl c ↦ inl ((same k).1 c) | inr c ↦ inr (λ h. c ((same k).0 h)) ]
 

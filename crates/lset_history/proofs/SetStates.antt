@@ -1,4 +1,4 @@
--- The sequential set along a log. At every moment, its keys and counts are those of the account.
+-- The sequential set at each moment of a run has the keys and the numbers of successful adds in the run's account.
 use Rattle.std.proofs.Common.{rules, ◌≡◌, ◌≢◌, ℕ, zero, suc, ◌+◌, ◌<◌, ◌≤◌, true, false, inl, inr, List, length, sym, refl, subst}
 use Rattle.std.proofs.Common.{◌∙◌, arith}
 use Rattle.std.specs.Prelude.{Contains, Option, Some, None, slice_index, slice_set}
@@ -13,7 +13,7 @@ use Rattle.lset_history.proofs.Keys.{with_keeps, with_from, without_keeps, witho
 use Rattle.lset_history.proofs.SetFitting.{SameKeys}
 use Rattle.lset_words.specs.Words.{Opening}
 
--- Returns the keys after a change.
+-- Returns the keys of the set after a change.
 abbrev pub keys_after : Option Change → List ℕ → List ℕ
 keys_after None keys = keys
 keys_after (Some (k, true)) keys = with_key k.0 keys
@@ -24,17 +24,17 @@ counts_after thread None counts = counts
 counts_after thread (Some (k, true)) counts = slice_set counts thread (slice_index counts thread + 1)
 counts_after thread (Some (k, false)) counts = counts
 
--- Returns the set after an entry of the log.
+-- Returns the sequential set after an entry of the log: begins and steps without a change leave it as it is.
 abbrev pub set_after : Entry → SetState → SetState
 set_after (began t call) s = s
 set_after (stepped t change reply) s = record { keys = keys_after change s.keys; counts = counts_after t change s.counts }
 
--- Returns the set at a moment.
+-- Returns the sequential set at moment k, after the changes of the first k events.
 abbrev pub set_at : Opening → Log → ℕ → SetState
 set_at op log zero = opening_set op
 set_at op log (suc k) = set_after (log k) (set_at op log k)
 
--- States that the sequential set has this content and these counts.
+-- States that the sequential set has exactly these keys and these numbers of successful adds.
 pub record Shows (threads : ℕ) (content : Content) (counts : ℕ → ℕ) (s : SetState) : Type 0 where
   pub keys : SameKeys content s.keys
   pub increasing : IncreasesFrom 0 s.keys
@@ -100,7 +100,6 @@ shows_on threads quota log contents counts k (stepped t change reply) s h w = re
     numbers : (u : ℕ) → u < threads → slice_index (counts_after t change s.counts) u ≡ counts (suc k) u
     numbers u l = search rules
 
--- At every moment, the sequential set has the content and the counts of the account.
 pub shows_at : (op : Opening) (last : ℕ) (log : Log) (contents : Contents) (counts : Counts)
     → Account op last log contents counts → (k : ℕ) → k ≤ last → Shows op.threads (contents k) (counts k) (set_at op log k)
 shows_at op last log contents counts a zero l = record {

@@ -1,4 +1,4 @@
--- Every run has exactly one placement.
+-- Every run with an account has exactly one placement, the order of its calls by their linearization points.
 use Rattle.std.proofs.Common.{◌≡◌, ℕ, zero, suc, ◌+◌, ◌<◌, ◌≤◌, ◌⊎◌, inl, inr, List, [], ◌∷◌, length, map, sym, refl, subst, ap}
 use Rattle.std.proofs.Common.{◌∙◌, arith}
 use Rattle.std.specs.Prelude.{Option, Some, None}
@@ -20,7 +20,7 @@ use Rattle.lset_history.proofs.SetStates.{Shows, set_at, shows_at}
 use Rattle.lset_history.proofs.SetFitting.{fits_or_not}
 use Rattle.lset_words.specs.Words.{Opening}
 
--- The smallest moment at which a predicate holds, for a predicate that is decidable at each moment.
+-- The smallest moment from `first` to `last` at which P holds. It can be found if P can be decided at each moment.
 pub record Smallest (P : ℕ → Type 0) (first last : ℕ) : Type 0 where
   pub moment : ℕ
   pub from : first ≤ moment
@@ -68,7 +68,7 @@ place_of r last x None (Some end) t f c_is e_is =
         between (suc a) (suc b) l = let i : (d : ℕ) × (b ≡ a + d) = between a b (omega arith) in
             let j : b ≡ a + i.0 = i.1 in (i.0, omega arith)
 
--- Collects the points of the single calls in one list.
+-- Collects the linearization points of all calls in one list.
 chosen : (P : TracedCall → Option ℕ → Type 0) (xs : List TracedCall) → AllByRecursion (λ x. (place : Option ℕ) × P x place) xs
     → (ps : List (Option ℕ)) × (length ps ≡ length xs) × ((i : ℕ) → i < length xs → P (traced_at xs i) (place_at ps i))
 chosen P [] h = ([], refl, λ i l. absurd (omega arith))

@@ -1,4 +1,4 @@
--- The moments at which keys were added and removed, and the first moment at which a key is present or absent.
+-- When each key was added to a set and removed from it, and the first moment at which a key is present or absent.
 use Rattle.std.specs.Prelude.{◌≡◌, ◌^◌, ℕ, zero, suc, ◌-◌, ◌<◌, ◌≤◌, ◌==◌, length, map, slice_index, nat_lt, Bool, true, false}
 use Rattle.std.specs.Prelude.{IsTrue, not, if◌then◌else◌, List, [], ◌∷◌, ◌++◌, All, Option, Some, None, Vec}
 use Rattle.std.specs.declared.alloc.Global.{Global}
@@ -9,8 +9,8 @@ use Rattle.std.specs.BTreeMap.{BTreeMap, get, is_at}
 use Rattle.std.specs.BTreeSet.{BTreeSet, contains}
 use Rattle.lset_words.specs.SequentialSet.{has_key}
 
--- The opening keys, and for each key the moments above 0 at which it was added and removed, alternately and in
--- increasing order.
+-- The opening keys, and each key that changed with the moments, from 1, at which the key was added and removed:
+-- alternately, and in increasing order.
 pub record ChangesValue : Type 0 where
   pub opening : List ℕ
   pub entries : List (ℕ × List ℕ)
@@ -18,7 +18,7 @@ pub record ChangesValue : Type 0 where
 abbrev pub no_changes : ChangesValue
 no_changes = record { opening = []; entries = [] }
 
--- Returns the changes of a key at the opening: an opening key is added at moment 0.
+-- Returns the moments before moment 1 at which a key changed: opening keys count as added at moment 0.
 abbrev pub opened_moments : List ℕ → ℕ → List ℕ
 opened_moments keys key = if has_key key keys then 0 ∷ [] else []
 
@@ -29,45 +29,45 @@ moments_in (Some ms) = ms
 abbrev pub noted_of : ChangesValue → ℕ → List ℕ
 noted_of c key = moments_in (lookup (is_at (nat_cmp key)) c.entries)
 
--- Returns all moments of a key, including moment 0 if it is an opening key.
+-- Returns all moments at which a key was added or removed, with moment 0 if it is an opening key.
 abbrev pub moments_of : ChangesValue → ℕ → List ℕ
 moments_of c key = opened_moments c.opening key ++ noted_of c key
 
--- Returns whether a key with these moments is present at a moment. `present` is whether it was present before the first
--- of them.
+-- Returns whether a key is present at a moment, if the key changes at the moments of the list. `present` is whether it
+-- is present before the first of them.
 abbrev pub state_at : Bool → List ℕ → ℕ → Bool
 state_at present [] moment = present
 state_at present (m ∷ ms) moment = if nat_lt moment m then present else state_at (not present) ms moment
 
--- Returns whether a key is present after all of these moments. `present` is whether it was present before the first of
--- them.
+-- Returns whether a key is present in the end, if it changes at each moment of the list. `present` is whether it is
+-- present before the first of them.
 abbrev pub state_after : Bool → List ℕ → Bool
 state_after present [] = present
 state_after present (m ∷ ms) = state_after (not present) ms
 
--- Returns whether a key is present at a moment. `changes` maps each key to its moments.
+-- Returns whether a key is present at a moment. `changes` maps each key to the moments at which it changes.
 abbrev pub is_present : (ℕ → List ℕ) → ℕ → ℕ → Bool
 is_present changes key moment = state_at false (changes key) moment
 
 abbrev pub is_present_now : (ℕ → List ℕ) → ℕ → Bool
 is_present_now changes key = state_after false (changes key)
 
--- States that the moment is above 0 and after every recorded moment.
+-- States that the moment is at least 1 and after every moment at which a key changes.
 abbrev pub IsLaterThanAll : (ℕ → List ℕ) → ℕ → Type 0
 IsLaterThanAll changes moment = (0 < moment) × ((key : ℕ) → All (λ m. m < moment) (changes key))
 
--- Returns the moments of each key after one more change of one key.
+-- Returns the changes of all keys, with a change of `key` at `moment` appended.
 abbrev pub with_change : (ℕ → List ℕ) → ℕ → ℕ → ℕ → List ℕ
 with_change changes key moment k = if k == key then changes k ++ moment ∷ [] else changes k
 
--- States that this is the first moment from `first` to `last` at which P holds. `None` states that there is no such
--- moment.
+-- States that the last argument is the first moment from `first` to `last` at which P holds, or `None` if P holds at no
+-- such moment.
 abbrev pub IsFirst : (ℕ → Type 0) → ℕ → ℕ → Option ℕ → Type 0
 IsFirst P first last None = (m : ℕ) → first ≤ m → m ≤ last → P m → ⊥
 IsFirst P first last (Some k) = (first ≤ k) × (k ≤ last) × P k × ((m : ℕ) → first ≤ m → m < k → P m → ⊥)
 
--- The first moment that passes a test, by computation. `first_passing` tries `first` and the next n moments, and
--- returns the first at which the test's value is `asked`.
+-- Finds a first moment by computation: `first_passing asked f first n` returns the first m, from `first` to `first +
+-- n`, with `f m` equal to `asked`, or `None`.
 abbrev pub is_same : Bool → Bool → Bool
 is_same true b = b
 is_same false b = not b
@@ -76,8 +76,8 @@ abbrev pub first_passing : Bool → (ℕ → Bool) → ℕ → ℕ → Option �
 first_passing asked f first zero = if is_same asked (f first) then Some first else None
 first_passing asked f first (suc n) = if is_same asked (f first) then Some first else first_passing asked f (suc first) n
 
--- A computable test whether `found` is the smallest key at or above `key` that is present at a moment. `None` means
--- that there is no such key. All keys must be below 2^32.
+-- Tests by computation whether `found` is the smallest key at or above `key` that is present at moment `m`. `None`
+-- means that no such key is present. All keys must be below 2^32.
 abbrev pub same_key : Option ℕ → Option ℕ → Bool
 same_key None None = true
 same_key None (Some b) = false
@@ -90,23 +90,23 @@ smallest_present changes key m = first_passing true (λ j. is_present changes j 
 abbrev pub has_ceiling : (ℕ → List ℕ) → ℕ → Option ℕ → ℕ → Bool
 has_ceiling changes key found m = same_key (smallest_present changes key m) found
 
--- Returns the model value of the fields of `Changes`.
+-- Converts the fields of the Rust type `Changes` to the value that its contracts speak of.
 abbrev pub changes_in : List ℕ → BTreeMap ℕ (Vec ℕ Global) → ChangesValue
 changes_in opening kept = record { opening = opening; entries = map (λ (e : ℕ × Vec ℕ Global). (e.0, e.1.items)) kept.entries }
 
 abbrev pub Increase : ChangesValue → Type 0
 Increase c = (key : ℕ) → IsStrictlyIncreasing (moments_of c key)
 
--- States that keys from 2^32 on have no changes.
+-- States that no number from 2^32 up, which is no key, has changes.
 abbrev pub IsBounded : (ℕ → List ℕ) → Type 0
 IsBounded changes = (key : ℕ) → 2 ^ 32 ≤ key → changes key ≡ []
 
--- States that the moment is recorded with this key, unless it is moment 0.
+-- States that the map has this key at this moment. Moment 0 is exempt, since the map does not contain the opening keys.
 abbrev pub IsListed : BTreeMap ℕ ℕ → ℕ → ℕ → Type 0
 IsListed keys_at key moment = 0 < moment → get nat_cmp keys_at moment ≡ Some key
 
--- The invariant of `Changes`. In particular, `keys_at` has the key of each recorded moment, and `keys_now` has each
--- present key.
+-- The invariant of the Rust type `Changes`. Its two indexes must contain all changes: `keys_at` has the key of each
+-- moment of a change, and `keys_now` has each key that is present in the end. Both can have surplus entries.
 pub record AreKept (c : ChangesValue) (keys_at : BTreeMap ℕ ℕ) (keys_now : BTreeSet ℕ) : Type 0 where
   pub opening : IsStrictlyIncreasing c.opening
   pub increase : Increase c
@@ -114,7 +114,7 @@ pub record AreKept (c : ChangesValue) (keys_at : BTreeMap ℕ ℕ) (keys_now : B
   pub listed : (key : ℕ) → All (IsListed keys_at key) (moments_of c key)
   pub present : (key : ℕ) → is_present_now (moments_of c) key ≡ true → IsTrue (contains nat_cmp keys_now key)
 
--- States that `count` of the increasing moments are at most `moment`.
+-- States that exactly the first `count` of these increasing moments are at or before `moment`.
 pub record IsCountUpTo (ms : List ℕ) (moment count : ℕ) : Type 0 where
   pub inside : count ≤ length ms
   pub upto : (i : ℕ) → i < count → slice_index ms i ≤ moment

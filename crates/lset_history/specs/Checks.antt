@@ -1,4 +1,4 @@
--- The result of each single check of an order.
+-- What each single check of an order of calls decides, for the contracts of the checker's functions.
 use Rattle.std.specs.Prelude.{◌≡◌, ◌≢◌, ℕ, ◌<◌, ◌==◌, ◌⊎◌, Bool, true, false, List, map, length, get_or, min, Option, Some, None}
 use Rattle.std.specs.Prelude.{take, is_some, All, IfSome, IsSomeAnd}
 use Rattle.std.specs.List.{list_any}
@@ -10,7 +10,7 @@ use Rattle.lset_words.specs.History.{call_numbered, answered}
 use Rattle.lset_history.specs.Oracle.{OracleValue, PutsIn}
 use Rattle.lset_history.specs.Faults.{placed_call, set_left_by}
 
--- States that the order has only calls of the history.
+-- States that every call in the order is a call of the history.
 abbrev pub HasKnownCalls : List CallRecord → List Placed → Type 0
 HasKnownCalls calls order = All (λ (p : Placed). p.call < length calls) order
 
@@ -18,15 +18,15 @@ HasKnownCalls calls order = All (λ (p : Placed). p.call < length calls) order
 abbrev pub stands : List Placed → ℕ → Bool
 stands order number = list_any (λ p. p.call == number) order
 
--- Returns whether a call's mark is set, in a list with one mark for each call.
+-- Returns whether the mark of a call is set. The list has one mark for each call of the history.
 abbrev pub is_marked : List Bool → ℕ → Bool
 is_marked marks number = get_or marks number false
 
--- States that exactly the calls of the order are marked.
+-- States that the marks are set for exactly those calls that are in the order.
 abbrev pub MarksCalls : List Bool → List Placed → Type 0
 MarksCalls marks order = (number : ℕ) → is_marked marks number ≡ stands order number
 
--- States that a call is completed and not marked.
+-- States that the call is completed, but has no mark and therefore is not in the order.
 pub record IsLeftOut (calls : List CallRecord) (marks : List Bool) (number : ℕ) : Type 0 where
   pub known : number < length calls
   pub ended : is_some (call_numbered calls number).ended ≡ true
@@ -35,13 +35,13 @@ pub record IsLeftOut (calls : List CallRecord) (marks : List Bool) (number : ℕ
 abbrev pub LeavesNoneOut : List CallRecord → List Bool → Type 0
 LeavesNoneOut calls marks = (number : ℕ) → IsLeftOut calls marks number → ⊥
 
--- States that `number` is the smallest number of a completed call that is not marked.
+-- States that `number` is the smallest number of a completed call without a mark.
 abbrev pub LeavesOutFirst : List CallRecord → List Bool → ℕ → Type 0
 LeavesOutFirst calls marks number =
     IsLeftOut calls marks number × ((smaller : ℕ) → smaller < number → IsLeftOut calls marks smaller → ⊥)
 
--- States that the reply is the one in the history, if the call has ended there, and the one that the sequential set
--- returns.
+-- States that the reply is right: it is the reply in the history, if the call is completed, and the reply of the
+-- sequential set.
 pub record HasReply (o : OracleValue) (x : CallRecord) (reply : Reply) : Type 0 where
   pub recorded : IfSome x.ended (λ (end : ℕ × Reply). end.1 ≡ reply)
   pub given : reply_to o.quota o.state x.thread x.call ≡ reply
@@ -53,22 +53,22 @@ HasOtherReply o x reply =
 abbrev pub after_reply : OracleValue → CallRecord → Reply → OracleValue
 after_reply o x reply = record o { state = after_call o.state x.thread x.call reply }
 
--- States that each place of the order has the reply in the history, if the call has ended there, and the reply that the
--- sequential set returns.
+-- States that every reply in the order is right: it is the reply in the history, if the call is completed, and the
+-- reply of the sequential set after the earlier calls of the order.
 pub record HasReplies (o : OracleValue) (calls : List CallRecord) (order : List Placed) : Type 0 where
   pub recorded : All (λ (p : Placed). IfSome (call_numbered calls p.call).ended (λ (end : ℕ × Reply). end.1 ≡ p.reply)) order
   pub legal : IsLegal o.quota o.state (map (answered calls) order)
 
--- Returns the set after the calls of the order.
+-- Returns the sequential set after the calls of the order.
 abbrev pub after_order : OracleValue → List CallRecord → List Placed → OracleValue
 after_order o calls order = record o { state = set_left_by o.state calls order }
 
--- States that some call of the order adds its key, after the calls at earlier places.
+-- States that some call in the order adds its key to the sequential set. Only such a call allocates.
 abbrev pub PutsInSome : OracleValue → List CallRecord → List Placed → Type 0
 PutsInSome o calls order = (place : ℕ) × (place < length order)
     × PutsIn (after_order o calls (take place order)) (placed_call calls order place).thread (placed_call calls order place).call
 
--- Returns the smaller of the smallest end so far and one more call's end.
+-- Returns the smaller of `smallest` and the moment at which a call ends. `None` means no end.
 abbrev pub smallest_with : Option ℕ → Option (ℕ × Reply) → Option ℕ
 smallest_with smallest None = smallest
 smallest_with None (Some end) = Some end.0

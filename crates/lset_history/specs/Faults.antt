@@ -1,4 +1,5 @@
--- Defines when an order of calls explains a history, and which error is the first one otherwise.
+-- What it means that an order of calls explains a history and its final keys and, if the order does not, which error is
+-- reported.
 use Rattle.std.specs.Prelude.{◌≡◌, ◌≢◌, ℕ, ◌<◌, ◌≤◌, ◌⊎◌, List, map, take, length, All, IsSome, IsSomeAnd, slice_index_or}
 use Rattle.std.specs.List.Sorted.{IsStrictlyIncreasing}
 use Rattle.lset_words.specs.declared.Reply.{Reply}
@@ -12,34 +13,35 @@ use Rattle.lset_history.specs.declared.fault.OrderFault.TheVariants.{Unknown, Tw
 use Rattle.lset_history.specs.declared.fault.OrderFault.TheVariants.{Memory}
 use Rattle.lset_history.specs.History.{HistoryValue}
 
--- Returns the set after the calls of an order.
+-- Returns the state of a set in state `start` after the calls of an order.
 abbrev pub set_left_by : SetState → List CallRecord → List Placed → SetState
 set_left_by start calls order = set_left start (map (answered calls) order)
 
--- The order linearizes the history and leaves exactly these keys. The keys increase strictly.
+-- The order explains the history and the final keys: it linearizes the history, and `keys` are the keys of the set
+-- after the order's calls, in strictly increasing order.
 pub record Explains (h : HistoryValue) (order : List Placed) (keys : List ℕ) : Type 0 where
   pub linearizes : Linearizes h.opening.quota (opening_set h.opening) h.calls order
   pub keys_left : keys ≡ (set_left_by (opening_set h.opening) h.calls order).keys
   pub increasing : IsStrictlyIncreasing keys
 
--- Returns the place at an index of the order.
+-- Returns the element of the order at an index, from 0. The default is never used for an index inside the order.
 abbrev pub place_at : List Placed → ℕ → Placed
 place_at order i = slice_index_or order i (record { call = 0; reply = True })
 
--- Returns the call at a place.
+-- Returns the call of the history that is at this index of the order.
 abbrev pub placed_call : List CallRecord → List Placed → ℕ → CallRecord
 placed_call calls order i = call_numbered calls (place_at order i).call
 
--- States that the history has no call with the number at this place.
+-- States that the history has no call with the number at index `i` of the order.
 abbrev pub IsUnknown : List CallRecord → List Placed → ℕ → Type 0
 IsUnknown calls order i = length calls ≤ (place_at order i).call
 
--- States that the call is at an earlier place as well.
+-- States that the call at index `i` of the order is also at an earlier index.
 abbrev pub IsTwice : List Placed → ℕ → Type 0
 IsTwice order i = (earlier : ℕ) × (earlier < i) × ((place_at order earlier).call ≡ (place_at order i).call)
 
--- States that the place's reply differs from the reply in the history, or from the sequential set's reply after the
--- earlier places.
+-- States that the reply at index `i` of the order is wrong: it differs from the reply in the history, or from the
+-- sequential set's reply after the earlier calls of the order.
 abbrev pub HasWrongReply : ℕ → SetState → List CallRecord → List Placed → ℕ → Type 0
 HasWrongReply quota start calls order i =
     let x = placed_call calls order i in
@@ -47,7 +49,8 @@ HasWrongReply quota start calls order i =
     IsSomeAnd x.ended (λ (end : ℕ × Reply). end.1 ≢ reply)
     ⊎ (reply_to quota (set_left_by start calls (take i order)) x.thread x.call ≢ reply)
 
--- States that a call at a later place ended before this call began.
+-- States that the call at index `i` of the order is too early: a call at a later index had ended before this call
+-- began.
 abbrev pub IsTooEarly : List CallRecord → List Placed → ℕ → Type 0
 IsTooEarly calls order i =
     (later : ℕ) × (i < later) × (later < length order) × Precedes (placed_call calls order later) (placed_call calls order i)
@@ -58,11 +61,11 @@ pub record IsMissing (calls : List CallRecord) (order : List Placed) (number : �
   pub ended : IsSome (call_numbered calls number).ended
   pub absent : All (λ (p : Placed). p.call ≢ number) order
 
--- States that the check accepts every place.
+-- States that a check finds no error at any index of the order.
 abbrev pub Passes : (ℕ → Type 0) → List Placed → Type 0
 Passes Refuses order = (place : ℕ) → place < length order → Refuses place → ⊥
 
--- `number` is the call at the first place that the check refuses.
+-- States that `number` is the call at the first index of the order at which a check finds an error.
 pub record RefusesFirst (Refuses : ℕ → Type 0) (order : List Placed) (number : ℕ) : Type 0 where
   pub place : ℕ
   pub inside : place < length order
@@ -77,8 +80,9 @@ pub record MissesFirst (calls : List CallRecord) (order : List Placed) (number :
   pub missing : IsMissing calls order number
   pub smallest : (smaller : ℕ) → smaller < number → IsMissing calls order smaller → ⊥
 
--- States that this is the first error of the order: every earlier check accepts the order, and no earlier place fails
--- this check. `Missing` names the smallest number of a missing call. For `Memory`, nothing is stated.
+-- States that this is the error to report: the checks before its own find no error, and it is the first error of its
+-- own check. `Missing` names the smallest number of a missing call. For `Memory`, a failed allocation, nothing is
+-- stated.
 abbrev pub IsFault : HistoryValue → List Placed → List ℕ → OrderFault → Type 0
 IsFault h order keys (Unknown number) = RefusesFirst (IsUnknown h.calls order) order number
 IsFault h order keys (Twice number) = Passes (IsUnknown h.calls order) order × RefusesFirst (IsTwice order) order number

@@ -1,4 +1,5 @@
--- The value of a `History`, and the conditions under which it lets a call begin or end.
+-- The value of the Rust type `History`, and the conditions under which a history accepts the begin or the end of a
+-- call.
 use Rattle.std.specs.Prelude.{◌≡◌, ℕ, ◌<◌, ◌≤◌, ◌^◌, ◌==◌, ◌&&◌, max, Bool, true, false, List, [], ◌∷◌, ◌++◌, length, Option}
 use Rattle.std.specs.Prelude.{Some, None, is_none, All, IfSome, slice_index_or, slice_set}
 use Rattle.std.specs.List.{list_any}
@@ -9,29 +10,29 @@ use Rattle.lset_words.specs.History.{IsHistory, call_numbered}
 use Rattle.lset_history.specs.declared.fault.HistoryFault.{HistoryFault}
 use Rattle.lset_history.specs.declared.fault.HistoryFault.TheVariants.{NoThread, Busy, NotOpen, Time, Memory}
 
--- The opening of the set, and the calls, indexed by their numbers.
+-- The calls of a history, indexed by their numbers, and how the set opens.
 pub record HistoryValue : Type 0 where
   pub opening : Opening
   pub calls : List CallRecord
 
--- Returns whether a thread has a pending call.
+-- Returns whether this thread has a pending call.
 abbrev pub has_open : List CallRecord → ℕ → Bool
 has_open calls thread = list_any (λ x. x.thread == thread && is_none x.ended) calls
 
--- States that the moment is at least 1 and after every begin and end in these calls.
+-- States that the moment is at least 1 and after every begin and every end in the history.
 pub record IsLater (calls : List CallRecord) (at : ℕ) : Type 0 where
   pub counted : 0 < at
   pub begins : All (λ (x : CallRecord). x.begun < at) calls
   pub ends : All (λ (x : CallRecord). IfSome x.ended (λ (e : ℕ × Reply). e.0 < at)) calls
 
--- The conditions under which a thread can begin a call at a moment.
+-- The conditions under which a history accepts that `thread` begins a call at the moment `at`.
 pub record MayBegin (h : HistoryValue) (thread at : ℕ) : Type 0 where
   pub of_a_thread : thread < h.opening.threads
   pub idle : has_open h.calls thread ≡ false
   pub later : IsLater h.calls at
 
--- States that this is the first reason why the history does not let a call begin. `Memory` is the reason only if the
--- thread can begin a call at this moment.
+-- States that this is the first reason to refuse that a thread begins a call. `Memory`, a failed allocation, is a
+-- reason only if the call could begin.
 abbrev pub CannotBegin : HistoryValue → ℕ → ℕ → HistoryFault → Type 0
 CannotBegin h thread at NoThread = h.opening.threads ≤ thread
 CannotBegin h thread at Busy = (thread < h.opening.threads) × (has_open h.calls thread ≡ true)
@@ -42,7 +43,7 @@ CannotBegin h thread at Memory = MayBegin h thread at
 abbrev pub with_begun : HistoryValue → CallRecord → HistoryValue
 with_begun h x = record h { calls = h.calls ++ x ∷ [] }
 
--- The call with this number exists and is pending, so it can end.
+-- States that the history has a call with this number, and that this call is pending.
 pub record IsOpen (calls : List CallRecord) (number : ℕ) : Type 0 where
   pub known : number < length calls
   pub not_ended : (call_numbered calls number).ended ≡ None
@@ -51,7 +52,8 @@ pub record MayEnd (h : HistoryValue) (number at : ℕ) : Type 0 where
   pub open_call : IsOpen h.calls number
   pub later : IsLater h.calls at
 
--- States that this is the first reason why the history does not let a call end. `Memory` is never the reason.
+-- States that this is the first reason to refuse that a call ends. Ending a call does not allocate, so `Memory` is
+-- never a reason.
 abbrev pub CannotEnd : HistoryValue → ℕ → ℕ → HistoryFault → Type 0
 CannotEnd h number at NotOpen = IsOpen h.calls number → ⊥
 CannotEnd h number at Time = IsOpen h.calls number × (IsLater h.calls at → ⊥)
@@ -59,23 +61,23 @@ CannotEnd h number at NoThread = ⊥
 CannotEnd h number at Busy = ⊥
 CannotEnd h number at Memory = ⊥
 
--- Returns the call, ended at a moment with a reply.
+-- Returns the call, completed with this moment and reply.
 abbrev pub ended_with : CallRecord → ℕ × Reply → CallRecord
 ended_with x end = record x { ended = Some end }
 
 abbrev pub with_ended : HistoryValue → ℕ → ℕ × Reply → HistoryValue
 with_ended h number end = record h { calls = slice_set h.calls number (ended_with (call_numbered h.calls number) end) }
 
--- Returns the moment of an end, or 0 if there is none.
+-- Returns the moment at which a call ends, or 0 if the call is pending.
 abbrev pub moment_of : Option (ℕ × Reply) → ℕ
 moment_of None = 0
 moment_of (Some end) = end.0
 
--- Returns the moment at which a call ends or, if it is pending, the moment at which it begins.
+-- Returns the last moment of a call: its end or, if the call is pending, its begin.
 abbrev pub last_moment : CallRecord → ℕ
 last_moment x = max x.begun (moment_of x.ended)
 
--- Returns the latest moment in the calls, or 0 if there are none.
+-- Returns the latest moment at which a call begins or ends, or 0 if there are no calls.
 abbrev pub latest_moment : List CallRecord → ℕ
 latest_moment [] = 0
 latest_moment (x ∷ xs) = max (last_moment x) (latest_moment xs)

@@ -1,4 +1,4 @@
--- The laws of placement, as the public functions state them. They mention no machine.
+-- The laws of placement, the order of a run's calls by their linearization points. They mention no nodes and no locks.
 use Rattle.std.specs.Prelude.{◌≡◌, ◌↔◌, ℕ, ◌≤◌, List, map, Contains}
 use Rattle.std.specs.List.Sorted.{IsStrictlyIncreasing}
 use Rattle.lset_words.specs.declared.Call.{Call}
@@ -12,59 +12,61 @@ use Rattle.lset_words.specs.Account.{Content, Contents, Counts, Fits, Account}
 use Rattle.lset_history.specs.Placement.{IsPlacement}
 use Rattle.lset_words.specs.Words.{Opening}
 
--- Returns the content with the keys of a list. `contents_of_lists` does the same for each moment.
+-- Returns the set of keys in a list, as a predicate. `contents_of_lists`, below, does the same for each moment.
 abbrev pub content_of : List ℕ → Content
 content_of keys j = Contains keys j
 
 abbrev pub contents_of_lists : (ℕ → List ℕ) → Contents
 contents_of_lists lists m = content_of (lists m)
 
--- The set's keys are the keys of the content, in strictly increasing order. No other increasing list has the same keys.
+-- States that the set has exactly the keys of the list `content`, and has them in strictly increasing order. No other
+-- increasing list has the same keys.
 pub record HasKeysOf (s : SetState) (content : List ℕ) : Type 0 where
   pub increasing : IsStrictlyIncreasing s.keys
   pub members : (j : ℕ) → Contains content j ↔ Contains s.keys j
   pub alone : (keys : List ℕ) → IsStrictlyIncreasing keys → ((j : ℕ) → Contains content j ↔ Contains keys j) → s.keys ≡ keys
 
--- Returns the set after a log's calls are made in this order, beginning with the opening set.
+-- Returns the state of the set after a run's calls are made one by one in this order, beginning with the opening keys.
 abbrev pub set_of_order : Opening → Log → ℕ → List Placed → SetState
 set_of_order op log last order = set_left (opening_set op) (map (answered (history_at log last)) order)
 
--- The placement theorem: the order of placement linearizes the history from the opening set, and leaves the run's last
--- content.
+-- The placement theorem: if a run has an account (each event changes the keys as its call allows, and each reply is
+-- correct at some moment of its call), then the order of its calls by linearization points linearizes the history, and
+-- leaves the keys that the run leaves.
 abbrev pub PlacementLinearizes : Type 0
 PlacementLinearizes = (op : Opening) (last : ℕ) (log : Log) (lists : ℕ → List ℕ) (counts : Counts) (order : List Placed)
     → Account op last log (contents_of_lists lists) counts
     → IsPlacement op.quota (calls_at log last) (contents_of_lists lists) counts order
     → Linearizes op.quota (opening_set op) (history_at log last) order × HasKeysOf (set_of_order op log last order) (lists last)
 
--- States that every run that satisfies an account has a placement. So every call that changed the set or ended has a
--- place in the order.
+-- States that a run with an account can be placed: its calls can be ordered by their linearization points, and each
+-- call that changed the set or completed has a place in this order.
 abbrev pub EveryCallHasAPlace : Type 0
 EveryCallHasAPlace = (op : Opening) (last : ℕ) (log : Log) (lists : ℕ → List ℕ) (counts : Counts)
     → Account op last log (contents_of_lists lists) counts
     → (order : List Placed) × IsPlacement op.quota (calls_at log last) (contents_of_lists lists) counts order
 
--- States that at each moment of a run its calls form a history.
+-- States that the calls of a run with an account form a history, at each moment.
 abbrev pub LogsTellHistories : Type 0
 LogsTellHistories = (op : Opening) (last : ℕ) (log : Log) (lists : ℕ → List ℕ) (counts : Counts)
     → Account op last log (contents_of_lists lists) counts → (k : ℕ) → k ≤ last → IsHistory op.threads (history_at log k)
 
--- States that the keys increase strictly if the call is a `Ceiling`.
+-- States that the keys increase strictly, if the call is a `Ceiling`. For the other calls nothing is required.
 abbrev pub IncreasesFor : Call → List ℕ → Type 0
 IncreasesFor (call.Add k) keys = Unit {0}
 IncreasesFor (call.Remove k) keys = Unit {0}
 IncreasesFor (call.Contains k) keys = Unit {0}
 IncreasesFor (call.Ceiling k) keys = IsStrictlyIncreasing keys
 
--- States that a reply fits a content and a count if and only if the sequential set with these keys and this count
--- returns the reply and does not change.
+-- States that [Fits] agrees with the sequential set: a reply fits these keys and this number of successful adds if and
+-- only if the set returns the reply and the call changes nothing.
 abbrev pub FitsAreReplies : Type 0
 FitsAreReplies = (quota thread count : ℕ) (keys : List ℕ) (s : SetState) (call : Call) (reply : Reply)
     → ((j : ℕ) → Contains keys j ↔ Contains s.keys j) → IncreasesFor call s.keys → count_of s thread ≡ count
     → Fits quota (content_of keys) count call reply
     ↔ ((reply_to quota s thread call ≡ reply) × (after_call s thread call reply ≡ s))
 
--- States that a run has at most one placement.
+-- States that a run has at most one placement, the order of its calls by their linearization points.
 abbrev pub PlacementIsOneOrder : Type 0
 PlacementIsOneOrder = (quota : ℕ) (calls : List TracedCall) (lists : ℕ → List ℕ) (counts : Counts)
     (order other : List Placed)

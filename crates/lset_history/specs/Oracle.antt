@@ -1,4 +1,4 @@
--- The value of an `Oracle`, which is the sequential set, and the effect of a call on it.
+-- The value of the Rust type `Oracle`, the sequential set, and what a call of it returns and changes.
 use Rattle.std.specs.Prelude.{◌≡◌, ℕ, ◌≤◌, List, length, All}
 use Rattle.std.specs.List.Sorted.{IsStrictlyIncreasing}
 use Rattle.lset_words.specs.declared.Call.{Call}
@@ -13,27 +13,28 @@ pub record OracleValue : Type 0 where
   pub quota : ℕ
   pub state : SetState
 
--- Returns the set with these keys and a count for each thread.
+-- Returns the sequential set with these keys and, for each thread, the number of its successful adds.
 abbrev pub set_of : ℕ → List ℕ → List ℕ → OracleValue
 set_of quota keys counts = record { threads = length counts; quota = quota; state = record { keys = keys; counts = counts } }
 
--- Returns the set before any call.
+-- Returns the sequential set before the first call.
 abbrev pub set_opened : Opening → OracleValue
 set_opened op = record { threads = op.threads; quota = op.quota; state = opening_set op }
 
--- The set returns this reply to a call of a thread. `new` is the set after the call.
+-- States that the set `old` returns this reply to the call of the thread, and that `new` is the set after the call.
 pub record Answers (old new : OracleValue) (thread : ℕ) (call : Call) (reply : Reply) : Type 0 where
   pub reply_is : reply ≡ reply_to old.quota old.state thread call
   pub state_is : new ≡ record old { state = after_call old.state thread call reply }
 
--- States that the call adds its key. No other call allocates.
+-- States that the call adds a key to the set. Only such calls allocate.
 abbrev pub PutsIn : OracleValue → ℕ → Call → Type 0
 PutsIn o thread (Add k) = reply_to o.quota o.state thread (Add k) ≡ True
 PutsIn o thread (Remove k) = ⊥
 PutsIn o thread (Contains k) = ⊥
 PutsIn o thread (Ceiling k) = ⊥
 
--- The invariant of an `Oracle`: its keys increase strictly, and no count exceeds the quota.
+-- The invariant of the Rust type `Oracle`: the keys increase strictly, and no thread has more successful adds than its
+-- quota.
 pub record KeepsCounts (quota : ℕ) (s : SetState) : Type 0 where
   pub increasing : IsStrictlyIncreasing s.keys
   pub few : All (λ count. count ≤ quota) s.counts

@@ -1,4 +1,4 @@
--- [Placement]: the calls of a run, sorted by their linearization points.
+-- [Placement]: the order of a run's calls by their linearization points, the moments at which they take effect.
 use Rattle.std.specs.Prelude.{◌≡◌, ℕ, suc, ◌+◌, ◌*◌, ◌<◌, ◌≤◌, ◌⊎◌, Bool, true, false, if◌then◌else◌, List, [], ◌∷◌, map, length}
 use Rattle.std.specs.Prelude.{Option, Some, None, AllPairs, slice_index_or}
 use Rattle.std.specs.List.Sorted.{IsPermutation}
@@ -9,7 +9,7 @@ use Rattle.lset_words.specs.declared.history.Placed.{Placed}
 use Rattle.lset_words.specs.Log.{TracedCall}
 use Rattle.lset_words.specs.Account.{Contents, Counts, Fits}
 
--- `moment` is the first moment during the call at which its reply fits. The call ended at `end`.
+-- States that `moment` is the first moment from the begin of the call `x` to its end at which its reply fits.
 pub record IsSmallestFit (quota : ℕ) (contents : Contents) (counts : Counts) (x : TracedCall) (end : ℕ) (reply : Reply)
     (moment : ℕ) : Type 0 where
   pub from : x.begun ≤ moment
@@ -17,9 +17,9 @@ pub record IsSmallestFit (quota : ℕ) (contents : Contents) (counts : Counts) (
   pub fits : Fits quota (contents moment) (counts moment x.thread) x.call reply
   pub smallest : (m : ℕ) → x.begun ≤ m → m < moment → Fits quota (contents m) (counts m x.thread) x.call reply → ⊥
 
--- States where a call has its linearization point. If it has made a change, the point is the moment of the change. If
--- it has ended without a change, the point is the first moment at which its reply fits. A pending call without a change
--- has no point.
+-- States which moment is a call's linearization point. If the call has changed the set, it is the moment of the change.
+-- If the call is completed and changed nothing, it is the first moment at which its reply fits. A pending call without
+-- a change has no point.
 abbrev pub StandsBy : ℕ → Contents → Counts → TracedCall → Option ℕ → Option (ℕ × Reply) → Option ℕ → Type 0
 StandsBy quota contents counts x (Some changed) ended place = place ≡ Some changed
 StandsBy quota contents counts x None None place = place ≡ None
@@ -29,7 +29,7 @@ StandsBy quota contents counts x None (Some end) place =
 abbrev pub StandsAt : ℕ → Contents → Counts → TracedCall → Option ℕ → Type 0
 StandsAt quota contents counts x place = StandsBy quota contents counts x x.changed x.ended place
 
--- A call with a linearization point: its number, the call, and the moment of the point.
+-- A call that has a linearization point, with its number in the history and the moment of its point.
 pub record Standing : Type 0 where
   pub number : ℕ
   pub traced : TracedCall
@@ -40,7 +40,8 @@ reply_by (Some changed) ended = True
 reply_by None None = True
 reply_by None (Some end) = end.1
 
--- Returns the call's place in the order. Its reply is `True` if the call has made a change, even if it is pending.
+-- Returns the element of the order for this call: its number, and its reply. The reply of a call that changed the set
+-- is `True`, even if the call is still pending.
 abbrev pub placed_of : Standing → Placed
 placed_of s = record { call = s.number; reply = reply_by s.traced.changed s.traced.ended }
 
@@ -51,8 +52,8 @@ makes_change s = has s.traced.changed
     has None = false
     has (Some moment) = true
 
--- Returns the calls that have a linearization point, in the order of their numbers. `places` has the points of all
--- calls.
+-- Returns the calls that have a linearization point, in the order of their numbers. `places` has one entry for each
+-- call: the moment of its point, or `None`.
 abbrev pub standing : ℕ → List TracedCall → List (Option ℕ) → List Standing
 standing number [] places = []
 standing number (x ∷ xs) [] = []
@@ -60,8 +61,8 @@ standing number (x ∷ xs) (None ∷ places) = standing (suc number) xs places
 standing number (x ∷ xs) (Some moment ∷ places) =
     record { number = number; traced = x; moment = moment } ∷ standing (suc number) xs places
 
--- Returns the rank by which the order is sorted: the moment of the point, with a change before all other calls of the
--- same moment. Calls of equal rank are sorted by number.
+-- Returns the rank by which calls are sorted: by the moment of the linearization point and, at the same moment, a
+-- change before the calls that see the change. Calls of equal rank are sorted by number.
 abbrev pub rank_of : Standing → ℕ
 rank_of s = if makes_change s then 2 * s.moment else 2 * s.moment + 1
 
@@ -77,15 +78,15 @@ traced_at calls number = slice_index_or calls number no_traced
 abbrev pub place_at : List (Option ℕ) → ℕ → Option ℕ
 place_at places number = slice_index_or places number None
 
--- States that the order is the placement of these calls.
+-- States that the order is the placement of these calls: all that have a linearization point, sorted by it.
 pub record IsPlacement (quota : ℕ) (calls : List TracedCall) (contents : Contents) (counts : Counts)
     (order : List Placed) : Type 0 where
-  -- The linearization point of each call, if it has one.
+  -- The moment of each call's linearization point, or `None`.
   pub places : List (Option ℕ)
   pub one_each : length places ≡ length calls
   pub stands : (number : ℕ) → number < length calls
       → StandsAt quota contents counts (traced_at calls number) (place_at places number)
-  -- The calls with a linearization point, sorted.
+  -- The calls that have a linearization point, sorted.
   pub sorted : List Standing
   pub moved : IsPermutation (standing 0 calls places) sorted
   pub rises : AllPairs ComesBefore sorted

@@ -1,32 +1,33 @@
--- Definitions for private contracts of the search for the first moment at which a key is the smallest at or above
--- another key.
+-- Definitions for the search for the first moment at which a given key is the smallest at or above another key. Only
+-- private functions use them.
 use Rattle.std.specs.Prelude.{◌≡◌, ℕ, ◌<◌, ◌≤◌, ◌==◌, nat_lt, Bool, true, false, not, if◌then◌else◌, List, All, Option, Some}
 use Rattle.std.specs.Prelude.{None}
 use Rattle.lset_history.specs.Changes.{is_present, is_present_now}
 
--- States that no key changes after `moment` and before the returned moment, and that at the returned moment at most the
--- returned key changes. `None` states that no key changes after `moment`.
+-- States that the result is a moment after `moment` and the only key that can change at that moment. No key changes in
+-- between. `None` states that no key changes after `moment`.
 abbrev pub IsNextNote : (ℕ → List ℕ) → ℕ → Option (ℕ × ℕ) → Type 0
 IsNextNote changes moment None = (j : ℕ) → All (λ m. m ≤ moment) (changes j)
 IsNextNote changes moment (Some n) = (moment < n.0)
     × ((j : ℕ) → All (λ m. moment < m → m ≤ n.0 → (m ≡ n.0) × (j ≡ n.1)) (changes j))
 
--- States that no key between `key` and the returned key is present after the last change. `None` states that no key
--- above `key` is present then.
+-- States that the result is the next key above `key` that is present after the last change of the set. `None` states
+-- that no key above `key` is.
 abbrev pub IsNextPresent : (ℕ → List ℕ) → ℕ → Option ℕ → Type 0
 IsNextPresent changes key None = (j : ℕ) → key < j → is_present_now changes j ≡ false
 IsNextPresent changes key (Some k) = (key < k) × ((j : ℕ) → key < j → j < k → is_present_now changes j ≡ false)
 
--- Returns whether key j shows, at a moment, that `found` is not the smallest key at or above `key`. `found` is `None`
--- for the claim that there is no such key.
+-- Returns whether key `j` refutes the claim that, at this moment, `found` is the smallest present key at or above
+-- `key`. The claim is that there is no such key if `found` is `None`.
 abbrev pub is_against : (ℕ → List ℕ) → ℕ → Option ℕ → ℕ → ℕ → Bool
 is_against changes key None j moment = if nat_lt j key then false else is_present changes j moment
 is_against changes key (Some x) j moment =
     if nat_lt j key then false else if nat_lt x j then false else if x == j then not (is_present changes j moment)
     else is_present changes j moment
 
--- At each moment from `from` to just before `moment`, some key refutes `found`. A key that refutes `found` at `moment`
--- keeps doing so up to `last`.
+-- States what the search knows when it has read the changes up to `last`. At each moment from `from` to just before
+-- `moment`, some key refutes that `found` is the smallest present key at or above `key`. Each key that refutes this at
+-- `moment` also does so at all moments up to `last`.
 pub record IsCandidateUpTo (changes : ℕ → List ℕ) (key : ℕ) (found : Option ℕ) (from moment last : ℕ) : Type 0 where
   pub low : from ≤ moment
   pub before : (m : ℕ) → from ≤ m → m < moment → (j : ℕ) × (is_against changes key found j m ≡ true)
@@ -40,12 +41,13 @@ abbrev pub IsBelow : ℕ → Option ℕ → Type 0
 IsBelow j None = Unit {0}
 IsBelow j (Some end) = j < end
 
--- States that some key at or above `key` and below `end` is present at this moment.
+-- States that some key from `key` to just below `end` is present at this moment. Without `end`, the range has no upper
+-- bound.
 abbrev pub IsSomeThere : (ℕ → List ℕ) → ℕ → Option ℕ → ℕ → Type 0
 IsSomeThere changes key end moment = (j : ℕ) × (key ≤ j) × IsBelow j end × (is_present changes j moment ≡ true)
 
--- States that the keys at or above `key` and below `end` that are present after the last change were all absent at this
--- moment.
+-- States that each key from `key` to just below `end` that is present after the last change of the set was absent at
+-- this moment.
 abbrev pub CameAfter : (ℕ → List ℕ) → ℕ → Option ℕ → ℕ → Type 0
 CameAfter changes key end moment = (j : ℕ) → key ≤ j → IsBelow j end → is_present_now changes j ≡ true →
     is_present changes j moment ≡ false

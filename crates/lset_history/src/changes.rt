@@ -32,8 +32,8 @@ use std::collections::{BTreeMap, BTreeSet};
 use std::marker::Model;
 use std::ops::Bound;
 
-/// A record of the keys of a set at each moment, stored as changes: when each key was added or removed. At moment 0,
-/// the set contains exactly the opening keys.
+/// Which keys a set had at each moment, stored as changes: when each key was added and when it was removed. At moment
+/// 0, the set contains exactly the opening keys.
 #[derive(Drop)]
 pub struct Changes {
     alloc: Global,
@@ -41,10 +41,10 @@ pub struct Changes {
     opening: Vec<u32>,
     /// For each key that changed, the moments above 0 at which it was added and removed, alternately.
     moments: BTreeMap<u32, Vec<u32>>,
-    /// The key that changed at each moment of a change. After a failed allocation in `note`, this map and `keys_now`
-    /// can each have a surplus entry.
+    /// The key that was added or removed at each moment of a change. If an allocation fails in `note`, this map and
+    /// `keys_now` can keep an entry for the change that was not recorded.
     keys_at: BTreeMap<u32, u32>,
-    /// The keys of the set after the last change.
+    /// The keys that the set has after the last change.
     keys_now: BTreeSet<u32>,
 }
 
@@ -58,7 +58,8 @@ impl Model for Changes {
     ghost invariant = { λ c. AreKept (changes_in c.opening.items c.moments) c.keys_at c.keys_now };
 }
 
-/// Returns how many of the increasing `moments` are at most `at`, and how many moments the search compared.
+/// Returns how many of the strictly increasing `moments` are at or before `at`. The second result is the number of
+/// moments that the binary search compared with `at`.
 fn count_upto(moments: &[u32], at: u32) -> (usize, u32)
     requires { IsStrictlyIncreasing moments.now }
     ensures count { IsCountUpTo moments.now at result.0 }
@@ -89,7 +90,8 @@ fn is_past(end: Option<u32>, key: u32) -> bool
     }
 }
 
-/// Appends one more moment of a key. Returns `AllocError` and changes nothing if an allocation fails.
+/// Appends a moment to the moments at which `key` changed. If an allocation fails, returns `AllocError` and changes
+/// nothing.
 fn push_moment(
     moments: &mut BTreeMap<u32, Vec<u32>>,
     alloc: Global,
@@ -111,7 +113,7 @@ fn push_moment(
 }
 
 impl Changes {
-    /// Returns a record without changes, for a set that opens empty. Does not allocate; `alloc` is for later changes.
+    /// Returns a record without changes, for a set that opens empty. Does not allocate; later calls use `alloc`.
     pub fn new(alloc: Global) -> Changes
         ensures { result ≡ no_changes }
     {
@@ -149,8 +151,8 @@ impl Changes {
         ensures noted { OnOk result ((k : ℕ) → moments_of self.new k ≡ with_change (moments_of self.old) key at k) }
         ensures unchanged { OnErr result (self.new ≡ self.old) }
     {
-        // The key is inserted here before the change is recorded, and removed from `keys_now` afterwards. So a failed
-        // allocation can leave a surplus entry, but no entry is ever missing.
+        // `key` is inserted into the two indexes before the change is recorded, and removed from `keys_now` afterwards.
+        // So a failed allocation can leave a surplus entry in an index, but an index never lacks an entry.
         self.keys_at.insert(at, key)?;
         self.keys_now.insert(key)?;
         push_moment(&mut self.moments, self.alloc, key, at)?;
@@ -160,13 +162,13 @@ impl Changes {
         Ok(())
     }
 
-    /// Returns the first moment from `from` to `to` at which `key` is present (if `present` is true) or absent, or
-    /// `None` if there is no such moment. Also returns how many recorded moments the search compared. `from` must be at
+    /// Searches for the first moment from `from` to `to` at which `key` is present (if `present` is true) or absent.
+    /// Returns this moment, or `None`, and the number of recorded moments that the search compared. `from` must be at
     /// most `to`.
     ///
-    /// The search is binary. It compares at most 24 moments if the key has at most 1,000,000. If the key has n moments
-    /// above 0, it compares at least log2(n + 1) of them, rounded down: no search by comparisons can always do with
-    /// fewer. Does not allocate.
+    /// The search is binary. It compares at most 24 moments if the key changed at most 1,000,000 times. If the key
+    /// changed n times after moment 0, the search compares at least log2(n + 1) moments, rounded down: no search by
+    /// comparisons can always do with fewer. Does not allocate.
     pub fn first(&self, key: u32, present: bool, from: u32, to: u32) -> (Option<u32>, u32)
         requires { from ≤ to }
         ensures first { IsFirst (λ m. is_present (moments_of self.now) key m ≡ present) from to result.0 }
@@ -193,7 +195,7 @@ impl Changes {
         upto > 0 && self.opening[upto - 1] == key
     }
 
-    /// Returns the moments above 0 at which a key was added and removed.
+    /// Returns the moments above 0 at which `key` was added and removed, in increasing order.
     fn noted(&self, key: u32) -> &[u32]
         ensures value { result.now ≡ noted_of self.now key }
         ensures increases { IsStrictlyIncreasing result.now }
@@ -210,8 +212,8 @@ impl Changes {
         self.first(key, true, moment, moment).0.is_some()
     }
 
-    /// Returns the next entry of `keys_at` after `moment`. No key changes between, and at the returned moment at most
-    /// the returned key changes.
+    /// Returns the first entry of `keys_at` after `moment`: a moment, and the only key that can have changed at that
+    /// moment. No key changed in between. Returns `None` if no change follows.
     fn note_after(&self, moment: u32) -> Option<(u32, u32)>
         ensures { IsNextNote (moments_of self.now) moment result }
     {
@@ -222,7 +224,8 @@ impl Changes {
         }
     }
 
-    /// Returns the next key above `key` in `keys_now`. No key between is in the set after the last change.
+    /// Returns the smallest key above `key` in `keys_now`. The set does not contain any key in between after the last
+    /// change.
     fn present_after(&self, key: u32) -> Option<u32>
         ensures { IsNextPresent (moments_of self.now) key result }
     {
@@ -233,9 +236,9 @@ impl Changes {
         }
     }
 
-    /// Returns whether `other` shows, at a moment, that `found` is not the smallest key at or above `key` (`None`
-    /// claims that there is no such key). This is so if `other` is present and must not be, or is absent and must be
-    /// present.
+    /// Returns whether `other` refutes the claim that, at `moment`, `found` is the smallest key of the set at or above
+    /// `key` (if `found` is `None`: that no such key is in the set). A smaller key refutes the claim if the key is
+    /// present, and `found` itself does if it is absent.
     fn is_against(&self, key: u32, found: Option<u32>, other: u32, moment: u32) -> bool
         ensures { result ≡ is_against (moments_of self.now) key found other moment }
     {
@@ -247,15 +250,16 @@ impl Changes {
         }
     }
 
-    /// Returns the only moment from `from` on that can be the first. At each moment before it, some key refutes
-    /// `found`. A key that refutes `found` at the returned moment refutes it at all later moments, too.
+    /// Returns the only moment from `from` on that can be the first at which `found` is the smallest key at or above
+    /// `key`. At each earlier moment some key refutes that. Each key that refutes it at the returned moment also does
+    /// so at all later moments.
     fn candidate(&self, key: u32, found: Option<u32>, from: u32) -> u32
         ensures { IsCandidate (moments_of self.now) key found from result }
     {
         let mut moment = from;
         let mut last = from;
         while let Some((at, noted)) = self.note_after(last) {
-            // The key that refutes `found` at `moment` refutes it up to this moment.
+            // A key that refutes `found` at `moment` does so until the key changes. That is at `at`.
             if self.is_against(key, found, noted, moment) {
                 moment = at;
             }
@@ -264,8 +268,8 @@ impl Changes {
         moment
     }
 
-    /// Returns `true` only if each key from `key` to just below `end` that is in the set after the last change was
-    /// absent at `moment`. Returns `false` only if some key in this range was present at `moment`.
+    /// Returns `false` only if some key from `key` to just below `end` was in the set at `moment`. Returns `true` only
+    /// if none of the keys in this range that the set has after the last change was in the set at `moment`.
     fn came_after(&self, key: u32, end: Option<u32>, moment: u32) -> bool
         ensures came { IsTrue result → CameAfter (moments_of self.now) key end moment }
         ensures there { result ≡ false → IsSomeThere (moments_of self.now) key end moment }
@@ -283,11 +287,12 @@ impl Changes {
         true
     }
 
-    /// Returns the first moment from `from` to `to` at which the smallest key of the set at or above `key` is `found`
-    /// (`None`: at which there is no such key), or `None` if there is no such moment. `from` must be at most `to`.
+    /// Returns the first moment from `from` to `to` at which `found` is the smallest key of the set at or above `key`
+    /// (if `found` is `None`: at which no such key is in the set). Returns `None` if no moment is. `from` must be at
+    /// most `to`.
     ///
     /// Reads all changes after `from`, even those after `to`. If each search is made before a change after its `to` is
-    /// recorded, the searches together take time proportional to the sum of their spans. Does not allocate.
+    /// recorded, the searches together take time proportional to the sum of their ranges. Does not allocate.
     pub fn first_ceiling(&self, key: u32, found: Option<u32>, from: u32, to: u32) -> Option<u32>
         requires { from ≤ to }
         ensures first { IsFirst (λ m. IsCeiling (λ j. is_present (moments_of self.now) j m ≡ true) key found) from to result }

@@ -10,7 +10,7 @@ use crate::{History, Oracle, OrderFault};
 use lset_words::{CallRecord, Placed, Reply};
 use std::alloc::{AllocError, Global};
 
-/// Returns the number of the first call in the order that the history does not have.
+/// Returns the number of the first call in the order that the history does not have. `None` if the history has all.
 fn first_unknown(calls: &[CallRecord], order: &[Placed]) -> Option<u32>
     ensures { MatchOption result
         (HasKnownCalls calls.now order.now)
@@ -24,8 +24,8 @@ fn first_unknown(calls: &[CallRecord], order: &[Placed]) -> Option<u32>
     None
 }
 
-/// Returns the number of the first call in the order that has an earlier place as well. `placed` must have one mark for
-/// each call of the history, all unset. Sets the marks of the calls in the order.
+/// Returns the number of the first call that the order has for a second time. `placed` must have one mark for each call
+/// of the history, all false. If no call is in the order twice, exactly the marks of its calls are true afterwards.
 fn first_twice(order: &[Placed], placed: &mut [bool]) -> Option<u32>
     requires known { All (λ (p : Placed). p.call < length placed.old) order.now }
     requires none_set { All (λ (mark : Bool). mark ≡ false) placed.old }
@@ -44,7 +44,8 @@ fn first_twice(order: &[Placed], placed: &mut [bool]) -> Option<u32>
     None
 }
 
-/// Returns the smallest number of a completed call that is not marked in `placed`. `placed` has one mark for each call.
+/// Returns the smallest number of a completed call that is not in the order. `placed` has a mark for each call of the
+/// history: true if the call is in the order.
 fn first_missing(calls: &[CallRecord], placed: &[bool]) -> Option<u32>
     requires few { length calls.now < 2 ^ 32 }
     requires each { length placed.now ≡ length calls.now }
@@ -60,8 +61,8 @@ fn first_missing(calls: &[CallRecord], placed: &[bool]) -> Option<u32>
     None
 }
 
-/// Returns whether `reply` is the call's reply in the history, if it has ended there, and the reply of the sequential
-/// set. Makes the call in `oracle`.
+/// Makes the call in `oracle`, and returns whether `reply` is the reply of the sequential set and, if the call is
+/// completed, its reply in the history.
 fn has_reply(oracle: &mut Oracle, call_record: CallRecord, reply: Reply) -> Result<bool, AllocError>
     requires { call_record.thread < oracle.old.threads }
     ensures answers { IfOk result (λ right. MatchBool right
@@ -77,8 +78,8 @@ fn has_reply(oracle: &mut Oracle, call_record: CallRecord, reply: Reply) -> Resu
     Ok(oracle.apply(call_record.thread, call_record.call)? == reply)
 }
 
-/// Returns the number of the first call in the order whose reply differs from the history's, or from the sequential
-/// set's reply after the earlier places. Makes the calls of the order in `oracle`.
+/// Makes the calls of the order in `oracle`, and returns the number of the first call with a wrong reply: one that
+/// differs from the history's, or from that of the sequential set after the earlier calls.
 pub(crate) fn first_wrong_reply(
     oracle: &mut Oracle,
     calls: &[CallRecord],
@@ -105,7 +106,7 @@ fn is_below(end: Option<u32>, moment: u32) -> bool
     end.is_some_and(|end| end < moment)
 }
 
-/// Returns the smaller of the smallest end so far and the end of a call, if it has ended.
+/// Returns the smaller of `smallest` and the moment at which a call ends. `None` means no end.
 fn lesser(smallest: Option<u32>, ended: Option<(u32, Reply)>) -> Option<u32>
     ensures { result ≡ smallest_with smallest ended }
 {
@@ -116,7 +117,8 @@ fn lesser(smallest: Option<u32>, ended: Option<(u32, Reply)>) -> Option<u32>
     }
 }
 
-/// Returns the number of the first call in the order that comes before a call that precedes it in real time.
+/// Returns the number of the first call that is too early in the order: a later call of the order had ended before it
+/// began.
 fn first_too_early(calls: &[CallRecord], order: &[Placed]) -> Option<u32>
     requires { HasKnownCalls calls.now order.now }
     ensures { MatchOption result
@@ -136,11 +138,11 @@ fn first_too_early(calls: &[CallRecord], order: &[Placed]) -> Option<u32>
     early
 }
 
-/// Checks that `order` explains the calls of `history` and leaves `keys`, in strictly increasing order.
+/// Checks that `order` explains the calls of `history`, with `keys` as the final keys.
 ///
 /// `Ok` means that the order linearizes the history (Herlihy and Wing, with completion of pending calls) for the
-/// sequential set with the history's threads, quota and opening keys. `tool_replay` calls this function in
-/// `src/checking.rt`.
+/// sequential set with the history's threads, quota and opening keys, and that `keys` are the keys of this set after
+/// all calls, in strictly increasing order. `tool_replay` calls this function in `src/checking.rt`.
 ///
 /// # Errors
 ///
@@ -149,7 +151,7 @@ fn first_too_early(calls: &[CallRecord], order: &[Placed]) -> Option<u32>
 /// - `Twice`: the call is in the order twice;
 /// - `Missing`: this call is completed and not in the order; if there are several, the one with the smallest number;
 /// - `WrongReply`: the history has another reply, or the sequential set returns another reply at this place;
-/// - `TooEarly`: the call comes before one that had ended when it began;
+/// - `TooEarly`: a later call of the order had ended before this call began;
 /// - `WrongSet`: `keys` are not the keys that the order leaves, in strictly increasing order.
 ///
 /// Returns `Memory`, in place of any other result, if an allocation fails. With n places, c calls and at most k keys in

@@ -4,19 +4,20 @@ ghost use Rattle.lset_history.specs.declared.fault.OrderFault.TheVariants.{Memor
 use std::alloc::AllocError;
 use thiserror::Error;
 
-/// An error of `History::begin` or `History::end`. If several apply, the first in this order is returned.
+/// An error of `History::begin` or `History::end`. If several apply, the first in this order is returned. The history
+/// is then unchanged.
 #[derive(Clone, Copy, Debug, PartialEq, Eq, Error)]
 pub enum HistoryFault {
-    /// The thread does not exist.
+    /// The history has no thread with this number.
     #[error("no such thread")]
     NoThread,
     /// The thread already has a pending call.
     #[error("the thread has an open call")]
     Busy,
-    /// The call does not exist, or has already ended.
+    /// The history has no call with this number, or the call has already ended.
     #[error("no open call has this number")]
     NotOpen,
-    /// The moment is 0, or not after every earlier moment.
+    /// The moment is 0, or not after every begin and end in the history.
     #[error("the moment is 0, or not above every earlier one")]
     Time,
     /// An allocation failed.
@@ -24,26 +25,27 @@ pub enum HistoryFault {
     Memory,
 }
 
-/// The first error in an order of calls, and the call's number. The whole order is searched for one error before the
-/// next. If several places have the same error, the first of them is reported.
+/// The first error in an order of calls, with the number of the call. The whole order is searched for one error before
+/// the next. If an error is found at several places, the first of them is reported.
 #[derive(Clone, Copy, Debug, PartialEq, Eq, Error)]
 pub enum OrderFault {
-    /// No call of the history has this number.
+    /// The history has no call with this number.
     #[error("no call has the number {0}")]
     Unknown(u32),
     /// The call is in the order more than once.
     #[error("call {0} stands twice")]
     Twice(u32),
-    /// A completed call is not in the order. If there are several, the smallest number is reported.
+    /// This completed call is not in the order. If several are missing, the smallest number is reported.
     #[error("call {0} has ended and does not stand in the order")]
     Missing(u32),
-    /// The history has another reply for the call, or the sequential set returns another reply at this place.
+    /// The history has another reply for this call, or the sequential set returns another reply at this place of the
+    /// order.
     #[error("call {0} has another reply")]
     WrongReply(u32),
-    /// The call comes before a call that had already ended when it began.
+    /// This call is before a call that had already ended when this call began.
     #[error("call {0} stands before a call that it follows")]
     TooEarly(u32),
-    /// The keys differ from the keys that the order leaves, or do not increase strictly.
+    /// The final keys differ from the keys of the sequential set after all calls, or do not increase strictly.
     #[error("the keys are not those that the order leaves, in increasing order")]
     WrongSet,
     /// An allocation failed.

@@ -10,9 +10,9 @@ use std::alloc::{AllocError, Global};
 use std::fmt;
 use std::marker::Model;
 
-/// A history of calls (Herlihy and Wing): each call's thread, the moment at which it began, and its end and reply.
-/// Calls are numbered from 0 in the order in which they begin. Moments are numbers from 1. Each begin or end has a
-/// later moment than all before it.
+/// A history of calls (Herlihy and Wing): each call's thread, begin, end and reply. Calls are numbered from 0 in the
+/// order in which they begin. Begins and ends are dated by moments, which are numbers from 1. No two of them are at the
+/// same moment.
 #[derive(Drop)]
 pub struct History {
     threads: u32,
@@ -60,8 +60,8 @@ fn last_moment(call_record: &CallRecord) -> u32
 }
 
 impl History {
-    /// Returns a history without calls, for a set that opens empty, with `threads` threads (1 to 64) and a quota of `quota` each
-    /// (0 to 16,384). Does not allocate; `alloc` is for later calls.
+    /// Returns a history without calls, for a set that opens empty, with `threads` threads (1 to 64) and a quota of
+    /// `quota` successful adds each (0 to 16,384). Does not allocate; later calls use `alloc`.
     pub fn new(alloc: Global, threads: u32, quota: u32) -> History
         requires { IsWithin (record { threads = threads; quota = quota; opening = 0 }) }
         ensures { result ≡ record { opening = empty threads quota; calls = [] } }
@@ -69,8 +69,9 @@ impl History {
         History::opened(alloc, threads, quota, Vec::new(alloc))
     }
 
-    /// Returns a history without calls, for a set that opens with the keys `opening`: at most 1,048,576 keys in strictly
-    /// increasing order. `threads` must be 1 to 64, `quota` 0 to 16,384. Takes ownership of the vector and does not allocate.
+    /// Returns a history without calls, for a set that opens with the keys `opening`: at most 1,048,576 keys in
+    /// strictly increasing order. `threads` must be 1 to 64, `quota` 0 to 16,384. Takes ownership of the vector and
+    /// does not allocate.
     pub fn opened(alloc: Global, threads: u32, quota: u32, opening: Vec<u32>) -> History
         requires within { IsWithin (record { threads = threads; quota = quota; opening = length opening.items }) }
         requires rising { IsStrictlyIncreasing opening.items }
@@ -90,8 +91,8 @@ impl History {
         }
     }
 
-    /// Replaces the opening keys of the set. `opening` must have at most 1,048,576 keys in strictly increasing order. Takes
-    /// ownership of the vector and does not allocate.
+    /// Replaces the opening keys of the set, and keeps the calls. `opening` must have at most 1,048,576 keys in
+    /// strictly increasing order. Takes ownership of the vector and does not allocate.
     pub fn reopen(&mut self, opening: Vec<u32>)
         requires within { IsWithin (record {
           threads = self.old.opening.threads;
@@ -105,10 +106,9 @@ impl History {
         self.opening = opening;
     }
 
-    /// Appends a call to the history, with its end if it has ended. The call must satisfy `MayFollow`: it begins after
-    /// every call of the history has begun, none of its moments is a moment of another call, and the earlier calls of
-    /// its thread ended before it begins. Can allocate. If an allocation fails, returns `AllocError` and changes
-    /// nothing.
+    /// Appends a call, pending or completed, to the history. The call must satisfy `MayFollow`: it begins after every
+    /// call of the history has begun, no other call begins or ends at one of its moments, and the earlier calls of its
+    /// thread ended before it begins. Can allocate. If an allocation fails, returns `AllocError` and changes nothing.
     pub fn push(&mut self, call_record: CallRecord) -> Result<(), AllocError>
         requires { MayFollow self.old.opening.threads self.old.calls call_record }
         ensures pushed { OnOk result (self.new ≡ with_begun self.old call_record) }

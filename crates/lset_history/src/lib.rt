@@ -1,6 +1,6 @@
-//! The sequential set, histories of calls, the check of an order of calls, and placement: the order of a run's calls by their
-//! linearization points, and the theorem that this order linearizes the history. Nothing in this crate uses nodes, links,
-//! locks or marks.
+//! The sequential set, histories of calls, the check of an order of calls, and placement: the order of a run's calls by
+//! their linearization points, with the theorem that this order linearizes the history. Nothing in this crate mentions
+//! nodes, links, locks or marks of a list.
 #![tactic(auto)]
 
 mod changes;

@@ -28,8 +28,8 @@ fn tree_of(alloc: Global, keys: &[u32]) -> Result<BTreeSet<u32>, AllocError>
     Ok(tree)
 }
 
-/// The sequential set (Herlihy and Shavit's interface) with a quota for each thread: a set of keys, and each thread's number
-/// of successful adds.
+/// The sequential set (Herlihy and Shavit's interface), with a quota for each thread: the keys of the set, and how many
+/// adds of each thread have succeeded.
 #[derive(Drop)]
 pub struct Oracle {
     alloc: Global,
@@ -49,16 +49,17 @@ impl Model for Oracle {
 }
 
 impl Oracle {
-    /// Returns the empty set for `threads` threads, each with a quota of `quota` successful adds. Any numbers are
-    /// allowed. Allocates a count for each thread. Returns `AllocError` if that fails.
+    /// Returns the empty set for `threads` threads, each with a quota of `quota` successful adds. Accepts any numbers.
+    /// Allocates a counter for each thread. If that fails, returns `AllocError`.
     pub fn new(alloc: Global, threads: u32, quota: u32) -> Result<Oracle, AllocError>
         ensures { IfOk result (λ o. o ≡ set_opened (empty threads quota)) }
     {
         Oracle::opened(alloc, threads, quota, &[])
     }
 
-    /// Returns the set that opens with `keys`, which must be in strictly increasing order. The opening keys count as no
-    /// thread's adds. Any `threads` and `quota` are allowed. Allocates. Returns `AllocError` if that fails.
+    /// Returns the set that opens with `keys`, which must be in strictly increasing order. The opening keys do not
+    /// count towards a thread's quota. Accepts any `threads` and `quota`. Allocates. If that fails, returns
+    /// `AllocError`.
     pub fn opened(
         alloc: Global,
         threads: u32,
@@ -77,7 +78,7 @@ impl Oracle {
         })
     }
 
-    /// Returns the set before the first call of a history. Allocates. Returns `AllocError` if that fails.
+    /// Returns the set as it is before the first call of a history. Allocates. If that fails, returns `AllocError`.
     pub(crate) fn before(alloc: Global, history: &History) -> Result<Oracle, AllocError>
         ensures { IfOk result (λ o. o ≡ set_opened history.now.opening) }
     {
@@ -86,9 +87,9 @@ impl Oracle {
 
     /// Makes `call` as thread `thread`, which must be below the number of threads, and returns the reply.
     ///
-    /// - `Add` replies `False` if the key is present; else `Full` if the thread's count is at the quota; else `True`.
+    /// - `Add` replies `False` if the key is present; else `Full` if the thread has used up its quota; else `True`.
     /// - `Remove` and `Contains` reply `True` if the key is present, else `False`.
-    /// - `Ceiling` replies `At` with the smallest key at or above its argument, or `Nothing` if there is none.
+    /// - `Ceiling` replies `At` with the smallest key at or above its argument, or `Nothing` if no key is.
     ///
     /// Only an `Add` or a `Remove` that replies `True` changes the set. Only such an `Add` allocates. If the allocation
     /// fails, returns `AllocError` and changes nothing.
@@ -145,7 +146,8 @@ impl Oracle {
         }
     }
 
-    /// Returns the keys in strictly increasing order. Allocates one vector. Returns `AllocError` if that fails.
+    /// Returns the keys of the set in strictly increasing order. Allocates one vector. If that fails, returns
+    /// `AllocError`.
     pub fn keys(&self) -> Result<Vec<u32>, AllocError>
         ensures keys { IfOk result (λ v. v.items ≡ self.now.state.keys) }
         ensures rising { IsStrictlyIncreasing self.now.state.keys }

@@ -1,30 +1,31 @@
 ghost use Rattle.lset_history.specs.Laws.{PlacementLinearizes, EveryCallHasAPlace, LogsTellHistories, FitsAreReplies, PlacementIsOneOrder};
 
-/// The placement theorem. For every run that satisfies the account of a set, the order of its calls by their
-/// linearization points linearizes the run's history (Herlihy and Wing) from the opening set, and leaves the run's last
-/// content.
+/// The placement theorem. If a run has an account (each event changes the keys as its call allows, and each reply is
+/// correct at some moment of its call), the order of its calls by their linearization points linearizes the run's
+/// history (Herlihy and Wing), and leaves the keys that the run leaves. The function does nothing.
 pub fn placement_linearizes()
     ensures { PlacementLinearizes }
 {}
 
-/// Lemma: every run that satisfies the account of a set has a placement. Each call that changed the set or ended has a
-/// place in it.
+/// Lemma: the calls of a run with an account can be ordered by their linearization points. Each call that changed the
+/// set or completed has a place in this order. The function does nothing.
 pub fn every_call_has_a_place()
     ensures { EveryCallHasAPlace }
 {}
 
-/// Lemma: at each moment of a run, its calls form a history.
+/// Lemma: at each moment of a run with an account, its calls form a history. The function does nothing.
 pub fn logs_tell_histories()
     ensures { LogsTellHistories }
 {}
 
-/// Lemma: a reply fits a content and a count if and only if the sequential set with these keys and this count returns
-/// the reply and does not change.
+/// Lemma: a reply fits some keys and a number of successful adds if and only if the sequential set with these returns
+/// the reply and the call changes nothing. The function does nothing.
 pub fn fits_are_replies()
     ensures { FitsAreReplies }
 {}
 
-/// Lemma: a run has at most one placement.
+/// Lemma: a run has at most one placement, the order of its calls by their linearization points. The function does
+/// nothing.
 pub fn placement_is_one_order()
     ensures { PlacementIsOneOrder }
 {}

@@ -1,5 +1,4 @@
--- Proof of the law of forms: a line is read as some values if and only if it spells these values. The proof covers
--- every form.
+-- Proof that reading inverts writing for every form: a line is read as some values if and only if it is their spelling.
 use Rattle.std.proofs.Common.{◌≡◌, ℕ, ◌<◌, true, false, List, [], ◌∷◌, Option, Some, None, refl, ap, ◌∙◌, arith, codes, length}
 use Rattle.std.proofs.lemmas.Bool.{and_parts, and_left}
 use Rattle.std.specs.List.{AllByRecursion}
@@ -56,7 +55,6 @@ piece_lacks v byte reply r low is fits = reply_lacks byte v r fits low
 some_is : {A : Type 0} (a b : A) → Some a ≡ Some b → a ≡ b
 some_is a b e = cc
 
--- If `both o p` is a pair, `o` holds its first component and `p` its second.
 both_told : {A B : Type 0} (o : Option A) (p : Option B) (t : A × B) → both o p ≡ Some t → (o ≡ Some t.0) × (p ≡ Some t.1)
 both_told {A} {B} None p t e = absurd cc
 both_told {A} {B} (Some a) None t e = absurd cc
@@ -96,7 +94,6 @@ pub are_pieces : (f : Form) → IsForm f → ArePieces f
 are_pieces [] is = tt
 are_pieces (p ∷ f) is = is
 
--- A line with more fields than a form does not match the form.
 pub too_many : (v : Version) (f : Form) (xs : List (List ℕ)) → length f < length xs → have_form v f xs ≡ false
 too_many v [] [] lt = absurd (omega arith)
 too_many v [] (x ∷ xs) lt = refl
@@ -111,7 +108,6 @@ cut_form v (p ∷ f) t is fit =
     cut_line (spelled p t.0) (spell f t.1) (piece_lacks v 32 p t.0 (omega arith) is.0 fit.0)
     (form_lacks v 32 f t.1 (omega arith) is.1 fit.1)
 
--- If values are read from a line, the line spells them, and the version can spell each of them.
 pub line_ok : (v : Version) (f : Form) (line : List ℕ) (t : Told f) → IsForm f → told_in v f (cut_at 32 line) ≡ Some t
     → (line ≡ line_with f t) × AllFit v f t
 line_ok v f line t is e =
@@ -119,7 +115,6 @@ line_ok v f line t is e =
     let found = form_ok v f (cut_at 32 line) t (are_pieces f is) read.0 read.1 in
     (line_from_cut line (spell f t) found.0, found.1)
 
--- Reading the line that spells some values returns these values.
 pub line_again : (v : Version) (f : Form) (t : Told f) → IsForm f → AllFit v f t → told_in v f (cut_at 32 (line_with f t)) ≡ Some t
 line_again v f t is fit =
     let again = form_again v f t (are_pieces f is) fit in

@@ -1,4 +1,4 @@
--- Proof that a header is read from its own four lines and from no other text.
+-- Proof that reading inverts writing for headers: a header is read from its own four lines and from no other text.
 use Rattle.std.proofs.Common.{◌≡◌, Result, ℕ, ◌<◌, ◌≤◌, ◌^◌, true, List, [], ◌∷◌, ◌++◌, length, Option, Some, None, Ok, Err, refl}
 use Rattle.std.proofs.Common.{ap, subst, ◌∙◌, arith, codes}
 use Rattle.std.specs.Prelude.{option_map}
@@ -29,7 +29,7 @@ use Rattle.lset_text.proofs.FormLaws.{line_ok, line_again, form_line_lacks}
 title_ok : (title line told : List ℕ) → title_in title line ≡ Some told → line ≡ title
 title_ok title line told is = same_bytes line title (test_some (bytes_eq line title) (Some title) told is).0
 
--- If a line is the fixed word and a value, and the value is `a`, then its values are the word and `a`.
+-- If the values of a line have `a` in second place, the values are the line's fixed word and `a`.
 second : {A : Type 0} (o : Option (Unit {0} × (A × Unit {0}))) (a : A) → option_map (λ t. t.1.0) o ≡ Some a → o ≡ Some (tt, (a, tt))
 second {A} None a is = absurd cc
 second {A} (Some t) a is = ap (λ (x : A). Some (tt, (x, tt))) (some_is t.1.0 a is)
@@ -77,7 +77,7 @@ line_due_ok line cause [] due is = absurd cc
 line_due_ok line cause (rest ∷ []) due is = absurd cc
 line_due_ok line cause (a ∷ b ∷ more) due is = subst (IsDue (a ∷ b ∷ more)) (ok_is (a, b ∷ more) due is) (refl, omega arith)
 
--- States that `read` reads the value from the first part, and that at least one part follows.
+-- States that `read` makes the value of the first part, and that at least one more part follows.
 abbrev IsToldBy : {A : Type 0} → (List ℕ → Option A) → List (List ℕ) → A × List (List ℕ) → Type 0
 IsToldBy read parts told = (x : List ℕ) × (parts ≡ x ∷ told.1) × (read x ≡ Some told.0) × (0 < length told.1)
 
@@ -101,7 +101,8 @@ told_again line cause read x y more told is = rw is refl
 abbrev Found : Type 0
 Found = Header × List (List ℕ)
 
--- The checks that remain after the quota line, after the threads line, after the kind line, and after the title.
+-- The checks that remain at each point of reading a header: after the quota line (here), then, below, after the threads
+-- line, the kind line, and the title.
 abbrev after_quota : Kind → ℕ → ℕ × List (List ℕ) → Result Found LineFault
 after_quota kind threads quota = Ok (record { kind = kind; threads = threads; quota = quota.0 }, quota.1)
 
@@ -114,7 +115,6 @@ after_kind kind = threads_told kind.1 >>= after_threads kind.0
 abbrev after_title : List ℕ × List (List ℕ) → Result Found LineFault
 after_title first = kind_told first.1 >>= after_kind
 
--- States that the parts begin with the header's lines, and that at least one part follows.
 abbrev BeginsWith : List ℕ → List (List ℕ) → Found → Type 0
 BeginsWith title parts found = (parts ≡ header_lines title found.0 ++ found.1) × IsHeader found.0 × (0 < length found.1)
 
@@ -188,7 +188,6 @@ pub number_line_lacks : (w : List ℕ) (n : ℕ) → all_from 45 w ≡ true → 
 number_line_lacks w n letters small =
     form_line_lacks Two (number_form w 0 n) (tt, (n, tt)) (letters, (small, tt)) (tt, ((omega arith, omega arith), tt))
 
--- No line of a header contains a newline.
 pub header_lacks : (title : List ℕ) (h : Header) → Lacks 10 title → IsHeader h → AllByRecursion (Lacks 10) (header_lines title h)
 header_lacks title h lacks within =
     let line2 = form_line_lacks Two kind_form (tt, (h.kind, tt)) (refl, (tt, tt)) (tt, (tt, tt)) in

@@ -1,4 +1,4 @@
--- Proof that a line and the value read from it determine each other, for every list of line kinds.
+-- Proof that a line and the value read from it determine each other, whatever kinds of lines a file has.
 use Rattle.std.proofs.Common.{◌≡◌, ◌⊎◌, inl, inr, ℕ, Bool, true, false, cond, List, [], ◌∷◌, map, length, ◌<◌, Option, Some, None}
 use Rattle.std.proofs.Common.{Result, Ok, Err, refl, sym, ap, subst, ◌∙◌}
 use Rattle.std.specs.List.{AllByRecursion}
@@ -17,12 +17,12 @@ pub made_ok : {X Y : Type 0} (f : X → Y) (r : Result X Cause) (y : Y) → made
 made_ok f (Ok x) y e = (x, refl, ok_is (f x) y e)
 made_ok f (Err d) y e = absurd cc
 
--- The properties of a kind that the proofs need: its form is well formed, and each value made from valid fields is good
--- and is spelled by these fields.
+-- What the proofs need to know about a kind of line: its form can be read back, and each value made of fields that the
+-- version can spell has the property `Good`, and is spelled by these fields.
 abbrev pub Knows : {X : Type 0} → Version → (X → List (List ℕ)) → (X → Type 0) → LineKind X → Type 0
 Knows v pieces Good k = IsForm k.0 × ((t : Told k.0) → AllFit v k.0 t → (spell k.0 t ≡ pieces (k.1 t)) × Good (k.1 t))
 
--- A value read from a line is good, and its fields are the fields of the line.
+-- A value that was read from a line has the property `Good`, and its spelling is the line.
 pub first_found : {X : Type 0} (v : Version) (none : Cause) (pieces : X → List (List ℕ)) (Good : X → Type 0)
     (ks : List (LineKind X)) (ps : List (List ℕ)) (x : X)
     → AllByRecursion (Knows v pieces Good) ks → first_of v none ks ps ≡ Ok x → (ps ≡ pieces x) × Good x
@@ -47,7 +47,6 @@ line_found v none pieces Good ks line x known e =
     let found = first_found v none pieces Good ks (cut_at 32 line) x known e in
     (line_from_cut line (pieces x) found.0, found.1)
 
--- The line of a value contains no newline.
 lacks_too : {X : Type 0} (v : Version) (pieces : X → List (List ℕ)) (Good : X → Type 0) (ks : List (LineKind X))
     → AllByRecursion (Knows v pieces Good) ks → AllByRecursion (Knows v pieces (λ x. Lacks 10 (line_of (pieces x)))) ks
 lacks_too v pieces Good [] known = tt
@@ -67,7 +66,7 @@ line_found_lacks v none pieces Good ks line x known e =
     let found = line_found v none pieces (λ y. Lacks 10 (line_of (pieces y))) ks line x (lacks_too v pieces Good ks known) e in
     subst (Lacks 10) (sym found.0) found.1
 
--- States that one of the kinds makes `x`, and that the fields of `x` do not match the form of any earlier kind.
+-- States that one of the kinds makes the value `x`, and that the spelling of `x` does not look like any earlier kind.
 abbrev pub IsMade : {X : Type 0} → Version → (X → List (List ℕ)) → List (LineKind X) → X → Type 0
 IsMade v pieces [] x = ⊥
 IsMade v pieces (k ∷ ks) x =
@@ -84,7 +83,7 @@ first_made v none pieces Good (k ∷ ks) x known (inl m) =
     ap (first_of v none (k ∷ ks)) (sym spelled) ∙ here ∙ ap Ok m.1
 first_made v none pieces Good (k ∷ ks) x known (inr m) = rw m.0 (first_made v none pieces Good ks x known.1 m.1)
 
--- If `P` holds of every line that matches a kind's form, it holds of the fields of each value that the kind makes.
+-- If `P` holds of every spelling of valid fields, `P` holds of the spelling of each value that some kind makes.
 made_spells : {X : Type 0} (v : Version) (pieces : X → List (List ℕ)) (Good : X → Type 0) (P : List (List ℕ) → Type 0)
     → ((k : LineKind X) → IsForm k.0 → (t : Told k.0) → AllFit v k.0 t → P (spell k.0 t))
     → (ks : List (LineKind X)) (x : X) → AllByRecursion (Knows v pieces Good) ks → IsMade v pieces ks x → P (pieces x)
@@ -93,7 +92,6 @@ made_spells v pieces Good P of_form (k ∷ ks) x known (inl m) =
     subst P ((known.0.1 m.0 m.2).0 ∙ ap pieces m.1) (of_form k known.0.0 m.0 m.2)
 made_spells v pieces Good P of_form (k ∷ ks) x known (inr m) = made_spells v pieces Good P of_form ks x known.1 m.1
 
--- Reading the line that spells a value returns this value.
 pub line_made : {X : Type 0} (v : Version) (none : Cause) (pieces : X → List (List ℕ)) (Good : X → Type 0)
     (ks : List (LineKind X)) (x : X)
     → AllByRecursion (Knows v pieces Good) ks → IsMade v pieces ks x → line_in v none ks (line_of (pieces x)) ≡ Ok x
@@ -104,7 +102,6 @@ line_made v none pieces Good ks x known is =
 
 -- ---- Lemmas about errors
 
--- States that the cause of a refused line is `none` or `Number`. No other cause is possible.
 abbrev pub IsOneOf : Cause → Cause → Type 0
 IsOneOf none c = (c ≡ none) ⊎ (c ≡ Number)
 
@@ -120,7 +117,6 @@ first_fails v none [] ps c e = inl cc
 first_fails v none (k ∷ ks) ps c e =
     kind_fails none k.1 (have_form v k.0 ps) (all_told v k.0 ps) (first_of v none ks ps) c (first_fails v none ks ps c) e
 
--- States that each kind has fewer than `n` fields.
 abbrev pub AreBelow : {X : Type 0} → ℕ → List (LineKind X) → Type 0
 AreBelow n ks = AllByRecursion (λ k. length k.0 < n) ks
 
@@ -137,7 +133,6 @@ kind_seen f g c true None r s is = refl
 kind_seen f g c true (Some t) r s is = refl
 kind_seen f g c false o r s is = is
 
--- If a kind reads a line as `x`, the mapped kind reads the line as `f x`.
 pub first_as : {X Y : Type 0} (f : X → Y) (v : Version) (none : Cause) (ks : List (LineKind X)) (ps : List (List ℕ))
     → first_of v none (map (kind_as f) ks) ps ≡ made f (first_of v none ks ps)
 first_as f v none [] ps = refl
@@ -145,7 +140,8 @@ first_as f v none (k ∷ ks) ps =
     kind_seen f k.1 Number (have_form v k.0 ps) (all_told v k.0 ps) (first_of v none (map (kind_as f) ks) ps)
     (first_of v none ks ps) (first_as f v none ks ps)
 
--- If the kinds have the properties of `Knows`, so do the mapped kinds. They make the mapped values.
+-- If the proofs know enough about some kinds (`Knows`), they also know enough about these kinds with `f` applied to the
+-- values.
 module _ {X Y : Type 0} (f : X → Y) (v : Version) (pieces : X → List (List ℕ)) (seen : Y → List (List ℕ))
     (same : (x : X) → pieces x ≡ seen (f x)) where
   pub knows_as : (Good : X → Type 0) (Fine : Y → Type 0) → ((x : X) → Good x → Fine (f x)) → (ks : List (LineKind X))

@@ -1,4 +1,4 @@
--- Laws of a loop that reads a text line by line. They hold for every grammar.
+-- Laws of a loop that reads a text line by line, for every grammar. `Stands` is the invariant of the loop.
 use Rattle.std.proofs.Common.{◌≡◌, ℕ, ◌+◌, ◌<◌, ◌≤◌, ◌⊎◌, inl, inr, Bool, true, false, cond, eqb, List, [], ◌∷◌, ◌++◌, length}
 use Rattle.std.proofs.Common.{get_or, Result, Ok, Err, refl, sym, ap, subst, ◌∙◌, append_assoc, length-append, arith}
 use Rattle.std.specs.List.{AllByRecursion}
@@ -66,7 +66,7 @@ pub starts : {S : Type 0} (g : Grammar S) (first : ℕ) (text : List ℕ) (s : S
     → Stands g first text (lines_from g first s (cut_at 10 text)) first s text
 starts g first text s = record { so_far = refl; above = []; parts = refl; number = omega arith; left = omega arith }
 
--- If the line is accepted, the loop continues with the next line, in the next state.
+-- If the next line is accepted, the invariant holds after it, in the next state.
 pub goes_on : {S : Type 0} (g : Grammar S) (first : ℕ) (text : List ℕ) (read : Result S LineFault) (line : ℕ) (s t : S)
     (rest x after : List ℕ) → cut_at 10 rest ≡ x ∷ cut_at 10 after → length x + length after + 1 ≡ length rest → g.step s x ≡ Ok t
     → Stands g first text read line s rest → Stands g first text read (line + 1) t after
@@ -80,14 +80,12 @@ goes_on g first text read line s t rest x after parts shorter is stands = record
   left = omega (arith, stands.left, shorter);
 }
 
--- If the line is refused, reading the whole text fails with that line's error.
 pub stops : {S : Type 0} (g : Grammar S) (first : ℕ) (text : List ℕ) (read : Result S LineFault) (line : ℕ) (s : S) (d : Cause)
     (rest x after : List ℕ) → cut_at 10 rest ≡ x ∷ cut_at 10 after → g.step s x ≡ Err d
     → Stands g first text read line s rest → read ≡ Err (fault line d)
 stops g first text read line s d rest x after parts is stands =
     sym stands.so_far ∙ ap (lines_from g line s) parts ∙ lines_stop g d line s x (cut_at 10 after) (some_part 10 after) is
 
--- If the line has bytes but no newline, reading the whole text fails with `NotEnded`.
 pub not_ended : {S : Type 0} (g : Grammar S) (first : ℕ) (text : List ℕ) (read : Result S LineFault) (line : ℕ) (s : S)
     (rest : List ℕ) → cut_at 10 rest ≡ rest ∷ [] → (length rest ≡ 0 → ⊥)
     → Stands g first text read line s rest → read ≡ Err (unended line)
@@ -95,14 +93,12 @@ unfolding lines_from
 not_ended g first text read line s rest parts some stands =
     sym stands.so_far ∙ rw (parts, ne_eqb (length rest) 0 some) refl
 
--- If no bytes are left, the result is decided by the grammar's check at the end of a text.
 pub is_done : {S : Type 0} (g : Grammar S) (first : ℕ) (text : List ℕ) (read : Result S LineFault) (line : ℕ) (s : S)
     (rest : List ℕ) → length rest ≡ 0 → Stands g first text read line s rest → read ≡ map_fault (fault line) (g.ends s)
 unfolding lines_from
 is_done g first text read line s rest none stands =
     let empty : rest ≡ [] = nil_from_length rest none in sym stands.so_far ∙ rw empty refl
 
--- If a line is accepted, neither this line nor any line above it has an error.
 pub is_good : {S : Type 0} (g : Grammar S) (first : ℕ) (text : List ℕ) (read : Result S LineFault) (line : ℕ) (s t : S) (rest x after : List ℕ)
     → cut_at 10 rest ≡ x ∷ cut_at 10 after → g.step s x ≡ Ok t
     → Stands g first text read line s rest → IsGoodLine first (cut_at 10 text) read line
@@ -117,7 +113,7 @@ is_good {S} g first text read line s t rest x after parts is stands =
       rw (← more) (faultless_from g line (line + 1) t (cut_at 10 after) (omega arith)),
     )
 
--- Laws for a line that is not accepted: it has an error, or an allocation failed.
+-- Laws for a line at which reading stops: the line has an error, or an allocation failed.
 module _ {S : Type 0} (g : Grammar S) (first : ℕ) (text : List ℕ) (read : Result S LineFault) (line : ℕ) (s : S)
     (rest x after : List ℕ) (parts : cut_at 10 rest ≡ x ∷ cut_at 10 after) (stands : Stands g first text read line s rest)
     (cause : Cause) where
@@ -132,7 +128,7 @@ module _ {S : Type 0} (g : Grammar S) (first : ℕ) (text : List ℕ) (read : Re
   ran_out never (inl is) same = absurd (never (is ∙ ap (λ (c : Cause). Err c) same))
   ran_out never (inr none) same = is_good g first text read line s none.1 rest x after parts none.2 stands
 
--- The current line is the part of the text that follows the lines already read.
+-- The loop's next line is the part of the text that follows the lines already read.
 pub line_at : {S : Type 0} (g : Grammar S) (first : ℕ) (text : List ℕ) (read : Result S LineFault) (line : ℕ) (s : S)
     (rest x after : List ℕ) → cut_at 10 rest ≡ x ∷ cut_at 10 after → (stands : Stands g first text read line s rest)
     → get_or (cut_at 10 text) (length stands.above) [] ≡ x
@@ -147,8 +143,8 @@ ended : {S : Type 0} (g : Grammar S) (line : ℕ) (other : Cause) (b : Bool) (s 
 ended g line other true s t e = (refl, map_fault_ok (fault line) (g.ends s) t e)
 ended g line other false s t e = absurd cc
 
--- Suppose that each accepted line appends itself to the text of the state, and preserves `P`. Then the bytes that were
--- read are the text of the last state, and `P` holds of that state.
+-- Suppose that each accepted line preserves `P`, and that the text of the next state is the text of the state and this
+-- line. Then the lines that were read are the text of the last state, and `P` holds of that state.
 pub lines_hold : {S : Type 0} (g : Grammar S) (P : S → Type 0) (text : S → List (List ℕ))
     → ((s t : S) (x : List ℕ) → P s → g.step s x ≡ Ok t → P t × (text t ≡ text s ++ x ∷ []))
     → ((s t : S) → g.ends s ≡ Ok t → s ≡ t)
@@ -177,7 +173,6 @@ some_more : (ls : List (List ℕ)) → 0 < length (ls ++ [] ∷ [])
 some_more [] = omega arith
 some_more (l ∷ ls) = omega arith
 
--- If lines lead from one state to another, and a text can end in the second state, then reading these lines returns it.
 pub lines_again : {S : Type 0} (g : Grammar S) (line : ℕ) (s t : S) (xs : List (List ℕ)) → Leads g s xs t
     → g.ends t ≡ Ok t → lines_from g line s (xs ++ [] ∷ []) ≡ Ok t
 unfolding lines_from
@@ -190,7 +185,6 @@ pub leads_on : {S : Type 0} (g : Grammar S) (s t u : S) (xs ys : List (List ℕ)
 leads_on {S} g s t u [] ys a b = subst (λ (v : S). Leads g v ys u) (sym a) b
 leads_on g s t u (x ∷ xs) ys a b = (a.0, a.1, leads_on g a.0 t u xs ys a.2 b)
 
--- If each accepted line has property `Q`, all lines that lead from one state to another have it.
 pub leads_all : {S : Type 0} (g : Grammar S) (P : S → Type 0) (Q : List ℕ → Type 0)
     → ((s t : S) (x : List ℕ) → P s → g.step s x ≡ Ok t → P t × Q x)
     → (s t : S) (xs : List (List ℕ)) → P s → Leads g s xs t → AllByRecursion Q xs
@@ -198,8 +192,8 @@ leads_all g P Q one s t [] holds leads = tt
 leads_all g P Q one s t (x ∷ xs) holds leads =
     let moved = one s leads.0 x holds leads.1 in (moved.1, leads_all g P Q one leads.0 t xs moved.0 leads.2)
 
--- If each item's line leads from the state before the item to the state after it, the lines of the whole list lead from
--- the first state to the last.
+-- If each item's line leads from the state for the items before it to the state that includes the item, the lines of
+-- the whole list lead from the first state to the last.
 pub items_lead : {S X : Type 0} (g : Grammar S) (state : List X → S) (lines : ℕ → List X → List (List ℕ))
     (line : ℕ → X → List ℕ) → ((n : ℕ) → lines n [] ≡ [])
     → ((n : ℕ) (x : X) (xs : List X) → lines n (x ∷ xs) ≡ line n x ∷ lines (n + 1) xs) → (before xs : List X)

@@ -1,4 +1,4 @@
--- Laws of decimal numerals and the numbers that they spell.
+-- Laws of decimal numerals.
 use Rattle.std.proofs.Common.{◌≡◌, ℕ, zero, suc, ◌+◌, ◌-◌, ◌*◌, ◌^◌, ◌<◌, ◌≤◌, Bool, true, false, cond, eqb, leb, ◌&&◌, ◌||◌, not}
 use Rattle.std.proofs.Common.{List, length, get_or, take, Some, None, refl, sym, ap, ◌∙◌, arith, inl, inr}
 use Rattle.std.specs.Fmt.{decimal}
@@ -100,7 +100,6 @@ number_again low high v wide low_ok high_ok =
     first zero small many is = many (ap (λ (ds : List ℕ). length ds) (decimal_digit 0 (omega arith)))
     first (suc n) small many is = let above = first_decimal (suc n) (omega arith) small in omega (arith, above, is)
 
--- A decimal numeral contains no byte smaller than the digits.
 pub decimal_lacks : (byte n : ℕ) → byte < 48 → n < 2 ^ 64 → Lacks byte (decimal n)
 decimal_lacks byte n low small =
     All-from_get_or (λ b. eqb b byte ≡ false) (decimal n) 0 (λ i lt.

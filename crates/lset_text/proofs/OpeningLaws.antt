@@ -1,4 +1,4 @@
--- Laws of the lines that list opening keys, and of strictly increasing keys.
+-- Laws of the lines that list the opening keys, and of strictly increasing keys.
 use Rattle.std.proofs.Common.{rules, ◌≡◌, ℕ, zero, suc, ◌+◌, ◌-◌, ◌<◌, ◌^◌, true, List, [], ◌∷◌, ◌++◌, length, length-append}
 use Rattle.std.proofs.Common.{get_or, refl, ap, ◌∙◌, arith}
 use Rattle.std.specs.Prelude.{nat_lt}
@@ -15,7 +15,6 @@ use Rattle.lset_text.specs.declared.words.Version.TheVariants.{One, Two}
 use Rattle.lset_text.specs.Headers.{IsHeader}
 use Rattle.lset_text.specs.Openings.{above_last, is_above, HasOpening}
 
--- If a key is above the last key, strictly increasing keys stay strictly increasing when it is appended.
 some_last : (keys : List ℕ) (key : ℕ) → 0 < length keys → is_above keys key ≡ nat_lt (get_or keys (length keys - 1) 0) key
 some_last keys key some = ap (λ o. above_last o key) (slice_get-get_or keys (length keys - 1) 0 (omega (arith, some)))
 
@@ -30,7 +29,6 @@ increases_more keys key increasing above k below =
       some_last,
     )
 
--- In strictly increasing keys, each key is above all keys before it.
 pub above_before : (keys : List ℕ) (key : ℕ) (more : List ℕ) → IsStrictlyIncreasing (keys ++ key ∷ more) →
     is_above keys key ≡ true
 above_before [] key more increasing = refl
@@ -52,7 +50,6 @@ above_before (x ∷ xs) key more increasing =
 
 -- ---- Lemmas about a set that opens with these keys
 
--- If a set can open with the numbers of a header, the header is valid.
 pub is_header : (h : Header) (keys : List ℕ) → Opens (record { threads = h.threads; quota = h.quota; keys = keys }) → IsHeader h
 is_header h keys is = record { some = is.within.some; few = is.within.few; small = is.within.small; opens = omega arith }
 

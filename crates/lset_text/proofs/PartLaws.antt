@@ -1,4 +1,4 @@
--- Laws about cutting a text into lines and a line into fields, and about joining the parts again.
+-- Laws of cutting a text into lines, cutting a line into fields, and joining the parts again.
 use Rattle.std.proofs.Common.{◌≡◌, ℕ, ◌+◌, ◌-◌, ◌<◌, ◌≤◌, Bool, true, false, cond, eqb, ltb, not, ◌&&◌, List, [], ◌∷◌, ◌++◌}
 use Rattle.std.proofs.Common.{length, take, drop, Some, None, refl, sym, ap, ◌∙◌, append_assoc, arith, length-append}
 use Rattle.std.specs.Prelude.{position}
@@ -18,14 +18,12 @@ cond_none : {X : Type 0} (b : Bool) (x : X) → None ≡ cond b (Some x) None �
 cond_none true x e = absurd cc
 cond_none false x e = refl
 
--- A text that does not contain the byte is a single part.
 pub uncut : (byte : ℕ) (text : List ℕ) → None ≡ position (λ b. eqb b byte) text → cut_at byte text ≡ text ∷ []
 uncut byte text e =
     let first = position_or_len (λ b. eqb b byte) text in
     let past = ltb-false _ _ (cond_none (ltb first (length text)) first e) in
     slice_split_none (λ b. eqb b byte) text (λ k d lt. fails_before_first (λ b. eqb b byte) text k d (omega arith))
 
--- The first part of a text ends just before the first occurrence of the byte.
 pub cut_first : (byte : ℕ) (text : List ℕ) (i : ℕ) → Some i ≡ position (λ b. eqb b byte) text
     → cut_at byte text ≡ take i text ∷ cut_at byte (take (length text - (i + 1)) (drop (i + 1) text))
 cut_first byte text i e =
@@ -34,13 +32,13 @@ cut_first byte text i e =
     let at : position_or_len p text ≡ i = position_or_len_is p text i 0 (omega (arith, found.0)) found.2 (λ lt. found.1) in
     rw (slice_split_first p text 0 (omega (arith, at, found.0)), at, take_rest text (i + 1)) refl
 
--- Cutting a text returns at least one part.
 pub some_part : (byte : ℕ) (text : List ℕ) → 0 < length (cut_at byte text)
 some_part byte text = omega (arith, length-slice_split (λ b. eqb b byte) text)
 
 -- ---- Lemmas about bytes that do not occur in a text
 
--- Tests whether a byte is missing from a text. The test can be computed for a literal text.
+-- Returns whether a byte does not occur in a text. Unlike `Lacks`, a function that can be computed for a text in the
+-- code.
 abbrev pub is_free : ℕ → List ℕ → Bool
 is_free byte [] = true
 is_free byte (b ∷ bs) = not (eqb b byte) && is_free byte bs
@@ -62,7 +60,6 @@ Lacks-below low byte (b ∷ bs) lt h =
 pub Lacks-append : (byte : ℕ) (xs ys : List ℕ) → Lacks byte xs → Lacks byte ys → Lacks byte (xs ++ ys)
 Lacks-append byte xs ys h k = All-append (λ b. eqb b byte ≡ false) xs ys h k
 
--- If no part contains a byte, and the byte that joins the parts is another one, the joined text does not contain it.
 pub Lacks-joined : (byte between : ℕ) (pieces : List (List ℕ)) → (between ≡ byte → ⊥) → AllByRecursion (Lacks byte) pieces
     → Lacks byte (join_with_byte between pieces)
 Lacks-joined byte between [] ne h = All-nil (λ b. eqb b byte ≡ false)
@@ -72,7 +69,6 @@ Lacks-joined byte between (x ∷ y ∷ ys) ne h =
     let rest = All-cons (λ b. eqb b byte ≡ false) between (join_with_byte between (y ∷ ys)) (ne_eqb between byte ne) others in
     All-append (λ b. eqb b byte ≡ false) x (between ∷ join_with_byte between (y ∷ ys)) h.0 rest
 
--- If no field contains a newline, neither does the line of these fields.
 pub line_lacks : (pieces : List (List ℕ)) → AllByRecursion (Lacks 10) pieces → Lacks 10 (line_of pieces)
 line_lacks pieces h = Lacks-joined 10 32 pieces (λ bad. absurd (omega (arith, bad))) h
 
@@ -86,7 +82,6 @@ cut_joined byte x (y ∷ ys) lacks more =
     let first = slice_split_at (λ b. eqb b byte) x byte (join_with_byte byte (y ∷ ys)) lacks (eq-eqb byte byte refl) in
     first ∙ ap (λ (ps : List (List ℕ)). x ∷ ps) others
 
--- Cutting a line at its spaces returns its fields.
 pub cut_line : (x : List ℕ) (xs : List (List ℕ)) → Lacks 32 x → AllByRecursion (Lacks 32) xs
     → cut_at 32 (line_of (x ∷ xs)) ≡ x ∷ xs
 cut_line x xs lacks more = cut_joined 32 x xs lacks more
@@ -94,13 +89,11 @@ cut_line x xs lacks more = cut_joined 32 x xs lacks more
 pub joined_cut : (byte : ℕ) (text : List ℕ) (parts : List (List ℕ)) → cut_at byte text ≡ parts → text ≡ join_with_byte byte parts
 joined_cut byte text parts e = sym (join_with_byte-slice_split byte text) ∙ ap (join_with_byte byte) e
 
--- Joining the fields that a line was cut into returns the line.
 pub line_from_cut : (line : List ℕ) (pieces : List (List ℕ)) → cut_at 32 line ≡ pieces → line ≡ line_of pieces
 line_from_cut line pieces e = joined_cut 32 line pieces e
 
 -- ---- Lemmas about cutting a text into lines
 
--- Cutting a text that begins with some lines returns these lines, then the parts of the remaining text.
 pub cut_text : (lines : List (List ℕ)) (rest : List ℕ) → AllByRecursion (Lacks 10) lines
     → cut_at 10 (text_of lines ++ rest) ≡ lines ++ cut_at 10 rest
 cut_text [] rest h = refl
@@ -122,12 +115,10 @@ join_text (x ∷ xs) rest =
     let regrouped : text_of (x ∷ xs) ++ rest ≡ x ++ 10 ∷ (text_of xs ++ rest) = simp append_assoc in
     join_more x (xs ++ cut_at 10 rest) some ∙ others ∙ sym regrouped
 
--- If the first parts of a text are some lines, the text begins with the text of these lines.
 pub text_from_cut : (text : List ℕ) (lines : List (List ℕ)) (rest : List ℕ) → cut_at 10 text ≡ lines ++ cut_at 10 rest
     → text ≡ text_of lines ++ rest
 text_from_cut text lines rest e = joined_cut 10 text (lines ++ cut_at 10 rest) e ∙ join_text lines rest
 
--- If the last part of a text is empty, the text consists of the lines before this part.
 pub text_from_lines : (text : List ℕ) (lines : List (List ℕ)) → cut_at 10 text ≡ lines ++ [] ∷ [] → text ≡ text_of lines
 text_from_lines text lines e = text_from_cut text lines [] e ∙ append-nil (text_of lines)
 

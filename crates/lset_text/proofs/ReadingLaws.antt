@@ -1,4 +1,4 @@
--- Lemmas about chains of checks: if a chain returned a value, each of its checks passed.
+-- If a chain of checks returned a value, each of its checks passed.
 use Rattle.std.proofs.Common.{◌≡◌, Bool, true, false, cond, Option, Some, None, Result, Ok, Err, refl}
 use Rattle.lset_text.specs.Results.{◌>>=◌, or_fail, map_fault}
 
@@ -11,7 +11,6 @@ pub or_fail_ok : {A E : Type 0} (d : E) (o : Option A) (x : A) → or_fail d o �
 or_fail_ok d None x e = absurd cc
 or_fail_ok d (Some y) x e = cc
 
--- If a failed check returns `None` and the result is a value, the check passed.
 pub test_some : {A : Type 0} (b : Bool) (o : Option A) (y : A) → cond b o None ≡ Some y → (b ≡ true) × (o ≡ Some y)
 test_some true o y e = (refl, e)
 test_some false o y e = absurd cc
@@ -22,7 +21,6 @@ done x = Ok x
 pub ok_is : {A E : Type 0} (x y : A) → done {A = A} {E = E} x ≡ done y → x ≡ y
 ok_is x y e = cc
 
--- If a value is returned only after one or two tests, and a value was returned, the tests passed.
 pub kept_if : {A E : Type 0} (b : Bool) (d : E) (x y : A) → cond b (Ok x) (Err d) ≡ Ok y → (b ≡ true) × (x ≡ y)
 kept_if true d x y e = (refl, ok_is x y e)
 kept_if false d x y e = absurd cc

@@ -1,4 +1,4 @@
--- Laws of sections. A section has one line for each item of a list. The laws hold for every text.
+-- Laws of sections of a file. A section has one line for each item of a list, such as one `key K` line for each key.
 use Rattle.std.proofs.Common.{◌≡◌, ℕ, ◌<◌, ◌≤◌, ◌^◌, List, [], ◌∷◌, ◌++◌, map, length, true, Ok, refl, sym, ap, subst, arith}
 use Rattle.std.proofs.Common.{append_assoc, length-append}
 use Rattle.std.specs.List.{AllByRecursion}
@@ -38,7 +38,7 @@ push_before f a line xs x none = rw (none, map_push line xs x) (simp (append-nil
 
 -- ---- Which section the reader is in
 
--- Returns the section that the reader is in: `s` before the section's first item, `t` afterwards.
+-- Returns the section that the reader is in: `s` if the list of items is still empty, else `t`.
 abbrev pub later : {X T : Type 0} → List X → T → T → T
 later [] s t = s
 later (x ∷ xs) s t = t
@@ -57,8 +57,8 @@ section_leads g state line P most xs few are each =
     items_lead g state (λ n. map line) (λ n. line) (λ n. refl) (λ n x ys. refl) [] xs
     (λ front more x is. each front more x is (omega (arith, shorter front more xs x is, few)) (middle P front more xs x is are))
 
--- The lines of the opening keys lead from the state without keys to the state with all of them. A file of version 1 has
--- none.
+-- The lines of the opening keys lead from the state without keys to the state with all of them. In version 1, a file
+-- has no opening keys.
 pub openings_lead : {S : Type 0} (g : Grammar S) (state : List ℕ → S) (v : Version) (o : Opening) → Opens o
     → HasOpening v o.keys
     → ((front : List ℕ) (k : ℕ) → v ≡ Two → length front < MOST_OPENING → k < 2 ^ 32 → is_above front k ≡ true

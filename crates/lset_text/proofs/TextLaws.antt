@@ -1,4 +1,4 @@
--- Proof that a whole text and the value read from it determine each other, for every grammar.
+-- Proof that a file and the value read from it determine each other, for every grammar.
 use Rattle.std.proofs.Common.{◌≡◌, ℕ, ◌<◌, false, List, [], ◌∷◌, ◌++◌, length, Result, Ok, Err, refl, sym, ap, ◌∙◌, subst}
 use Rattle.std.proofs.Common.{append_assoc, arith}
 use Rattle.std.specs.Prelude.{IfErr}
@@ -21,7 +21,6 @@ use Rattle.lset_text.proofs.LineLaws.{faultless_from, lines_hold, lines_again, l
 
 -- ---- Lemmas about the header and the lines after it
 
--- If the header has an error, reading the whole text fails with that error.
 pub text_refused : {S : Type 0} (g : TextGrammar S) (parts : List (List ℕ)) (e : LineFault)
     → header_of g.title parts ≡ Err e → text_from g parts ≡ Err e
 unfolding text_from
@@ -32,7 +31,6 @@ pub text_after : {S : Type 0} (g : TextGrammar S) (parts rest : List (List ℕ))
 unfolding text_from
 text_after g parts rest h is = rw is refl
 
--- If the header was read, neither its last line nor any line above it has an error.
 pub header_good : {S : Type 0} (g : TextGrammar S) (bytes rest : List ℕ) (h : Header) → header_of g.title (cut_at 10 bytes) ≡ Ok (h, cut_at 10 rest)
     → IsGoodLine 1 (cut_at 10 bytes) (text_from g (cut_at 10 bytes)) last_of_header
 header_good g bytes rest h is =
@@ -43,7 +41,6 @@ header_good g bytes rest h is =
           (faultless_from g.lines last_of_header first_line (g.start h) (cut_at 10 rest) (omega arith)),
     )
 
--- A line without errors in the part after the header is also a line without errors in the whole text.
 pub good_in_text : {S : Type 0} (g : TextGrammar S) (bytes rest : List ℕ) (h : Header) (line : ℕ)
     → header_of g.title (cut_at 10 bytes) ≡ Ok (h, cut_at 10 rest)
     → IsGoodLine first_line (cut_at 10 rest) (lines_from g.lines first_line (g.start h) (cut_at 10 rest)) line
@@ -55,8 +52,8 @@ good_in_text g bytes rest h line is good =
       subst (IsFaultlessTo line) (sym (text_after g (cut_at 10 bytes) (cut_at 10 rest) h is)) good.2,
     )
 
--- If an allocation fails while the part after the header is read, the error names a line below the header, and neither
--- this line nor any line above it is wrong.
+-- If an allocation fails while the lines after the header are read, the error names a line below the header, and no
+-- earlier error was found up to this line.
 pub good_after : {S X : Type 0} (g : TextGrammar S) (bytes rest : List ℕ) (h : Header)
     (r : Result X LineFault) → header_of g.title (cut_at 10 bytes) ≡ Ok (h, cut_at 10 rest)
     → IfErr r (λ e. e.cause ≡ Memory → IsGoodLine first_line (cut_at 10 rest)
@@ -69,8 +66,8 @@ good_after g bytes rest h (Err e) is good = λ m.
 
 -- ---- Proof that reading and writing are inverse
 
--- The bytes that are read are the text of the result. If `P` holds of the start state of the header and each line
--- preserves `P`, it holds of the result.
+-- What was read is the text of the result. If `P` holds of the header's start state and each line preserves `P`, `P`
+-- holds of the result.
 pub text_found : {S : Type 0} (g : TextGrammar S) (P : S → Type 0) (text : S → List (List ℕ))
     → ((h : Header) → IsHeader h → P (g.start h) × (text (g.start h) ≡ header_lines g.title h))
     → ((s t : S) (x : List ℕ) → P s → g.lines.step s x ≡ Ok t → P t × (text t ≡ text s ++ x ∷ []))
@@ -95,8 +92,8 @@ some_first : (ls : List (List ℕ)) → (y : List ℕ) × (more : List (List ℕ
 some_first [] = ([], [], refl)
 some_first (l ∷ ls) = (l, ls ++ [] ∷ [], refl)
 
--- If lines lead from a header's start state to a state in which a text can end, reading the header and these lines
--- returns that state.
+-- If lines lead from the header's start state to a state in which a text can end, reading the header and these lines
+-- returns this state.
 pub text_again : {S : Type 0} (g : TextGrammar S) (P : S → Type 0)
     → ((s t : S) (x : List ℕ) → P s → g.lines.step s x ≡ Ok t → P t × Lacks 10 x)
     → (h : Header) (xs : List (List ℕ)) (t : S) → Lacks 10 g.title → IsHeader h → P (g.start h)
@@ -115,7 +112,7 @@ text_again g P free h xs t title_free is start leads at_end =
           ∙ lines_again g.lines first_line (g.start h) t xs leads at_end,
     )
 
--- A text that was written in a version is read in that version: its first line is that version's title.
+-- A file that was written in a version is read in that version, since its first line is the title of that version.
 pub version_again : {S : Type 0} (g : Version → TextGrammar S) → bytes_eq (g One).title (g Two).title ≡ false
     → (v : Version) (h : Header) (rest : List (List ℕ)) → version_in (g Two).title (header_lines (g v).title h ++ rest) ≡ v
 version_again g other One h rest = rw other refl

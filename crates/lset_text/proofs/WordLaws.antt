@@ -1,4 +1,4 @@
--- Proof that each name is read from its own text and from no other.
+-- Proof that reading inverts writing for names and replies: each is read from its own text and from no other.
 use Rattle.std.proofs.Common.{◌≡◌, ℕ, ◌<◌, ◌≤◌, ◌^◌, ◌||◌, Bool, true, List, [], ◌∷◌, ◌++◌, take, drop, Option, Some, None, is_some}
 use Rattle.std.proofs.Common.{refl, sym, ap, subst, ◌∙◌, inl, inr, codes, arith, option_map, take-append-drop}
 use Rattle.std.specs.List.{AllByRecursion}
@@ -37,7 +37,7 @@ some_is a b e = cc
 no_word : {A : Type 0} (k : A) → None ≡ Some k → ⊥
 no_word k e = cc
 
--- For every list of values: a value that is read is in the list, and is read only from its own text.
+-- A value that is read is one of the given values, and is read only from its own text.
 pub value_ok : {A : Type 0} (text : A → List ℕ) (P : A → Type 0) (values : List A) (piece : List ℕ) (x : A)
     → AllByRecursion P values → value_of text values piece ≡ Some x → (piece ≡ text x) × P x
 value_ok text P [] piece x all is = absurd cc
@@ -84,7 +84,6 @@ call_in_again One w h = refl
 call_in_again Two word.Add h = refl
 call_in_again Two w h = refl
 
--- Taking a call apart into its name and its key, and putting them together, returns the call.
 pub with_key-word_of : (c : Call) → with_key (word_of c) (key_of c) ≡ c
 with_key-word_of (call.Add k) = refl
 with_key-word_of c = refl
@@ -111,7 +110,8 @@ at_again : (k : Key) → k.0 < 2 ^ 32 → reply_in Two (reply_text (reply.At k))
 unfolding reply_of
 at_again k low = rw (number_again 0 max_number k.0 (omega arith) (omega arith) (omega arith)) refl
 
--- States that the field spells the reply, that the version has this reply, and that the field has the form of a reply.
+-- States that the field is the spelling of this reply, that the version has this reply, and that the field looks like a
+-- reply.
 abbrev pub ReadFrom : Version → Reply → List ℕ → Bool → Type 0
 ReadFrom v r piece form = HasReply v r × (piece ≡ reply_text r) × (form ≡ true)
 
@@ -130,7 +130,7 @@ at_ok piece r is = by_number (number_in 0 max_number (drop 3 piece)) refl (test_
           it,
         )
 
--- Case distinction: a reply contains a number, or it does not.
+-- Proof by cases: the reply contains a number, or it does not.
 either : (piece : List ℕ) (r : Reply) (o : Option Reply) → reply_of (plain_in Two) piece ≡ o
     → option_or o (at_number piece) ≡ Some r → ReadFrom Two r piece (is_some o || begins_at piece)
 either piece r None e is = at_ok piece r is

@@ -1,4 +1,4 @@
--- The error of a line: the line's number, the cause, and the cause's name.
+-- Errors in the lines of a file, and the names of their causes.
 use Rattle.std.specs.Prelude.{ℕ, List, codes}
 use Rattle.lset_text.specs.declared.causes.Cause.{Cause}
 use Rattle.lset_text.specs.declared.causes.Cause.TheVariants as cause

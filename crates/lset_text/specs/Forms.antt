@@ -1,4 +1,4 @@
--- Forms of lines: the values that a line's fields can have, how fields spell them, and how they are read.
+-- Forms of lines. A form is a list of fields; each field has a type of values, a spelling, and a reader.
 use Rattle.std.specs.Prelude.{◌≡◌, ℕ, ◌<◌, ◌≤◌, ◌^◌, ◌&&◌, Bool, true, false, List, [], ◌∷◌, Option, Some, None, is_some, if◌then◌else◌}
 use Rattle.std.specs.Fmt.{decimal}
 use Rattle.std.specs.Str.{bytes_eq}
@@ -11,7 +11,7 @@ use Rattle.lset_text.specs.Numbers.{number_in, max_number}
 use Rattle.lset_text.specs.Spellings.{kind_text, kind_of, call_word_text, call_word_in, reply_text, reply_in, is_reply_in}
 use Rattle.lset_text.specs.Spellings.{HasWord, HasReply}
 
--- A field of a form: a fixed word, a number in a range, or the name of a kind of list, a call or a reply.
+-- A field in the form of a line: a fixed word, a number in a range, or the name of a list kind, a call or a reply.
 pub data Piece : Type 0 where
   word : List ℕ → Piece
   number : ℕ → ℕ → Piece
@@ -19,15 +19,15 @@ pub data Piece : Type 0 where
   call : Piece
   reply : Piece
 
--- Any number from 0 to 4,294,967,295.
+-- A field with any number from 0 to 4,294,967,295.
 abbrev pub any : Piece
 any = number 0 max_number
 
--- A moment, counted from 1.
+-- A field with a moment: a number from 1 to 4,294,967,295.
 abbrev pub moment : Piece
 moment = number 1 max_number
 
--- Returns the type of a field's value.
+-- Returns the type of the values that this field can have. A fixed word has one value.
 abbrev pub Tells : Piece → Type 0
 Tells (word w) = Unit {0}
 Tells (number low high) = ℕ
@@ -51,8 +51,8 @@ Fits v kind k = Unit {0}
 Fits v call w = HasWord v w
 Fits v reply r = HasReply v r
 
--- Returns whether the text `x` has the form of the field. A fixed word must match exactly, a name must be a known one.
--- For a number, any text will do.
+-- Returns whether the text `x` looks like this field. A fixed word must match exactly, and a name must be a known one.
+-- A number accepts any text, since a wrong number has an error of its own.
 abbrev pub has_form : Version → Piece → List ℕ → Bool
 has_form v (word w) x = bytes_eq x w
 has_form v (number low high) x = true
@@ -60,7 +60,7 @@ has_form v kind x = is_some (kind_of x)
 has_form v call x = is_some (call_word_in v x)
 has_form v reply x = is_reply_in v x
 
--- Returns the value that `x` spells in this field, or `None`.
+-- Returns the value that the text `x` spells in this field, or `None`.
 abbrev pub told : Version → (p : Piece) → List ℕ → Option (Tells p)
 told v (word w) x = if bytes_eq x w then Some tt else None
 told v (number low high) x = number_in low high x
@@ -68,11 +68,11 @@ told v kind x = kind_of x
 told v call x = call_word_in v x
 told v reply x = reply_in v x
 
--- A form: the fields of a line.
+-- The form of a line: its fields, in sequence.
 abbrev pub Form : Type 0
 Form = List Piece
 
--- Returns the type of a form's values, one for each field.
+-- Returns the type of the values of a line with this form: one value for each field.
 abbrev pub Told : Form → Type 0
 Told [] = Unit {0}
 Told (p ∷ f) = Tells p × Told f
@@ -89,7 +89,7 @@ abbrev pub AllFit : Version → (f : Form) → Told f → Type 0
 AllFit v [] t = Unit {0}
 AllFit v (p ∷ f) t = Fits v p t.0 × AllFit v f t.1
 
--- Returns whether the line matches the form: it has the same number of fields, and each field has its form.
+-- Returns whether a line looks like this form: it has the same number of fields, and each looks like the form's field.
 abbrev pub have_form : Version → Form → List (List ℕ) → Bool
 have_form v [] [] = true
 have_form v [] (x ∷ xs) = false
@@ -106,13 +106,13 @@ all_told v [] xs = Some tt
 all_told v (p ∷ f) [] = None
 all_told v (p ∷ f) (x ∷ xs) = both (told v p x) (all_told v f xs)
 
--- Returns the values of a line of this form. `None` if the line does not match, or if a field has no value, such as a
--- number out of range.
+-- Returns the values of a line with this form. Returns `None` if the line does not look like the form, or if a field
+-- has no value, such as a number out of range.
 abbrev pub told_in : Version → (f : Form) → List (List ℕ) → Option (Told f)
 told_in v f xs = if have_form v f xs then all_told v f xs else None
 
--- States that the field can be read back: all bytes of a fixed word are at least 45 (letters, digits and dashes, but
--- not the space and the newline), and the largest number is below 2^64.
+-- States that the field can be separated from its neighbours and read back: a fixed word has only bytes from 45 up
+-- (letters, digits and dashes, but no space and no newline), and the largest number is below 2^64.
 abbrev pub IsPiece : Piece → Type 0
 IsPiece (word w) = all_from 45 w ≡ true
 IsPiece (number low high) = high < 2 ^ 64
@@ -126,8 +126,8 @@ abbrev pub IsForm : Form → Type 0
 IsForm [] = ⊥
 IsForm (p ∷ f) = IsPiece p × ArePieces f
 
--- The law of forms: a line is read as some values if and only if the version can spell these values and the line spells
--- them.
+-- Reading inverts writing, for every form: a line is read as some values if and only if the version can spell these
+-- values and the line is their spelling.
 abbrev pub FormsReadBack : Type 0
 FormsReadBack = (v : Version) (f : Form) (line : List ℕ) (t : Told f) → IsForm f
     → (AllFit v f t → told_in v f (cut_at 32 (line_with f t)) ≡ Some t)

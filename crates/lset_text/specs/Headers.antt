@@ -24,7 +24,7 @@ use Rattle.lset_text.specs.Results.{◌>>=◌, or_fail}
 abbrev pub kind_line : Kind → List ℕ
 kind_line k = line_of (codes "list" ∷ kind_text k ∷ [])
 
--- Returns a line that consists of a word and a number.
+-- Returns a line that consists of a word, a space, and a decimal number.
 abbrev pub number_line : List ℕ → ℕ → List ℕ
 number_line word n = line_of (word ∷ decimal n ∷ [])
 
@@ -50,25 +50,26 @@ title_in title line = if bytes_eq line title then Some title else None
 abbrev pub kind_form : Form
 kind_form = piece.word (codes "list") ∷ piece.kind ∷ []
 
--- Returns the kind of list that a line names.
+-- Returns the kind of list if the line is `list` and the name of a kind. Otherwise returns `None`.
 abbrev pub kind_in : List ℕ → Option Kind
 kind_in line = option_map (λ t. t.1.0) (told_in Two kind_form (cut_at 32 line))
 
 abbrev pub number_form : List ℕ → ℕ → ℕ → Form
 number_form word low high = piece.word word ∷ piece.number low high ∷ []
 
--- Returns the number that follows the given word in a line, if it is from `low` to `high`.
+-- Returns the number if the line is `word`, a space, and a number from `low` to `high`. Otherwise returns `None`.
 abbrev pub number_after : List ℕ → ℕ → ℕ → List ℕ → Option ℕ
 number_after word low high line = option_map (λ t. t.1.0) (told_in Two (number_form word low high) (cut_at 32 line))
 
--- Splits off the next header line, and returns it with the parts after it. If no bytes are left, the line is missing
--- and the error is `cause`. If bytes are left but no newline, the error is `NotEnded`.
+-- Splits off the next header line, number `line`, and returns it with the parts after it. The last part is the text
+-- after the last newline. If nothing but an empty last part remains, the line is missing: the error is `cause`. If the
+-- last part has bytes, the error is `NotEnded`.
 abbrev pub line_due : ℕ → Cause → List (List ℕ) → Result (List ℕ × List (List ℕ)) LineFault
 line_due line cause [] = Err (fault line cause)
 line_due line cause (rest ∷ []) = Err (fault line (if length rest == 0 then cause else wrong.NotEnded))
 line_due line cause (x ∷ y ∷ more) = Ok (x, y ∷ more)
 
--- Reads a value from the next header line, and returns it with the parts after that line.
+-- Reads a value from the next header line by `read`, and returns the value with the parts after that line.
 unfoldable pub told_by_line : {A : Type 0} → ℕ → Cause → (List ℕ → Option A) → List (List ℕ)
     → Result (A × List (List ℕ)) LineFault
 told_by_line line cause read parts = do
@@ -88,7 +89,7 @@ threads_told = told_by_line 3 wrong.Threads (number_after (codes "threads") 1 MO
 abbrev pub quota_told : List (List ℕ) → Result (ℕ × List (List ℕ)) LineFault
 quota_told = told_by_line 4 wrong.Quota (number_after (codes "quota") 0 MOST_QUOTA)
 
--- Reads the header at the beginning of a text, and returns it with the parts after it.
+-- Reads a header from the lines of a text, and returns it with the parts after it.
 unfoldable pub header_of : List ℕ → List (List ℕ) → Result (Header × List (List ℕ)) LineFault
 header_of title parts = do
   first ← title_told title parts
@@ -97,7 +98,7 @@ header_of title parts = do
   quota ← quota_told threads.1
   Ok (record { kind = kind.0; threads = threads.0; quota = quota.0 }, quota.1)
 
--- States that a header is read back from its text, whatever follows the text.
+-- States that reading the text of a header returns this header, whatever text follows.
 abbrev pub HeadersReadBack : Type 0
 HeadersReadBack = (title : List ℕ) (h : Header) (rest : List ℕ) → Lacks 10 title → IsHeader h
     → header_of title (cut_at 10 (text_of (header_lines title h) ++ rest)) ≡ Ok (h, cut_at 10 rest)

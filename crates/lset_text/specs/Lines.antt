@@ -1,4 +1,4 @@
--- Reads the lines of a text one by one into a state. An error has the number of the refused line.
+-- How a text is read line by line: each line changes a state, or is refused with the number of the line.
 use Rattle.std.specs.Prelude.{◌≡◌, ℕ, ◌+◌, ◌<◌, ◌≤◌, ◌==◌, List, [], ◌∷◌, ◌++◌, length, Result, Ok, Err, if◌then◌else◌}
 use Rattle.lset_text.specs.declared.causes.Cause.{Cause}
 use Rattle.lset_text.specs.declared.causes.Cause.TheVariants.{NotEnded}
@@ -7,13 +7,14 @@ use Rattle.lset_text.specs.Causes.{fault}
 use Rattle.lset_text.specs.Parts.{cut_at}
 use Rattle.lset_text.specs.Results.{◌>>=◌, map_fault}
 
--- The grammar of a text's lines. `step` returns the state after one more line, or the cause if the line is refused.
--- `ends` decides whether the text can end in a state.
+-- A grammar for the lines of a text. `step` returns the state after a line, or the cause if the line is refused. `ends`
+-- decides whether the text can end in a state.
 pub record Grammar (S : Type 0) : Type 0 where
   pub step : S → List ℕ → Result S Cause
   pub ends : S → Result S Cause
 
--- Reads the lines from number `line` on. The last part is what follows the last newline, and must be empty.
+-- Reads lines into the state `s`. The first has the number `line`. The last part is the text after the last newline,
+-- and must be empty.
 unfoldable pub lines_from : {S : Type 0} → Grammar S → ℕ → S → List (List ℕ) → Result S LineFault
 lines_from g line s [] = map_fault (fault line) (g.ends s)
 lines_from g line s (rest ∷ []) = map_fault (fault line) (if length rest == 0 then g.ends s else Err NotEnded)
@@ -26,18 +27,18 @@ abbrev pub Leads : {S : Type 0} → Grammar S → S → List (List ℕ) → S �
 Leads g s [] t = s ≡ t
 Leads {S = S} g s (x ∷ xs) t = (next : S) × (g.step s x ≡ Ok next) × Leads g next xs t
 
--- States that neither this line nor any line above it has an error.
+-- States that the reading found no error at this line or above it.
 abbrev pub IsFaultlessTo : {X : Type 0} → ℕ → Result X LineFault → Type 0
 IsFaultlessTo line (Ok x) = Unit {0}
 IsFaultlessTo line (Err e) = line < e.line
 
--- States that `line` is the number of a complete line, and that neither this line nor any line above it has an error.
--- Lines are counted from `first`. The last part is what follows the last newline.
+-- States that `line` is the number of a complete line, and that the reading found no error at this line or above it.
+-- `first` is the number of the first line. The last part is the text after the last newline.
 abbrev pub IsGoodLine : {X : Type 0} → ℕ → List (List ℕ) → Result X LineFault → ℕ → Type 0
 IsGoodLine first parts read line = (first ≤ line) × (line + 1 < first + length parts) × IsFaultlessTo line read
 
--- The invariant of a loop over the lines of a text: reading the rest from this line and state has the same result as
--- reading the whole text.
+-- The invariant of a loop that reads a text line by line: if the loop reads `rest`, beginning with this line in this
+-- state, the result is the same as that of reading the whole text.
 pub record Stands {S : Type 0} (g : Grammar S) (first : ℕ) (text : List ℕ) (read : Result S LineFault) (line : ℕ) (s : S)
     (rest : List ℕ) : Type 0 where
   pub so_far : lines_from g line s (cut_at 10 rest) ≡ read

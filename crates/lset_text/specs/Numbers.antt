@@ -1,11 +1,11 @@
--- Numbers as they are spelled: decimals without leading zeros.
+-- Numbers in files: decimals without leading zeros.
 use Rattle.std.specs.Prelude.{◌≡◌, ℕ, ◌<◌, ◌≤◌, ◌^◌, ◌&&◌, ◌||◌, ◌==◌, nat_lt, nat_le, not, Bool, List, length, slice_index}
 use Rattle.std.specs.Prelude.{Option, Some, None, if◌then◌else◌}
 use Rattle.std.specs.Fmt.{decimal}
 use Rattle.std.specs.Str.{all_ascii_digits}
 use Rattle.std.specs.Str.Parse.{digits_value}
 
--- Returns whether a field is `0`, or consists of digits and does not begin with `0`.
+-- Returns whether a field is `0`, or consists of digits and begins with another digit than `0`.
 abbrev pub is_number : List ℕ → Bool
 is_number piece = nat_lt 0 (length piece) && (all_ascii_digits piece && (length piece == 1 || not (slice_index piece 0 == 48)))
 
@@ -13,16 +13,17 @@ is_number piece = nat_lt 0 (length piece) && (all_ascii_digits piece && (length 
 abbrev pub is_between : ℕ → ℕ → ℕ → Bool
 is_between low high n = nat_le low n && nat_le n high
 
--- Returns the number that a field spells, if it is from `low` to `high`.
+-- Returns the number that a field spells, if the number is from `low` to `high`. Otherwise returns `None`.
 unfoldable pub number_in : ℕ → ℕ → List ℕ → Option ℕ
 number_in low high piece =
     if is_number piece && is_between low high (digits_value 10 piece) then Some (digits_value 10 piece) else None
 
--- The largest thread number, key, call number or moment in a file.
+-- The largest number of a thread, key, call or moment in a file.
 abbrev pub max_number : ℕ
 max_number = 4294967295
 
--- States that a number is read from its decimal numeral, and from no other text.
+-- States that reading inverts writing for numbers: a field is read as a number if and only if it is the number's
+-- decimal numeral.
 abbrev pub NumbersReadBack : Type 0
 NumbersReadBack = (low high n : ℕ) (piece : List ℕ) → high < 2 ^ 64
     → (low ≤ n → n ≤ high → number_in low high (decimal n) ≡ Some n)

@@ -16,7 +16,7 @@ opening_lines keys = map opening_line keys
 abbrev pub opening_form : Form
 opening_form = number_form (codes "opening") 0 max_number
 
--- States that the version can have these opening keys. Version 1 has none.
+-- States that a file of this version can have these opening keys: version 1 can have none.
 abbrev pub HasOpening : Version → List ℕ → Type 0
 HasOpening One keys = keys ≡ []
 HasOpening Two keys = Unit {0}
@@ -25,6 +25,6 @@ abbrev pub above_last : Option ℕ → ℕ → Bool
 above_last None key = true
 above_last (Some last) key = nat_lt last key
 
--- Returns whether a key is above the last of these keys. True if there are no keys.
+-- Returns whether a key is above the last of these keys. Returns true if `keys` is empty.
 abbrev pub is_above : List ℕ → ℕ → Bool
 is_above keys key = above_last (slice_get keys (length keys - 1)) key

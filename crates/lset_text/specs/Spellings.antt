@@ -25,7 +25,7 @@ kind_text kind.Optimistic = codes "optimistic"
 kind_text kind.Lazy = codes "lazy"
 kind_text kind.LockFree = codes "lock-free"
 
--- Returns the first of these values whose text is the field.
+-- Returns the first of these values whose text equals the field, or `None`.
 abbrev pub value_of : {A : Type 0} → (A → List ℕ) → List A → List ℕ → Option A
 value_of text values piece = find (λ x. bytes_eq piece (text x)) values
 
@@ -41,7 +41,7 @@ call_word_text word.Remove = codes "remove"
 call_word_text word.Contains = codes "contains"
 call_word_text word.Ceiling = codes "ceiling"
 
--- Returns the name of a call. `with_key` is the inverse: it returns the call with a name and a key.
+-- Returns the name of a call. `with_key` is the inverse: it makes a call of a name and a key.
 abbrev pub word_of : Call → CallWord
 word_of (call.Add k) = word.Add
 word_of (call.Remove k) = word.Remove
@@ -57,7 +57,7 @@ with_key word.Ceiling k = call.Ceiling k
 abbrev pub call_text : Call → List ℕ
 call_text c = call_word_text (word_of c)
 
--- Returns the names of calls in a version. Version 1 has no `ceiling`.
+-- Returns the call names that a version of a file format has. Version 1 has no `ceiling`.
 abbrev pub words_in : Version → List CallWord
 words_in One = word.Add ∷ word.Remove ∷ word.Contains ∷ []
 words_in Two = word.Add ∷ word.Remove ∷ word.Contains ∷ word.Ceiling ∷ []
@@ -73,7 +73,7 @@ HasWord version word.Add = Unit {0}
 HasWord One word.Ceiling = ⊥
 HasWord version w = Unit {0}
 
--- States that the version has this call.
+-- States that this version of a file format has this call.
 abbrev pub HasCall : Version → Call → Type 0
 HasCall version c = HasWord version (word_of c)
 
@@ -84,7 +84,7 @@ reply_text reply.Full = codes "full"
 reply_text (reply.At k) = codes "at-" ++ decimal k.0
 reply_text reply.Nothing = codes "nothing"
 
--- Returns the version's replies that contain no number.
+-- Returns the replies of this version that contain no number. (In version 2 `at-K` is a reply as well.)
 abbrev pub plain_in : Version → List Reply
 plain_in One = reply.True ∷ reply.False ∷ reply.Full ∷ []
 plain_in Two = reply.True ∷ reply.False ∷ reply.Full ∷ reply.Nothing ∷ []
@@ -102,7 +102,8 @@ begins_at piece = bytes_eq (take 3 piece) (codes "at-")
 abbrev pub at_number : List ℕ → Option Reply
 at_number piece = if begins_at piece then option_map at_key (number_in 0 max_number (drop 3 piece)) else None
 
--- Returns the reply that a field spells in a version. `is_reply_in` only tests the form of the field.
+-- Returns the reply that a field spells in this version, or `None`. `is_reply_in` tests only whether the field looks
+-- like a reply.
 abbrev pub reply_in : Version → List ℕ → Option Reply
 reply_in One piece = reply_of (plain_in One) piece
 reply_in Two piece = option_or (reply_of (plain_in Two) piece) (at_number piece)
@@ -111,7 +112,7 @@ abbrev pub is_reply_in : Version → List ℕ → Bool
 is_reply_in One piece = is_some (reply_of (plain_in One) piece)
 is_reply_in Two piece = is_some (reply_of (plain_in Two) piece) || begins_at piece
 
--- States that the version has this reply.
+-- States that this version of a file format has this reply.
 abbrev pub HasReply : Version → Reply → Type 0
 HasReply version reply.True = Unit {0}
 HasReply One (reply.At k) = ⊥
@@ -119,7 +120,8 @@ HasReply Two (reply.At k) = k.0 < 2 ^ 32
 HasReply One reply.Nothing = ⊥
 HasReply version r = Unit {0}
 
--- States that a kind of list is read from its name, and from no other text.
+-- States that reading inverts writing for kinds of lists: a field is read as a kind if and only if it is the kind's
+-- name. Calls and replies have the same law, below.
 abbrev pub KindsReadBack : Type 0
 KindsReadBack = (k : Kind) (piece : List ℕ)
     → (kind_of (kind_text k) ≡ Some k) × (kind_of piece ≡ Some k → piece ≡ kind_text k)

@@ -5,8 +5,8 @@ ghost use Rattle.lset_text.specs.declared.causes.Cause.TheVariants.{Memory};
 use std::alloc::{AllocError, AllocFailed};
 use thiserror::Error;
 
-/// The cause of an error in a line, with examples. If several causes apply to a line, the first one in this order is
-/// reported, except that `NotEnded` comes before all others.
+/// The cause of an error in a line of a file, with examples of such lines. If several causes apply to a line, the first
+/// one in this order is reported, except that `NotEnded` comes before all others.
 #[derive(Clone, Copy, Debug, PartialEq, Eq)]
 pub enum Cause {
     /// The first line is not the title of the file: an empty input; a schedule passed to `check`; `listset-calls 2`.
@@ -17,32 +17,31 @@ pub enum Cause {
     Threads,
     /// The fourth line is not `quota` and a number from 0 to 16384: `quota 16385`.
     Quota,
-    /// The line does not have the fields of any line that is allowed here: `take 0 5`; `go  0 1` (two spaces); `opening
-    /// 5` below an event; an empty line.
+    /// The line is not of a kind that can follow the lines above it: `take 0 5`; `go  0 1` (two spaces); `opening 5`
+    /// below an event; an empty line.
     Event,
-    /// In a report or a recording, the line does not have the fields of any line that is allowed here: `place 0 maybe`;
+    /// In a report or a recording, the line is not of a kind that can follow the lines above it: `place 0 maybe`;
     /// `place 0 true` below a `key` line; in version 1 `place 0 at-5`; in a recording `call 0 add 5 1 8 full`.
     Line,
-    /// A field must be a number, and is not a number or is out of range: `begin 0 add 05`, `go 0 10001`, `place 01
-    /// true`.
+    /// The field is not a number, or is out of range: `begin 0 add 05`, `go 0 10001`, `place 01 true`.
     Number,
     /// This line exceeds the limit of events, opening keys, calls, places or keys in a file: the hundredth line `go 0
     /// 10000`.
     TooMany,
-    /// The key is not above the key before it: `opening 9` twice.
+    /// The key is not above the opening key before it: `opening 9` twice.
     Opening,
-    /// The call cannot follow the calls above it: `call 1 0 add 7 8 9 true` below `call 0 0 add 5 1 8 true`, since moment 8 is
-    /// taken.
+    /// The call contradicts the calls above it: `call 1 0 add 7 8 9 true` below `call 0 0 add 5 1 8 true`, since moment
+    /// 8 is taken.
     History,
     /// The line has no newline at its end, or the text ends too early: a report or a recording without `end`.
     NotEnded,
-    /// The thread does not exist: `go 1 1` with `threads 1`.
+    /// No thread has this number: `go 1 1` with `threads 1`.
     NoThread,
     /// The thread already has a pending call: `begin 0 add 5`, then `begin 0 add 6`.
     Busy,
     /// The thread has no pending call: `go 0 8`, if the call has only seven steps.
     Idle,
-    /// A broken list cannot make this step: it would access a word outside its table.
+    /// A broken list (with a check removed) cannot make this step: it would access a word outside its table.
     Lost,
     /// The thread cannot reach the given step: `go 1 out`, if the thread waits for a lock of another thread.
     Waits,
@@ -51,7 +50,7 @@ pub enum Cause {
 }
 
 impl Cause {
-    /// Returns the name that is printed on standard error for the cause.
+    /// Returns the name of the cause, at most 8 letters, as it is printed on standard error.
     pub fn name(self) -> &'static str
         ensures name { result.now ≡ name_of self }
         ensures short { length result.now ≤ 8 }
@@ -94,7 +93,7 @@ impl<T: Drop> From<AllocFailed<T>> for Cause {
     }
 }
 
-/// The first error of a text: the number of its line, counted from 1, and the cause.
+/// The first error in a file: the number of the line, counted from 1, and the cause.
 #[derive(Clone, Copy, Debug, PartialEq, Eq, Error)]
 #[error("line {line}: {cause:?}")]
 pub struct LineFault {
@@ -103,7 +102,7 @@ pub struct LineFault {
 }
 
 impl LineFault {
-    /// Returns a `LineFault` with this cause at line `line`, counted from 1.
+    /// Returns the error with this cause at line `line`, counted from 1.
     pub fn at(line: u64, cause: Cause) -> LineFault
         ensures { result ≡ fault line cause }
     {

@@ -39,8 +39,8 @@ fn kind_of_line(line: &[u8]) -> Option<Kind>
     read_kind(kind)
 }
 
-/// Returns the number in a line that consists of `word`, a space, and a number from `low` to `high`. `None` if the line
-/// is different.
+/// Reads a line that consists of `word`, a space, and a number from `low` to `high`. Returns the number, or `None` for
+/// any other line.
 pub fn number_of_line(line: &[u8], word: &[u8], low: u32, high: u32) -> Option<u32>
     ensures { result ≡ number_after word.now low high line.now }
 {
@@ -54,7 +54,8 @@ pub fn number_of_line(line: &[u8], word: &[u8], low: u32, high: u32) -> Option<u
     number(count, low, high)
 }
 
-/// Splits the next header line off a text. Returns the line and the remaining text.
+/// Splits the next header line, number `line`, off a text. Returns the line and the text after it. If the text is
+/// empty, returns an error with this cause.
 fn due(text: &[u8], line: u64, cause: Cause) -> Result<(&[u8], &[u8]), LineFault>
     ensures value { MatchResult result
         (λ p. line_due line cause (cut_at 10 text.now) ≡ Ok (p.0.now, cut_at 10 p.1.now))
@@ -70,8 +71,7 @@ fn due(text: &[u8], line: u64, cause: Cause) -> Result<(&[u8], &[u8]), LineFault
     Err(LineFault::unended(line))
 }
 
-/// Returns the version of a file: version 2 if the first line is `title`, which must be version 2's title, else version
-/// 1.
+/// Returns the version of a file: 2 if its first line is `title`, the title of version 2, else 1.
 pub fn version_of(text: &[u8], title: &[u8]) -> Version
     ensures { result ≡ version_in title.now (cut_at 10 text.now) }
 {
@@ -86,8 +86,8 @@ pub fn version_of(text: &[u8], title: &[u8]) -> Version
     }
 }
 
-/// Reads the header of a file, which is lines 1 to 4 and must begin with `title`. Returns the header and the rest of
-/// the file.
+/// Reads the header of a file: lines 1 to 4. The first must be `title`. Returns the header and the text after
+/// it. Does not allocate.
 ///
 /// # Errors
 ///
@@ -96,7 +96,7 @@ pub fn version_of(text: &[u8], title: &[u8]) -> Version
 pub fn read_header<'a>(title: &[u8], text: &'a [u8]) -> Result<(Header, &'a [u8]), LineFault>
     // The text begins with the returned header.
     ensures found { IfOk result (λ p. IsHeader p.0 × (text.now ≡ text_of (header_lines title.now p.0) ++ p.1.now)) }
-    // Determines the returned value or error exactly.
+    // Specifies both the value and the error exactly: `header_of` is the definition of reading a header.
     ensures exact { MatchResult result
         (λ p. header_of title.now (cut_at 10 text.now) ≡ Ok (p.0, cut_at 10 p.1.now))
         (λ e. header_of title.now (cut_at 10 text.now) ≡ Err e) }
@@ -107,7 +107,7 @@ pub fn read_header<'a>(title: &[u8], text: &'a [u8]) -> Result<(Header, &'a [u8]
     header_due(title, text)
 }
 
-/// Lemma: a header is read back from its text, whatever follows it.
+/// Lemma: if the text of a header is read, the result is this header, whatever text follows. The function does nothing.
 #[tactic(auto, using(crate::proofs::HeaderLaws::header_from_text))]
 pub fn headers_read_back()
     ensures { HeadersReadBack }
@@ -144,7 +144,7 @@ fn header_due<'a>(title: &[u8], text: &'a [u8]) -> Result<(Header, &'a [u8]), Li
     Ok((header, rest))
 }
 
-/// Appends the four lines of a header to `out`. Returns `AllocError` if an allocation fails. `out` can then end with a
+/// Appends the four lines of a header to `out`. Returns `AllocError` if an allocation fails; `out` can then end with a
 /// part of these lines.
 pub fn put_header(out: &mut String, title: &str, header: Header) -> Result<(), AllocError>
     ensures { OnOk result (string_bytes out.new ≡ string_bytes out.old ++ text_of (header_lines title.now header)) }

@@ -1,5 +1,5 @@
-//! The parts that all file formats have in common: lines and fields, numbers, names, the four header lines, and the
-//! lines of opening keys.
+//! What all file formats have in common: lines and fields, numbers, names, the four header lines, and the lines of
+//! opening keys.
 #![tactic(auto)]
 
 mod causes;

@@ -4,8 +4,8 @@ ghost use Rattle.lset_text.specs.Openings.{is_above, opening_line, opening_lines
 
 use std::alloc::AllocError;
 
-/// Returns whether `key` is above the last of `keys`, so that strictly increasing keys stay increasing if it is
-/// appended. True if `keys` is empty.
+/// Returns whether `key` is above the last of `keys`. If `keys` increase strictly, they still do with `key` appended.
+/// Returns true if `keys` is empty.
 pub fn is_above(keys: &[u32], key: u32) -> bool
     ensures { result ≡ is_above keys.now key }
 {
@@ -22,7 +22,7 @@ fn put_opening(out: &mut String, key: u32) -> Result<(), AllocError>
     Ok(())
 }
 
-/// Appends a line `opening K` to `out` for each opening key. Returns `AllocError` if an allocation fails. `out` can
+/// Appends a line `opening K` to `out` for each opening key K. Returns `AllocError` if an allocation fails; `out` can
 /// then end with a part of these lines.
 pub fn put_openings(out: &mut String, keys: &[u32]) -> Result<(), AllocError>
     ensures { OnOk result (string_bytes out.new ≡ string_bytes out.old ++ text_of (opening_lines keys.now)) }

@@ -28,7 +28,7 @@ pub enum Version {
     Two,
 }
 
-/// The name of a call in a file, without its key.
+/// The name of a call in a file, such as `add`, without the key.
 #[derive(Clone, Copy)]
 pub enum CallWord {
     Add,
@@ -38,7 +38,7 @@ pub enum CallWord {
 }
 
 impl CallWord {
-    /// Returns the call that has this name and the given key.
+    /// Returns the call with this name and this key.
     pub fn with_key(self, key: Key) -> Call
         ensures { result ≡ with_key self key }
     {
@@ -64,7 +64,7 @@ pub fn kind_word(kind: Kind) -> &'static str
     }
 }
 
-/// Returns whether a field is the name of this kind of list.
+/// Returns whether a field is the name that files use for this kind of list.
 fn is_word_of(piece: &[u8], kind: Kind) -> bool
     ensures { result ≡ bytes_eq piece.now (kind_text kind) }
 {
@@ -98,7 +98,7 @@ pub fn call_word(call: Call) -> &'static str
     }
 }
 
-/// Returns the call name that a field spells in this version. `None` for any other field.
+/// Returns the call name that a field spells in this version of a file format. Returns `None` for any other field.
 #[tactic(auto, unfolding(crate::specs::Spellings::call_word_of))]
 pub fn read_call(version: Version, piece: &[u8]) -> Option<CallWord>
     ensures { result ≡ call_word_in version piece.now }
@@ -112,7 +112,7 @@ pub fn read_call(version: Version, piece: &[u8]) -> Option<CallWord>
     }
 }
 
-/// A reply that prints as files spell it: `true`, `at-5`.
+/// A reply that is displayed as files spell it, such as `true` or `at-5`.
 #[derive(Clone, Copy)]
 pub struct ReplyWord(pub Reply);
 
@@ -133,14 +133,15 @@ impl fmt::Display for ReplyWord {
     }
 }
 
-/// Wraps a reply so that it prints as files spell it.
+/// Wraps a reply, to display it as files spell it.
 pub fn reply_word(reply: Reply) -> ReplyWord
     ensures { result ≡ record { 0 = reply } }
 {
     ReplyWord(reply)
 }
 
-/// Returns the reply without a number that a field spells in this version. `None` for any other field.
+/// Returns the reply that a field spells in this version, if the reply contains no number (all but `at-K`). Returns
+/// `None` for any other field.
 #[tactic(auto, unfolding(crate::specs::Spellings::reply_of))]
 fn read_plain_reply(version: Version, piece: &[u8]) -> Option<Reply>
     ensures { result ≡ reply_of (plain_in version) piece.now }
@@ -154,7 +155,7 @@ fn read_plain_reply(version: Version, piece: &[u8]) -> Option<Reply>
     }
 }
 
-/// Returns the reply `At(K)` if the field is `at-K` for a key K. `None` for any other field.
+/// Returns the reply `At(K)` if the field is `at-K` for a key K. Returns `None` for any other field.
 fn read_at(piece: &[u8]) -> Option<Reply>
     ensures { result ≡ at_number piece.now }
 {
@@ -162,7 +163,7 @@ fn read_at(piece: &[u8]) -> Option<Reply>
     Some(Reply::At(Key(number(key, 0, u32::MAX)?)))
 }
 
-/// Returns the reply that a field spells in this version. `None` for any other field.
+/// Returns the reply that a field spells in this version of a file format. Returns `None` for any other field.
 pub fn read_reply(version: Version, piece: &[u8]) -> Option<Reply>
     ensures { result ≡ reply_in version piece.now }
 {
@@ -173,7 +174,8 @@ pub fn read_reply(version: Version, piece: &[u8]) -> Option<Reply>
     }
 }
 
-/// Returns whether a field has the form of a reply: it is a reply of this version or, in version 2, begins with `at-`.
+/// Returns whether a field looks like a reply: it is a reply of this version or, in version 2, begins with `at-`, even
+/// if no key follows.
 pub fn is_reply(version: Version, piece: &[u8]) -> bool
     ensures { result ≡ is_reply_in version piece.now }
 {
@@ -184,7 +186,8 @@ pub fn is_reply(version: Version, piece: &[u8]) -> bool
     }
 }
 
-/// Lemma: kinds of lists, calls and replies are read from their names, and from no other text.
+/// Lemma: reading inverts writing for the names of list kinds and calls, and for replies: each is read from its own
+/// text and from no other. The function does nothing.
 pub fn words_read_back()
     ensures kinds { KindsReadBack }
     ensures calls { CallsReadBack }

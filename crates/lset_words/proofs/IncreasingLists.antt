@@ -1,4 +1,4 @@
--- Lemmas about membership in lists and about increasing lists, for proofs about contents.
+-- Members of lists, and lists in increasing order.
 use Rattle.std.proofs.Common.{◌≡◌, ℕ, zero, suc, ◌+◌, ◌<◌, ◌≤◌, ◌⊎◌, inl, inr, List, [], ◌∷◌, length, get_or, sym, refl, subst, arith}
 use Rattle.std.specs.Prelude.{Contains}
 use Rattle.std.specs.List.Sorted.{IsStrictlyIncreasing}
@@ -20,7 +20,8 @@ contains-tail x y xs c = let l : c.0 < length xs = c.1 in (suc c.0, omega arith,
 pub contains-nil : (y : ℕ) → Contains [] y → ⊥
 contains-nil y c = let l : c.0 < 0 = c.1 in omega arith
 
--- States that the list increases strictly and that its elements are at least `lo`.
+-- States that the list increases strictly and that each element is at least `lo`. A recursive form of
+-- `IsStrictlyIncreasing`, for proofs by induction.
 abbrev pub IncreasesFrom : ℕ → List ℕ → Type 0
 IncreasesFrom lo [] = Unit {0}
 IncreasesFrom lo (x ∷ xs) = (lo ≤ x) × IncreasesFrom (x + 1) xs
@@ -29,7 +30,6 @@ pub increases_less : (lo hi : ℕ) (xs : List ℕ) → lo ≤ hi → IncreasesFr
 increases_less lo hi [] l r = tt
 increases_less lo hi (x ∷ xs) l r = let a : hi ≤ x = r.0 in (omega arith, r.1)
 
--- No element of an increasing list is below its bound.
 increase_bound : (lo y : ℕ) (xs : List ℕ) → IncreasesFrom lo xs → Contains xs y → lo ≤ y
 increase_bound lo y [] r c = absurd (contains-nil y c)
 increase_bound lo y (x ∷ xs) r c = elim (contains-cons x y xs c) [
@@ -37,7 +37,6 @@ increase_bound lo y (x ∷ xs) r c = elim (contains-cons x y xs c) [
   | inr d ↦ (let a : lo ≤ x = r.0 in let b : x + 1 ≤ y = increase_bound (x + 1) y xs r.1 d in omega arith)
 ]
 
--- Two increasing lists with the same members are equal.
 pub same_increasing : (lo mo : ℕ) (xs ys : List ℕ) → IncreasesFrom lo xs → IncreasesFrom mo ys
     → ((k : ℕ) → Contains xs k → Contains ys k) → ((k : ℕ) → Contains ys k → Contains xs k) → xs ≡ ys
 same_increasing lo mo [] [] r s f g = refl
@@ -75,7 +74,7 @@ increases_after x (y ∷ ys) h =
           subst (λ n. get_or (y ∷ ys) k 0 < get_or (x ∷ (y ∷ ys)) n 0) e (h (suc k) (omega arith))),
     )
 
--- `IncreasesFrom` is equivalent to std's `IsStrictlyIncreasing`.
+-- `IncreasesFrom` is equivalent to `IsStrictlyIncreasing` of the standard library.
 pub increases_from_increasing : (xs : List ℕ) → IsStrictlyIncreasing xs → IncreasesFrom 0 xs
 increases_from_increasing [] h = tt
 increases_from_increasing (x ∷ xs) h = (omega arith, increases_after x xs h)

@@ -1,4 +1,4 @@
--- Extending a record by two lists of calls extends it by their concatenation.
+-- A seat's record is extended by two lists of calls in the same way as by their concatenation.
 use Rattle.std.proofs.Common.{◌≡◌, List, [], ◌∷◌, ◌++◌, refl}
 use Rattle.lset_words.specs.Records.{CallMade, Record, called, with_calls}
 

@@ -1,5 +1,5 @@
--- The account of a run: the contents of the set at each moment, the replies that are correct for them, and the effect
--- of each event. An account mentions no machine.
+-- The account of a run: the keys in the set at each moment, and the effect of each event on them. An account mentions
+-- calls, replies and changes of keys, but no nodes and no locks.
 use Rattle.std.specs.Prelude.{◌≡◌, ◌≢◌, ℕ, suc, ◌+◌, ◌<◌, ◌≤◌, Bool, true, false, Option, Some, None, Contains as InList}
 use Rattle.std.specs.List.Sorted.{IsStrictlyIncreasing}
 use Rattle.lset_words.specs.Words.{Opening}
@@ -27,7 +27,7 @@ Changes (Some (k, true)) before after =
 Changes (Some (k, false)) before after =
     before k.0 × (after k.0 → ⊥) × ((j : ℕ) → j ≢ k.0 → (before j → after j) × (after j → before j))
 
--- Returns a thread's count of successful adds after a change by that thread.
+-- Returns how many successful adds a thread has made after this change of its own. `count` is the number before.
 abbrev pub count_after : Option Change → ℕ → ℕ
 count_after None count = count
 count_after (Some (k, true)) count = count + 1
@@ -40,13 +40,14 @@ MayChange quota count call changed None = Unit {0}
 MayChange quota count call changed (Some (k, true)) = (call ≡ Add k) × (changed ≡ false) × (count < quota)
 MayChange quota count call changed (Some (k, false)) = (call ≡ Remove k) × (changed ≡ false)
 
--- States that the result is the smallest key of the content at or above `k`, or `None` if the content has no such key.
+-- States that the last argument is the smallest key of `content` at or above `k`, or `None` if the content has no such
+-- key.
 abbrev pub IsCeiling : Content → ℕ → Option ℕ → Type 0
 IsCeiling content k None = (j : ℕ) → k ≤ j → content j → ⊥
 IsCeiling content k (Some x) = (k ≤ x) × content x × ((j : ℕ) → k ≤ j → j < x → content j → ⊥)
 
--- [Fits]: states that the sequential set returns this reply and does not change, if it has this content and this count
--- for the thread.
+-- [Fits]: states that a sequential set with this content returns this reply, and that the call changes nothing. `count`
+-- is the number of successful adds that the call's thread has made.
 abbrev pub Fits : ℕ → Content → ℕ → Call → Reply → Type 0
 Fits quota content count (Add k) False = content k.0
 Fits quota content count (Add k) Full = (content k.0 → ⊥) × (count ≡ quota)
@@ -57,14 +58,16 @@ Fits quota content count (Ceiling k) (At x) = IsCeiling content k.0 (Some x.0)
 Fits quota content count (Ceiling k) Nothing = IsCeiling content k.0 None
 Fits quota content count call reply = ⊥
 
--- The content at each moment. `Counts` is each thread's count at each moment.
+-- The content of the set at each moment. `Counts`, below, is the number of successful adds of each thread at each
+-- moment.
 abbrev pub Contents : Type 1
 Contents = ℕ → Content
 
 abbrev pub Counts : Type 0
 Counts = ℕ → ℕ → ℕ
 
--- States that a reply to this thread's call fits at some moment from `first` to `last`.
+-- States that the reply is correct at some moment from `first` to `last`: a sequential set with the content of that
+-- moment returns this reply.
 pub record FitsSometime (quota : ℕ) (contents : Contents) (counts : Counts) (first last thread : ℕ) (call : Call)
     (reply : Reply) : Type 0 where
   pub moment : ℕ
@@ -104,12 +107,13 @@ pub record Steps (threads quota : ℕ) (log : Log) (contents : Contents) (counts
   -- The reply, if any, is correct.
   pub right : RightReply (has_changed log t (suc k)) quota contents counts (begun_at log t k) (suc k) t (last_call log t k) reply
 
--- States that an entry of the log is a valid begin or a valid step.
+-- States that entry `k` of the log, the event between moments `k` and `k + 1`, is a valid begin or a valid step.
 abbrev pub Enters : ℕ → ℕ → Log → Contents → Counts → ℕ → Entry → Type 0
 Enters threads quota log contents counts k (began t call) = Begins threads log contents counts k t
 Enters threads quota log contents counts k (stepped t change reply) = Steps threads quota log contents counts k t change reply
 
--- The account of a run of `last` events.
+-- States that `contents` and `counts` are the account of a run's first `last` events: they agree with the opening keys
+-- and with each entry of the log.
 pub record Account (o : Opening) (last : ℕ) (log : Log) (contents : Contents) (counts : Counts) : Type 0 where
   -- The content at moment 0 consists of the opening keys. They increase strictly.
   pub increasing : IsStrictlyIncreasing o.keys

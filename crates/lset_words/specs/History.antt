@@ -1,4 +1,5 @@
--- Histories of calls, and the orders that linearize them (Herlihy and Wing, with completion of pending calls).
+-- Histories of calls, and what it means that an order of calls linearizes a history (Herlihy and Wing). Pending calls
+-- can be completed by a reply or left out.
 use Rattle.std.specs.Prelude.{◌≡◌, ◌≢◌, ℕ, ◌<◌, List, map, length, Some, None, Contains, All, AllPairs, IfSome}
 use Rattle.std.specs.Prelude.{IsSomeAnd, slice_index_or}
 use Rattle.lset_words.specs.declared.Call.TheVariants as call
@@ -7,7 +8,7 @@ use Rattle.lset_words.specs.declared.history.CallRecord.{CallRecord}
 use Rattle.lset_words.specs.declared.history.Placed.{Placed}
 use Rattle.lset_words.specs.SequentialSet.{SetState, Answered, IsLegal}
 
--- A placeholder, used for a number that belongs to no call.
+-- A placeholder: the call that `call_numbered` returns for a number outside the history.
 abbrev pub no_call : CallRecord
 no_call = record { thread = 0; call = call.Contains (record { 0 = 0 }); begun = 0; ended = None }
 
@@ -31,7 +32,7 @@ pub record Follows (y x : CallRecord) : Type 0 where
   -- If both calls are made by one thread, `y` ends before `x` begins.
   pub none_open : y.thread ≡ x.thread → IsSomeAnd y.ended (λ (e : ℕ × Reply). e.0 < x.begun)
 
--- The conditions under which call `x` can be appended to a history.
+-- The conditions under which call `x` can be appended to the calls `earlier` of a history.
 pub record MayFollow (threads : ℕ) (earlier : List CallRecord) (x : CallRecord) : Type 0 where
   pub call : IsCall threads x
   pub follows : All (λ y. Follows y x) earlier
@@ -45,7 +46,7 @@ pub record IsHistory (threads : ℕ) (calls : List CallRecord) : Type 0 where
 abbrev pub Precedes : CallRecord → CallRecord → Type 0
 Precedes earlier later = IsSomeAnd earlier.ended (λ (e : ℕ × Reply). e.0 < later.begun)
 
--- Converts a place of an order to a call with its thread and reply.
+-- Returns the call at a place of an order, with the thread that made the call and the reply at that place.
 abbrev pub answered : List CallRecord → Placed → Answered
 answered history p = record {
   thread = (call_numbered history p.call).thread;
@@ -65,5 +66,5 @@ pub record Linearizes (quota : ℕ) (start : SetState) (history : List CallRecor
       → Contains order (record { call = number; reply = reply })
   -- The sequential set returns these replies in turn.
   pub legal : IsLegal quota start (map (answered history) order)
-  -- No call of the order comes before a call that had ended when it began.
+  -- If a call ends before another call begins, it also precedes the other in the order.
   pub in_time : AllPairs (λ (p r : Placed). Precedes (call_numbered history r.call) (call_numbered history p.call) → ⊥) order

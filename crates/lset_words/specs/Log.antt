@@ -1,5 +1,6 @@
--- The log of a run, and the calls in it. A log mentions no machine. It records what a user of the set can see of each
--- event. Moment k is the state after the first k events. Entry k of a log is the event between moments k and k + 1.
+-- The log of a run, and the calls in the log. Entry k of a log is the event between moments k and k + 1. Moment k is
+-- the state after the first k events. An entry records what a user of the set can see of an event: begins, changes of
+-- keys and replies, but no nodes and no locks.
 use Rattle.std.specs.Prelude.{ℕ, zero, suc, ◌==◌, ◌||◌, ◌&&◌, Bool, true, false, if◌then◌else◌, List, [], ◌∷◌, ◌++◌, map, Option}
 use Rattle.std.specs.Prelude.{Some, None, is_none}
 use Rattle.lset_words.specs.declared.Key.{Key}
@@ -20,8 +21,8 @@ pub data Entry : Type 0 where
 abbrev pub Log : Type 0
 Log = ℕ → Entry
 
--- A call of a run, with the moments just after it begins, makes its change, and makes its last step. A moment is `None`
--- if there is no such step yet.
+-- A call of a run, with three moments: just after the call begins, makes its change, and makes its last step. A moment
+-- is `None` if the call has not made this step yet.
 pub record TracedCall : Type 0 where
   pub thread : ℕ
   pub call : Call
@@ -29,7 +30,7 @@ pub record TracedCall : Type 0 where
   pub changed : Option ℕ
   pub ended : Option (ℕ × Reply)
 
--- Returns whether a call is pending and belongs to this thread.
+-- Returns whether `thread` made this call and the call is pending.
 abbrev pub is_under_way : ℕ → TracedCall → Bool
 is_under_way thread x = x.thread == thread && is_none x.ended
 
@@ -41,7 +42,7 @@ abbrev pub ended_by : ℕ → Option Reply → Option (ℕ × Reply)
 ended_by moment None = None
 ended_by moment (Some reply) = Some (moment, reply)
 
--- Updates a call after a step of its thread. `moment` is the moment just after the step.
+-- Returns the call `x` after a step of its thread. `moment` is the moment just after the step.
 abbrev pub traced_on : ℕ → Option Change → Option Reply → TracedCall → TracedCall
 traced_on moment change reply x = record x { changed = changed_by moment change x.changed; ended = ended_by moment reply }
 
@@ -54,7 +55,7 @@ abbrev pub calls_at : Log → ℕ → List TracedCall
 calls_at log zero = []
 calls_at log (suc k) = calls_after (suc k) (log k) (calls_at log k)
 
--- Converts a traced call to a record of a history.
+-- Returns the record of this call in a history. The record leaves out the moment of the change.
 abbrev pub record_of : TracedCall → CallRecord
 record_of x = record { thread = x.thread; call = x.call; begun = x.begun; ended = x.ended }
 
@@ -62,8 +63,8 @@ record_of x = record { thread = x.thread; call = x.call; begun = x.begun; ended 
 abbrev pub history_at : Log → ℕ → List CallRecord
 history_at log k = map record_of (calls_at log k)
 
--- The last call of a thread, pending or completed: the call, the moment just after it begins, whether it is pending,
--- and whether it has made a change. The last argument of each function is the value before the entry.
+-- The last call of thread `t`, pending or completed: the call itself (here), the moment just after it begins, whether
+-- it is pending, and whether it has made a change (below). `before` is the value before the entry.
 abbrev pub call_after : Entry → ℕ → Call → Call
 call_after (began u call) t before = if u == t then call else before
 call_after (stepped u change reply) t before = before

@@ -1,23 +1,23 @@
--- [Record] of a seat: a thread, its own calls with their replies, and the records that it gathered. `Keeps` defines
--- when an order of calls agrees with a record.
+-- [Record] of a seat, the right to call as one thread: the thread, its own calls with their replies, and the records of
+-- the seats that were merged into it (gathered). `Keeps` defines when an order of calls agrees with a record.
 use Rattle.std.specs.Prelude.{◌≡◌, ℕ, ◌==◌, ◌⊎◌, List, [], ◌∷◌, ◌++◌, filter, map}
 use Rattle.lset_words.specs.declared.Call.{Call}
 use Rattle.lset_words.specs.declared.Reply.{Reply}
 use Rattle.lset_words.specs.SequentialSet.{Answered}
 
--- A call with its reply.
+-- A completed call with its reply.
 pub record CallMade : Type 0 where
   pub call : Call
   pub reply : Reply
 
--- A record is built in three ways: `fresh` for a thread without calls, `called` to append a call of the thread itself,
--- and `gathered` to append another seat's record.
+-- What a seat has done. `fresh` is the record of a thread without calls, `called` appends a call that the thread made
+-- itself, and `gathered` appends the record of a seat that was merged into this one.
 pub data Record : Type 0 where
   fresh : ℕ → Record
   called : Record → CallMade → Record
   gathered : Record → Record → Record
 
--- Appends calls of the thread itself to a record.
+-- Appends calls that the thread made itself to its record.
 abbrev pub with_calls : Record → List CallMade → Record
 with_calls r [] = r
 with_calls r (c ∷ cs) = with_calls (called r c) cs
@@ -28,13 +28,13 @@ thread_of (fresh t) = t
 thread_of (called r c) = thread_of r
 thread_of (gathered r g) = thread_of r
 
--- Returns the calls that the record's thread made itself, in order.
+-- Returns the calls that the record's thread made itself, in the order in which it made them.
 abbrev pub own_calls : Record → List CallMade
 own_calls (fresh t) = []
 own_calls (called r c) = own_calls r ++ c ∷ []
 own_calls (gathered r g) = own_calls r
 
--- States that `u` is the thread of the record, or of a record gathered into it.
+-- States that `u` is the record's own thread, or the thread of a record that was merged into it.
 abbrev pub Names : ℕ → Record → Type 0
 Names u (fresh t) = u ≡ t
 Names u (called r c) = Names u r
@@ -49,18 +49,18 @@ NamesGathered u (gathered r g) = NamesGathered u r ⊎ Names u g
 abbrev pub calls_by : ℕ → List Answered → List Answered
 calls_by u order = filter (λ (a : Answered). a.thread == u) order
 
--- Converts a call of a record to an element of an order.
+-- Converts a call in the record of thread `u` to an element of an order.
 abbrev pub placed_by : ℕ → CallMade → Answered
 placed_by u c = record { thread = u; call = c.call; reply = c.reply }
 
--- States that the order's calls of the record's thread are the calls that the record lists as its own, in the same
--- sequence.
+-- States that the order contains, of all calls by the record's thread, exactly those that the record lists as its own,
+-- in the same sequence.
 abbrev pub HasOwnCalls : List Answered → Record → Type 0
 HasOwnCalls order r = calls_by (thread_of r) order ≡ map (placed_by (thread_of r)) (own_calls r)
 
--- States where the order has call `c`, which r's thread made when its record was `r`. Before `c`, the order's calls of
--- that thread are exactly r's own calls. After `c`, the order has no call of a thread whose record was gathered into
--- `r`, directly or as part of another record.
+-- States that the order has call `c` at the right place. `r` is the record of the thread before it made `c`. Before
+-- `c`, the calls of that thread in the order are exactly r's own calls. After `c`, the order has no call of a thread
+-- whose record was merged into `r`, directly or as part of another record.
 pub record Follows (order : List Answered) (r : Record) (c : CallMade) : Type 0 where
   pub before : List Answered
   pub after : List Answered
@@ -68,15 +68,15 @@ pub record Follows (order : List Answered) (r : Record) (c : CallMade) : Type 0 
   pub own : HasOwnCalls before r
   pub gathered_before : (u : ℕ) → NamesGathered u r → calls_by u after ≡ []
 
--- States that the order keeps each gathered record, and has each own call after the calls of the records gathered
--- before it.
+-- States that the order agrees with each record that was merged into this one, and that each own call comes after the
+-- calls of the records that were merged before it.
 abbrev pub KeepsItems : List Answered → Record → Type 0
 KeepsItems order (fresh t) = Unit {0}
 KeepsItems order (called r c) = KeepsItems order r × Follows order r c
 KeepsItems order (gathered r g) = KeepsItems order r × HasOwnCalls order g × KeepsItems order g
 
--- States that the order keeps the record. The order's calls of the record's thread are the record's own calls, in
--- sequence. Each gathered record is kept as well. Each own call comes after all calls of the threads whose records were
--- gathered before it.
+-- States that the order agrees with the record. The calls of the record's thread in the order are the record's own
+-- calls, in sequence. The order also agrees with each record that was merged into this one. Each own call comes after
+-- all calls of the threads whose records were merged before it.
 abbrev pub Keeps : List Answered → Record → Type 0
 Keeps order r = HasOwnCalls order r × KeepsItems order r

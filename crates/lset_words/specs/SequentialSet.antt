@@ -1,4 +1,5 @@
--- The sequential set: Herlihy and Shavit's interface, and this project's quota of successful adds for each thread.
+-- The sequential set: a set of keys that threads use one after another (Herlihy and Shavit's interface). In addition,
+-- each thread has a quota, the number of adds that can succeed.
 use Rattle.std.specs.Prelude.{◌≡◌, ℕ, ◌+◌, ◌==◌, ◌||◌, nat_lt, Bool, false, if◌then◌else◌, List, [], ◌∷◌, replicate, slice_index, slice_set}
 use Rattle.lset_words.specs.declared.Call.{Call}
 use Rattle.lset_words.specs.Words.{Opening}
@@ -19,7 +20,7 @@ abbrev pub has_key : ℕ → List ℕ → Bool
 has_key k [] = false
 has_key k (x ∷ xs) = x == k || has_key k xs
 
--- Returns increasing keys with k inserted at its place. k must not be one of them.
+-- Inserts `k` into increasing keys, and keeps them increasing. `k` must not be one of them.
 abbrev pub with_key : ℕ → List ℕ → List ℕ
 with_key k [] = k ∷ []
 with_key k (x ∷ xs) = if nat_lt k x then k ∷ x ∷ xs else x ∷ with_key k xs
@@ -28,7 +29,7 @@ abbrev pub without_key : ℕ → List ℕ → List ℕ
 without_key k [] = []
 without_key k (x ∷ xs) = if x == k then without_key k xs else x ∷ without_key k xs
 
--- Returns the smallest of increasing keys at or above k, as a reply; `Nothing` if there is none.
+-- Returns the reply `At` with the smallest of these increasing keys that is at or above `k`, or `Nothing` if no key is.
 abbrev pub ceiling_in : ℕ → List ℕ → Reply
 ceiling_in k [] = Nothing
 ceiling_in k (x ∷ xs) = if nat_lt x k then ceiling_in k xs else At (record { 0 = x })
@@ -36,14 +37,14 @@ ceiling_in k (x ∷ xs) = if nat_lt x k then ceiling_in k xs else At (record { 0
 abbrev pub count_of : SetState → ℕ → ℕ
 count_of s thread = slice_index s.counts thread
 
--- Returns the set's reply to a call of a thread.
+-- Returns what the set in state `s` replies to this call of this thread. Each thread has the same quota.
 abbrev pub reply_to : ℕ → SetState → ℕ → Call → Reply
 reply_to quota s thread (Add k) = if has_key k.0 s.keys then False else if count_of s thread == quota then Full else True
 reply_to quota s thread (Remove k) = if has_key k.0 s.keys then True else False
 reply_to quota s thread (Contains k) = if has_key k.0 s.keys then True else False
 reply_to quota s thread (Ceiling k) = ceiling_in k.0 s.keys
 
--- Returns the state after a call with this reply. Only a successful add or remove changes the state.
+-- Returns the state of the set after a call that got this reply. Only a successful add or remove changes the state.
 abbrev pub after_call : SetState → ℕ → Call → Reply → SetState
 after_call s thread (Add k) True = record {
   keys = with_key k.0 s.keys;
@@ -61,18 +62,18 @@ after_call s thread (Remove k) Nothing = s
 after_call s thread (Contains k) reply = s
 after_call s thread (Ceiling k) reply = s
 
--- A call with its thread and its reply.
+-- A completed call with its thread and its reply, as an element of an order.
 pub record Answered : Type 0 where
   pub thread : ℕ
   pub call : Call
   pub reply : Reply
 
--- States that the sequential set returns these replies in turn, beginning in the given state.
+-- States that a set in state `s`, called in this order, returns exactly these replies.
 abbrev pub IsLegal : ℕ → SetState → List Answered → Type 0
 IsLegal quota s [] = Unit {0}
 IsLegal quota s (x ∷ xs) = (reply_to quota s x.thread x.call ≡ x.reply) × IsLegal quota (after_call s x.thread x.call x.reply) xs
 
--- Returns the state after a list of calls, beginning in the given state.
+-- Returns the state of a set in state `s` after these calls.
 abbrev pub set_left : SetState → List Answered → SetState
 set_left s [] = s
 set_left s (x ∷ xs) = set_left (after_call s x.thread x.call x.reply) xs

@@ -1,5 +1,6 @@
--- The words of a list's table. Word 0 is the list's lock, word 1 the number of threads, word 2 the number of slots per
--- thread. Three words for each node follow.
+-- The layout of a list's table of 64-bit words. Word 0 is the lock of the whole list, word 1 the number of threads,
+-- word 2 the number of slots per thread. Three words for each node follow: key, link and lock. A slot is a node that
+-- one successful add uses up.
 use Rattle.std.specs.Prelude.{◌≡◌, ◌≢◌, ℕ, ◌+◌, ◌*◌, ◌<◌, ◌≤◌, ◌^◌, ◌⊎◌, All, Bool, if◌then◌else◌, List, [], length}
 use Rattle.std.specs.List.Sorted.{IsStrictlyIncreasing}
 use Rattle.lset_words.specs.declared.TheConstants.{MOST_THREADS, MOST_QUOTA, MOST_OPENING}
@@ -9,20 +10,22 @@ use Rattle.lset_words.specs.declared.Call.TheVariants.{Add, Remove, Contains, Ce
 use Rattle.lset_words.specs.declared.layout_fault.LayoutFault.{LayoutFault}
 use Rattle.lset_words.specs.declared.layout_fault.LayoutFault.TheVariants as fault
 
--- The sizes of a list: the number of threads, of slots per thread, and of opening keys.
+-- The sizes of a list: the number of threads, the number of slots per thread (the quota), and the number of opening
+-- keys.
 pub record Sizes : Type 0 where
   pub threads : ℕ
   pub quota : ℕ
   pub opening : ℕ
 
--- The limits of each size.
+-- The limits of the three sizes of a list.
 pub record IsWithin (s : Sizes) : Type 0 where
   pub some : 0 < s.threads
   pub few : s.threads ≤ MOST_THREADS
   pub small : s.quota ≤ MOST_QUOTA
   pub opens : s.opening ≤ MOST_OPENING
 
--- How a set opens: the number of threads, the number of slots per thread, and the opening keys.
+-- The parameters with which a set opens: the number of threads, the number of slots per thread (the quota), and the
+-- opening keys.
 pub record Opening : Type 0 where
   pub threads : ℕ
   pub quota : ℕ
@@ -35,24 +38,24 @@ sizes o = record { threads = o.threads; quota = o.quota; opening = length o.keys
 abbrev pub empty : ℕ → ℕ → Opening
 empty threads quota = record { threads = threads; quota = quota; keys = [] }
 
--- The conditions on an opening: its sizes are within their limits, and its keys are user keys in strictly increasing
--- order.
+-- The conditions on the parameters with which a set opens: the sizes are within their limits, and the opening keys are
+-- below 2^32 and strictly increasing.
 pub record Opens (o : Opening) : Type 0 where
   pub within : IsWithin (sizes o)
   pub increasing : IsStrictlyIncreasing o.keys
   pub low : All (λ (k : ℕ). k < 2 ^ 32) o.keys
 
--- States that the error names the first size outside its limits.
+-- States that the error names the first size that is outside its limits, in the order threads, quota, opening keys.
 abbrev pub RefusesSizes : Sizes → LayoutFault → Type 0
 RefusesSizes s fault.Threads = (s.threads ≡ 0) ⊎ (MOST_THREADS < s.threads)
 RefusesSizes s fault.Quota = (0 < s.threads) × (s.threads ≤ MOST_THREADS) × (MOST_QUOTA < s.quota)
 RefusesSizes s fault.Opening = (0 < s.threads) × (s.threads ≤ MOST_THREADS) × (s.quota ≤ MOST_QUOTA) × (MOST_OPENING < s.opening)
 
--- Returns the key word of a user key. The head's key word is 0.
+-- Returns the word that stores a user's key in a node. The head's word is 0, so each user key is stored plus 1.
 abbrev pub key_word_of : Key → ℕ
 key_word_of k = k.0 + 1
 
--- The key word of the tail.
+-- The word that stores the tail's key: 2^32 + 1, above that of each user key.
 abbrev pub tail_word : ℕ
 tail_word = 4294967297
 
@@ -65,11 +68,12 @@ link_index node = 4 + 3 * node
 abbrev pub lock_index : ℕ → ℕ
 lock_index node = 5 + 3 * node
 
--- Returns the node that is a slot of a thread. Node 0 is the head, node 1 the tail. The slots of each thread follow.
+-- Returns the number of the node that is this slot of this thread. Node 0 is the head, node 1 the tail. The slots of
+-- thread 0 follow, then those of thread 1, and so on.
 abbrev pub slot_node : ℕ → ℕ → ℕ → ℕ
 slot_node quota thread slot = 2 + thread * quota + slot
 
--- Returns the node of an opening key. The nodes of opening keys follow the slots.
+-- Returns the number of the node that has opening key `i`. The nodes of opening keys follow all slots.
 abbrev pub opening_node : Sizes → ℕ → ℕ
 opening_node s i = 2 + s.threads * s.quota + i
 
@@ -79,7 +83,7 @@ node_count s = 2 + s.threads * s.quota + s.opening
 abbrev pub word_count : Sizes → ℕ
 word_count s = 3 + 3 * node_count s
 
--- Returns the link word that packs the number of the next node and the mark.
+-- Packs the number of the next node and the mark into one link word.
 abbrev pub packed : ℕ → Bool → ℕ
 packed next mark = if mark then 2 * next + 1 else 2 * next
 
@@ -89,7 +93,7 @@ key_of (Remove k) = k
 key_of (Contains k) = k
 key_of (Ceiling k) = k
 
--- Returns the key word that a call searches for.
+-- Returns the word that a call compares with the key words of nodes: its key plus 1.
 abbrev pub target : Call → ℕ
 target call = key_word_of (key_of call)
 

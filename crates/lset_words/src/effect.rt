@@ -1,31 +1,32 @@
-//! Effects of calls on their keys.
+//! What a completed call shows about its key: changed, seen present, or seen absent.
 
 ghost use Rattle.std.specs.Prelude.{◌≡◌};
 ghost use Rattle.lset_words.specs.Effects.{effect_of};
 
 use crate::{Call, Reply};
 
-/// The presence of a key in a set.
+/// Whether a key is in a set.
 #[derive(Clone, Copy, Debug, PartialEq, Eq)]
 pub enum Presence {
     Present,
     Absent,
 }
 
-/// The effect of a completed call on its key.
+/// What a completed call shows about its key.
 #[derive(Clone, Copy, Debug, PartialEq, Eq)]
 pub enum Effect {
     /// The call added the key (`Present`) or removed it (`Absent`).
     Changes(Presence),
     /// The call found the key present or absent, and changed nothing.
     Sees(Presence),
-    /// The reply shows nothing about the key: the call is a `ceiling`, or a set never gives this call such a reply.
+    /// The reply shows nothing about the key: the call is a `ceiling`, or the reply is one that no set returns to this
+    /// call.
     Other,
 }
 
 impl Call {
-    /// Returns the effect that the call has on its key if it returns `reply`. An `add` that returns `Full` found its
-    /// key absent.
+    /// Returns what the call shows about its key if it returns `reply`. An `add` that returns `Full` found its key
+    /// absent.
     pub fn effect(self, reply: Reply) -> Effect
         ensures { result ≡ effect_of self reply }
     {

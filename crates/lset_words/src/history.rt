@@ -10,15 +10,15 @@ pub struct CallRecord {
     pub ended: Option<(u32, Reply)>,
 }
 
-/// A place in an order of calls: the call's number, from 0, and its reply in this order.
+/// An element of an order of calls: the call's number in its history, from 0, and the call's reply in this order.
 #[derive(Clone, Copy, Debug, PartialEq, Eq)]
 pub struct Placed {
     pub call: u32,
     pub reply: Reply,
 }
 
-/// A call's linearization point: the moment, counted in events from 1, and whether the call changes the set at that
-/// moment.
+/// A call's linearization point, the moment at which the call takes effect: counted in events from 1, and whether the
+/// call changes the set then.
 #[derive(Clone, Copy, Debug, PartialEq, Eq)]
 pub struct Point {
     pub moment: u32,

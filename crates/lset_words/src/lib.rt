@@ -29,26 +29,27 @@ pub use table::{Layout, key_index, link_index, lock_index, slot_node, words_are_
 /// The maximum number of threads of a list.
 pub const MOST_THREADS: u32 = 64;
 
-/// The maximum quota. The quota is the number of keys that a thread can add over the life of a list. Each added key uses a slot.
+/// The maximum quota. A thread's quota is the number of its adds that can succeed over the life of a list. Each of them
+/// uses up a slot, a node that belongs to the thread.
 pub const MOST_QUOTA: u32 = 16_384;
 
 /// The maximum number of opening keys of a list.
 pub const MOST_OPENING: u32 = 1_048_576;
 
-/// The maximum number of nodes in a table: the head, the tail, one node for each slot of each thread, and one for each
+/// The maximum number of nodes of a list: the head, the tail, one node for each slot of each thread, and one for each
 /// opening key.
 pub const MOST_NODES: u64 = 2 + MOST_THREADS as u64 * MOST_QUOTA as u64 + MOST_OPENING as u64;
 
-/// The maximum number of 64-bit words of a table.
+/// The maximum number of 64-bit words of a list: 3, and 3 for each node.
 pub const MOST_WORDS: u64 = 3 + 3 * MOST_NODES;
 
-/// The number of the head node. It is the same in every list.
+/// The number of the head node in every list.
 pub const HEAD: u64 = 0;
 
-/// The number of the tail node. It is the same in every list.
+/// The number of the tail node in every list.
 pub const TAIL: u64 = 1;
 
-/// The index of CoarseList's only lock word.
+/// The index of the word that is CoarseList's only lock.
 pub const LOCK: u64 = 0;
 
 /// A key of a set: any `u32`.
@@ -56,7 +57,7 @@ pub const LOCK: u64 = 0;
 pub struct Key(pub u32);
 
 impl Key {
-    /// Returns the key word of this key: the key plus 1. The head's key word is 0, the tail's is `2^32 + 1`.
+    /// Returns the word that stores this key in a node: the key plus 1. The head's word is 0, the tail's is `2^32 + 1`.
     pub fn word(self) -> u64
         ensures { result ≡ key_word_of self }
     {
@@ -75,19 +76,19 @@ pub enum Kind {
     LockFree,
 }
 
-/// A call of a set: `add`, `remove` or `contains` of a key (Herlihy and Shavit's interface), or `ceiling`, the smallest key
-/// at or above a given one.
+/// A call of a set: `add`, `remove` or `contains` of a key (Herlihy and Shavit's interface), or `ceiling`, which asks
+/// for the smallest key at or above a given one.
 #[derive(Clone, Copy, Debug, PartialEq, Eq)]
 pub enum Call {
     Add(Key),
     Remove(Key),
     Contains(Key),
-    /// The smallest key at or above this one.
+    /// Asks for the smallest key of the set that is at or above this key.
     Ceiling(Key),
 }
 
 impl Call {
-    /// Returns the call's argument.
+    /// Returns the key that the call is made with.
     pub fn key(self) -> Key
         ensures { result ≡ key_of self }
     {
@@ -109,11 +110,13 @@ pub enum Reply {
     Nothing,
 }
 
-/// Returns the layout of a list that opens empty, with `threads` threads (1 to 64) and a quota of `quota` each (0 to 16,384).
+/// Returns the layout of the words of a list that opens empty, with `threads` threads (1 to 64) and a quota of `quota`
+/// successful adds each (0 to 16,384).
 ///
 /// # Errors
 ///
-/// The first that applies: `LayoutFault::Threads` if `threads` is outside its limits, `LayoutFault::Quota` if `quota` is.
+/// The first that applies: `LayoutFault::Threads` if `threads` is outside its limits, `LayoutFault::Quota` if `quota`
+/// is.
 pub fn layout(threads: u32, quota: u32) -> Result<Layout, LayoutFault>
     ensures sizes { IfOk result (λ l. l ≡ record { threads = threads; quota = quota; opening = 0 }) }
     ensures refused { IfErr result (RefusesSizes (record { threads = threads; quota = quota; opening = 0 })) }
@@ -121,13 +124,14 @@ pub fn layout(threads: u32, quota: u32) -> Result<Layout, LayoutFault>
     layout_opening(threads, quota, 0)
 }
 
-/// Returns the layout of a list that opens with `opening` keys (0 to 1,048,576), with `threads` threads (1 to 64) and a quota
-/// of `quota` each (0 to 16,384). Each opening key has a node of its own, which is no slot of a thread.
+/// Returns the layout of the words of a list that opens with `opening` keys (0 to 1,048,576), with `threads` threads (1
+/// to 64) and a quota of `quota` successful adds each (0 to 16,384). Each opening key has a node of its own, which does
+/// not count towards a thread's quota.
 ///
 /// # Errors
 ///
-/// The first that applies: `LayoutFault::Threads` if `threads` is outside its limits, `LayoutFault::Quota` if `quota` is,
-/// `LayoutFault::Opening` if `opening` is.
+/// The first that applies: `LayoutFault::Threads` if `threads` is outside its limits, `LayoutFault::Quota` if `quota`
+/// is, `LayoutFault::Opening` if `opening` is.
 pub fn layout_opening(threads: u32, quota: u32, opening: u32) -> Result<Layout, LayoutFault>
     ensures sizes { IfOk result (λ l. l ≡ record { threads = threads; quota = quota; opening = opening }) }
     ensures refused { IfErr result (RefusesSizes (record { threads = threads; quota = quota; opening = opening })) }
@@ -163,8 +167,8 @@ pub fn keys_are_small(keys: &[u32])
     let _keys = keys;
 }
 
-/// Packs a link word. `next`, below `2^63`, is the number of the next node, and `mark` is the node's mark. Both share
-/// one word so that one exchange can change them together (Harris).
+/// Packs a link word. `next`, below `2^63`, is the number of the next node, and `mark` says whether the node is marked
+/// as removed. Both share one word so that one compare-and-exchange can change them together (Harris).
 pub fn pack(next: u64, mark: bool) -> u64
     requires { next < 2 ^ 63 }
     ensures { result ≡ packed next mark }

@@ -1,22 +1,22 @@
-//! The trait that running sets implement.
+//! The trait of sets that several threads can call.
 ghost use Rattle.std.specs.Prelude.{◌≡◌, ℕ};
 ghost use Rattle.lset_words.specs.Records.{Record, called};
 
 use crate::{Call, Reply};
 use std::sync::Wait;
 
-/// A running set. Its calls are made from seats: a seat is the right to call as one thread. `session` serves any set that
-/// implements this trait.
+/// A set that several threads can call. Its calls are made from seats: a seat is the right to call as one thread. The
+/// function `session` serves any set that implements this trait.
 pub trait SetCalls {
     type Seat;
 
-    /// The seat belongs to this set.
+    /// States that the seat belongs to this set.
     ghost is_of: { Self → Self.Seat → Type 0 };
 
-    /// The record of a seat.
+    /// Returns the record of a seat: its calls with their replies.
     ghost record_of: { Self.Seat → Record };
 
-    /// The number of seats that a seat holds: itself and those that were gathered into it.
+    /// Returns the number of seats that this seat counts for: itself and those that were merged into it.
     ghost held_by: { Self.Seat → ℕ };
 
     /// Makes `call` from `seat`, which must belong to this set, and returns the reply. Appends the call with its reply

@@ -5,7 +5,7 @@ ghost use Rattle.lset_words.specs.Words.{SlotsApart};
 use crate::{MOST_NODES, MOST_WORDS};
 use std::marker::Model;
 
-/// Returns the index of node `node`'s key word. `node` must be below `2^62`.
+/// Returns the index of the word that has the key of node `node`. `node` must be below `2^62`.
 pub fn key_index(node: u64) -> u64
     requires { node < 2 ^ 62 }
     ensures { result ≡ key_index node }
@@ -13,7 +13,7 @@ pub fn key_index(node: u64) -> u64
     3 + 3 * node
 }
 
-/// Returns the index of node `node`'s link word. `node` must be below `2^62`.
+/// Returns the index of the word that has the link of node `node`. `node` must be below `2^62`.
 pub fn link_index(node: u64) -> u64
     requires { node < 2 ^ 62 }
     ensures { result ≡ link_index node }
@@ -21,7 +21,7 @@ pub fn link_index(node: u64) -> u64
     4 + 3 * node
 }
 
-/// Returns the index of node `node`'s lock word. `node` must be below `2^62`.
+/// Returns the index of the word that has the lock of node `node`. `node` must be below `2^62`.
 pub fn lock_index(node: u64) -> u64
     requires { node < 2 ^ 62 }
     ensures { result ≡ lock_index node }
@@ -29,8 +29,8 @@ pub fn lock_index(node: u64) -> u64
     5 + 3 * node
 }
 
-/// Returns the number of the node that is slot `slot` of thread `thread`, if each thread has `quota` slots. All values
-/// are allowed: if `slot` is not below `quota`, the result is a slot of a later thread, or not a node at all.
+/// Returns the number of the node that is slot `slot` of thread `thread`, if each thread has `quota` slots. Accepts all
+/// values: if `slot` is not below `quota`, the result is a slot of a later thread, or not a node at all.
 pub fn slot_node(quota: u32, thread: u32, slot: u32) -> u64
     ensures { result ≡ slot_node quota thread slot }
 {
@@ -57,8 +57,8 @@ impl Model for Layout {
 }
 
 impl Layout {
-    /// Returns the layout for `threads` threads with a quota of `quota` each and `opening` opening keys. All three must be
-    /// within their limits.
+    /// Returns the layout for these numbers of threads, slots per thread, and opening keys. All three must be within
+    /// their limits.
     pub(crate) fn of(threads: u32, quota: u32, opening: u32) -> Layout
         requires { IsWithin (record { threads = threads; quota = quota; opening = opening }) }
         ensures { result ≡ record { threads = threads; quota = quota; opening = opening } }

@@ -2,7 +2,7 @@ use Rattle.std.proofs.Common.{◌+◌, ◌-◌, ◌≤◌, ◌<◌, ◌^◌, ℕ
 use Rattle.std.specs.Prelude.{slice_index}
 use Rattle.lset_history.proofs.changes.count_upto.Given as goal
 
--- The result is from `low` to `high`. Each comparison halves this range.
+-- Loop invariant: the result is from `low` to `high`, and each comparison has halved this range.
 abbrev pub invariant-loop-low : goal.invariant-loop-low
 invariant-loop-low l = record {
   inside : l.high ≤ length l.moments;

@@ -20,7 +20,6 @@ inserted lo (x ∷ xs) (suc i) r l =
     rw (greater (get_or xs i 0) x (omega arith)) (ap (λ ys. x ∷ ys) (inserted (x + 1) xs i r.1 (omega arith)))
 
 module _ (xs : List ℕ) (i : ℕ) (increasing : IsStrictlyIncreasing xs) (inside : i < length xs) where
-  -- The next key is above all keys inserted so far.
   pub next_inserted : insert_key nat_cmp (take i xs) (get_or xs i 0) ≡ take (i + 1) xs
   next_inserted = rw add-one (inserted 0 xs i (increases_from_increasing xs increasing) inside)
 

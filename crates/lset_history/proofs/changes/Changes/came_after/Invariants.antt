@@ -4,14 +4,14 @@ use Rattle.lset_history.specs.Changes.{moments_of}
 use Rattle.lset_history.proofs.CeilingSearch.{IsFrom, CameUpTo}
 use Rattle.lset_history.proofs.changes.Changes.came_after.Given as goal
 
--- All keys below the next one have been checked.
+-- Loop invariant: all keys below the next one have been looked at, and none of them was present.
 abbrev pub invariant-loop-next : goal.invariant-loop-next
 invariant-loop-next l = record {
   from : IsFrom l.key l.next;
   came : CameUpTo (moments_of l.self) l.key l.next l.end l.moment;
 }
 
--- Returns the number of keys that remain to be checked.
+-- Returns how many keys the loop can still look at. The number decreases in each round.
 abbrev keys_left : Option ℕ → ℕ
 keys_left None = 0
 keys_left (Some key) = 4294967297 - key

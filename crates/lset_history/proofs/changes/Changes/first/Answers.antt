@@ -8,7 +8,6 @@ use Rattle.lset_history.proofs.MomentSearch.{first_of_all, few_looks}
 use Rattle.lset_history.proofs.changes.Changes.first.Goals as goal
 use Rattle.lset_history.proofs.changes.Changes.first.Goals.{then-next-to, else-next-to}
 
--- The results of the two calls determine the moments of a key.
 moments_are : (self : ChangesValue) (key : ℕ) (opens : Bool) (noted : List ℕ) → opens ≡ has_key key self.opening
     → noted ≡ noted_of self key → moments_of self key ≡ (if opens then 0 ∷ [] else []) ++ noted
 moments_are self key opens noted e f =

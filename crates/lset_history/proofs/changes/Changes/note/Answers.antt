@@ -8,13 +8,13 @@ use Rattle.lset_history.specs.Changes.{changes_in, AreKept}
 use Rattle.lset_history.proofs.ChangeNoted.{kept_beside, kept_listed, kept_present, kept_noted, has_after, others_after}
 use Rattle.lset_history.proofs.changes.Changes.note.Goals as goal
 
--- The first insertion failed: nothing was inserted.
+-- The case that the first allocation fails: nothing was inserted.
 pub invariant_of-self : goal.invariant_of-self
 invariant_of-self c = kept_listed (changes_in c.self.inside.opening.items c.self.inside.moments) c.self.inside.keys_at c.insert.new.self
     c.self.inside.keys_now
     c.in_err-insert.ensures.err c.self.invariant
 
--- The second insertion failed: only a moment was inserted.
+-- The case that the second allocation fails: only `keys_at` has a new entry.
 pub invariant_of-self-in_err-insert-2 : goal.invariant_of-self-in_err-insert-2
 invariant_of-self-in_err-insert-2 c = kept_present (changes_in c.self.inside.opening.items c.self.inside.moments) c.insert.new.self c.self.inside.keys_now
     c.insert-2.new.self
@@ -22,7 +22,7 @@ invariant_of-self-in_err-insert-2 c = kept_present (changes_in c.self.inside.ope
     (kept_beside (changes_in c.self.inside.opening.items c.self.inside.moments) c.args.key c.args.at (rw (← c.self.view_is) at c.requires.later)
     c.self.inside.keys_at c.insert.new.self c.self.inside.keys_now c.in_ok-insert.ensures.updates c.self.invariant)
 
--- Recording the change failed: a moment and a key were inserted.
+-- The case that recording the moment fails: `keys_at` and `keys_now` have a new entry each.
 pub invariant_of-self-in_err-push_moment : goal.invariant_of-self-in_err-push_moment
 invariant_of-self-in_err-push_moment c = subst (λ d. AreKept d c.insert.new.self c.insert-2.new.self)
     (sym (c.in_err-push_moment.ensures.unchanged c.self.inside.opening.items))
@@ -31,7 +31,7 @@ invariant_of-self-in_err-push_moment c = subst (λ d. AreKept d c.insert.new.sel
     (kept_beside (changes_in c.self.inside.opening.items c.self.inside.moments) c.args.key c.args.at (rw (← c.self.view_is) at c.requires.later)
     c.self.inside.keys_at c.insert.new.self c.self.inside.keys_now c.in_ok-insert.ensures.updates c.self.invariant))
 
--- The case that the change was already recorded.
+-- The case of a removed key: the change is recorded, and the key still has to be removed from `keys_now`.
 pub invariant_of-self-then-not-present : goal.invariant_of-self-then-not-present
 invariant_of-self-then-not-present c = kept_noted (changes_in c.self.inside.opening.items c.self.inside.moments) c.args.key c.args.at
     (rw (← c.self.view_is) at c.requires.later)

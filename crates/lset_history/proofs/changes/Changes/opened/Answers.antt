@@ -11,7 +11,6 @@ use Rattle.lset_history.proofs.KeySets.{has_key_tree}
 use Rattle.lset_history.proofs.ChangeNoted.{kept_opened}
 use Rattle.lset_history.proofs.changes.Changes.opened.Goals as goal
 
--- The tree contains each opening key.
 pub invariant_of-result : goal.invariant_of-result
 invariant_of-result c =
     let road = YieldsList-from_copied (YieldsList-at c.copied.ensures.source (YieldsList-from_slice c.args.keys.now c.iter.ensures.rest)) in
