@@ -39,7 +39,8 @@ pub record Here (marks : Bool) (sz : Sizes) (vs : ℕ → View) (now : ℕ) (ws 
   pub course : Course vs now
   pub present : vs now ≡ view sz ws used
 
--- What is true of thread t and its private state `l` at a moment, with what the thread knows by its outline.
+-- What is true of thread t and its private state `l` at a moment, together with its proof outline: what the thread
+-- knows at its row of the step table.
 pub record Thread (At : Outline) (sz : Sizes) (t : ℕ) (vs : ℕ → View) (first now : ℕ) (ws : List ℕ) (used : ℕ → ℕ)
     (done : Bool) (l : Local) : Type 0 where
   pub registers : Registers sz t l
@@ -68,12 +69,13 @@ pub record StepOf (T : Table) (marks : Bool) (At : Outline) (sz : Sizes) (t : �
   pub own : At sz.quota t vs (first t) (suc now) (view sz words' used') (done t || is_change effect) local'
   pub others : (u : ℕ) → u < sz.threads → u ≢ t → At sz.quota u vs (first u) (suc now) (view sz words' used') (done u) (locals u)
 
--- States that what the thread's outline says was true at some moment before the call began.
+-- States that the thread's proof outline, what it knows at its row of the step table, was true at some moment before
+-- the call began.
 abbrev pub Before : Outline → ℕ → ℕ → (ℕ → View) → View → Local → Type 0
 Before At q t vs v l = (first : ℕ) × (now : ℕ) × (done : Bool) × At q t vs first now v done l
 
--- What the proof of a list has to show: its outline is true when the list opens, and each event preserves it for every
--- thread.
+-- What the proof of a list has to show of its proof outline: what each thread knows is true when the list opens, and
+-- each event preserves it.
 pub record Discipline (T : Table) (marks : Bool) (At : Outline) : Type 1 where
   pub idle_at : (op : Opening) → Opens op → (t : ℕ) (vs : ℕ → View)
       → At op.quota t vs 0 0 (view_of (sizes op) (opening op)) false (idle op.quota t)
@@ -91,8 +93,8 @@ pub record Discipline (T : Table) (marks : Bool) (At : Outline) : Type 1 where
       (locals t).pc ≢ 0
       → StepOf T marks At sz t vs first now ws used done locals
 
--- If the views of a run up to moment s have the required properties, and the next step preserves them, the views up to
--- moment s + 1 have them.
+-- If the views of a run (its nodes and locks at each moment) up to moment s have the required properties, and the next
+-- step preserves these, the views up to moment s + 1 have them.
 course_more : (vs : ℕ → View) (s : ℕ) → Course vs s → KeepsNodes (vs s) (vs (suc s)) → KeepsMarked (vs s) (vs (suc s))
     → IsOrdered (vs (suc s)) → Course vs (suc s)
 course_more vs s r g m ord = record {
@@ -148,7 +150,8 @@ put_same s t l h = get_or-set_same s.locals t l (idle 0 0) h
 pub put_other : (s : State) (t u : ℕ) (l : Local) → u ≢ t → slice_index_or (slice_set s.locals t l) u (idle 0 0) ≡ local_of s u
 put_other s t u l h = get_or-set_other s.locals t u l (idle 0 0) h
 
--- The invariant of a run at moment k: what is true of the words, and of each thread with its outline.
+-- The invariant of a run at moment k: what is true of the words, and what each thread knows at its row of the step
+-- table.
 pub record Inv (marks : Bool) (At : Outline) (sz : Sizes) (vs : ℕ → View) (k : ℕ) (s : State) (first : ℕ → ℕ)
     (done : ℕ → Bool) : Type 1 where
   pub memory : Memory marks sz s.words (used_in s)

@@ -109,7 +109,7 @@ module _ {v w : View} {t : ℕ} (s : Leaves v w t) where
   pub removing_on : {curr : ℕ} {op : Call} → v.published curr → Removing v curr op → Removing w curr op
   removing_on {curr} p a = record { call = a.call; found = s.keys curr p ∙ a.found }
 
--- Steps of other threads do not change the words of the slot that t will use next.
+-- Steps of other threads do not change the words of the slot (the thread's own node) that t will use next.
 module _ {v w : View} {q t : ℕ} (r : Rely v w q t) where
   pub own_key_on : (x : ℕ) → v.used t < q → v.key (slot_node q t (v.used t)) ≡ x → w.key (slot_node q t (w.used t)) ≡ x
   own_key_on x room e = rw r.used (r.own_key room ∙ e)

@@ -176,7 +176,7 @@ insert-goes v w ord pred own k q = record {
     cases : (i : ℕ) → (i ≡ pred) ⊎ (i ≢ pred)
     cases i = grind arith
 
--- ---- How an insertion changes the content
+-- ---- How an insertion changes the keys of the set
 
 pub insert_absent : (v w : View) → IsOrdered v → (pred own k : ℕ) → Inserts v w pred own k → InContent v k → ⊥
 insert_absent v w ord pred own k q c =

@@ -30,7 +30,7 @@ row_once q t u i j a b e =
 slot_in : (sz : Sizes) (t j : ℕ) → t < sz.threads → j < sz.quota → slot_node sz.quota t j < opening_node sz 0
 slot_in sz t j h k = let z : t * sz.quota + j < sz.threads * sz.quota = grind arith in omega arith
 
--- Returns the slot that thread t will use next.
+-- Returns the slot that thread t will use next: the node for its next successful add.
 abbrev pub own_of : ℕ → ℕ → (ℕ → ℕ) → ℕ
 own_of q t used = slot_node q t (used t)
 
@@ -47,8 +47,8 @@ one_more_other used t u d = grind (arith, nat_tests)
 abbrev pub Writes : List ℕ → Action → ℕ → ℕ → Type 0
 Writes ws a i x = (a ≡ Store i x) ⊎ (a ≡ Exchange i (slice_index ws i) x)
 
--- The steps that thread t may make. Each constructor has the action, the words and the numbers of used slots after it,
--- and the key that is added or removed.
+-- The steps that thread t may make. Each constructor has the action, the words and each thread's number of successful
+-- adds after it, and the key that is added or removed.
 pub data WordStep (marks : Bool) (sz : Sizes) (t : ℕ) (ws : List ℕ) (used : ℕ → ℕ) : Action → List ℕ → (ℕ → ℕ)
     → Option (Key × Bool) → Type 0 where
   reads : (x : ℕ) → x < word_count sz → WordStep marks sz t ws used (Load x) ws used None
@@ -91,7 +91,7 @@ pub record Memory (marks : Bool) (sz : Sizes) (ws : List ℕ) (used : ℕ → �
   pub tail_key : node_key ws 1 ≡ tail_word
   pub tail_link : node_link ws 1 ≡ 2
   pub marked : UnmarkedInChain marks (view sz ws used)
-  -- In a list that does not mark nodes, no node has a mark, not even a slot that is not used yet.
+  -- In a list that does not mark nodes, no node has a mark, not even one that no add has used yet.
   pub unmarked : marks ≡ false → (i : ℕ) → i < node_count sz → node_link ws i % 2 ≡ 0
 
 module _ (marks : Bool) (sz : Sizes) (ws : List ℕ) (used : ℕ → ℕ) (m : Memory marks sz ws used) where
@@ -384,7 +384,7 @@ module _ (marks : Bool) (sz : Sizes) (ws : List ℕ) (used : ℕ → ℕ) (m : M
   lock_use a ws' used' ch (cuts b p c d w at first inn follows next) = no_lock ws a t p (2 * d) w
   lock_use a ws' used' ch (drops b p c d k y w at first inn follows next key) = no_lock ws a t p (2 * d) w
 
-  -- The number of slots that the thread has used increases by one if the step adds a key, and otherwise stays.
+  -- The number of the thread's successful adds increases by one if the step adds a key, and otherwise stays.
   pub mine_counted : (a : Action) (ws' : List ℕ) (used' : ℕ → ℕ) (ch : Option (Key × Bool))
       → WordStep marks sz t ws used a ws' used' ch → used' t ≡ count_after ch (used t)
   mine_counted a ws' used' ch (puts b p c k w at nt follows r ready key above under) = one_more_same used t

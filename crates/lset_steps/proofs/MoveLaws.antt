@@ -73,7 +73,8 @@ tail_stays marks v w ord ch (removes pred curr k y q m u e) = q.links 1 ord.tail
 not_both : {A : Type 0} (b : Bool) → b ≡ true → b ≡ false → A
 not_both b x y = absurd (let z : true ≡ false = sym x ∙ y in cc)
 
--- In a list that marks nodes, every published node without a mark is still in the chain after a move.
+-- In a list that marks nodes, every node that has been in the chain (published) and has no mark is still in the chain
+-- after a move.
 module _ (v w : View) (ord : IsOrdered v) where
   live_stays : (ch : Option (Key × Bool)) → Move true v w ch → UnmarkedInChain true v → UnmarkedInChain true w
   live_stays ch (quiet q) h b mb e =
@@ -112,7 +113,8 @@ pub marked_after : (marks : Bool) (v w : View) → IsOrdered v → (ch : Option 
 marked_after true v w ord ch m h = live_stays v w ord ch m h
 marked_after false v w ord ch m h = plain_stays v w ord ch m h
 
--- What is required of a published node at two moments holds for one move, and therefore for any number of moves.
+-- What is required of a published node (one that has been in the chain) at two moments is true after one move, and
+-- therefore after any number of moves.
 pub later_same : (marks : Bool) (v : View) (i : ℕ) → v.published i → UnlinkedStays marks v v i
 later_same marks v i m = record { published = m; key = refl; unlinked = λ c. (refl, c); marked = λ e o. refl }
 

@@ -12,7 +12,8 @@ pub record KeepsNodes (v w : View) : Type 0 where
   pub kept : (b : ℕ) → v.published b → (w.link b ≡ v.link b) ⊎ (InChain v b × InChain w b)
   pub back : (b : ℕ) → v.published b → InChain w b → InChain v b
 
--- A move that changes no published node, such as a load, or a write to a lock or to an unused slot.
+-- A move that changes no published node (none that has been in the chain), such as a load, or a write to a lock or to
+-- an unused node.
 pub record Quiet (v w : View) : Type 0 where
   pub keys : (i : ℕ) → v.published i → w.key i ≡ v.key i
   pub links : (i : ℕ) → v.published i → w.link i ≡ v.link i
@@ -104,14 +105,14 @@ pub record Lacked (vs : ℕ → View) (first now k : ℕ) : Type 0 where
   pub upto : at ≤ now
   pub lacks : InContent (vs at) k → ⊥
 
--- Row 20: what a `contains` of k knows before it loads the link of curr. The node curr was in the chain at some moment
--- since the call began at `first`, and its key is smaller than k.
+-- What a `contains` of k knows at row 20 of the step table, before it loads the link of curr. The node curr was in the
+-- chain at some moment since the call began at `first`, and its key is smaller than k.
 pub record At20 (vs : ℕ → View) (first now k curr : ℕ) : Type 0 where
   pub past : InPast vs first now curr
   pub low : (vs past.at).key curr < k + 1
 
--- Row 21: what a `contains` of k knows before it loads the key of curr. It has read a link to curr in a node with a
--- smaller key than k, and that node had this link while it was in the chain.
+-- What a `contains` of k knows at row 21 of the step table, before it loads the key of curr. It has read a link to curr
+-- in a node with a smaller key than k, and that node had this link while it was in the chain.
 pub record At21 (vs : ℕ → View) (first now k curr : ℕ) : Type 0 where
   pub from : ℕ
   pub word : ℕ
@@ -119,14 +120,14 @@ pub record At21 (vs : ℕ → View) (first now k curr : ℕ) : Type 0 where
   pub next : word / 2 ≡ curr
   pub low : (vs seen.at).key from < k + 1
 
--- Row 22: what a `contains` of k knows before it loads the mark of curr. The node curr has the key k, and was in the
--- chain at some moment since the call began at `first`.
+-- What a `contains` of k knows at row 22 of the step table, before it loads the mark of curr. The node curr has the key
+-- k, and was in the chain at some moment since the call began at `first`.
 pub record At22 (vs : ℕ → View) (first now k curr : ℕ) : Type 0 where
   pub past : InPast vs first now curr
   pub found : (vs past.at).key curr ≡ k + 1
 
--- Row 25: what a `ceiling` of k knows before it loads the mark of curr. The node curr was in the chain at some moment
--- since the call began, and its key word is `ckey`, which is not smaller than that of k.
+-- What a `ceiling` of k knows at row 25 of the step table, before it loads the mark of curr. The node curr was in the
+-- chain at some moment since the call began, and its key word is `ckey`, which is not smaller than that of k.
 pub record At25 (vs : ℕ → View) (first now k curr ckey : ℕ) : Type 0 where
   pub past : InPast vs first now curr
   pub walk : At21 vs first now k curr

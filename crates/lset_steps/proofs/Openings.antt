@@ -26,7 +26,7 @@ opening_local op t h = get_or-map-range_with_len (idle op.quota) 0 op.threads t 
 pub none_used : (op : Opening) (t : ℕ) → t < op.threads → used_in (opening op) t ≡ 0
 none_used op t h = ap (λ (l : Local). l.used) (opening_local op t h)
 
--- ---- The words of the opening world, node by node
+-- ---- The words of a list when it opens, node by node
 key_word : (op : Opening) (a : ℕ) → opening_word op (key_index a) ≡ opening_key op a
 key_word op a =
     let e : key_index a / 3 - 1 ≡ a = omega arith in
@@ -139,7 +139,8 @@ module _ (op : Opening) where
       ∙ sym (map-range_with_len_more (opening_word op) 0 (9 + n) (9 + n) (omega arith))
       ∙ ap (λ k. map (opening_word op) (range_with_len 0 k)) next
 
-  -- States that node a is published when the list opens: it is the head, the tail, or the node of an opening key.
+  -- States that node a can be in the chain when the list opens (is published): it is the head, the tail, or the node of
+  -- an opening key.
   abbrev OneOf : ℕ → Type 0
   OneOf a = (a ≡ 0) ⊎ (a ≡ 1) ⊎ ((i : ℕ) × (i < length op.keys) × (a ≡ opening_node (sizes op) i))
 

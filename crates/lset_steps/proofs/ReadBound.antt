@@ -72,8 +72,8 @@ true_or_false : (b : Bool) → (b ≡ true) ⊎ (b ≡ false)
 true_or_false true = inl refl
 true_or_false false = inr refl
 
--- Counts the nodes that a call has visited: `amount` published nodes, all with key words smaller than `below`. The
--- nodes are numbers below `size`.
+-- Counts the nodes that a call has visited: `amount` nodes that have been in the chain, all with key words smaller than
+-- `below`. The nodes are numbers below `size`.
 record Tally (v : View) (size below amount : ℕ) : Type 0 where
   met : ℕ → Bool
   are : (i : ℕ) → met i ≡ true → v.published i × (v.key i < below)
@@ -113,7 +113,8 @@ tally_few {v} {size} {below} {amount} p l le a =
     let e : count b.met size ≡ suc amount = b.amount_is in
     omega arith
 
--- States that published nodes stay published and keep their keys from one moment to a later one.
+-- States that published nodes (those that have been in the chain) stay published and keep their keys from one moment to
+-- a later one.
 abbrev Later : View → View → Type 0
 Later v w = (i : ℕ) → v.published i → w.published i × (w.key i ≡ v.key i)
 
@@ -126,7 +127,7 @@ tally_on {v} {w} {size} {below} g a = record {
   amount_is = a.amount_is;
 }
 
--- States that the row is one of a `ceiling` without locks.
+-- States that this row of the step table is one of a `ceiling` without locks.
 abbrev IsCeilingRow : ℕ → Type 0
 IsCeilingRow pc = (pc ≡ 23) ⊎ (pc ≡ 24) ⊎ (pc ≡ 25)
 

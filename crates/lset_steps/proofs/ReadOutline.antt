@@ -1,6 +1,6 @@
--- The proof outline of a `contains` and a `ceiling` without locks: what the thread knows at each of their rows. Proof
--- that each row preserves it, and that the reply is correct at some moment of the call, possibly one before a step of
--- another thread (after O'Hearn and others).
+-- What a thread knows at each row of a `contains` or a `ceiling` without locks (its proof outline). Proof that each row
+-- preserves this, and that the reply is correct at some moment of the call, possibly one before a step of another
+-- thread (after O'Hearn and others).
 use Rattle.std.specs.Prelude.{◌≡◌, ◌≢◌, ℕ, suc, ◌-◌, ◌==◌, if◌then◌else◌, ◌/◌, ◌%◌, ◌<◌, ◌≤◌, ◌⊎◌, Bool, false, None, List, [], refl}
 use Rattle.std.proofs.Common.{arith, inl, inr, sym, ◌∙◌, ap, subst}
 use Rattle.lset_words.proofs.Numbers.{same_or_not, below_or_not, if_below, if_not_below, if_same, if_other}
@@ -70,7 +70,7 @@ at_head vs first now v k from present head =
     let low : (vs now).key 0 ≡ 0 = ap (λ x. x.key 0) present ∙ head in
     record { past = record { at = now; from = from; upto = omega arith; in_chain = ([], refl) }; low = omega arith }
 
--- An `add` or a `remove` begins at row 1, a `contains` or a `ceiling` at the first of its own rows.
+-- An `add` or a `remove` begins at row 1 of the step table, a `contains` or a `ceiling` at the first of its own rows.
 pub call_begins : (At : Outline) (q t : ℕ) (vs : ℕ → View) (now : ℕ) (v : View) (call : Call) (l : Local) → vs now ≡ v →
     v.key 0 ≡ 0
     → ((l' : Local) → l'.pc ≡ 1 → At q t vs now now v false l')
@@ -108,7 +108,8 @@ fits_lacked q vs first now t call c a = record {
 pub even_or_odd : (x : ℕ) → (x % 2 ≡ 0) ⊎ (x % 2 ≡ 1)
 even_or_odd x = grind arith
 
--- Rows 20 to 25, in every table that has them, and for every protocol by which threads share the words.
+-- Rows 20 to 25 of the step table, which belong to `contains` and `ceiling`, for every protocol by which threads share
+-- the words.
 module _ (T : Table) (P : Protocol T.marks) (At : Outline) (sz : Sizes) (t : ℕ) (vs : ℕ → View) (first now : ℕ) (ws : List ℕ)
     (used : ℕ → ℕ) (done : Bool) (l : Local)
     (h : Here T.marks sz vs now ws used) (th : Thread At sz t vs first now ws used done l)
@@ -149,8 +150,8 @@ module _ (T : Table) (P : Protocol T.marks) (At : Outline) (sz : Sizes) (t : ℕ
       let low : target l.call < tail_word = regs.low in
       omega arith
 
-  -- The load of a link leads from row 20 to row 21: what the thread must know at row 21 is true of the node to which
-  -- the link leads.
+  -- The load of a link leads from row 20 of the step table to row 21: what the thread must know at row 21 is true of
+  -- the node to which the link leads.
   behind : At20 vs first now (key_of l.call).0 l.curr
       → (node_link ws l.curr / 2 < node_count sz) × At21 vs first (suc now) (key_of l.call).0 (node_link ws l.curr / 2)
   behind a =

@@ -49,7 +49,8 @@ module _ (T : Table) (rows : HasReadRows T) (vs : ℕ → View) (first now : ℕ
   seen_now (reads25 e d c x) =
       at_curr (inr (inr (inr (inr (inr e))))) (rows.acts l (inr (inr (inr (inr (inr e))))) ∙ (rw e refl)) x.past
 
--- States that an outline includes, at rows 20 to 25, what a `contains` or a `ceiling` knows there.
+-- States that a list's proof outline includes, at rows 20 to 25 of the step table, what a `contains` or a `ceiling`
+-- knows there.
 abbrev pub ShowsReading : Outline → Type 1
 ShowsReading At = (q t : ℕ) (vs : ℕ → View) (first now : ℕ) (v : View) (done : Bool) (l : Local) → IsReadRow l.pc
     → At q t vs first now v done l → Reading vs first now done l

@@ -20,8 +20,8 @@ use Rattle.lset_steps.proofs.AfterWrite.{set_other, key_after_link, link_after_l
 use Rattle.lset_steps.proofs.AfterWrite.{key_after_key, lock_after_key, list_lock_after_key, key_after_lock, link_after_lock}
 
 -- What a step from view v to view w by another thread leaves unchanged for thread u with quota q: keys, the locks that
--- u holds, the links of the nodes that u has locked and whether they are in the chain, how many slots u has used, and
--- its next slot.
+-- u holds, the links of the nodes that u has locked and whether they are in the chain, how many adds of u have
+-- succeeded, and the node for its next add.
 pub record Rely (v w : View) (q u : ℕ) : Type 0 where
   pub goes : KeepsNodes v w
   pub used : w.used u ≡ v.used u
@@ -32,8 +32,8 @@ pub record Rely (v w : View) (q u : ℕ) : Type 0 where
   pub own_key : v.used u < q → w.key (slot_node q u (v.used u)) ≡ v.key (slot_node q u (v.used u))
   pub own_link : v.used u < q → w.link (slot_node q u (v.used u)) ≡ v.link (slot_node q u (v.used u))
 
--- States that a step writes the link of a published node only if the thread holds this node's lock, and unlinks a node
--- only if the thread also holds the lock of the unlinked node.
+-- States that a step writes the link of a published node (one that has been in the chain) only if the thread holds this
+-- node's lock, and unlinks a node only if the thread also holds the lock of the unlinked node.
 abbrev pub Guarded : (marks : Bool) (sz : Sizes) (t : ℕ) (ws : List ℕ) (used : ℕ → ℕ) (a : Action) (ws' : List ℕ)
     (used' : ℕ → ℕ) (ch : Option (Key × Bool))
     → WordStep marks sz t ws used a ws' used' ch → Type 0

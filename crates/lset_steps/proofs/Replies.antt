@@ -18,7 +18,8 @@ use Rattle.lset_steps.proofs.QuietMove.{in_chain_published, chain_on}
 use Rattle.lset_words.proofs.Numbers.{below_or_not, if_below, if_not_below}
 use Rattle.lset_words.specs.declared.Key.{Key}
 
--- What is true after the decision that a call will add its key. `Removing`, below: that it will remove its key.
+-- What is true after the decision that a call will add its key. `Removing` is what is true after the decision that it
+-- will remove its key.
 pub record Adding (v : View) (t q curr : ℕ) (op : Call) : Type 0 where
   pub call : op ≡ Add (key_of op)
   pub room : v.used t < q
@@ -112,12 +113,12 @@ registers_begun sz t pc call l low r =
     let smallest : 0 ≤ tail_word = omega arith in
     assumption
 
--- Registers stay in range when a successful add has used one more slot.
+-- Registers stay in range when a successful add has used up a node of its thread.
 pub keep_more : (sz : Sizes) (t p : ℕ) (l : Local) → l.used < sz.quota → Registers sz t l
     → Registers sz t (record l { pc = p; reply = Some True; used = l.used + 1 })
 keep_more sz t p l room r = let most : l.used + 1 ≤ sz.quota = omega (arith, room) in assumption
 
--- Registers stay in range when a successful add has used one more slot and replies in the same step.
+-- Registers stay in range when a successful add has used up a node of its thread and replies in the same step.
 pub keep_used : (sz : Sizes) (t p : ℕ) (l : Local) → l.used < sz.quota → Registers sz t l
     → Registers sz t (record l { pc = p; used = l.used + 1 })
 keep_used sz t p l room r = let most : l.used + 1 ≤ sz.quota = omega (arith, room) in assumption

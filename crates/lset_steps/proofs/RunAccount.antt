@@ -19,7 +19,7 @@ use Rattle.lset_words.specs.Words.{Opening, sizes}
 use Rattle.lset_steps.proofs.Openings.{content_opens}
 use Rattle.lset_steps.proofs.Discipline.{pick_yes, pick_not, put_same, put_other}
 
--- Returns the keys of the set at each moment of a run. `counts_at`, below: the number of successful adds of each
+-- Returns the keys of the set at each moment of a run. `counts_at` returns the number of successful adds of each
 -- thread.
 abbrev pub contents_at : Table → Opening → (ℕ → Event) → Contents
 contents_at T op es = contents_of (views T op es)

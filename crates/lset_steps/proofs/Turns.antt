@@ -94,7 +94,7 @@ no_locks marks = record {
   still = remains_same;
 }
 
--- States that what a thread knows by its outline stays true in steps of other threads.
+-- States that what a thread knows at its row of the step table stays true in steps of other threads.
 abbrev pub Stands : {marks : Bool} → Protocol marks → Outline → Type 1
 Stands P At = (q t : ℕ) (vs : ℕ → View) (first now : ℕ) (v w : View) (done : Bool) (l : Local) → vs now ≡ v → P.rely v w q t
     → At q t vs first now v done l → At q t vs first (suc now) w done l
@@ -154,8 +154,9 @@ tries {P = P} {sz = sz} {t = t} {ws = ws} {used = used} locks a on same inn acts
       ((locks sz t ws used a inn).1 other) again stays
 ]
 
--- What the proof of a list has to show for its protocol: the outline is true when a call begins, each row is a step of
--- the protocol and preserves the outline of its own thread, and steps of other threads preserve the outline.
+-- What the proof of a list has to show for its protocol. What a thread knows at its row (the outline) is true when a
+-- call begins. Each row is a step of the protocol, and preserves what its own thread knows. Steps of other threads
+-- preserve it, too.
 pub record Follows (T : Table) (P : Protocol T.marks) (At : Outline) : Type 1 where
   pub idle_at : (op : Opening) → Opens op → (t : ℕ) (vs : ℕ → View)
       → At op.quota t vs 0 0 (view_of (sizes op) (opening op)) false (idle op.quota t)
@@ -169,8 +170,8 @@ pub record Follows (T : Table) (P : Protocol T.marks) (At : Outline) : Type 1 wh
       → Here T.marks sz vs now ws used → Thread At sz t vs first now ws used done l → t < sz.threads → l.pc ≢ 0
       → Turn T P At sz t vs first now ws used done l
 
--- Adds an invariant of the shared words to an outline. Each step of the protocol must preserve the invariant. Then each
--- row can be proved with the outline alone, and use the invariant.
+-- Adds an invariant of the shared words to what a thread knows (the outline). Each step of the protocol must preserve
+-- the invariant. Then the proof of each row can use the invariant without proving it again.
 abbrev pub Keeping : (View → Type 0) → Outline → Outline
 Keeping Always At q t vs first now v done l = At q t vs first now v done l × Always v
 

@@ -149,7 +149,7 @@ unlink_mark v w pred curr q b m = elim (same_or_not b pred) [
   | inr d ↦ ap (λ x. x % 2) (q.links b m d)
 ]
 
--- ---- How an unlinking changes the content
+-- ---- How an unlinking changes the keys of the set
 
 pub unlink_only : (v w : View) → IsOrdered v → (pred curr : ℕ) → Unlinks v w pred curr → (j : ℕ) → InContent w j → InContent v j
 unlink_only v w ord pred curr q j c =

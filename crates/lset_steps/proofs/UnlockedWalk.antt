@@ -1,5 +1,5 @@
--- What a walk without locks knows about the two nodes that it has reached: they are published, and the call's key is
--- above that of the first. They can have left the chain.
+-- What a walk without locks knows about the two nodes that it has reached: they have been in the chain (are published),
+-- and the call's key is above that of the first. They can have left the chain.
 use Rattle.std.specs.Prelude.{◌≡◌, ◌≢◌, ℕ, ◌+◌, ◌*◌, ◌/◌, ◌<◌, ◌≤◌, Bool, true, None, List, slice_set}
 use Rattle.std.proofs.Common.{arith, ◌∙◌, ap}
 use Rattle.lset_words.specs.Words.{lock_index, tail_word, node_count, Sizes}
@@ -9,7 +9,7 @@ use Rattle.lset_steps.proofs.Moves.{KeepsNodes}
 use Rattle.lset_steps.proofs.Memory.{Memory, inner, inside, next_published, goes_on}
 use Rattle.lset_steps.proofs.Held.{Behind, locks_free}
 
--- States that pred has a smaller key than the call's, and that pred and curr are published.
+-- States that pred has a smaller key than the call's, and that pred and curr have been in the chain (are published).
 pub record Spot (v : View) (key pred curr : ℕ) : Type 0 where
   pub pred_published : v.published pred
   pub below : v.key pred < key

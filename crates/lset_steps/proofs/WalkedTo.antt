@@ -109,7 +109,7 @@ mark_of_word word false same = let e : word % 2 ≢ 1 = λ p. not_true (same.1 p
     not_true : IsTrue false → ⊥
     not_true t = absurd (cc)
 
--- ---- A walk that collects the content skips marked keys
+-- ---- A walk that collects the keys of the set skips marked nodes
 abbrev pub unmarked_key : ChainKey → Option ℕ
 unmarked_key met = if met.marked then None else Some met.key
 
@@ -136,7 +136,7 @@ content_picked answers v items same w =
     ∙ unmarked_picked (chain_keys v w.nodes) ∙ sym (unmarked v w.nodes) in
     ((w.nodes, w.is_chain, keys), subst IsStrictlyIncreasing (sym keys) w.increasing)
 
--- ---- A walk that collects the whole chain takes each key
+-- ---- A walk that collects all keys of the chain skips no node
 picked_whole : (keys : List ChainKey) → filter_map (λ met. Some met) keys ≡ keys
 picked_whole [] = refl
 picked_whole (k ∷ ks) = ap (λ xs. k ∷ xs) (picked_whole ks)

@@ -63,8 +63,8 @@ IsChain v ns = Segment v 0 ns 1
 abbrev pub InContent : View → ℕ → Type 0
 InContent v k = (b : ℕ) × InChain v b × (1 < b) × (v.key b ≡ k + 1) × (v.link b % 2 ≡ 0)
 
--- States that the keys are in order: the link of each published node except the tail leads to a published node with a
--- greater key, and no key is above the tail's.
+-- States that the keys are in order: the link of each published node (one that has been in the chain) except the tail
+-- leads to a published node with a greater key, and no key is above the tail's.
 pub record IsOrdered (v : View) : Type 0 where
   pub head_published : v.published 0
   pub tail_published : v.published 1
@@ -72,8 +72,8 @@ pub record IsOrdered (v : View) : Type 0 where
   pub next_published : (i : ℕ) → v.published i → i ≢ 1 → v.published (v.link i / 2)
   pub increases : (i : ℕ) → v.published i → i ≢ 1 → v.key i < v.key (v.link i / 2)
 
--- States, for a list that marks nodes before it unlinks them (`true`), that each published node without a mark is in
--- the chain. For any other list, states that no published node has a mark.
+-- States, for a list that marks nodes before it unlinks them (`true`), that each published node (one that has been in
+-- the chain) without a mark is still in the chain. For any other list, states that no published node has a mark.
 abbrev pub UnmarkedInChain : Bool → View → Type 0
 UnmarkedInChain true v = (b : ℕ) → v.published b → v.link b % 2 ≡ 0 → InChain v b
 UnmarkedInChain false v = (b : ℕ) → v.published b → v.link b % 2 ≡ 0
@@ -92,9 +92,9 @@ counts_of vs moment thread = (vs moment).used thread
 abbrev pub FitsIn : ℕ → View → ℕ → Call → Reply → Type 0
 FitsIn quota v thread call reply = Fits quota (InContent v) (v.used thread) call reply
 
--- [Unlinked stays]: compares node i at two moments, if it is published at the first (`v`). At the second moment (`w`)
--- it has the same key and is still published. If it was unlinked, it is still unlinked and has the same link. In a list
--- that marks nodes, a marked node still has the same link.
+-- [Unlinked stays]: compares node i at two moments, if it is published at the first (`v`), which means that it has been
+-- in the chain. At the second moment (`w`) it has the same key and is still published. If it was unlinked, it is still
+-- unlinked and has the same link. In a list that marks nodes, a marked node still has the same link.
 pub record UnlinkedStays (marks : Bool) (v w : View) (i : ℕ) : Type 0 where
   pub published : w.published i
   pub key : w.key i ≡ v.key i

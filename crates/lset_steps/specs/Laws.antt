@@ -15,8 +15,8 @@ use Rattle.lset_steps.specs.declared.Event.TheVariants.{Go}
 use Rattle.lset_steps.specs.Steps.{Table, State, state_at, Run, local_of, seen_next, log_of, idle}
 use Rattle.lset_steps.specs.Chain.{View, view, IsOrdered, InChain, UnmarkedInChain, Changed, UnlinkedStays, Seen, contents_of, counts_of}
 
--- Returns how many adds of thread t have succeeded in state s. `view_of`, below, returns the nodes and locks of a
--- state, and `views` those at each moment of a run.
+-- Returns how many adds of thread t have succeeded in state s. `view_of` returns the nodes and locks of a state, and
+-- `views` those at each moment of a run.
 abbrev pub used_in : State → ℕ → ℕ
 used_in s t = (local_of s t).used
 
@@ -116,8 +116,8 @@ pub record Lawful (T : Table) : Type 0 where
   pub states : (op : Opening) (last k : ℕ) (es : ℕ → Event) → Run T op es last → k ≤ last →
       StateLaws T.marks (sizes op) (state_at T op es k)
   pub steps : (op : Opening) (last k t : ℕ) (es : ℕ → Event) → Run T op es last → k < last → es k ≡ Go t → StepAt T op es k t
-  -- At every later moment, a published node is still published and has the same key. An unlinked node stays unlinked,
-  -- with the same link. In a list that marks nodes, a marked node keeps its link.
+  -- At every later moment, a published node (one that has been in the chain) is still published and has the same key.
+  -- An unlinked node stays unlinked, with the same link. In a list that marks nodes, a marked node keeps its link.
   pub unlinked_stays : (op : Opening) (last j k i : ℕ) (es : ℕ → Event) → Run T op es last → j ≤ k → k ≤ last
       → (views T op es j).published i
       → UnlinkedStays T.marks (views T op es j) (views T op es k) i
@@ -133,8 +133,8 @@ pub record UnderWay (T : Table) (op : Opening) (es : ℕ → Event) (k t : ℕ) 
   pub thread : t < op.threads
   pub open_call : (local_of (state_at T op es k) t).pc ≢ 0
 
--- States that `l` is the private state of some thread with a pending call, at some moment of some run. `Sees`, below,
--- adds that the thread's next step sees the value `seen`.
+-- States that `l` is the private state of some thread with a pending call, at some moment of some run. `Sees` adds that
+-- the thread's next step sees the value `seen`.
 abbrev pub Occurs : Table → Local → Type 0
 Occurs T l = (op : Opening) × (es : ℕ → Event) × (k : ℕ) × (t : ℕ) × UnderWay T op es k t
     × (local_of (state_at T op es k) t ≡ l)

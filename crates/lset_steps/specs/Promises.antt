@@ -71,9 +71,9 @@ abbrev pub LockUses : Table → Type 0
 LockUses T = (op : Opening) (last k t : ℕ) (es : ℕ → Event) → Run T op es last → k < last → es k ≡ Go t
     → LockUse (state_at T op es k).words t (T.next (local_of (state_at T op es k) t))
 
--- [Unlinked stays]: states that a node published at moment j has the same key at each later moment k. If the node is
--- unlinked at j, it is unlinked at k and has the same link. In a list that marks nodes, a node that is marked at j has
--- the same link at k.
+-- [Unlinked stays]: states that a node that is published at moment j, which means that it has been in the chain, has
+-- the same key at each later moment k. If the node is unlinked at j, it is unlinked at k and has the same link. In a
+-- list that marks nodes, a node that is marked at j has the same link at k.
 abbrev pub UnlinkedNodesStay : Table → Type 0
 UnlinkedNodesStay T = (op : Opening) (last j k i : ℕ) (es : ℕ → Event) → Run T op es last → j ≤ k → k ≤ last
     → (views T op es j).published i → UnlinkedStays T.marks (views T op es j) (views T op es k) i
@@ -98,13 +98,13 @@ abbrev pub SeenInThePast : Table → Type 0
 SeenInThePast T = (op : Opening) (last j k b : ℕ) (es : ℕ → Event) → Run T op es last → j ≤ k → k ≤ last
     → InChain (views T op es j) b → Seen (views T op es) j k b ((views T op es k).link b)
 
--- [Unmarked in chain]: states that in a list that marks nodes, each unmarked published node is in the chain at every
--- moment.
+-- [Unmarked in chain]: states that in a list that marks nodes, a node that has been in the chain (published) and is not
+-- marked is in the chain, at every moment.
 abbrev pub UnmarkedNodesInChain : Table → Type 0
 UnmarkedNodesInChain T = (op : Opening) (last k : ℕ) (es : ℕ → Event) → Run T op es last → k ≤ last
     → UnmarkedInChain T.marks (views T op es k)
 
--- States that in a list that does not mark nodes, no node has a mark, not even a slot that is not used yet.
+-- States that in a list that does not mark nodes, no node has a mark, not even one that no add has used yet.
 abbrev pub NoLinkIsMarked : Table → Type 0
 NoLinkIsMarked T = (op : Opening) (last k i : ℕ) (es : ℕ → Event) → Run T op es last → k ≤ last → T.marks ≡ false →
     i < node_count (sizes op)

@@ -13,7 +13,8 @@ use Rattle.lset_steps.specs.declared.Action.TheVariants.{Load}
 use Rattle.lset_steps.specs.declared.Fed.{Fed}
 use Rattle.lset_steps.specs.Rows.{begun, ceiling_at}
 
--- Returns the row at which a call begins: 20 for `contains`, 23 for `ceiling`, 1 for `add` and `remove`.
+-- Returns the row of the step table at which a call begins: 20 for `contains`, 23 for `ceiling`, 1 for `add` and
+-- `remove`.
 abbrev pub first_row : Call → ℕ
 first_row (Add k) = 1
 first_row (Remove k) = 1

@@ -11,7 +11,7 @@ use Rattle.lset_steps.specs.declared.Local.{Local}
 use Rattle.lset_steps.specs.Steps.{idle}
 use Rattle.lset_steps.specs.declared.rows.Targets.{Targets}
 
--- Returns the node for the thread's next successful add: the thread's first slot that is not used yet.
+-- Returns the node that the thread's next successful add will use: the first slot of the thread that is not used yet.
 abbrev pub own_slot : Local → ℕ
 own_slot l = slot_node l.quota l.thread l.used
 
@@ -20,7 +20,7 @@ own_slot l = slot_node l.quota l.thread l.used
 abbrev pub begun : ℕ → Call → Local → Local
 begun pc call l = record (idle l.quota l.thread) { used = l.used; call = call; pc = pc }
 
--- Returns the state with another row and another reply.
+-- Returns the private state, with another row of the step table and another reply.
 abbrev pub goes_to : ℕ → Option Reply → Local → Local
 goes_to pc reply l = record l { pc = pc; reply = reply }
 
@@ -30,8 +30,8 @@ abbrev pub ceiling_at : ℕ → Reply
 ceiling_at word = if nat_lt word tail_word then At (record { 0 = word - 1 }) else Nothing
 
 -- Decides how a call continues, from whether its key was found and whether the thread's quota allows another add
--- (`room`). An `add` or a `remove` that will change the set continues at row `adds` or `removes`. All other calls have
--- a reply now, and continue at row `leaves`.
+-- (`room`). An `add` or a `remove` that will change the set continues at row `adds` or `removes` of the step table. All
+-- other calls have a reply now, and continue at row `leaves`.
 abbrev pub decided : ℕ → ℕ → ℕ → Call → Bool → Bool → ℕ → Local → Local
 decided adds removes leaves (Add k) found room key l =
     if found then goes_to leaves (Some False) l else if room then goes_to adds None l else goes_to leaves (Some Full) l

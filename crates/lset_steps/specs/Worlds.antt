@@ -67,7 +67,7 @@ chain_keys v (b ∷ bs) =
 abbrev pub AreChainKeys : View → List ChainKey → Type 0
 AreChainKeys v keys = (ns : List ℕ) × IsChain v ns × (keys ≡ chain_keys v ns)
 
--- Returns whether the node of this key is unmarked. `unmarked_keys`, below, returns the keys of all such nodes.
+-- Returns whether the node of this key is unmarked. `unmarked_keys` returns the keys of all such nodes.
 abbrev pub is_unmarked : ChainKey → Bool
 is_unmarked k = not k.marked
 

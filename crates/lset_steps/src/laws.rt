@@ -64,13 +64,13 @@ pub fn seen_in_the_past<M: Machine>()
     ensures { SeenInThePast M.table }
 {}
 
-/// Lemma: in a list that marks nodes before it unlinks them, every published node without a mark is in the chain. In
-/// any other list, no published node has a mark. (Heller and others, for their lazy list.)
+/// Lemma: in a list that marks nodes before it unlinks them, every node that has been in the chain (published) and has
+/// no mark is in the chain. In any other list, no such node has a mark. (Heller and others, for their lazy list.)
 pub fn unmarked_nodes_in_chain<M: Machine>()
     ensures { UnmarkedNodesInChain M.table }
 {}
 
-/// Lemma: in a list that does not mark nodes, no node has a mark, not even a slot that is not used yet.
+/// Lemma: in a list that does not mark nodes, no node has a mark, not even one that no add has used yet.
 pub fn no_link_is_marked<M: Machine>()
     ensures { NoLinkIsMarked M.table }
 {}

@@ -109,8 +109,8 @@ pub trait Machine {
     fn begin(call: Call, local: &Local) -> Local
         ensures { result ≡ table.begin call local.now };
 
-    /// Returns the next access of a thread with a pending call to a word. `local` must be the thread's private state at
-    /// some moment of a run.
+    /// Returns the access to a word that the thread, which must have a pending call, makes next. `local` must be the
+    /// thread's private state at some moment of a run.
     fn next(local: &Local) -> Action
         requires { Occurs table local.now }
         ensures { result ≡ table.next local.now };

@@ -6,7 +6,8 @@ use crate::{Action, Local};
 use lset_words::{Call, Key, MOST_NODES, Reply, slot_node};
 pub use lset_words::{key_index, link_index, lock_index};
 
-/// Returns the node for the thread's next successful `add`: the thread's first slot that is not used yet.
+/// Returns the node that the thread's next successful `add` will use: the first slot of the thread that is not used
+/// yet.
 #[inline(always)]
 pub fn own_slot(local: &Local) -> u64
     requires { IsSmall local.now }
@@ -54,8 +55,8 @@ pub fn ceiling_at(word: u64) -> Reply
     }
 }
 
-/// The rows of a step table at which a call continues once it has found its place in the list: one row for an `add`
-/// that will add, one for a `remove` that will remove, and one for all calls that can reply now.
+/// The rows of a step table at which a call continues when it has reached its position in the list: one row for an
+/// `add` that will add, one for a `remove` that will remove, and one for all calls that can reply now.
 #[derive(Clone, Copy)]
 pub struct Targets {
     pub adds: u8,

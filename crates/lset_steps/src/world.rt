@@ -154,7 +154,7 @@ pub fn opening_words(alloc: Global, layout: &Layout, keys: &[u32]) -> Result<Vec
     for i in 0..9 {
         words.push(opening_word_at(layout, keys, i))?;
     }
-    // Almost all words belong to slots, and are filled with zeros at once.
+    // Almost all words belong to nodes that no add has used yet, and are filled with zeros at once.
     words.resize(behind_slots as usize, 0)?;
     for i in behind_slots..words_in_all {
         words.push(opening_word_at(layout, keys, i))?;
@@ -416,7 +416,7 @@ impl<M: Machine> World<M> {
         self.go_holding(t, Local { pc: PC, ..held })
     }
 
-    /// Makes the next step of a thread at any row. Slower than `go_at`, which has code for one row.
+    /// Makes the next step of a thread at any row of the step table. Slower than `go_at`, which has code for one row.
     fn go_elsewhere(&mut self, t: u32) -> Told
         requires { Enabled self.old.state (Event.Go t) }
         ensures new { self.new ≡ record self.old { state = after M.table self.old.state (Event.Go t) } }
@@ -426,8 +426,8 @@ impl<M: Machine> World<M> {
         self.go_holding(t, held)
     }
 
-    /// Makes the next step of a thread with the code for its row. Each row of the five tables has an arm here. Rows of
-    /// other tables work without an arm, but more slowly.
+    /// Makes the next step of a thread with the code for its row of the step table. Each row of the five tables has an
+    /// arm here. Rows of other tables work without an arm, but more slowly.
     #[inline(always)]
     fn go(&mut self, t: u32) -> Told
         requires { Enabled self.old.state (Event.Go t) }
