@@ -56,8 +56,7 @@ call_told t end = told.Call (record {
 abbrev pub call_form : Form → Form
 call_form end = piece.word (codes "call") ∷ piece.any ∷ piece.call ∷ piece.any ∷ moment ∷ end
 
--- The line of a pending call (here), and, below, the lines of a call that returned true and of a call that returned
--- false.
+-- The line of a pending call. `true_kind` and `false_kind` are the lines of a call that returned true or false.
 abbrev pub open_kind : LineKind RecordingLine
 open_kind = (call_form (none ∷ none ∷ []), λ t. call_told t.1 None)
 

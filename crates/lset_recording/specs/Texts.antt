@@ -14,7 +14,7 @@ use Rattle.lset_judge.specs.Verdict.{IsPlain}
 use Rattle.lset_judge.specs.Stream.{IsBefore}
 
 pub record Recording : Type 0 where
-  -- The keys of the set before all calls. Below: the calls, and the keys of the set after them.
+  -- The opening keys. The calls follow, then the keys of the set after all calls.
   pub opening : List ℕ
   pub calls : List CallRecord
   pub keys : List ℕ
