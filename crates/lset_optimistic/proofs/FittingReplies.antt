@@ -28,7 +28,7 @@ use Rattle.lset_optimistic.specs.Lawful.Outline.At.{at0, at1, at2, at3, at4, at5
 use Rattle.lset_optimistic.specs.Promises.{held_at, world_at, FitsAtALoad, OptimisticRepliesFit}
 use Rattle.lset_optimistic.proofs.SecondWalks.{known}
 
--- ---- The load of row 8 decides the reply
+-- ---- The load of pred's link at row 8 of the step table decides the reply
 none_is_not : {A : Type 0} (reply : Reply) → None ≡ Some reply → A
 none_is_not reply e = absurd (cc)
 
@@ -68,8 +68,8 @@ link_row : (ws : List ℕ) (l : Local) → l.pc ≡ 8
     → local_after l (seen_by ws (optimistic.next l)) ≡ at_link (node_link ws l.pred) (record l { pc = 8 })
 link_row ws l e = rw e refl
 
--- If a thread has a reply after its step at row 8, its load saw that pred leads to curr, and the reply was correct at
--- that moment.
+-- If a thread has a reply after its step at row 8 of the step table, its load saw that pred leads to curr, and the
+-- reply was correct at that moment.
 fits_at : (op : Opening) (last : ℕ) (es : ℕ → Event) (r : Run optimistic op es last) (t : ℕ) (tn : t < op.threads) (k : ℕ) →
     k < last → es k ≡ Go t
     → (held_at op es k t).pc ≡ 8 → (reply : Reply)
@@ -85,8 +85,8 @@ fits_at op last es r t tn k l goes e reply y =
     (has_changed (log_of optimistic op es) t k) (local_of s t) reply i.memory th tn e th.at
     (ap (λ (x : Local). x.reply) (sym (link_row s.words (local_of s t) e)) ∙ y)
 
--- States where a reply at row 14 or 15 can come from: the thread was at row 8 and decided, or changed the set, or came
--- from row 14 with the reply.
+-- States where a reply at row 14 or 15 of the step table can come from: the thread was at row 8 and decided, or changed
+-- the set, or came from row 14 with the reply.
 abbrev Came : Local → ℕ → Reply → Type 0
 Came l seen reply = (l.pc ≡ 8) ⊎ (is_change (optimistic.effect l seen) ≡ true) ⊎ ((l.pc ≡ 14) × (l.reply ≡ Some reply))
 

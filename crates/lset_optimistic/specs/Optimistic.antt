@@ -62,7 +62,8 @@ at_node seen l =
 abbrev pub at_link : ℕ → Local → Local
 at_link seen l = if seen / 2 == l.curr then decided_on targets l.ckey l else gives_up l
 
--- Returns the thread's private state after it has released both locks. A call without a reply starts again at row 1.
+-- Returns the thread's private state after it has released both locks. A call without a reply starts again at row 1 of
+-- the step table.
 abbrev pub at_end : Option Reply → Local → Local
 at_end None l = record l { pc = 1 }
 at_end (Some reply) l = record l { pc = 0 }

@@ -14,16 +14,15 @@ use Rattle.lset_steps.specs.Chain.{View, InChain, FitsIn}
 use Rattle.lset_steps.specs.Laws.{views}
 use Rattle.lset_optimistic.specs.Optimistic.{optimistic}
 
--- Returns the private state of thread t at moment k. `world_at`, below, returns the nodes and locks of the list at
--- moment k.
+-- Returns the private state of thread t at moment k. `world_at` returns the nodes and locks of the list at moment k.
 abbrev pub held_at : Opening → (ℕ → Event) → ℕ → ℕ → Local
 held_at op es k t = local_of (state_at optimistic op es k) t
 
 abbrev pub world_at : Opening → (ℕ → Event) → ℕ → View
 world_at op es k = views optimistic op es k
 
--- States that the second walk of a call is in progress: it has reached `node`, whose link (row 6) or key (row 7) the
--- thread loads next.
+-- States that the second walk of a call is in progress: it has reached `node`, and the thread loads the link (row 6 of
+-- the step table) or the key (row 7) of this node next.
 abbrev pub IsWalking : Local → Type 0
 IsWalking l = (l.pc ≡ 6) ⊎ (l.pc ≡ 7)
 
@@ -66,8 +65,8 @@ pub record WalksAreValid (op : Opening) (last t : ℕ) (es : ℕ → Event) : Ty
   pub arrives : (j k : ℕ) → j ≤ k → k ≤ last → HasArrived (held_at op es j t)
       → ((i : ℕ) → j ≤ i → i < k → GivesBack op es i t (held_at op es j t).pred → ⊥)
       → IsLockedInChain (world_at op es k) t (held_at op es j t).pred
-  -- A thread is at row 8, at which a call decides, or at rows 9 to 13, at which it adds or removes, only if its second
-  -- walk has arrived at pred.
+  -- A thread is at row 8 of the step table, at which a call decides, or at rows 9 to 13, at which it adds or removes,
+  -- only if its second walk has arrived at pred.
   pub decides : (k : ℕ) → k ≤ last → 8 ≤ (held_at op es k t).pc → (held_at op es k t).pc ≤ 13 → HasArrived (held_at op es k t)
 
 -- [Validated walk]: states that if the second walk arrives at pred, then pred is in the chain until the thread releases
