@@ -47,7 +47,7 @@ abbrev pub gives_up : Local → Local
 gives_up l = record l { pc = 13; reply = None }
 
 -- Returns the thread's private state after it has loaded the link of pred, with both nodes locked. Validation fails
--- unless the link leads to curr and has no mark. `at_curr`, below: after it has loaded the link of curr.
+-- unless the link leads to curr and has no mark. `at_curr` is the state after it has loaded the link of curr.
 abbrev pub at_pred : ℕ → Local → Local
 at_pred seen l = if seen == 2 * l.curr then record l { pc = 7 } else gives_up l
 

@@ -13,16 +13,18 @@ use Rattle.lset_steps.specs.Rows.{own_slot, goes_to, ceiling_at}
 use Rattle.lset_steps.specs.ReadRows.{continued, leaves_with}
 use Rattle.lset_steps.specs.RowLaws.{Does, HasReading, nothing}
 
--- The call continues at row `pc`.
+-- The call continues at row `pc` of the step table.
 abbrev pub on_to : ℕ → Local → Fed
 on_to pc l = continued (record l { pc = pc })
 
--- The call continues at row 13, which releases the locks. With `None` as the reply, the call starts again after that.
+-- The call continues at row 13 of the step table, which releases the locks. With `None` as the reply, the call starts
+-- again after that.
 abbrev pub leaves : Option Reply → Local → Fed
 leaves r l = continued (goes_to 13 r l)
 
 -- Decides how a call continues when both nodes are locked and `curr` is not marked, from whether `curr` has the call's
--- key: an `add` that adds goes to row 8, a `remove` that removes to row 11, and all other calls have a reply.
+-- key: an `add` that adds goes to row 8 of the step table, a `remove` that removes to row 11, and all other calls have
+-- a reply.
 abbrev pub decides : Call → Local → Fed
 decides (Add k) l =
     if l.ckey == target (Add k) then leaves (Some False) l
