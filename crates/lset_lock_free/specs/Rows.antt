@@ -14,7 +14,7 @@ use Rattle.lset_steps.specs.Rows.{own_slot, goes_to, ceiling_at}
 use Rattle.lset_steps.specs.ReadRows.{continued, leaves_with}
 use Rattle.lset_steps.specs.RowLaws.{Does, HasReading, nothing}
 
--- The call continues at row `pc`.
+-- The call continues at row `pc` of the step table.
 abbrev pub on_to : ℕ → Local → Fed
 on_to pc l = continued (record l { pc = pc })
 
@@ -22,8 +22,8 @@ on_to pc l = continued (record l { pc = pc })
 abbrev pub answers : Reply → Local → Fed
 answers r l = leaves_with r (record l { reply = Some r })
 
--- Decides how a call continues at the first key that is not smaller than its own: an `add` that adds goes to row 5, a
--- `remove` that removes to row 8, and all other calls end with a reply.
+-- Decides how a call continues at the first key that is not smaller than its own: an `add` that adds goes to row 5 of
+-- the step table, a `remove` that removes to row 8, and all other calls end with a reply.
 abbrev pub decides : Call → Local → ℕ → Fed
 decides (Add k) l seen =
     if seen == target (Add k) then answers False l
@@ -61,15 +61,15 @@ pub record LockFreeRows (T : Table) : Type 0 where
   -- An `add` writes the key and the link of its slot, a node of its own.
   pub row_5 : Does T 5 (λ l. Store (key_index (own_slot l)) (target l.call)) (λ l seen. on_to 6 l) nothing
   pub row_6 : Does T 6 (λ l. Store (link_index (own_slot l)) (2 * l.curr)) (λ l seen. on_to 7 l) nothing
-  -- An `add` links its slot after `pred`, which adds the key to the set and uses up the slot. If the exchange fails,
-  -- the call walks again.
+  -- An `add` links its slot, a node of its own, after `pred`. This adds the key to the set and uses up the slot. If the
+  -- exchange fails, the call starts again.
   pub row_7 : Does T 7 (λ l. Exchange (link_index l.pred) (2 * l.curr) (2 * own_slot l))
       (λ l seen. if seen == 2 * l.curr then leaves_with True (record l { used = l.used + 1 }) else on_to 1 l)
       (λ l. tells_where (2 * l.curr) true l)
   -- A `remove` loads the link of the node with its key.
   pub row_8 : Does T 8 (λ l. Load (link_index l.curr)) (λ l seen. continued (record l { pc = 9; succ = seen / 2 })) nothing
-  -- A `remove` marks the node with its key, which removes the key from the set. If the link has changed since row 8,
-  -- the exchange fails, and the call walks again.
+  -- A `remove` marks the node with its key. This removes the key from the set. If the link has changed since it was
+  -- loaded, the exchange fails, and the call starts again.
   pub row_9 : Does T 9 (λ l. Exchange (link_index l.curr) (2 * l.succ) (2 * l.succ + 1))
       (λ l seen. if seen == 2 * l.succ then on_to 10 l else on_to 1 l)
       (λ l. tells_where (2 * l.succ) false l)

@@ -48,8 +48,8 @@ pub record Was (vs : ℕ → View) (first now a b t count : ℕ) (P : View → T
   pub same_count : (vs at).used t ≡ count
 
 -- States that at some moment from `first` to `now`, pred was in the chain with a smaller key than the call's, and curr
--- was the next node. `Open`, below: that at some such moment curr was in the chain without a mark, and succ was the
--- next node.
+-- was the next node. `Open` states that at some such moment curr was in the chain without a mark, and succ was the next
+-- node.
 abbrev pub Link : (ℕ → View) → ℕ → ℕ → ℕ → ℕ → ℕ → ℕ → ℕ → Type 0
 Link vs first now key pred curr t count = Was vs first now pred curr t count (λ v. v.key pred < key)
 
@@ -156,7 +156,7 @@ has_read_rows = record {
   tells = λ l seen. in_each_read_row (λ n. effect_of (record l { pc = n }) seen ≡ None) refl refl refl refl refl refl l.pc;
 }
 
--- ---- Proof that each row preserves the outline
+-- ---- Proof that each row preserves what the thread knows (its proof outline)
 module _ (sz : Sizes) (t : ℕ) (vs : ℕ → View) (first now : ℕ) (ws : List ℕ) (used : ℕ → ℕ) (done : Bool) (l : Local)
     (h : Here true sz vs now ws used) (th : Thread At sz t vs first now ws used done l) (tn : t < sz.threads) where
   abbrev Goal : Type 0
