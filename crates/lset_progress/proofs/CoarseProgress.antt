@@ -26,13 +26,13 @@ use Rattle.lset_progress.proofs.Rest.{rest, few_by, fewer}
 use Rattle.lset_progress.proofs.RowsWithLocks.{Shape, Loads, RowOf, within, Only, at_row, goes, on, takes, timed, unlocks, writes}
 use Rattle.lset_progress.proofs.Standing.{Standing, stands}
 
--- Returns how many steps remain after the next one. The list has a number for each row, beginning with row 0.
+-- Returns how many steps remain after the next one: a number for each row of the step table, beginning with row 0.
 abbrev left : ℕ → (ℕ → ℕ) → Local → ℕ
 left size key l = slice_index (0 ∷ (2 * size + 2) ∷ (2 * size + 1) ∷ (2 * ahead key size (key l.curr) + 4)
     ∷ (2 * ahead key size (key l.curr) + 3) ∷ 3 ∷ 2 ∷ 1 ∷ 2 ∷ 1 ∷ 0 ∷ []) l.pc
 
--- What the general proofs need to know of CoarseList. A thread holds the lock from row 2 on, and has decided at rows 5
--- to 10.
+-- What the general proofs need to know of CoarseList. A thread holds the lock from row 2 of the step table on, and has
+-- decided at rows 5 to 10.
 abbrev shape : Shape
 shape = record {
   may = λ l x. (x ≡ 0) × Only (nat_le 2 l.pc);
@@ -54,7 +54,7 @@ module _ {sz : Sizes} {ws : List ℕ} {used : ℕ → ℕ} {t : ℕ} {vs : ℕ �
   abbrev Row : Local → Type 0
   Row k = RowOf shape size coarse sz ws t (coarse_steps sz) k
 
-  -- States that a row n that loads a word leads to state k.
+  -- States that row n of the step table loads a word and leads to state k.
   abbrev To : ℕ → Local → Type 0
   To n k = Loads shape size ws (record l { pc = n }) (continued k)
 

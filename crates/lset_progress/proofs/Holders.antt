@@ -16,8 +16,8 @@ use Rattle.lset_steps.proofs.LockWords.{lock_word}
 use Rattle.lset_steps.proofs.Discipline.{put_same, put_other}
 use Rattle.lset_progress.specs.Progress.{NoOtherHolds}
 
--- If a thread holds a lock after a store, it held the lock before the store, and the store was to another word. Below:
--- the same for an exchange.
+-- If a thread holds a lock after a store, it held the lock before the store, and the store was to another word. The
+-- next lemma states the same of an exchange.
 pub after_store : (x t u old w v : ℕ) → held x t old (Store w v) ≡ u + 1 → (old ≡ u + 1) × (w ≢ x)
 after_store x t u old w v e = elim (same_or_not w x) [
   | inl y ↦ absurd (let z : 0 ≡ u + 1 = sym (if_same w x y 0 old) ∙ e in omega arith)

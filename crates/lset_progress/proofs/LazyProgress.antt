@@ -48,7 +48,8 @@ use Rattle.lset_progress.proofs.Windows.{counted_or_not}
 pub follows : Discipline lazy true At
 follows = discipline_of lazy (node_locks true) At lazy_follows
 
--- What a thread knows at row 12, where it is about to unlink a marked node, and at the rows of `ceiling`.
+-- What a thread knows at row 12 of the step table, at which it is about to unlink a marked node, and at the rows of
+-- `ceiling`.
 what_stands : {q t : ℕ} {vs : ℕ → View} {first now : ℕ} {v : View} {done : Bool} {l : Local} → At q t vs first now v done l
     → Stands v t l
 what_stands at = record { takes_out = λ h. (grind arith, grind arith); ceiling = λ h. grind arith }
@@ -80,9 +81,9 @@ lazy_marks = record {
   takes_at = takes_out_at;
 }
 
--- The number of steps that one more walk from the head adds. `left`, below, is how many steps of a walk that will pass
--- validation remain after the next one, with a number for each row. A call without a reply releases both locks and
--- walks again.
+-- The number of steps that one more walk from the head adds. `left` returns how many steps of a walk that will pass
+-- validation remain after the next one: a number for each row of the step table. A call without a reply releases both
+-- locks and walks again.
 abbrev round : ℕ → ℕ
 round size = 2 * size + 7
 
@@ -135,14 +136,14 @@ module _ {sz : Sizes} {ws : List ℕ} {used : ℕ → ℕ} {t : ℕ} {vs : ℕ �
   abbrev Row : Local → Type 0
   Row k = RowOf shape size lazy sz ws t (lazy_steps sz) k
 
-  -- States that a row n that loads a word leads to state k.
+  -- States that row n of the step table loads a word and leads to state k.
   abbrev To : ℕ → Local → Type 0
   To n k = Loads shape size ws (record l { pc = n }) (continued k)
 
   user : (a : ℕ) → node_key ws a < target l.call → a ≢ 1
   user a lt = inner true sz ws used h.memory a (target l.call) lt h.registers.low
 
-  -- Fewer nodes have greater keys than curr than have greater keys than pred.
+  -- The number of nodes with greater keys is smaller for curr than for pred.
   curr_less : Found V (target l.call) l.pred l.curr l.ckey → rest size ws l.curr < rest size ws l.pred
   curr_less f =
       let below : node_key ws l.pred < target l.call = f.spot.below in
@@ -158,7 +159,8 @@ module _ {sz : Sizes} {ws : List ℕ} {used : ℕ → ℕ} {t : ℕ} {vs : ℕ �
 
   module _ (few : rest size ws l.curr < size) (pred : l.pred < node_count sz) (curr : l.curr < node_count sz)
       (round_few : then_again size l.reply ≤ 2 * size + 7) where
-    -- States that row 14 releases the last lock, and that the call ends with reply r or, without a reply, starts again.
+    -- States that row 14 of the step table releases the last lock, and that the call ends with reply r or, without a
+    -- reply, starts again.
     abbrev Last : Option Reply → Type 0
     Last r = Stores shape size ws (record l { pc = 14 }) (lock_index l.pred) ws (released r (record l { pc = 14 }))
 
@@ -171,7 +173,7 @@ module _ {sz : Sizes} {ws : List ℕ} {used : ℕ → ℕ} {t : ℕ} {vs : ℕ �
       | inr z ↦ subst Last (sym z.1) (stops (λ x o m. gave_pred o m))
     ]
 
-    -- A row of a `contains` or a `ceiling`.
+    -- What a row of a `contains` or a `ceiling` does to the number of steps that remain.
     read : (n : ℕ) {f : Fed} → IsReadRow n → Reads (round size) size (node_key ws) ws (record l { pc = n }) f
         → Loads shape size ws (record l { pc = n }) f
     read n {f} row a = reads_then shape size (node_key ws) ws (reads_at size (node_key ws) ws) (record l { pc = n }) f row a

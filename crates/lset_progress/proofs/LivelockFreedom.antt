@@ -69,7 +69,7 @@ module _ (T : Table) (law : Lawful T) (S : Shape) (most : Sizes → ℕ) (shows 
     owes : (u : ℕ) → u < sz.threads → Owes (stores u) (local_of s u)
     within : price sz * total stores sz.threads + total time sz.threads ≤ p
 
-  -- If the numbers that were enough for all threads are still enough after an event, the potential has not increased.
+  -- If, after an event, the same numbers of steps are still enough for all threads, the potential has not increased.
   same_phase : (sz : Sizes) (s s' : State) (p : ℕ) (f : Phase sz s p)
       → ((u : ℕ) → u < sz.threads → Fits sz s'.words (f.time u) (local_of s' u) × Owes (f.stores u) (local_of s' u))
       → Phase sz s' p
@@ -81,7 +81,7 @@ module _ (T : Table) (law : Lawful T) (S : Shape) (most : Sizes → ℕ) (shows 
     within = f.within;
   }
 
-  -- A begin of a call does not increase the potential.
+  -- The begin of a call does not increase the potential.
   begins : (sz : Sizes) (s : State) (t : ℕ) (c : Call) → Enabled s (Begin t c) → (p : ℕ) → Phase sz s p
       → Phase sz (after T s (Begin t c)) p
   begins sz s t c en p f = same_phase sz s (after T s (Begin t c)) p f (λ u un. elim (same_or_not u t) [

@@ -41,8 +41,8 @@ use Rattle.lset_progress.proofs.ReadProgress.{from_24, from_25}
 use Rattle.lset_progress.proofs.RowsWithLocks.{Shape, TimedBy, Then, Any, Only, at_row, no_time, again, on, stops}
 use Rattle.lset_progress.proofs.Standing.{Standing, stands}
 
--- The number of steps that one more walk from the head adds. `left`, below, is how many steps remain after the next one
--- if all exchanges succeed, with a number for each row. If an exchange fails, the call walks again.
+-- The number of steps that one more walk from the head adds. `left` returns how many steps remain after the next one if
+-- all exchanges succeed: a number for each row of the step table. If an exchange fails, the call walks again.
 abbrev pub round : ℕ → ℕ
 round size = 2 * size + 2
 
@@ -54,13 +54,13 @@ left size key l = get_or (0 ∷ (2 * size + 1) ∷ (2 * rest_by size key l.curr 
 -- curr is the next node.
 pub record Valid (link : ℕ → ℕ) (l : Local) : Type 0 where
   pub follows : 2 ≤ l.pc → l.pc ≤ 7 → link l.pred ≡ 2 * l.curr
-  -- At rows 4 and 9, curr is not marked and succ is the next node. At row 8, curr is not marked.
+  -- At rows 4 and 9 of the step table, curr is not marked and succ is the next node. At row 8, curr is not marked.
   pub unmarked : l.pc ≡ 4 → link l.curr ≡ 2 * l.succ
   pub plain : l.pc ≡ 8 → link l.curr % 2 ≡ 0
   pub same : l.pc ≡ 9 → link l.curr ≡ 2 * l.succ
   pub along : 23 ≤ l.pc → Path link 0 l.curr
 
--- At rows that use neither pred nor curr, the exchanges of the walk will succeed.
+-- At rows of the step table that use neither pred nor curr, the exchanges of the walk will succeed.
 outside : (link : ℕ → ℕ) (l : Local) → (2 ≤ l.pc → l.pc ≤ 9 → ⊥) → (23 ≤ l.pc → Path link 0 l.curr) → Valid link l
 outside link l other along = record {
   follows = λ a b. absurd (other a (omega arith));
@@ -77,7 +77,7 @@ low_read link l other low a = outside link l other (λ h. absurd (omega arith))
 high_read : (link : ℕ → ℕ) (l : Local) → (2 ≤ l.pc → l.pc ≤ 9 → ⊥) → Path link 0 l.curr → Valid link l
 high_read link l other a = outside link l other (λ h. a)
 
--- At rows that use only the link of pred, the exchanges will succeed if this link leads to curr.
+-- At rows of the step table that use only the link of pred, the exchanges will succeed if this link leads to curr.
 at_pred : (link : ℕ → ℕ) (l : Local) → (2 ≤ l.pc) × (l.pc ≤ 7) × (l.pc ≢ 4) → link l.pred ≡ 2 * l.curr → Valid link l
 at_pred link l row follows =
     let low : 2 ≤ l.pc = row.0 in let high : l.pc ≤ 7 = row.1 in record {
@@ -153,7 +153,8 @@ module _ {sz : Sizes} {ws : List ℕ} {used : ℕ → ℕ} {t : ℕ} {vs : ℕ �
   abbrev From : ℕ → List ℕ → Fed → Type 0
   From n ws' f = After (record l { pc = n }) ws' f
 
-  -- The case of a step to a row below 23. Below: steps that start again from the head, and steps that end the call.
+  -- The case of a step to a row below 23 of the step table. The lemmas after it have the cases of a step that starts
+  -- again from the head, and of a step that ends the call.
   to : {k k' : Local} {ws' : List ℕ} → Only (nat_lt 0 k'.pc) → k'.pc < 23 → (Valid (node_link ws) k → Valid (node_link ws') k')
       → left size key k' < left size key k → After k ws' (continued k')
   to busy low valid less = (on (λ x o m. m) busy (λ z. z) valid less, inr (λ c high. absurd (omega arith)))
@@ -188,7 +189,8 @@ module _ {sz : Sizes} {ws : List ℕ} {used : ℕ → ℕ} {t : ℕ} {vs : ℕ �
           (v.follows (omega arith) (omega arith))) (omega arith)),
     )
 
-    -- Row 3: the exchange unlinks the marked node curr. Then succ, which has a greater key, is the node after pred.
+    -- Row 3 of the step table: the exchange unlinks the marked node curr. Then succ, which has a greater key, is the
+    -- node after pred.
     from_3 : Spot V (target l.call) l.pred l.curr → node_link ws l.curr ≡ 2 * l.succ + 1 → Row (record l { pc = 3 })
     from_3 x odd =
         let tail : node_link ws 1 ≡ 2 = h.memory.tail_link in
@@ -205,7 +207,8 @@ module _ {sz : Sizes} {ws : List ℕ} {used : ℕ → ℕ} {t : ℕ} {vs : ℕ �
               (λ z. starts_again (λ v. z (v.follows (omega arith) (omega arith)))),
         )
 
-    -- Row 4: the step loads the key of the unmarked node curr. The walk continues, or the call decides.
+    -- Row 4 of the step table: the step loads the key of the unmarked node curr. The walk continues, or the call
+    -- decides.
     from_4 : (l.curr ≢ 1 → rest_by size key l.succ < rest_by size key l.curr) → Row (record l { pc = 4 })
     from_4 increases = (
       inr (omega arith),
@@ -226,7 +229,8 @@ module _ {sz : Sizes} {ws : List ℕ} {used : ℕ → ℕ} {t : ℕ} {vs : ℕ �
           (λ r. ends)),
     )
 
-    -- Rows 5 to 7: an `add` writes its slot, which is not in the chain yet, and then links it.
+    -- Rows 5 to 7 of the step table: an `add` writes its new node, which is not in the chain yet, and then links the
+    -- node.
     from_5 : Row (record l { pc = 5 })
     from_5 = (
       inr (omega arith),
@@ -254,7 +258,7 @@ module _ {sz : Sizes} {ws : List ℕ} {used : ℕ → ℕ} {t : ℕ} {vs : ℕ �
           (λ z. ends) (λ z. starts_again (λ v. z (v.follows (omega arith) (omega arith)))),
     )
 
-    -- Rows 8 to 10: a `remove` loads the link of its node, marks the node, and unlinks it.
+    -- Rows 8 to 10 of the step table: a `remove` loads the link of its node, marks the node, and unlinks it.
     from_8 : Row (record l { pc = 8 })
     from_8 = (
       inr (omega arith),
@@ -279,7 +283,7 @@ module _ {sz : Sizes} {ws : List ℕ} {used : ℕ → ℕ} {t : ℕ} {vs : ℕ �
     both : {A B : Type 0} → A → B → A × B
     both a b = (a, b)
 
-    -- A row of a `contains` or a `ceiling`.
+    -- What a row of a `contains` or a `ceiling` does to the number of steps that remain.
     read : (n : ℕ) {f : Fed} → IsReadRow n → Reads (round size) size key ws (record l { pc = n }) f → From n ws f
     read n {f} row a = (
       reads_then shape size key ws (reads_at size key ws) (record l { pc = n }) f row a,

@@ -57,7 +57,7 @@ keys_on key (unlinks pred curr q) h a p = let p' = q.published_from a p in h a p
 not_both : {done : Bool} → done ≡ true → done ≡ false → ⊥
 not_both y n = let z : true ≡ false = sym y ∙ n in cc
 
--- What a thread knows of its call, if the rows that do the same are taken together.
+-- What a thread knows of its call, with the rows of the step table that do the same taken together.
 pub data Place (v : View) (done : Bool) (l : Local) : Type 0 where
   idle : l.pc ≡ 0 → Place v done l
   begins : l.pc ≡ 1 → done ≡ false → Place v done l
@@ -87,7 +87,8 @@ place_of (at_read (reads23 e d c a)) = reads_marks (omega arith) d (subst IsCeil
 place_of (at_read (reads24 e d c a)) = reads_marks (omega arith) d (subst IsCeiling (sym c) tt)
 place_of (at_read (reads25 e d c a)) = reads_marks (omega arith) d (subst IsCeiling (sym c) tt)
 
--- A call that has changed the set has ended, or is a `remove` at row 10, where it unlinks its node.
+-- A call that has changed the set has ended, or is a `remove` that is about to unlink its node (row 10 of the step
+-- table).
 changed_at : {v : View} {done : Bool} {l : Local} → done ≡ true → Place v done l
     → (l.pc ≡ 0) ⊎ ((l.pc ≡ 10) × (l.call ≡ Remove (key_of l.call)))
 changed_at y p = grind arith

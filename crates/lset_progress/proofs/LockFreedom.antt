@@ -66,7 +66,7 @@ update_counts : (reads : Bool) (c : Call) → IsUpdate c → counted reads c ≡
 update_counts reads c (inl x) = subst (λ z. counted reads z ≡ 1) (sym x.1) refl
 update_counts reads c (inr x) = subst (λ z. counted reads z ≡ 1) (sym x.1) refl
 
--- ---- A thread's budget after a step of another thread
+-- ---- How many steps are enough for a thread after a step of another thread
 module _ (reads : Bool) (sz : Sizes) (s s' : State) (done : Bool) (l : Local) (x : Quiet (view_of sz s) (view_of sz s'))
     (place : Place (view_of sz s) done l) where
   valid_on : (IsCeiling l.call → ⊥) → Valid (node_link s.words) l → Valid (node_link s'.words) l
@@ -78,7 +78,7 @@ module _ (reads : Bool) (sz : Sizes) (s s' : State) (done : Bool) (l : Local) (x
     along = λ h. absurd (other (ceiling_at_marks place h));
   }
 
-  -- If no published node changes, the same number of steps is still enough.
+  -- If the step changes no node of the list, the same number of steps is still enough.
   fits_on : (key : ℕ → ℕ) (m : ℕ) → Fits reads sz key s.words m l → Fits reads sz key s'.words m l
   fits_on key m (inl h) = inl h
   fits_on key m (inr f) = inr (
@@ -90,7 +90,7 @@ module _ (reads : Bool) (sz : Sizes) (s s' : State) (done : Bool) (l : Local) (x
     ],
   )
 
--- If published nodes have changed, one more walk of the thread is enough.
+-- If the step changes nodes of the list, one more walk of the thread is enough.
 fits_later : (reads : Bool) (sz : Sizes) (key : ℕ → ℕ) (ws ws' : List ℕ) (m : ℕ) (l : Local) → Fits reads sz key ws m l
     → Fits reads sz key ws' (m + round (node_count sz)) l
 fits_later reads sz key ws ws' m l (inl h) = inl (omega arith)
@@ -103,7 +103,7 @@ fits_later reads sz key ws ws' m l (inr f) = inr (
   ],
 )
 
--- A begin of a call does not increase the potential.
+-- The begin of a call does not increase the potential.
 module _ (reads : Bool) (op : Opening) (last k : ℕ) (es : ℕ → Event) (r : Run lock_free op es last) (upto : k ≤ last) (t : ℕ)
     (c : Call)
     (en : Enabled (state_at lock_free op es k) (Begin t c)) (p : ℕ)

@@ -30,7 +30,7 @@ use Rattle.lset_progress.proofs.HeadPlain.{the_step, words_are, the_move, the_me
 use Rattle.lset_progress.proofs.Paths.{Path, in_chain_of, path_of}
 use Rattle.lset_progress.proofs.ReadProgress.{Plain}
 
--- States that some thread is at row 12, at which it unlinks node b.
+-- States that some thread is about to unlink node b: it is at row 12 of the step table.
 pub record TakesOut (threads : ℕ) (locals : ℕ → Local) (b : ℕ) : Type 0 where
   pub by : ℕ
   pub thread : by < threads
@@ -41,13 +41,14 @@ pub record TakesOut (threads : ℕ) (locals : ℕ → Local) (b : ℕ) : Type 0 
 abbrev pub Marked : ℕ → List ℕ → (ℕ → Local) → Type 0
 Marked threads ws locals = (b : ℕ) → Path (node_link ws) 0 b → node_link ws b % 2 ≡ 1 → TakesOut threads locals b
 
--- What a thread knows at row 12, at which it unlinks a node, and that only a `ceiling` is at row 23 or later.
+-- What a thread knows when it is about to unlink a node (row 12 of the step table), and that only a `ceiling` is at row
+-- 23 or later.
 pub record Stands (v : View) (t : ℕ) (l : Local) : Type 0 where
   pub takes_out : l.pc ≡ 12 → Between v t (target l.call) l.pred l.curr × (v.link l.curr ≡ 2 * l.succ + 1)
   pub ceiling : 23 ≤ l.pc → l.call ≡ Ceiling (key_of l.call)
 
--- What the proof of a list has to show: row 11 marks curr while both locks are held, row 12 unlinks curr, and only a
--- `ceiling` is at row 23 or later.
+-- What the proof of a list has to show of its step table: row 11 marks curr while both locks are held, row 12 unlinks
+-- curr, and only a `ceiling` is at row 23 or later.
 pub record Marking (T : Table) (At : Outline) : Type 1 where
   pub lists : T.marks ≡ true
   pub stands : (q t : ℕ) (vs : ℕ → View) (first now : ℕ) (v : View) (done : Bool) (l : Local) → At q t vs first now v done l
@@ -113,7 +114,7 @@ module _ (T : Table) (At : Outline) (follows : Discipline T T.marks At) (rows : 
     abbrev After : ℕ → Type 0
     After b = TakesOut op.threads (local_of (after T S (Go t))) b
 
-    -- The step of thread t at row 12 removes its node from the chain.
+    -- The step of thread t at row 12 of the step table removes its node from the chain.
     is_out : L.pc ≡ 12 → Path W.link 0 L.curr → ⊥
     is_out e p =
         let x = (rows.stands _ _ _ _ _ _ _ _ (i.threads t tn).at).takes_out e in

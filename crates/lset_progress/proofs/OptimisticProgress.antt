@@ -31,9 +31,9 @@ use Rattle.lset_progress.proofs.RowsWithLocks.{Shape, Loads, Stores, RowOf, Node
 use Rattle.lset_progress.proofs.RowsWithLocks.{gave_pred, gave_curr, after_pred, again, goes, on, takes, timed, unlocks, writes}
 use Rattle.lset_progress.proofs.Standing.{Standing, stands}
 
--- The number of steps that one more walk from the head adds. `left`, below, is how many steps of a walk that will pass
--- validation remain after the next one, with a number for each row. A call without a reply releases both locks and
--- walks again.
+-- The number of steps that one more walk from the head adds. `left` returns how many steps of a walk that will pass
+-- validation remain after the next one: a number for each row of the step table. A call without a reply releases both
+-- locks and walks again.
 abbrev round : ℕ → ℕ
 round size = 4 * size + 4
 
@@ -77,7 +77,7 @@ module _ {sz : Sizes} {ws : List ℕ} {used : ℕ → ℕ} {t : ℕ} {vs : ℕ �
   abbrev Row : Local → Type 0
   Row k = RowOf shape size optimistic sz ws t (optimistic_steps sz) k
 
-  -- States that a row n that loads a word leads to state k.
+  -- States that row n of the step table loads a word and leads to state k.
   abbrev To : ℕ → Local → Type 0
   To n k = Loads shape size ws (record l { pc = n }) (continued k)
 
@@ -87,7 +87,7 @@ module _ {sz : Sizes} {ws : List ℕ} {used : ℕ → ℕ} {t : ℕ} {vs : ℕ �
   even : (a : ℕ) → V.published a → node_link ws a ≡ 2 * (node_link ws a / 2)
   even a p = let z : node_link ws a % 2 ≡ 0 = h.memory.marked a p in omega arith
 
-  -- Fewer nodes have greater keys than curr than have greater keys than pred.
+  -- The number of nodes with greater keys is smaller for curr than for pred.
   curr_less : Found V (target l.call) l.pred l.curr l.ckey → rest size ws l.curr < rest size ws l.pred
   curr_less f =
       let below : node_key ws l.pred < target l.call = f.spot.below in

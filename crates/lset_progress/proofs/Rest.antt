@@ -18,7 +18,7 @@ rest_by size key a = ahead key size (key a)
 abbrev pub rest : ℕ → List ℕ → ℕ → ℕ
 rest size ws a = rest_by size (node_key ws) a
 
--- States that `key` maps the published nodes to their keys.
+-- States that `key` maps each node that has been in the chain to its key.
 abbrev pub SameKeys : (ℕ → ℕ) → View → Type 0
 SameKeys key v = (a : ℕ) → v.published a → key a ≡ v.key a
 

@@ -28,12 +28,13 @@ When b A = MatchBool b A (Unit {0})
 abbrev pub Only : Bool → Type 0
 Only b = MatchBool b (Unit {0}) ⊥
 
--- States that x is a lock that the thread can hold: pred's lock at the rows of P, or curr's lock at the rows of C.
+-- States that x is a lock that the thread can hold: pred's lock at the rows P of the step table, or curr's lock at the
+-- rows C.
 abbrev pub NodeLocks : (ℕ → Bool) → (ℕ → Bool) → Local → ℕ → Type 0
 NodeLocks P C l x = ((x ≡ lock_index l.pred) × Only (P l.pc)) ⊎ ((x ≡ lock_index l.curr) × Only (C l.pc))
 
--- A thread that holds no lock satisfies all conditions on the locks that it holds. Below: a thread that holds only
--- pred's lock, and a thread that releases one of its two locks.
+-- A thread that holds no lock satisfies all conditions on the locks that it holds. The next lemmas are about a thread
+-- that holds only pred's lock, and a thread that releases one of its two locks.
 pub no_lock : {A B C : Type 0} → (A × ⊥) ⊎ (B × ⊥) → C
 no_lock (inl p) = absurd p.1
 no_lock (inr c) = absurd c.1

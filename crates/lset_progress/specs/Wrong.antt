@@ -30,8 +30,9 @@ spinning = record {
   effect = lock_free.effect;
 }
 
--- A broken LockFreeList. An `add` that has decided writes its thread's number into pred's lock word (row 11), and
--- continues only if it then reads this number there (row 12). Otherwise it writes the number again.
+-- A broken LockFreeList. An `add` that has decided writes its thread's number into pred's lock word (row 11 of the step
+-- table), and continues only if it then reads its own number in this word (row 12). Otherwise it writes the number
+-- again.
 abbrev pub claims_first : Fed → Fed
 claims_first f = record { local = if f.local.pc == 5 then record f.local { pc = 11 } else f.local; answer = f.answer }
 
@@ -57,7 +58,8 @@ claiming = record {
   effect = lock_free.effect;
 }
 
--- A broken OptimisticList. If validation fails, the call keeps pred's lock: it skips row 14 and continues at row 15.
+-- A broken OptimisticList. If validation fails, the call keeps pred's lock: it skips row 14 of the step table and
+-- continues at row 15.
 abbrev pub keeps_pred : Option Reply → Local → Local
 keeps_pred None l = record l { pc = 15 }
 keeps_pred (Some r) l = l

@@ -195,7 +195,7 @@ pub fn a_spinning_walk_is_not_lock_free()
 
 /// Lemma: the law of `lock_free_list_is_lock_free` is false for a broken LockFreeList in which two calls of `add` can
 /// hinder each other forever. Before an `add` links its node, it writes its thread's number into the lock word of the
-/// node before, and continues only if it then reads this number there.
+/// node before, and continues only if it then reads its own number in this word.
 #[tactic(auto, using(crate::proofs::Livelock::claiming_is_not_lock_free))]
 pub fn two_that_claim_a_place_are_not_lock_free()
     ensures { NotLockFree claiming }
