@@ -154,7 +154,7 @@ pub fn opening_words(alloc: Global, layout: &Layout, keys: &[u32]) -> Result<Vec
     for i in 0..9 {
         words.push(opening_word_at(layout, keys, i))?;
     }
-    // Almost all words belong to nodes that no add has used yet, and are filled with zeros at once.
+    // The words of slots, nodes that no add has used yet, are zeros. One fill writes them all.
     words.resize(behind_slots as usize, 0)?;
     for i in behind_slots..words_in_all {
         words.push(opening_word_at(layout, keys, i))?;
