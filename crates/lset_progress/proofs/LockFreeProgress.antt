@@ -70,7 +70,7 @@ outside link l other along = record {
   along = along;
 }
 
--- A `contains`, and a `ceiling` at its start, makes no exchange.
+-- Below row 23 of the step table and outside rows 2 to 9, nothing is required of the walk.
 low_read : (link : ℕ → ℕ) (l : Local) → (2 ≤ l.pc → l.pc ≤ 9 → ⊥) → l.pc < 23 → Along link l → Valid link l
 low_read link l other low a = outside link l other (λ h. absurd (omega arith))
 

@@ -98,7 +98,8 @@ module _ {sz : Sizes} {ws : List ℕ} {used : ℕ → ℕ} {t : ℕ} {vs : ℕ �
 
   module _ (few : rest size ws l.curr < size) (few_node : rest size ws l.node < size) (head : rest size ws 0 < size)
       (pred : l.pred < node_count sz) (curr : l.curr < node_count sz) (round_few : then_again size l.reply ≤ 4 * size + 4) where
-    -- States that row 15 releases the last lock, and that the call ends with reply r or, without a reply, starts again.
+    -- States that row 15 of the step table releases the last lock, and that the call ends with reply r or, without a
+    -- reply, starts again.
     abbrev Last : Option Reply → Type 0
     Last r = Stores shape size ws (record l { pc = 15 }) (lock_index l.curr) ws
         (record { local = at_end r (record l { pc = 15 }); answer = r })

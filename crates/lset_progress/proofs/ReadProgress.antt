@@ -134,7 +134,7 @@ module _ {marks : Bool} {At : Outline} {sz : Sizes} {ws : List ℕ} {used : ℕ 
     ];
   }))
 
--- States that a list's numbers of remaining steps agree, at the rows of `contains` and `ceiling`, with `reads_left`.
+-- At the rows of its `contains` and `ceiling`, what the proof of a list says (`Shape`) agrees with what this file says.
 module _ (S : Shape) (size : ℕ) (key : ℕ → ℕ) (ws : List ℕ) where
   abbrev pub ReadsAt : Local → Type 0
   ReadsAt l = ((x : ℕ) → S.may l x → ⊥) × (S.late l → ⊥) × (l.pc ≢ 0) × (S.left size key l ≡ reads_left size key l)
