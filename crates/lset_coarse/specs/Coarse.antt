@@ -1,4 +1,4 @@
--- CoarseList: the rows of its table (Herlihy and Shavit's coarse-grained list).
+-- The step table of CoarseList (Herlihy and Shavit's coarse-grained list).
 use Rattle.std.specs.Prelude.{ℕ, ◌+◌, ◌*◌, ◌/◌, Bool, true, false, if◌then◌else◌, Option, Some, None, ◌==◌, nat_lt}
 use Rattle.lset_words.specs.declared.Key.{Key}
 use Rattle.lset_words.specs.declared.Reply.TheVariants.{True}
@@ -11,7 +11,8 @@ use Rattle.lset_steps.specs.declared.rows.Targets.{Targets}
 use Rattle.lset_steps.specs.Steps.{Table}
 use Rattle.lset_steps.specs.Rows.{own_slot, begun, decided_on}
 
--- The rows at which a call continues after its decision.
+-- The rows of the step table at which a call continues after its decision. A call decides at the first key that is not
+-- smaller than its own.
 abbrev pub targets : Targets
 targets = record { adds = 5; removes = 8; leaves = 10 }
 
@@ -28,8 +29,8 @@ next_action l =
     else if l.pc == 9 then Store (link_index l.pred) (2 * l.succ)
     else Store 0 0
 
--- Returns the state after a load of curr's key word. The walk continues while the key is smaller than the call's, then
--- the call decides.
+-- Returns the thread's private state after it has loaded the key word of curr. If the key is smaller than the call's,
+-- the walk continues; otherwise the call decides.
 abbrev pub at_key : ℕ → Local → Local
 at_key seen l =
     if nat_lt seen (target l.call) then record l { pc = 4; ckey = seen }

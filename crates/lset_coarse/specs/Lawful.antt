@@ -1,4 +1,4 @@
--- Proof of the law of every run of CoarseList.
+-- Proof that CoarseList satisfies the law of a machine in every run.
 pub mod Outline
 use Rattle.lset_steps.specs.Laws.{Lawful}
 use Rattle.lset_steps.proofs.Discipline.{lawful_of}

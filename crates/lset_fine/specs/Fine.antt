@@ -1,4 +1,4 @@
--- FineList: the rows of its table (Herlihy and Shavit's fine-grained list).
+-- The step table of FineList (Herlihy and Shavit's fine-grained list).
 use Rattle.std.specs.Prelude.{ℕ, ◌+◌, ◌*◌, ◌/◌, Bool, true, false, if◌then◌else◌, Option, Some, None, ◌==◌, nat_lt}
 use Rattle.lset_words.specs.declared.Key.{Key}
 use Rattle.lset_words.specs.declared.Reply.TheVariants.{True}
@@ -11,7 +11,8 @@ use Rattle.lset_steps.specs.declared.rows.Targets.{Targets}
 use Rattle.lset_steps.specs.Steps.{Table}
 use Rattle.lset_steps.specs.Rows.{own_slot, begun, decided_on}
 
--- The rows at which a call continues after its decision.
+-- The rows of the step table at which a call continues after its decision. A call decides at the first key that is not
+-- smaller than its own.
 abbrev pub targets : Targets
 targets = record { adds = 7; removes = 10; leaves = 12 }
 
@@ -31,8 +32,8 @@ next_action l =
     else if l.pc == 12 then Store (lock_index l.curr) 0
     else Store (lock_index l.pred) 0
 
--- Returns the state after a load of curr's key word. The walk continues while the key is smaller than the call's, then
--- the call decides.
+-- Returns the thread's private state after it has loaded the key word of curr. If the key is smaller than the call's,
+-- the walk continues; otherwise the call decides.
 abbrev pub at_key : ℕ → Local → Local
 at_key seen l =
     if nat_lt seen (target l.call) then record l { pc = 5; ckey = seen }

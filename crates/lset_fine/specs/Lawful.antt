@@ -1,4 +1,4 @@
--- Proof of the law of every run of FineList.
+-- Proof that FineList satisfies the law of a machine in every run.
 pub mod Outline
 use Rattle.std.specs.Prelude.{false}
 use Rattle.lset_steps.specs.Laws.{Lawful}

@@ -1,4 +1,4 @@
-//! FineList: node locks, taken hand over hand (Herlihy and Shavit's fine-grained list).
+//! FineList: a list set with node locks that are taken hand over hand (Herlihy and Shavit's fine-grained list).
 #![tactic(auto)]
 
 ghost use Rattle.std.specs.Prelude.{◌≡◌};
@@ -13,20 +13,21 @@ use lset_steps::rows::{
 use lset_steps::{Action, Fed, Local, Machine};
 use lset_words::{Call, HEAD, Key, Kind, Reply};
 
-/// The list with one lock for each node. A walk locks the next node before it releases the current one (Herlihy and
+/// The list set with one lock for each node. A walk locks the next node before it releases the node behind (Herlihy and
 /// Shavit's fine-grained list).
 #[derive(Clone, Copy)]
 pub struct FineList;
 
-/// The rows at which a call continues after its decision.
+/// The rows of the step table at which a call continues after its decision. A call decides at the first key that is not
+/// smaller than its own.
 const TARGETS: Targets = Targets {
     adds: 7,
     removes: 10,
     leaves: 12,
 };
 
-/// Returns the next step of a thread with a pending call, from its row of the table. The numbers in `local` must be
-/// small, as they are in every run.
+/// Returns the next access of a thread with a pending call, from the row of the step table that its program counter
+/// names. The numbers in `local` must be small, as they are in every run.
 #[inline(always)]
 pub fn next_action(local: &Local) -> Action
     requires { IsSmall local.now }
@@ -47,8 +48,8 @@ pub fn next_action(local: &Local) -> Action
     }
 }
 
-/// Returns the thread's state after it reads a key word. The walk continues if the key is smaller than the call's;
-/// otherwise the call decides.
+/// Returns the thread's private state after it has read the key word `seen`. If the key is smaller than the call's, the
+/// walk continues; otherwise the call decides.
 #[inline(always)]
 fn at_key(local: &Local, seen: u64) -> Local
     ensures { result ≡ at_key seen local.now }
@@ -114,7 +115,8 @@ fn local_after(local: &Local, seen: u64) -> Local
     }
 }
 
-/// Returns the thread's state after its next step, which saw `seen`, and the reply if the step ends the call.
+/// Returns the thread's private state after its next step, in which it saw `seen`, and the reply if the step ends the
+/// call.
 #[inline(always)]
 pub fn fed_by(local: &Local, seen: u64) -> Fed
     requires { IsSmall local.now }

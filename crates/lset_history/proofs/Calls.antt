@@ -1,5 +1,5 @@
--- What is true of the calls of a log at each moment, if the log has an account: of each call, of each pair of calls,
--- and which calls exist.
+-- What is true of the calls in the log of a run at each moment, if each event of the run is a valid begin or a valid
+-- step.
 use Rattle.std.proofs.Common.{rules, ◌≡◌, ◌≢◌, ℕ, zero, suc, ◌<◌, ◌≤◌, ◌⊎◌, Bool, true, false, ◌||◌, inl, inr, List, [], ◌∷◌, ◌++◌, map, length}
 use Rattle.std.proofs.Common.{sym, refl, ap, ◌∙◌, arith}
 use Rattle.std.specs.Prelude.{slice_index_or, Option, Some, None, is_some, IfSome, IsSomeAnd, All, AllPairs, if◌then◌else◌}
@@ -100,7 +100,7 @@ pub record Calls (r : Run) (k : ℕ) (xs : List TracedCall) : Type 0 where
   pub changers : (j t : ℕ) (change : Change) (reply : Option Reply) → j < k → r.log j ≡ stepped t (Some change) reply
       → SomeCall (λ x. x.changed ≡ Some (suc j)) xs
 
--- ---- How the log's recursive functions change with one entry
+-- ---- How a thread's pending call, computed from the log, changes with one entry
 pub open_is : (log : Log) (k : ℕ) (e : Entry) → log k ≡ e → (t : ℕ) → is_open log t (suc k) ≡ open_after e t (is_open log t k)
 open_is log k e at t = rw at refl
 
@@ -182,7 +182,7 @@ after_beginning {r} {k} {t} {call} {xs} e l shut h = record {
     before : {j u : ℕ} {change : Change} {reply : Option Reply} → j < suc k → r.log j ≡ stepped u (Some change) reply → j < k
     before m f = search rules
 
--- A step of thread `t` between moments k and k + 1, as the log and the account describe it.
+-- A step of thread `t` between moments k and k + 1: its entry in the log, and what is known of its change and reply.
 pub record Stepping (r : Run) (k t : ℕ) (change : Option Change) (reply : Option Reply) : Type 0 where
   pub entry : r.log k ≡ stepped t change reply
   pub of_a_thread : t < r.threads
@@ -344,8 +344,7 @@ module _ {r : Run} {k t : ℕ} {change : Option Change} {reply : Option Reply} (
       opens_as : (u : ℕ) (y : Option Reply) (b : Bool) → open_after (stepped t change y) u b ≡ true → (b ≡ true) × (t ≡ u → y ≡ None)
       opens_as u y b o = (grind (arith, nat_tests), grind (arith, nat_tests))
 
--- At each moment of a run with an account, the list of its calls has the properties in `Calls`. By induction over the
--- moments.
+-- At each moment of a run, the list of its calls has the properties in `Calls`. By induction over the moments.
 pub calls_of : (op : Opening) (last : ℕ) (log : Log) (contents : Contents) (counts : Counts)
     → Account op last log contents counts
     → (k : ℕ) → k ≤ last → Calls (run_of op.threads op.quota log contents counts) k (calls_at log k)

@@ -1,4 +1,4 @@
--- Predicates of each element of a list and each later element.
+-- Predicates on pairs of an element of a list and a later element.
 use Rattle.std.proofs.Common.{◌≡◌, ℕ, suc, zero, ◌<◌, ◌≢◌, List, ◌∷◌, length, get_or, inl, inr, ◌∙◌, arith}
 use Rattle.std.specs.List.{All, AllPairs}
 use Rattle.std.proofs.Math.ListN.{set}

@@ -1,4 +1,5 @@
--- The sequential set at each moment of a run has the keys and the numbers of successful adds in the run's account.
+-- At each moment of a run, the sequential set that makes the run's changes has the same keys and numbers of successful
+-- adds as the run.
 use Rattle.std.proofs.Common.{rules, ◌≡◌, ◌≢◌, ℕ, zero, suc, ◌+◌, ◌<◌, ◌≤◌, true, false, inl, inr, List, length, sym, refl, subst}
 use Rattle.std.proofs.Common.{◌∙◌, arith}
 use Rattle.std.specs.Prelude.{Contains, Option, Some, None, slice_index, slice_set}

@@ -1,4 +1,5 @@
--- Combines the single checks of an order: they find the first error, or the order explains the history.
+-- The result of the whole check of an order, from its single checks: either they find the first error, or the order
+-- explains the history.
 use Rattle.std.proofs.Common.{rules, ◌≡◌, ◌≢◌, ℕ, ◌<◌, ◌==◌, Bool, true, false, List, [], length, get_or, Option, Some, None}
 use Rattle.std.proofs.Common.{refl, sym, ap, ◌∙◌, subst, inl, inr, ◌⊎◌, arith}
 use Rattle.std.proofs.lemmas.Grind.{common_steps}
@@ -23,7 +24,6 @@ use Rattle.lset_history.specs.Faults.{IsTwice, HasWrongReply, IsTooEarly, place_
 use Rattle.lset_history.specs.Checks.{HasKnownCalls, stands, MarksCalls, IsLeftOut, HasReplies, after_order}
 use Rattle.lset_history.proofs.EarlierPlaces.{stands_earlier, legal_at, passes_replies}
 
--- Reading a place inside the order returns the same place for every default.
 read_place : (order : List Placed) (i : ℕ) (d : Placed) → i < length order → get_or order i d ≡ place_at order i
 read_place order i d low = get_or_default order i d (place_at [] 0) low
 
@@ -99,14 +99,16 @@ linearizes o calls order known once none replies early = record {
 
 -- ---- The result of the whole check follows from the single checks
 
--- All calls of the order are known, each has one place, and exactly these calls are marked.
+-- States what the first two checks have found: all calls of the order are in the history, none of them is in the order
+-- twice, and exactly these calls are marked.
 pub record StandsOnce (h : HistoryValue) (calls : List CallRecord) (order : List Placed) (marks : List Bool) : Type 0 where
   pub calls_are : calls ≡ h.calls
   pub known : HasKnownCalls calls order
   pub once : Passes (IsTwice order) order
   pub holds : MarksCalls marks order
 
--- The order leaves out no completed call, and the sequential set is in its opening state.
+-- States what the first three checks have found: in addition, no completed call is missing. The sequential set has not
+-- made any call yet.
 pub record LeavesNoneOut (h : HistoryValue) (calls : List CallRecord) (order : List Placed) (marks : List Bool)
     (oracle : OracleValue) : Type 0 where
   pub stands_once : StandsOnce h calls order marks
@@ -124,7 +126,6 @@ pub leaves_none_out : (h : HistoryValue) (calls : List CallRecord) (order : List
 leaves_none_out h calls order marks oracle once none opens =
     record { stands_once = once; none_out = none; opens = opens }
 
--- The thread of each call is a thread of the set.
 pub threads_below : (h : HistoryValue) (calls : List CallRecord) (oracle : OracleValue) → calls ≡ h.calls
     → IsHistory h.opening.threads h.calls → oracle ≡ set_opened h.opening
     → All (λ (x : CallRecord). x.thread < oracle.threads) calls
@@ -141,7 +142,7 @@ pub missing_fault : (h : HistoryValue) (calls : List CallRecord) (order : List P
 missing_fault h calls order keys marks number s out =
     (passes_known h.calls order (rw s.calls_are at s.known), s.once, misses_first h.calls order marks number s.holds (rw s.calls_are at out))
 
--- The results for the replies and for the earlier checks hold for the history's own calls and opening state.
+-- Rewrites what the checks have found as facts about the history's own calls and the set's opening state.
 settled : (h : HistoryValue) (calls : List CallRecord) (order : List Placed) (marks : List Bool) (oracle : OracleValue)
     → LeavesNoneOut h calls order marks oracle → LeavesNoneOut h h.calls order marks (set_opened h.opening)
 settled h calls order marks oracle l =
@@ -175,7 +176,7 @@ too_early_fault h calls order keys marks oracle number l r e =
       rw l.stands_once.calls_are at e,
     )
 
--- The keys of the set after the order's calls.
+-- The final keys of the sequential set are the keys that the order leaves.
 keys_after : (h : HistoryValue) (calls : List CallRecord) (order : List Placed) (marks : List Bool) (oracle : OracleValue)
     → LeavesNoneOut h calls order marks oracle
     → (after_order oracle calls order).state.keys ≡ (set_left_by (opening_set h.opening) h.calls order).keys

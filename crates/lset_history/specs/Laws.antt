@@ -12,7 +12,7 @@ use Rattle.lset_words.specs.Account.{Content, Contents, Counts, Fits, Account}
 use Rattle.lset_history.specs.Placement.{IsPlacement}
 use Rattle.lset_words.specs.Words.{Opening}
 
--- Returns the set of keys in a list, as a predicate. `contents_of_lists`, below, does the same for each moment.
+-- Returns the set of keys in a list, as a predicate. `contents_of_lists` does the same for the list of each moment.
 abbrev pub content_of : List ℕ → Content
 content_of keys j = Contains keys j
 
@@ -39,14 +39,16 @@ PlacementLinearizes = (op : Opening) (last : ℕ) (log : Log) (lists : ℕ → L
     → IsPlacement op.quota (calls_at log last) (contents_of_lists lists) counts order
     → Linearizes op.quota (opening_set op) (history_at log last) order × HasKeysOf (set_of_order op log last order) (lists last)
 
--- States that a run with an account can be placed: its calls can be ordered by their linearization points, and each
--- call that changed the set or completed has a place in this order.
+-- States that if a run has an account (each event changes the keys as its call allows, and each reply is correct at
+-- some moment of its call), its calls can be ordered by their linearization points, and each call that changed the set
+-- or completed is in this order.
 abbrev pub EveryCallHasAPlace : Type 0
 EveryCallHasAPlace = (op : Opening) (last : ℕ) (log : Log) (lists : ℕ → List ℕ) (counts : Counts)
     → Account op last log (contents_of_lists lists) counts
     → (order : List Placed) × IsPlacement op.quota (calls_at log last) (contents_of_lists lists) counts order
 
--- States that the calls of a run with an account form a history, at each moment.
+-- States that at each moment of a run with an account, in which each event is a valid begin or step, the calls form a
+-- history.
 abbrev pub LogsTellHistories : Type 0
 LogsTellHistories = (op : Opening) (last : ℕ) (log : Log) (lists : ℕ → List ℕ) (counts : Counts)
     → Account op last log (contents_of_lists lists) counts → (k : ℕ) → k ≤ last → IsHistory op.threads (history_at log k)

@@ -7,13 +7,15 @@ pub fn placement_linearizes()
     ensures { PlacementLinearizes }
 {}
 
-/// Lemma: the calls of a run with an account can be ordered by their linearization points. Each call that changed the
-/// set or completed has a place in this order. The function does nothing.
+/// Lemma: if a run has an account (each event changes the keys as its call allows, and each reply is correct at some
+/// moment of its call), its calls can be ordered by their linearization points, and each call that changed the set or
+/// completed is in this order. The function does nothing.
 pub fn every_call_has_a_place()
     ensures { EveryCallHasAPlace }
 {}
 
-/// Lemma: at each moment of a run with an account, its calls form a history. The function does nothing.
+/// Lemma: at each moment of a run with an account, in which each event is a valid begin or step, the calls form a
+/// history. The function does nothing.
 pub fn logs_tell_histories()
     ensures { LogsTellHistories }
 {}

@@ -1,4 +1,4 @@
--- Proof of each row of the table, by computation.
+-- Proof of what each row of the step table does, by computation.
 use Rattle.std.proofs.Common.{◌≡◌, ℕ, ◌*◌, ◌/◌, ◌%◌, Bool, true, false, if◌then◌else◌, Option, Some, None, ◌==◌, refl, ◌∙◌}
 use Rattle.std.specs.Prelude.{nat_lt}
 use Rattle.lset_words.specs.declared.Call.{Call}
@@ -12,12 +12,12 @@ use Rattle.lset_steps.specs.RowLaws.{HasReading}
 use Rattle.lset_lazy.specs.Lazy.{lazy, at_curr, released}
 use Rattle.lset_lazy.specs.Rows.{LazyRows, leaves, decides, answers_or_walks}
 
--- A step that continues in one of two states is one of two steps.
 choice : (b : Bool) (x y : Local) → continued (if b then x else y) ≡ (if b then continued x else continued y)
 choice true x y = refl
 choice false x y = refl
 
--- The decision of a call depends on whether its key was found and whether the quota allows another add.
+-- The decision of a call depends on two tests: whether its key was found, and whether its thread's quota allows another
+-- add.
 decides_by : (c : Call) (l : Local) (found room : Bool) → (l.ckey == target c) ≡ found → nat_lt l.used l.quota ≡ room
     → continued (decided 8 11 13 c (l.ckey == target c) (nat_lt l.used l.quota) l.ckey l) ≡ decides c l
 decides_by (Add k) l true room e f = rw e refl

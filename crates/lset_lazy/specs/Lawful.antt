@@ -1,4 +1,4 @@
--- Proof of the law of every run of LazyList.
+-- Proof that LazyList satisfies the law of a machine in every run.
 pub mod Outline
 use Rattle.std.specs.Prelude.{true}
 use Rattle.lset_steps.specs.Laws.{Lawful}

@@ -1,5 +1,5 @@
--- LazyList: the rows of its table (Heller and others' lazy list, as Herlihy and Shavit describe it, with the mark in the link
--- word).
+-- The step table of LazyList (Heller and others' lazy list, as Herlihy and Shavit describe it, with the mark in the
+-- link word).
 use Rattle.std.specs.Prelude.{ℕ, ◌+◌, ◌*◌, ◌/◌, ◌%◌, Bool, true, false, if◌then◌else◌, Option, Some, None, ◌==◌, nat_lt}
 use Rattle.lset_words.specs.declared.Key.{Key}
 use Rattle.lset_words.specs.declared.Reply.{Reply}
@@ -14,7 +14,8 @@ use Rattle.lset_steps.specs.Steps.{Table}
 use Rattle.lset_steps.specs.Rows.{own_slot, decided_on}
 use Rattle.lset_steps.specs.ReadRows.{begun_reading, read_action, read_fed, continued, leaves_with}
 
--- The rows at which a call continues after its decision.
+-- The rows of the step table at which a call continues after its decision. A call decides at the first key that is not
+-- smaller than its own.
 abbrev pub targets : Targets
 targets = record { adds = 8; removes = 11; leaves = 13 }
 
@@ -36,23 +37,24 @@ next_action l =
     else if l.pc == 14 then Store (lock_index l.pred) 0
     else read_action l
 
--- Returns the state after a load of curr's key word. The walk continues while the key is smaller than the call's, then
--- the call takes the locks.
+-- Returns the thread's private state after it has loaded the key word of curr. If the key is smaller than the call's,
+-- the walk continues; otherwise the call takes the locks.
 abbrev pub at_key : ℕ → Local → Local
 at_key seen l = if nat_lt seen (target l.call) then record l { pc = 3; ckey = seen } else record l { pc = 4; ckey = seen }
 
--- Returns the state after a failed validation. Both locks are released next, and there is no reply.
+-- Returns the thread's private state after validation has failed: it has no reply, and releases both locks next.
 abbrev pub gives_up : Local → Local
 gives_up l = record l { pc = 13; reply = None }
 
--- Returns the state after a load of pred's link. `at_curr` does so for curr's link. Both nodes are locked.
+-- Returns the thread's private state after it has loaded the link of pred, with both nodes locked. Validation fails
+-- unless the link leads to curr and has no mark. `at_curr` is the state after it has loaded the link of curr.
 abbrev pub at_pred : ℕ → Local → Local
 at_pred seen l = if seen == 2 * l.curr then record l { pc = 7 } else gives_up l
 
 abbrev pub at_curr : ℕ → Local → Local
 at_curr seen l = if seen % 2 == 0 then decided_on targets l.ckey (record l { succ = seen / 2 }) else gives_up l
 
--- Returns the result of the step that releases the last lock. The call ends with its reply or, if it has none, starts
+-- Returns the outcome of the step that releases the last lock: the call ends with its reply or, if it has none, starts
 -- again.
 abbrev pub released : Option Reply → Local → Fed
 released None l = continued (record l { pc = 1 })

@@ -1,4 +1,4 @@
--- The table of LazyList row by row, in terms common to all lists.
+-- What each row of LazyList's step table does, in terms that all lists share.
 use Rattle.std.specs.Prelude.{ℕ, ◌+◌, ◌*◌, ◌/◌, ◌%◌, true, false, if◌then◌else◌, Option, Some, None, ◌==◌, nat_lt}
 use Rattle.lset_words.specs.declared.Call.{Call}
 use Rattle.lset_words.specs.declared.Call.TheVariants.{Add, Remove, Contains, Ceiling}
@@ -13,16 +13,18 @@ use Rattle.lset_steps.specs.Rows.{own_slot, goes_to, ceiling_at}
 use Rattle.lset_steps.specs.ReadRows.{continued, leaves_with}
 use Rattle.lset_steps.specs.RowLaws.{Does, HasReading, nothing}
 
--- Continues the call at another row.
+-- The call continues at row `pc` of the step table.
 abbrev pub on_to : ℕ → Local → Fed
 on_to pc l = continued (record l { pc = pc })
 
--- Continues the call at row 13, which releases the locks. `None` means that the call then walks again.
+-- The call continues at row 13 of the step table, which releases the locks. With `None` as the reply, the call starts
+-- again after that.
 abbrev pub leaves : Option Reply → Local → Fed
 leaves r l = continued (goes_to 13 r l)
 
--- Decides a call when both nodes are locked and `curr` is unmarked. Depending on whether `curr` has the call's key, an
--- `add` continues at row 8, a `remove` at row 11, or the call leaves with a reply.
+-- Decides how a call continues when both nodes are locked and `curr` is not marked, from whether `curr` has the call's
+-- key: an `add` that adds goes to row 8 of the step table, a `remove` that removes to row 11, and all other calls have
+-- a reply.
 abbrev pub decides : Call → Local → Fed
 decides (Add k) l =
     if l.ckey == target (Add k) then leaves (Some False) l
@@ -32,16 +34,16 @@ decides (Remove k) l = if l.ckey == target (Remove k) then continued (goes_to 11
 decides (Contains k) l = if l.ckey == target (Contains k) then leaves (Some True) l else leaves (Some False) l
 decides (Ceiling k) l = leaves (Some (ceiling_at l.ckey)) l
 
--- Ends an attempt: the call ends with its reply or, if it has none, walks again.
+-- The outcome of the last step of an attempt: the call ends with its reply or, if it has none, starts again.
 abbrev pub answers_or_walks : Option Reply → Local → Fed
 answers_or_walks None l = on_to 1 l
 answers_or_walks (Some r) l = leaves_with r l
 
 pub record LazyRows (T : Table) : Type 0 where
   pub reading : HasReading T
-  -- A walk starts by loading the head's link.
+  -- A walk starts with a load of the head's link.
   pub row_1 : Does T 1 (λ l. Load (link_index 0)) (λ l seen. continued (record l { pc = 2; pred = 0; curr = seen / 2 })) nothing
-  -- The walk loads the key of `curr`, and stops at the first key that is not smaller than the call's.
+  -- The walk loads the key of `curr`. It continues as long as the key is smaller than the call's.
   pub row_2 : Does T 2 (λ l. Load (key_index l.curr))
       (λ l seen. if nat_lt seen (target l.call) then continued (record l { pc = 3; ckey = seen })
       else continued (record l { pc = 4; ckey = seen }))
@@ -49,31 +51,32 @@ pub record LazyRows (T : Table) : Type 0 where
   pub row_3 : Does T 3 (λ l. Load (link_index l.curr))
       (λ l seen. continued (record l { pc = 2; pred = l.curr; curr = seen / 2 }))
       nothing
-  -- The call attempts to lock the two nodes, one after the other, until it holds both locks.
+  -- The call attempts to lock `pred`, and then `curr`, until it holds both locks.
   pub row_4 : Does T 4 (λ l. Exchange (lock_index l.pred) 0 (l.thread + 1))
       (λ l seen. if seen == 0 then on_to 5 l else on_to 4 l)
       nothing
   pub row_5 : Does T 5 (λ l. Exchange (lock_index l.curr) 0 (l.thread + 1))
       (λ l seen. if seen == 0 then on_to 6 l else on_to 5 l)
       nothing
-  -- The call checks that the link of `pred` leads to `curr` and is not marked.
+  -- The call checks that the link of `pred` leads to `curr` and that `pred` is not marked. Otherwise, it releases the
+  -- locks.
   pub row_6 : Does T 6 (λ l. Load (link_index l.pred)) (λ l seen. if seen == 2 * l.curr then on_to 7 l else leaves None l) nothing
-  -- The call checks that `curr` is not marked. If both checks pass it decides, otherwise it releases the locks and
-  -- walks again.
+  -- The call checks that `curr` is not marked. If so, it decides; otherwise it releases the locks, and starts again.
   pub row_7 : Does T 7 (λ l. Load (link_index l.curr))
       (λ l seen. if seen % 2 == 0 then decides l.call (record l { succ = seen / 2 }) else leaves None l)
       nothing
-  -- An `add` writes the key and the link of its slot. It then links the slot in after `pred`, which is its change.
+  -- An `add` writes the key and the link of its slot, a node of its own. Then it links the slot after `pred`, which
+  -- adds the key to the set.
   pub row_8 : Does T 8 (λ l. Store (key_index (own_slot l)) (target l.call)) (λ l seen. on_to 9 l) nothing
   pub row_9 : Does T 9 (λ l. Store (link_index (own_slot l)) (2 * l.curr)) (λ l seen. on_to 10 l) nothing
   pub row_10 : Does T 10 (λ l. Store (link_index l.pred) (2 * own_slot l))
       (λ l seen. leaves (Some True) (record l { used = l.used + 1 }))
       (λ l seen. Some (key_of l.call, true))
-  -- A `remove` marks `curr`, which is its change. It then unlinks `curr`.
+  -- A `remove` marks `curr`, which removes the key from the set. Then it unlinks `curr`.
   pub row_11 : Does T 11 (λ l. Store (link_index l.curr) (2 * l.succ + 1))
       (λ l seen. on_to 12 l)
       (λ l seen. Some (key_of l.call, false))
   pub row_12 : Does T 12 (λ l. Store (link_index l.pred) (2 * l.succ)) (λ l seen. leaves (Some True) l) nothing
-  -- The call releases both locks.
+  -- The call releases both locks. Then it ends with its reply or, if it has none, starts again.
   pub row_13 : Does T 13 (λ l. Store (lock_index l.curr) 0) (λ l seen. on_to 14 l) nothing
   pub row_14 : Does T 14 (λ l. Store (lock_index l.pred) 0) (λ l seen. answers_or_walks l.reply l) nothing

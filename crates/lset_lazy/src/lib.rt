@@ -1,5 +1,5 @@
-//! LazyList: nodes are marked before they are unlinked, and a `contains` needs no lock (Herlihy and Shavit's lazy list, after
-//! Heller and others).
+//! LazyList: a list set that marks nodes before it unlinks them, and whose `contains` needs no lock (Herlihy and
+//! Shavit's lazy list, after Heller and others).
 #![tactic(auto)]
 
 ghost use Rattle.std.specs.Prelude.{◌≡◌, ◌/◌, Some};
@@ -16,20 +16,21 @@ use lset_steps::rows::{Targets, decide, key_index, link_index, lock_index, own_s
 use lset_steps::{Action, Fed, Local, Machine, OpenReads};
 use lset_words::{Call, HEAD, Key, Kind, Reply};
 
-/// The list whose walks take no lock. A call that changes the list locks the two nodes at which its walk ended, and
-/// walks again if they have changed since (Herlihy and Shavit's lazy list).
+/// The list set whose calls walk without locks. A call that changes the list locks the two nodes at which its walk
+/// ended, and walks again if they have changed since (Herlihy and Shavit's lazy list).
 #[derive(Clone, Copy)]
 pub struct LazyList;
 
-/// The rows at which a call continues after its decision.
+/// The rows of the step table at which a call continues after its decision. A call decides at the first key that is not
+/// smaller than its own.
 const TARGETS: Targets = Targets {
     adds: 8,
     removes: 11,
     leaves: 13,
 };
 
-/// Returns the next step of a thread with a pending call, from its row of the table. The numbers in `local` must be
-/// small, as they are in every run.
+/// Returns the next access of a thread with a pending call, from the row of the step table that its program counter
+/// names. The numbers in `local` must be small, as they are in every run.
 #[inline(always)]
 pub fn next_action(local: &Local) -> Action
     requires { IsSmall local.now }
@@ -53,7 +54,8 @@ pub fn next_action(local: &Local) -> Action
     }
 }
 
-/// Returns the thread's state after the walk moves from `pred` to its next node, whose key it loads next.
+/// Returns the thread's private state after its walk moves on from `pred` to the next node, whose key the walk loads
+/// next.
 #[inline(always)]
 fn walked_from(pred: u64, local: &Local, seen: u64) -> Local
     ensures { result ≡ record local.now { pc = 2; pred = pred; curr = seen / 2 } }
@@ -66,8 +68,8 @@ fn walked_from(pred: u64, local: &Local, seen: u64) -> Local
     }
 }
 
-/// Returns the thread's state after it reads a key word. The walk continues if the key is smaller than the call's;
-/// otherwise the call takes the locks.
+/// Returns the thread's private state after it has read the key word `seen`. If the key is smaller than the call's, the
+/// walk continues; otherwise the call takes the locks.
 #[inline(always)]
 fn at_key(local: &Local, seen: u64) -> Local
     ensures { result ≡ at_key seen local.now }
@@ -80,7 +82,7 @@ fn at_key(local: &Local, seen: u64) -> Local
     }
 }
 
-/// Returns the thread's state after a failed validation. It releases both locks next, and has no reply.
+/// Returns the thread's private state after validation has failed: it has no reply, and releases both locks next.
 #[inline(always)]
 fn gives_up(local: &Local) -> Local
     ensures { result ≡ gives_up local.now }
@@ -92,8 +94,8 @@ fn gives_up(local: &Local) -> Local
     }
 }
 
-/// Returns the thread's state after it reads the link of `pred`. Validation fails unless the link leads to `curr` and
-/// is not marked.
+/// Returns the thread's private state after it has read the link of `pred`. Validation fails unless the link leads to
+/// `curr` and has no mark.
 #[inline(always)]
 fn at_pred(local: &Local, seen: u64) -> Local
     requires { IsSmall local.now }
@@ -106,8 +108,8 @@ fn at_pred(local: &Local, seen: u64) -> Local
     }
 }
 
-/// Returns the thread's state after it reads the link of `curr`. The call decides if `curr` is not marked; otherwise
-/// validation fails.
+/// Returns the thread's private state after it has read the link of `curr`. If `curr` is not marked, the call decides;
+/// otherwise validation fails.
 #[inline(always)]
 fn at_curr(local: &Local, seen: u64) -> Local
     ensures { result ≡ at_curr seen local.now }
@@ -123,7 +125,8 @@ fn at_curr(local: &Local, seen: u64) -> Local
     }
 }
 
-/// Returns the thread's state after its change. It releases the locks next, and replies `True`.
+/// Returns the thread's private state after the call has changed the set: it has the reply `True`, and releases the
+/// locks next.
 #[inline(always)]
 fn succeeds(local: Local) -> Local
     ensures { result ≡ record local { pc = 13; reply = Some True } }
@@ -135,7 +138,8 @@ fn succeeds(local: Local) -> Local
     }
 }
 
-/// Returns the step that releases the last lock. The call ends with its reply or, if it has none, starts again.
+/// Returns the outcome of the step that releases the last lock: the call ends with its reply or, if it has none, starts
+/// again.
 #[inline(always)]
 fn released(local: &Local) -> Fed
     ensures { result ≡ released local.now.reply local.now }
@@ -146,7 +150,8 @@ fn released(local: &Local) -> Fed
     }
 }
 
-/// Returns the thread's state after its next step, which saw `seen`, and the reply if the step ends the call.
+/// Returns the thread's private state after its next step, in which it saw `seen`, and the reply if the step ends the
+/// call.
 #[inline(always)]
 pub fn fed_by(local: &Local, seen: u64) -> Fed
     requires { IsSmall local.now }

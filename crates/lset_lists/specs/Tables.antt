@@ -1,4 +1,4 @@
--- [Machine]: the table of each list.
+-- [Machine]: the step table of each kind of list.
 use Rattle.lset_words.specs.declared.Kind.{Kind}
 use Rattle.lset_words.specs.declared.Kind.TheVariants as kind
 use Rattle.lset_steps.specs.Steps.{Table}

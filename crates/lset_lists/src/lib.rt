@@ -1,5 +1,5 @@
-//! The five lists: the machine for each kind of list, and the theorem that every run of every machine is linearizable.
-//! `on_list` runs a `Task` on the list of a kind that is known only at run time.
+//! The five lists: the machine for each kind of list, and the theorem that every run of each machine is linearizable.
+//! `on_list` runs a `Task` on a list whose kind is known only at run time.
 #![tactic(auto)]
 
 mod theorem;
@@ -18,9 +18,9 @@ use lset_steps::Machine;
 use lset_words::Kind;
 pub use theorem::{placement_explains_runs, runs_are_linearizable};
 
-/// One of the five lists: a machine that has the table of its kind.
+/// One of the five lists, as a machine.
 pub trait List: Machine {
-    /// Lemma: the list's table is the table of its kind.
+    /// Lemma: the step table of the list is the one of its kind. The function does nothing.
     fn has_the_table_of_its_kind()
         ensures { table_of Self.KIND ≡ Self.table };
 }
@@ -45,14 +45,14 @@ impl List for LockFreeList {
     fn has_the_table_of_its_kind() {}
 }
 
-/// A task that can run on any of the five lists. It is passed to `on_list`.
+/// A task that can run on any of the five lists, by `on_list`.
 pub trait Task {
     type Out;
 
-    /// The task's precondition for the list of a kind.
+    /// The precondition of the task, for the list of this kind.
     ghost may: { Self → Kind → Type 0 };
 
-    /// The task's postcondition for a machine with this table.
+    /// The postcondition of the task, for a list with this step table.
     ghost done: { Self → Table → Self.Out → Type 0 };
 
     /// Runs the task on the list `M`.
@@ -61,7 +61,7 @@ pub trait Task {
         ensures { done self M.table result };
 }
 
-/// Runs a task on the list of kind `kind`, and returns the task's result.
+/// Runs the task on the list of this kind, and returns the task's result.
 pub fn on_list<T: Task + Drop>(kind: Kind, task: T) -> T::Out
     requires { T.may task kind }
     ensures { T.done task (table_of kind) result }

@@ -1,4 +1,4 @@
--- Proof of each row of the table, by computation.
+-- Proof of what each row of the step table does, by computation.
 use Rattle.std.proofs.Common.{◌≡◌, ℕ, Bool, true, false, if◌then◌else◌, ◌==◌, refl, ap, ◌∙◌}
 use Rattle.std.specs.Prelude.{nat_lt}
 use Rattle.lset_words.specs.declared.Call.{Call}
@@ -11,7 +11,8 @@ use Rattle.lset_steps.specs.RowLaws.{HasReading}
 use Rattle.lset_lock_free.specs.LockFree.{lock_free, at_key, decision_of}
 use Rattle.lset_lock_free.specs.Rows.{LockFreeRows, decides}
 
--- The decision of a call depends on whether its key was found and whether the quota allows another add.
+-- The decision of a call depends on two tests: whether its key was found, and whether its thread's quota allows another
+-- add.
 decides_by : (c : Call) (l : Local) (found room : Bool) (seen : ℕ) → (seen == target c) ≡ found → nat_lt l.used l.quota ≡ room
     → decision_of (decided 5 8 0 c (seen == target c) (nat_lt l.used l.quota) seen l) ≡ decides c l seen
 decides_by (Add k) l true room seen e f = rw e refl

@@ -1,4 +1,4 @@
--- The table of LockFreeList row by row, in terms common to all lists.
+-- What each row of LockFreeList's step table does, in terms that all lists share.
 use Rattle.std.specs.Prelude.{ℕ, ◌+◌, ◌*◌, ◌/◌, ◌%◌, Bool, true, false, if◌then◌else◌, Option, Some, None, ◌==◌, nat_lt}
 use Rattle.lset_words.specs.declared.Key.{Key}
 use Rattle.lset_words.specs.declared.Call.{Call}
@@ -14,16 +14,16 @@ use Rattle.lset_steps.specs.Rows.{own_slot, goes_to, ceiling_at}
 use Rattle.lset_steps.specs.ReadRows.{continued, leaves_with}
 use Rattle.lset_steps.specs.RowLaws.{Does, HasReading, nothing}
 
--- Continues the call at another row.
+-- The call continues at row `pc` of the step table.
 abbrev pub on_to : ℕ → Local → Fed
 on_to pc l = continued (record l { pc = pc })
 
--- Ends the call with this reply, which stays in the register.
+-- The call ends with this reply.
 abbrev pub answers : Reply → Local → Fed
 answers r l = leaves_with r (record l { reply = Some r })
 
--- Decides a call at the first key that is not smaller than its own. An `add` continues at row 5, a `remove` at row 8,
--- or the call ends.
+-- Decides how a call continues at the first key that is not smaller than its own: an `add` that adds goes to row 5 of
+-- the step table, a `remove` that removes to row 8, and all other calls end with a reply.
 abbrev pub decides : Call → Local → ℕ → Fed
 decides (Add k) l seen =
     if seen == target (Add k) then answers False l
@@ -33,42 +33,46 @@ decides (Remove k) l seen = if seen == target (Remove k) then continued (goes_to
 decides (Contains k) l seen = if seen == target (Contains k) then answers True l else answers False l
 decides (Ceiling k) l seen = answers (ceiling_at seen) l
 
--- Returns the change of an exchange that expects `old`: if it finds `old`, it succeeds, and adds or removes the call's
--- key.
+-- Returns the change of the set by an exchange that expects `old`. If the exchange sees `old`, it succeeds, and adds
+-- the call's key (`put_in` is true) or removes it.
 abbrev pub tells_where : ℕ → Bool → Local → ℕ → Option (Key × Bool)
 tells_where old put_in l seen = if seen == old then Some (key_of l.call, put_in) else None
 
 pub record LockFreeRows (T : Table) : Type 0 where
   pub reading : HasReading T
-  -- A walk starts by loading the head's link.
+  -- A walk starts with a load of the head's link.
   pub row_1 : Does T 1 (λ l. Load (link_index 0)) (λ l seen. continued (record l { pc = 2; pred = 0; curr = seen / 2 })) nothing
-  -- The walk loads the link of `curr`, which contains its mark.
+  -- The walk loads the link of `curr`, which has the mark of `curr`.
   pub row_2 : Does T 2 (λ l. Load (link_index l.curr))
       (λ l seen. if seen % 2 == 0 then continued (record l { pc = 4; succ = seen / 2 })
       else continued (record l { pc = 3; succ = seen / 2 }))
       nothing
-  -- If `curr` is marked, the walk unlinks it, or starts again if `pred` has changed.
+  -- If `curr` is marked, the walk unlinks `curr` by an exchange of the link of `pred`. If that fails, it starts again
+  -- from the head.
   pub row_3 : Does T 3 (λ l. Exchange (link_index l.pred) (2 * l.curr) (2 * l.succ))
       (λ l seen. if seen == 2 * l.curr then continued (record l { pc = 2; curr = l.succ }) else on_to 1 l)
       nothing
-  -- If `curr` is not marked, the walk loads its key. It then moves to the next node, or decides.
+  -- If `curr` is not marked, the walk loads the key of `curr`. Then it continues with the next node, or the call
+  -- decides.
   pub row_4 : Does T 4 (λ l. Load (key_index l.curr))
       (λ l seen. if nat_lt seen (target l.call) then continued (record l { pc = 2; pred = l.curr; curr = l.succ })
       else decides l.call l seen)
       nothing
-  -- An `add` writes the key and the link of its slot.
+  -- An `add` writes the key and the link of its slot, a node of its own.
   pub row_5 : Does T 5 (λ l. Store (key_index (own_slot l)) (target l.call)) (λ l seen. on_to 6 l) nothing
   pub row_6 : Does T 6 (λ l. Store (link_index (own_slot l)) (2 * l.curr)) (λ l seen. on_to 7 l) nothing
-  -- An `add` links the slot in after `pred`. If the exchange succeeds, the slot is used up; otherwise the walk starts
-  -- again.
+  -- An `add` links its slot, a node of its own, after `pred`. This adds the key to the set and uses up the slot. If the
+  -- exchange fails, the call starts again.
   pub row_7 : Does T 7 (λ l. Exchange (link_index l.pred) (2 * l.curr) (2 * own_slot l))
       (λ l seen. if seen == 2 * l.curr then leaves_with True (record l { used = l.used + 1 }) else on_to 1 l)
       (λ l. tells_where (2 * l.curr) true l)
-  -- A `remove` loads the link of its node.
+  -- A `remove` loads the link of the node with its key.
   pub row_8 : Does T 8 (λ l. Load (link_index l.curr)) (λ l seen. continued (record l { pc = 9; succ = seen / 2 })) nothing
-  -- A `remove` marks the node, which is its change. If the link has changed since, it starts again.
+  -- A `remove` marks the node with its key. This removes the key from the set. If the link has changed since it was
+  -- loaded, the exchange fails, and the call starts again.
   pub row_9 : Does T 9 (λ l. Exchange (link_index l.curr) (2 * l.succ) (2 * l.succ + 1))
       (λ l seen. if seen == 2 * l.succ then on_to 10 l else on_to 1 l)
       (λ l. tells_where (2 * l.succ) false l)
-  -- A `remove` attempts once to unlink the node that it has marked.
+  -- A `remove` attempts once to unlink the node that it has marked, and ends. If the attempt fails, a later walk
+  -- unlinks the node.
   pub row_10 : Does T 10 (λ l. Exchange (link_index l.pred) (2 * l.curr) (2 * l.succ)) (λ l seen. leaves_with True l) nothing

@@ -1,5 +1,5 @@
-//! LockFreeList: exchanges mark nodes and unlink them, one node at a time (Herlihy and Shavit's lock-free list, after
-//! Harris and Michael).
+//! LockFreeList: a list set without locks, in which compare-and-exchange operations mark nodes and unlink them one at a
+//! time (Herlihy and Shavit's lock-free list, after Harris and Michael).
 #![tactic(auto)]
 
 ghost use Rattle.std.specs.Prelude.{◌≡◌, ◌+◌};
@@ -17,20 +17,22 @@ use lset_steps::rows::{Targets, decide, key_index, link_index, own_slot};
 use lset_steps::{Action, Fed, Local, Machine, OpenReads};
 use lset_words::{Call, HEAD, Key, Kind, Reply};
 
-/// The list without locks. An exchange of a node's own link marks the node. An exchange of the previous node's link
-/// then unlinks it. Any call that reaches a marked node can unlink it (Herlihy and Shavit's lock-free list).
+/// The list set without locks. To remove a node, an exchange of the node's own link marks it, and an exchange of the
+/// previous node's link then unlinks it. Any call that reaches a marked node can unlink it (Herlihy and Shavit's
+/// lock-free list).
 #[derive(Clone, Copy)]
 pub struct LockFreeList;
 
-/// The rows at which a call continues after its decision. A call that does not change the set replies at once.
+/// The rows of the step table at which a call continues after its decision. A call that does not change the set replies
+/// at once (row 0).
 const TARGETS: Targets = Targets {
     adds: 5,
     removes: 8,
     leaves: 0,
 };
 
-/// Returns the next step of a thread with a pending call, from its row of the table. The numbers in `local` must be
-/// small, as they are in every run.
+/// Returns the next access of a thread with a pending call, from the row of the step table that its program counter
+/// names. The numbers in `local` must be small, as they are in every run.
 #[inline(always)]
 pub fn next_action(local: &Local) -> Action
     requires { IsSmall local.now }
@@ -49,8 +51,8 @@ pub fn next_action(local: &Local) -> Action
     }
 }
 
-/// Returns the step after which the walk is at node `curr`, which comes after `pred`. The walk loads the link of `curr`
-/// next.
+/// Returns the outcome of a step after which the walk is at node `curr`, the one after `pred`. The walk loads the link
+/// of `curr` next.
 #[inline(always)]
 fn at_node(pred: u64, curr: u64, local: &Local) -> Fed
     ensures { result ≡ continued (record local.now { pc = 2; pred = pred; curr = curr }) }
@@ -63,8 +65,8 @@ fn at_node(pred: u64, curr: u64, local: &Local) -> Fed
     })
 }
 
-/// Returns the step that has read the link of `curr`. If the node is marked, it is unlinked next. Otherwise its key is
-/// loaded next.
+/// Returns the outcome of the step that has read the link of `curr`. If the link has a mark, the call unlinks `curr`
+/// next; otherwise it loads the key of `curr` next.
 #[inline(always)]
 fn at_link(local: &Local, seen: u64) -> Fed
     ensures { result ≡ at_link seen local.now }
@@ -77,7 +79,7 @@ fn at_link(local: &Local, seen: u64) -> Fed
     })
 }
 
-/// Returns the step that decides. The call continues, or ends with its reply.
+/// Returns the outcome of a step after its decision: the call continues, or ends with its reply.
 #[inline(always)]
 fn decision_of(local: Local) -> Fed
     ensures { result ≡ decision_of local }
@@ -86,8 +88,8 @@ fn decision_of(local: Local) -> Fed
     Fed { local, answer }
 }
 
-/// Returns the step that has read a key word. The walk continues if the key is smaller than the call's; otherwise the
-/// call decides.
+/// Returns the outcome of the step that has read the key word `seen`. If the key is smaller than the call's, the walk
+/// continues; otherwise the call decides.
 #[inline(always)]
 fn at_key(local: &Local, seen: u64) -> Fed
     ensures { result ≡ at_key seen local.now }
@@ -99,7 +101,8 @@ fn at_key(local: &Local, seen: u64) -> Fed
     }
 }
 
-/// Returns the step of a successful insertion. The slot is used up, and the call ends with `True`.
+/// Returns the outcome of the step that has linked the thread's new node into the chain: the thread has one slot less
+/// to use, and the call ends with `True`.
 #[inline(always)]
 fn puts_in(local: &Local) -> Fed
     requires { IsSmall local.now }
@@ -112,7 +115,7 @@ fn puts_in(local: &Local) -> Fed
     leaves_with(Reply::True, local)
 }
 
-/// Returns the step after which the walk starts again.
+/// Returns the outcome of a step whose exchange failed: the call walks again from the head.
 #[inline(always)]
 fn again(local: &Local) -> Fed
     ensures { result ≡ again local.now }
@@ -120,7 +123,8 @@ fn again(local: &Local) -> Fed
     continued(Local { pc: 1, ..*local })
 }
 
-/// Returns the thread's state after its next step, which saw `seen`, and the reply if the step ends the call.
+/// Returns the thread's private state after its next step, in which it saw `seen`, and the reply if the step ends the
+/// call.
 #[inline(always)]
 pub fn fed_by(local: &Local, seen: u64) -> Fed
     requires { IsSmall local.now }

@@ -1,4 +1,4 @@
--- OptimisticList: the rows of its table (Herlihy and Shavit's optimistic list).
+-- The step table of OptimisticList (Herlihy and Shavit's optimistic list).
 use Rattle.std.specs.Prelude.{ℕ, ◌+◌, ◌*◌, ◌/◌, Bool, true, false, if◌then◌else◌, Option, Some, None, ◌==◌, nat_lt}
 use Rattle.lset_words.specs.declared.Key.{Key}
 use Rattle.lset_words.specs.declared.Reply.{Reply}
@@ -12,7 +12,8 @@ use Rattle.lset_steps.specs.declared.rows.Targets.{Targets}
 use Rattle.lset_steps.specs.Steps.{Table}
 use Rattle.lset_steps.specs.Rows.{own_slot, begun, decided_on}
 
--- The rows at which a call continues after its decision.
+-- The rows of the step table at which a call continues after its decision. A call decides at the first key that is not
+-- smaller than its own.
 abbrev pub targets : Targets
 targets = record { adds = 9; removes = 12; leaves = 14 }
 
@@ -34,34 +35,35 @@ next_action l =
     else if l.pc == 14 then Store (lock_index l.pred) 0
     else Store (lock_index l.curr) 0
 
--- Returns the state after a load of curr's key word. The walk continues while the key is smaller than the call's, then
--- the call takes the locks.
+-- Returns the thread's private state after it has loaded the key word of curr. If the key is smaller than the call's,
+-- the walk continues; otherwise the call takes the locks.
 abbrev pub at_key : ℕ → Local → Local
 at_key seen l = if nat_lt seen (target l.call) then record l { pc = 3; ckey = seen } else record l { pc = 4; ckey = seen }
 
--- Returns the state after both locks are taken. The second walk begins at the head. If pred is the head, the walk has
--- already arrived.
+-- Returns the thread's private state after it has taken both locks: the second walk begins at the head. If pred is the
+-- head, this walk has already arrived.
 abbrev pub at_locks : Local → Local
 at_locks l = if l.pred == 0 then record l { pc = 8; node = 0 } else record l { pc = 6; node = 0 }
 
--- Returns the state after a failed validation. Both locks are released next, and there is no reply.
+-- Returns the thread's private state after validation has failed: it has no reply, and releases both locks next.
 abbrev pub gives_up : Local → Local
 gives_up l = record l { pc = 14; reply = None }
 
--- Returns the state after a load of node's key word. Validation fails if the key is greater than pred's. The walk ends
--- if node is pred.
+-- Returns the thread's private state after the second walk has loaded the key word of `node`. Validation fails if the
+-- key is greater than pred's. If `node` is pred, the second walk has arrived.
 abbrev pub at_node : ℕ → Local → Local
 at_node seen l =
     if nat_lt l.pkey seen then gives_up l
     else if l.node == l.pred then record l { pc = 8 }
     else record l { pc = 6 }
 
--- Returns the state after a load of the link of pred, which the second walk has reached. The call decides if the link
--- leads to curr; otherwise validation fails.
+-- Returns the thread's private state after the second walk has arrived at pred and loaded pred's link. If the link
+-- leads to curr, the call decides; otherwise validation fails.
 abbrev pub at_link : ℕ → Local → Local
 at_link seen l = if seen / 2 == l.curr then decided_on targets l.ckey l else gives_up l
 
--- Returns the state after both locks are released. A call without a reply starts again.
+-- Returns the thread's private state after it has released both locks. A call without a reply starts again at row 1 of
+-- the step table.
 abbrev pub at_end : Option Reply → Local → Local
 at_end None l = record l { pc = 1 }
 at_end (Some reply) l = record l { pc = 0 }

@@ -1,5 +1,5 @@
--- Laws of every run of OptimisticList, in addition to the law of all machines. In each of them, op is the opening, es
--- the events of a run of `last` events, t a thread, and k a moment: the state after k events.
+-- Laws of OptimisticList, in addition to the laws of all machines. In all of them, `op` is how the set opens, `es` are
+-- the events of a run of `last` events, t is a thread, and k is a moment: the state after k events.
 use Rattle.std.specs.Prelude.{◌≡◌, ℕ, ◌+◌, ◌/◌, ◌<◌, ◌≤◌, ◌⊎◌, false, Some}
 use Rattle.lset_words.specs.Words.{lock_index, Opening}
 use Rattle.lset_words.specs.declared.Call.{Call}
@@ -14,37 +14,38 @@ use Rattle.lset_steps.specs.Chain.{View, InChain, FitsIn}
 use Rattle.lset_steps.specs.Laws.{views}
 use Rattle.lset_optimistic.specs.Optimistic.{optimistic}
 
--- Returns the private state of thread t at moment k. `world_at` returns the view of the world at moment k.
+-- Returns the private state of thread t at moment k. `world_at` returns the nodes and locks of the list at moment k.
 abbrev pub held_at : Opening → (ℕ → Event) → ℕ → ℕ → Local
 held_at op es k t = local_of (state_at optimistic op es k) t
 
 abbrev pub world_at : Opening → (ℕ → Event) → ℕ → View
 world_at op es k = views optimistic op es k
 
--- States that the second walk is in progress: it has reached `node`, and the thread's next step loads the key (row 7)
--- or the link (row 6) of this node.
+-- States that the second walk of a call is in progress: it has reached `node`, and the thread loads the link (row 6 of
+-- the step table) or the key (row 7) of this node next.
 abbrev pub IsWalking : Local → Type 0
 IsWalking l = (l.pc ≡ 6) ⊎ (l.pc ≡ 7)
 
--- The second walk has arrived: it has reached pred, and the thread is at a row from the load of pred's key (7) to the
--- store that releases pred's lock (14). A thread whose walk has failed is at row 14 too, but with another node.
+-- States that the second walk of a call has arrived at pred, whose lock is not yet released. The thread is at a row
+-- from 7, the load of pred's key, to 14, the release of pred's lock. If the walk has failed, the thread is at row 14 as
+-- well, but with another node than pred.
 pub record HasArrived (l : Local) : Type 0 where
   pub from : 7 ≤ l.pc
   pub upto : l.pc ≤ 14
   pub there : l.node ≡ l.pred
 
--- At event i, thread t releases the lock of node a by storing 0.
+-- States that thread t, in the event after moment i, releases the lock of node a by a store of 0.
 pub record GivesBack (op : Opening) (es : ℕ → Event) (i t a : ℕ) : Type 0 where
   pub step : es i ≡ Go t
   pub stores : optimistic.next (held_at op es i t) ≡ Store (lock_index a) 0
 
--- Node a is in the chain, and thread t holds its lock.
+-- States that node a is in the chain and that thread t holds its lock.
 pub record IsLockedInChain (v : View) (t a : ℕ) : Type 0 where
   pub in_chain : InChain v a
   pub mine : v.lock a ≡ t + 1
 
--- Node a was in the chain at some moment from `first` to `now`, and since that moment thread t has held the lock of pred. Node a
--- can have left the chain since.
+-- States that node a was in the chain at some moment from `first` to `now`, and that thread t has held the lock of pred
+-- since then. Node a itself can have left the chain.
 pub record WasInChain (vs : ℕ → View) (first now t pred a : ℕ) : Type 0 where
   pub at : ℕ
   pub from : first ≤ at
@@ -52,30 +53,30 @@ pub record WasInChain (vs : ℕ → View) (first now t pred a : ℕ) : Type 0 wh
   pub in_chain : InChain (vs at) a
   pub locked : (i : ℕ) → at ≤ i → i ≤ now → (vs i).lock pred ≡ t + 1
 
--- The laws of each second walk that thread t makes in a run.
+-- The laws of the second walks that thread t makes in a run.
 pub record WalksAreValid (op : Opening) (last t : ℕ) (es : ℕ → Event) : Type 0 where
-  -- The walk can pass nodes that are being unlinked. But each node that it reaches was in the chain at some moment of
-  -- the call, and the thread has held the lock of pred since that moment.
+  -- A second walk can pass nodes that are being unlinked. But each node that the walk reaches was in the chain at some
+  -- moment of the call, and the thread has held the lock of pred since then.
   pub passes : (k : ℕ) → k ≤ last → IsWalking (held_at op es k t)
       → WasInChain (views optimistic op es) (begun_at (log_of optimistic op es) t k) k t (held_at op es k t).pred
       (held_at op es k t).node
-  -- If the walk has arrived at pred at moment j, then pred is in the chain and the thread holds its lock. This is so at
-  -- j and at every later moment until the thread releases the lock.
+  -- If a second walk has arrived at pred at moment j, pred is in the chain and the thread holds its lock, at moment j
+  -- and at every later moment until the thread releases the lock.
   pub arrives : (j k : ℕ) → j ≤ k → k ≤ last → HasArrived (held_at op es j t)
       → ((i : ℕ) → j ≤ i → i < k → GivesBack op es i t (held_at op es j t).pred → ⊥)
       → IsLockedInChain (world_at op es k) t (held_at op es j t).pred
-  -- A thread is at the row that decides (8), or at the rows of an Add or a Remove that follow (9 to 13), only if its
-  -- walk has arrived.
+  -- A thread is at row 8 of the step table, at which a call decides, or at rows 9 to 13, at which it adds or removes,
+  -- only if its second walk has arrived at pred.
   pub decides : (k : ℕ) → k ≤ last → 8 ≤ (held_at op es k t).pc → (held_at op es k t).pc ≤ 13 → HasArrived (held_at op es k t)
 
--- [Validated walk]: states that if the second walk arrives at pred, then pred is in the chain from then on until its
--- lock is released, even if the walk has passed nodes that were being unlinked.
+-- [Validated walk]: states that if the second walk arrives at pred, then pred is in the chain until the thread releases
+-- pred's lock, even if the walk has passed nodes that were being unlinked.
 abbrev pub ValidatedWalk : Type 0
 ValidatedWalk = (op : Opening) (last t : ℕ) (es : ℕ → Event) → Run optimistic op es last → t < op.threads →
     WalksAreValid op last t es
 
--- At some moment from `first` to just before `now`, thread t loaded pred's link (row 8) and saw that it leads to curr.
--- The reply is correct at that moment.
+-- States that at some moment from `first` to just before `now`, thread t loaded pred's link at row 8 and saw that the
+-- link leads to curr, and that the reply is correct at that moment.
 pub record FitsAtALoad (op : Opening) (es : ℕ → Event) (first now t : ℕ) (call : Call) (reply : Reply) : Type 0 where
   pub at : ℕ
   pub from : first ≤ at
@@ -85,8 +86,8 @@ pub record FitsAtALoad (op : Opening) (es : ℕ → Event) (first now t : ℕ) (
   pub leads : (world_at op es at).link (held_at op es at t).pred / 2 ≡ (held_at op es at t).curr
   pub fits : FitsIn op.quota (world_at op es at) t call reply
 
--- [Optimistic replies fit]: states that if a call ends without a change, its reply is correct at a moment of the call
--- at which the thread saw pred lead to curr (row 8), after its walk had arrived.
+-- [Optimistic replies fit]: states that if a call ends without having changed the set, its reply is correct at a moment
+-- of the call at which the thread, after its second walk had arrived at pred, saw pred's link lead to curr (row 8).
 abbrev pub OptimisticRepliesFit : Type 0
 OptimisticRepliesFit = (op : Opening) (last k t : ℕ) (es : ℕ → Event) (reply : Reply) → Run optimistic op es last → k < last →
     t < op.threads

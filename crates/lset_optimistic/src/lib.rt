@@ -1,4 +1,5 @@
-//! OptimisticList: a walk without locks, two node locks, and a second walk that validates (Herlihy and Shavit's optimistic list).
+//! OptimisticList: a list set whose calls walk without locks, lock two nodes, and validate them by a second walk
+//! (Herlihy and Shavit's optimistic list).
 #![tactic(auto)]
 
 ghost use Rattle.std.specs.Prelude.{◌≡◌, ◌/◌};
@@ -27,21 +28,22 @@ use lset_steps::rows::{
 use lset_steps::{Action, Fed, Local, Machine};
 use lset_words::{Call, HEAD, Key, Kind, Reply};
 
-/// The list that walks without locks, then locks the two nodes at which the walk ended. A second walk from the head
-/// checks that the first of these nodes is still in the chain and leads to the second (Herlihy and Shavit's optimistic
-/// list).
+/// The list set whose calls walk without locks, and then lock the two nodes at which the walk ended. A second walk from
+/// the head checks that the first of these nodes is still in the chain and leads to the second (Herlihy and Shavit's
+/// optimistic list).
 #[derive(Clone, Copy)]
 pub struct OptimisticList;
 
-/// The rows at which a call continues after its decision.
+/// The rows of the step table at which a call continues after its decision. A call decides at the first key that is not
+/// smaller than its own.
 const TARGETS: Targets = Targets {
     adds: 9,
     removes: 12,
     leaves: 14,
 };
 
-/// Returns the next step of a thread with a pending call, from its row of the table. The numbers in `local` must be
-/// small, as they are in every run.
+/// Returns the next access of a thread with a pending call, from the row of the step table that its program counter
+/// names. The numbers in `local` must be small, as they are in every run.
 #[inline(always)]
 pub fn next_action(local: &Local) -> Action
     requires { IsSmall local.now }
@@ -65,8 +67,8 @@ pub fn next_action(local: &Local) -> Action
     }
 }
 
-/// Returns the thread's state after the walk moves from `pred`, whose key word is `pkey`, to the node that `link` leads
-/// to.
+/// Returns the thread's private state after its walk moves on from `pred`, whose key word is `pkey`, to the node to
+/// which `link` leads.
 #[inline(always)]
 fn walks_on(local: &Local, pred: u64, pkey: u64, link: u64) -> Local
     ensures { result ≡ record local.now { pc = 2; pred = pred; pkey = pkey; curr = link / 2 } }
@@ -80,8 +82,8 @@ fn walks_on(local: &Local, pred: u64, pkey: u64, link: u64) -> Local
     }
 }
 
-/// Returns the thread's state after it reads a key word. The walk continues if the key is smaller than the call's;
-/// otherwise the call takes the locks.
+/// Returns the thread's private state after it has read the key word `seen`. If the key is smaller than the call's, the
+/// walk continues; otherwise the call takes the locks.
 #[inline(always)]
 fn at_key(local: &Local, seen: u64) -> Local
     ensures { result ≡ at_key seen local.now }
@@ -94,8 +96,8 @@ fn at_key(local: &Local, seen: u64) -> Local
     }
 }
 
-/// Returns the thread's state at the start of the second walk, which begins at the head. If pred is the head, the walk
-/// has already arrived.
+/// Returns the thread's private state at the start of the second walk, which begins at the head. If pred is the head,
+/// the walk has already arrived.
 #[inline(always)]
 fn at_locks(local: &Local) -> Local
     ensures { result ≡ at_locks local.now }
@@ -108,7 +110,7 @@ fn at_locks(local: &Local) -> Local
     }
 }
 
-/// Returns the thread's state after a failed validation. It releases both locks next, and has no reply.
+/// Returns the thread's private state after validation has failed: it has no reply, and releases both locks next.
 #[inline(always)]
 fn gives_up(local: &Local) -> Local
     ensures { result ≡ gives_up local.now }
@@ -120,8 +122,8 @@ fn gives_up(local: &Local) -> Local
     }
 }
 
-/// Returns the thread's state after the second walk reads a key word. The walk fails if it has passed the first walk's
-/// node, and succeeds if it has reached it.
+/// Returns the thread's private state after the second walk has read the key word `seen`. Validation fails if the walk
+/// is past pred, the node that the first walk found. The second walk has arrived if it is at pred.
 #[inline(always)]
 fn at_node(local: &Local, seen: u64) -> Local
     ensures { result ≡ at_node seen local.now }
@@ -135,8 +137,8 @@ fn at_node(local: &Local, seen: u64) -> Local
     }
 }
 
-/// Returns the thread's state after it reads the link of pred. The call decides if the link still leads to curr;
-/// otherwise validation fails.
+/// Returns the thread's private state after it has read the link of pred. If the link still leads to curr, the call
+/// decides; otherwise validation fails.
 #[inline(always)]
 fn at_link(local: &Local, seen: u64) -> Local
     ensures { result ≡ at_link seen local.now }
@@ -148,7 +150,7 @@ fn at_link(local: &Local, seen: u64) -> Local
     }
 }
 
-/// Returns the thread's state after it releases its last lock. A call without a reply starts again.
+/// Returns the thread's private state after it has released its last lock. A call without a reply starts again.
 #[inline(always)]
 fn at_end(local: &Local) -> Local
     ensures { result ≡ at_end local.now.reply local.now }
@@ -202,7 +204,8 @@ fn local_after(local: &Local, seen: u64) -> Local
     }
 }
 
-/// Returns the thread's state after its next step, which saw `seen`, and the reply if the step ends the call.
+/// Returns the thread's private state after its next step, in which it saw `seen`, and the reply if the step ends the
+/// call.
 #[inline(always)]
 pub fn fed_by(local: &Local, seen: u64) -> Fed
     requires { IsSmall local.now }

@@ -1,5 +1,5 @@
--- Counts the nodes whose keys are greater than a given key. This bounds the rest of a walk, since keys increase along
--- it.
+-- How many nodes are ahead of a walk: those with greater keys than the node it has reached. Since keys increase along a
+-- walk, this bounds the number of its remaining steps.
 use Rattle.std.specs.Prelude.{◌≡◌, ℕ, ◌+◌, ◌<◌, ◌≤◌, if◌then◌else◌, nat_lt}
 use Rattle.std.proofs.Common.{arith, inl, inr, ap, zero, suc}
 use Rattle.lset_words.proofs.Numbers.{same_or_not, below_or_not, if_below, if_not_below}
@@ -7,7 +7,7 @@ use Rattle.lset_words.proofs.Numbers.{same_or_not, below_or_not, if_below, if_no
 abbrev pub above : ℕ → ℕ → ℕ
 above c x = if nat_lt c x then 1 else 0
 
--- Returns how many of the first n nodes have a key greater than c.
+-- Returns how many of the nodes 0 to n - 1 have a key greater than c.
 abbrev pub ahead : (ℕ → ℕ) → ℕ → ℕ → ℕ
 ahead key zero c = 0
 ahead key (suc n) c = above c (key n) + ahead key n c
@@ -37,7 +37,6 @@ ahead_falls key (suc n) c d l =
     let b : ahead key n d ≤ ahead key n c = ahead_falls key n c d l in
     omega arith
 
--- If a walk moves to a node with a greater key, fewer nodes are ahead of it.
 pub ahead_less : (key : ℕ → ℕ) (n c i : ℕ) → i < n → c < key i → ahead key n (key i) < ahead key n c
 ahead_less key zero c i h l = absurd (omega arith)
 ahead_less key (suc n) c i h l = elim (same_or_not i n) [
@@ -58,7 +57,6 @@ ahead_most key zero c = omega arith
 ahead_most key (suc n) c =
     let a : above c (key n) ≤ 1 = above_one c (key n) in let b : ahead key n c ≤ n = ahead_most key n c in omega arith
 
--- No node is ahead of itself.
 pub ahead_few : (key : ℕ → ℕ) (n c i : ℕ) → i < n → key i ≤ c → ahead key n c < n
 ahead_few key zero c i h l = absurd (omega arith)
 ahead_few key (suc n) c i h l = elim (same_or_not i n) [

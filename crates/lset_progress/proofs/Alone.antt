@@ -1,4 +1,5 @@
--- Proof: if each step that a thread makes alone either ends its call or brings the end nearer, the call ends.
+-- Proof that a call ends if its thread runs alone and each of its steps ends the call or decreases a bound on the steps
+-- that remain.
 use Rattle.std.specs.Prelude.{◌≡◌, ℕ, ◌<◌, ◌≤◌, ◌⊎◌, if◌then◌else◌, ◌==◌, length, refl}
 use Rattle.std.proofs.Common.{arith, inl, inr, sym, ◌∙◌, ap, subst, zero, suc}
 use Rattle.lset_words.proofs.Numbers.{if_same, if_other}
@@ -10,7 +11,7 @@ use Rattle.lset_steps.specs.Laws.{Lawful}
 use Rattle.lset_steps.proofs.MoreEvents.{state_agree}
 use Rattle.lset_progress.specs.Progress.{IsPending, Answers, EndsAlone}
 
--- Returns the run of k events, followed by a step of t.
+-- Returns the events of a run, with a step of thread t as the event after moment k.
 abbrev pub then_go : (ℕ → Event) → ℕ → ℕ → ℕ → Event
 then_go es k t j = if j == k then Go t else es j
 
@@ -39,14 +40,15 @@ module _ (T : Table) (op : Opening) (es : ℕ → Event) (k t : ℕ) where
     ];
   }
 
--- The type of a call's stages. A stage bounds the number of steps that remain.
+-- What is known of a thread's pending call if it ends within a number of steps. The arguments are the sizes of the
+-- list, its state, the thread, and this number.
 abbrev pub Stages : Type 1
 Stages = Sizes → State → ℕ → ℕ → Type 0
 
 pub record Nears (T : Table) (Stage : Stages) : Type 0 where
   pub some : (sz : Sizes) (s : State) (t : ℕ) → Stage sz s t 0 → ⊥
   pub pending : (sz : Sizes) (s : State) (t n : ℕ) → Stage sz s t n → IsPending s t
-  -- A step that thread t makes at moment k ends its call or brings its end nearer.
+  -- Each step that thread t makes ends its call or decreases the number of steps that remain.
   pub steps : (op : Opening) (es : ℕ → Event) (k t n : ℕ) → Run T op es (suc k) → es k ≡ Go t → t < op.threads
       → Stage (sizes op) (state_at T op es k) t (suc n)
       → Answers T (state_at T op es k) t ⊎ Stage (sizes op) (after T (state_at T op es k) (Go t)) t n

@@ -1,5 +1,5 @@
--- Proof: in a fair run of LazyList, some call ends even if only ceilings are pending. While no call that takes locks is
--- pending, no node of the chain is marked and no word changes. So the ceiling ends.
+-- Proof that in a fair run of LazyList, some call ends even if only `ceiling` calls are pending. As long as no call
+-- that takes locks is pending, no node of the chain is marked and no word changes, so each `ceiling` ends.
 use Rattle.std.specs.Prelude.{◌≡◌, ◌≢◌, ℕ, ◌+◌, ◌-◌, ◌<◌, ◌≤◌, ◌⊎◌, Bool, true, false, if◌then◌else◌, List, slice_index, refl}
 use Rattle.std.proofs.Common.{arith, inl, inr, sym, ◌∙◌, ap, subst, zero, suc}
 use Rattle.lset_words.proofs.Numbers.{same_or_not, if_same, if_other}
@@ -26,7 +26,6 @@ use Rattle.lset_progress.proofs.ProgressWithLocks.{IsFree, own_step}
 use Rattle.lset_progress.proofs.RowsWithLocks.{Timed, no_time, at_row}
 use Rattle.lset_progress.proofs.Windows.{counted_or_not, ends_later}
 
--- A conditional whose two branches are n is n.
 either_way : (b : Bool) (n : ℕ) → (if b then n else n) ≡ n
 either_way true n = refl
 either_way false n = refl
@@ -70,7 +69,7 @@ module _ (op : Opening) (es : ℕ → Event) (fair : IsFair lazy op es) (t : ℕ
         },
       )
 
-  -- States that none of the first n threads has a pending call that counts.
+  -- States that none of the threads below n has a pending `add`, `remove` or `contains`.
   abbrev NoneCounts : ℕ → ℕ → Type 0
   NoneCounts k n = (u : ℕ) → u < n → IsPending (state_at lazy op es k) u
       → counted true (local_of (state_at lazy op es k) u).call ≡ 0
@@ -95,7 +94,7 @@ module _ (op : Opening) (es : ℕ → Event) (fair : IsFair lazy op es) (t : ℕ
     ]
   ]
 
-  -- The thread has a pending ceiling with at most m steps left.
+  -- States that the thread has a pending `ceiling` that ends within m steps if no word changes.
   record Waits (k m : ℕ) : Type 0 where
     pending : IsPending (state_at lazy op es k) t
     is_read : counted true (local_of (state_at lazy op es k) t).call ≡ 0
@@ -122,7 +121,7 @@ module _ (op : Opening) (es : ℕ → Event) (fair : IsFair lazy op es) (t : ℕ
       en.0)
       ∙ (lazy_lawful.steps op (suc k) k t es (fair.run (suc k)) (omega arith) ee).same_call
 
-  -- The ceiling makes a step while no call that counts is pending.
+  -- The case that the thread makes a step of its `ceiling`.
   mine : (m k : ℕ) → ((j : ℕ) → Waits j m → Ends j) → Waits k (suc m) → es k ≡ Go t → NoneCounts k op.threads → Ends k
   mine m k again w ee none =
       let row = row_at k (suc m) w in
@@ -155,7 +154,7 @@ module _ (op : Opening) (es : ℕ → Event) (fair : IsFair lazy op es) (t : ℕ
         }))
       ]
 
-  -- Another thread's event leaves the words unchanged.
+  -- The case of another thread's event: the words stay the same, and so do the steps that remain.
   stays : (k m : ℕ) → Waits k m → (state_at lazy op es (suc k)).words ≡ (state_at lazy op es k).words
       → local_of (state_at lazy op es (suc k)) t ≡ local_of (state_at lazy op es k) t → Waits (suc k) m
   stays k m w words same = record {

@@ -1,5 +1,6 @@
--- Proof: freedom from livelock implies freedom from deadlock. A thread that can make progress stays able to do so until
--- another thread makes a counted step. In a fair run, counted steps are therefore made again and again.
+-- Proof that freedom from livelock implies freedom from deadlock. A thread whose next step is not a failed attempt to
+-- take a lock stays so until another thread makes a counted step. Therefore, in a fair run, counted steps are made
+-- again and again.
 use Rattle.std.specs.Prelude.{◌≡◌, ◌≢◌, ℕ, ◌+◌, ◌-◌, ◌/◌, ◌%◌, ◌<◌, ◌≤◌, ◌⊎◌, true, false, List, Option, Some, None}
 use Rattle.std.specs.Prelude.{if◌then◌else◌, ◌==◌, nat_lt, slice_index, slice_set, refl}
 use Rattle.std.proofs.Common.{arith, inl, inr, sym, ◌∙◌, ap, subst, zero, suc}
@@ -39,7 +40,6 @@ lock_or_not x = elim (same_or_not x 0) [
       ])
 ]
 
--- Either an action is not a failed attempt to take a lock, or it does not change the words.
 counts_or_keeps : (ws : List ℕ) (a : Action) → (unless_failed ws a 1 ≡ 1) ⊎ (left_by ws a ≡ ws)
 counts_or_keeps ws (Load w) = inl refl
 counts_or_keeps ws (Store w v) = inl refl
@@ -48,7 +48,6 @@ counts_or_keeps ws (Exchange w old new) = elim (same_or_not (slice_index ws w) o
   | inr d ↦ inr (if_other (slice_index ws w) old d (slice_set ws w new) ws)
 ]
 
--- If a thread can make progress, its next step is not a failed attempt to take a lock.
 gets_weight : (ws : List ℕ) (a : Action)
     → ((x old new : ℕ) → IsLockWord x → a ≡ Exchange x old new → slice_index ws x ≡ old) → unless_failed ws a 1 ≡ 1
 gets_weight ws (Load w) tries = refl
@@ -69,7 +68,7 @@ module _ (T : Table) (law : Lawful T) (S : Shape) (most : Sizes → ℕ) (shows 
   abbrev count : State → Event → ℕ
   count = moves calls T
 
-  -- States that after moment k some call ends or m more counted steps are made.
+  -- States that after moment k, some call ends or at least m more counted steps are made.
   abbrev Gather : ℕ → ℕ → Type 0
   Gather m k = (n : ℕ) × (SomeEnds (moves calls T) T op es k n ⊎ (m ≤ steps_among (moves calls T) T op es k n))
 
@@ -82,13 +81,13 @@ module _ (T : Table) (law : Lawful T) (S : Shape) (most : Sizes → ℕ) (shows 
     ],
   )
 
-  -- Thread t has a pending call, and the call's steps count.
+  -- States that thread t has a pending call whose steps are counted.
   record Busy (k t : ℕ) : Type 0 where
     in_threads : t < op.threads
     pending : IsPending (state_at T op es k) t
     meant : calls (local_of (state_at T op es k) t).call ≡ 1
 
-  -- A counted step either ends its call or leaves the thread with a pending call that counts.
+  -- A counted step ends its call, or the thread still has a pending call whose steps are counted.
   module _ (m : ℕ) (again : (k t : ℕ) → Busy k t → Gather m k) (k v : ℕ) (ee : es k ≡ Go v) (b : Busy k v)
       (weighs : moves calls T (state_at T op es k) (Go v) ≡ 1) where
     abbrev L : Local
@@ -145,8 +144,8 @@ module _ (T : Table) (law : Lawful T) (S : Shape) (most : Sizes → ℕ) (shows 
       → moves calls T s (Go v) ≡ unless_failed s.words (T.next (local_of s v)) n
   weight_of s v n e = ap (unless_failed s.words (T.next (local_of s v))) e
 
-  -- A thread that can make progress has not made its step yet. Until it does, each event is a counted step or keeps the
-  -- thread able to make progress.
+  -- The next step of thread u is not a failed attempt to take a lock, and u has not made this step yet. Each event
+  -- until then is a counted step, or leaves the thread so.
   module _ (m : ℕ) (again : (k t : ℕ) → Busy k t → Gather m k) (u : ℕ) where
     record Ready (k : ℕ) : Type 0 where
       busy : Busy k u
@@ -173,8 +172,7 @@ module _ (T : Table) (law : Lawful T) (S : Shape) (most : Sizes → ℕ) (shows 
     mine_counts : (k : ℕ) → Ready k → moves calls T (state_at T op es k) (Go u) ≡ 1
     mine_counts k g = weight_of _ u 1 g.busy.meant ∙ gets_weight _ (T.next _) g.gets_on.tries
 
-    -- An event while the thread can make progress is a counted step, or the thread can still make progress after the
-    -- event.
+    -- By cases of the event: a counted step, or an event that changes no word.
     by_event : (k : ℕ) → Ready k → (Ready (suc k) → Gather (suc m) (suc k)) → (e : Event) → es k ≡ e
         → Enabled (state_at T op es k) e → Gather (suc m) k
     by_event k g rest (Begin t c) ee en =

@@ -1,4 +1,4 @@
--- The moves of a run, and a proof that the head is never marked.
+-- Proof that the head is never marked, by induction over the moves of a run.
 use Rattle.std.specs.Prelude.{◌≡◌, ℕ, ◌*◌, ◌%◌, ◌<◌, ◌≤◌, Bool, Option, length, refl}
 use Rattle.std.proofs.Common.{arith, inl, inr, sym, ◌∙◌, ap, subst, zero, suc}
 use Rattle.std.proofs.lemmas.List.FromFn.{get_or-map-range_with_len}
@@ -16,7 +16,6 @@ use Rattle.lset_steps.proofs.Memory.{Memory, moved, left_is, memory_after, goes_
 use Rattle.lset_steps.proofs.Moves.{Move, KeepsNodes}
 use Rattle.lset_steps.proofs.Moves.Move.{quiet, inserts, sets, clears, removes}
 
--- A move does not mark the head.
 plain_after : (marks : Bool) (v w : View) (change : Option (Key × Bool)) → v.published 0 → v.link 0 % 2 ≡ 0
     → Move marks v w change → w.link 0 % 2 ≡ 0
 plain_after marks v w change p even (quiet q) = let e : w.link 0 ≡ v.link 0 = q.links 0 p in omega arith

@@ -1,5 +1,5 @@
--- Proof: a thread that holds a lock has a pending call, at a row at which it may hold that lock. So no thread waits for
--- itself, and the holder of a lock can always make another step.
+-- Proof that a thread that holds a lock has a pending call, at a row at which it can hold this lock. Therefore no
+-- thread waits for itself, and the holder of a lock can always make another step.
 use Rattle.std.specs.Prelude.{◌≡◌, ◌≢◌, ℕ, ◌+◌, ◌<◌, ◌≤◌, ◌⊎◌, if◌then◌else◌, ◌==◌, slice_index, length, refl}
 use Rattle.std.proofs.Common.{arith, inl, inr, sym, ◌∙◌, ap, subst, zero, suc}
 use Rattle.lset_words.proofs.Numbers.{same_or_not, if_same, if_other}
@@ -17,7 +17,7 @@ use Rattle.lset_steps.proofs.Discipline.{put_same, put_other}
 use Rattle.lset_progress.specs.Progress.{NoOtherHolds}
 
 -- If a thread holds a lock after a store, it held the lock before the store, and the store was to another word. The
--- next lemma has the same form for an exchange of thread t.
+-- next lemma states the same of an exchange.
 pub after_store : (x t u old w v : ℕ) → held x t old (Store w v) ≡ u + 1 → (old ≡ u + 1) × (w ≢ x)
 after_store x t u old w v e = elim (same_or_not w x) [
   | inl y ↦ absurd (let z : 0 ≡ u + 1 = sym (if_same w x y 0 old) ∙ e in omega arith)
@@ -44,7 +44,7 @@ others_keep x t u old (Exchange w o v) d e = elim (after_try x t u old w o v e) 
   | inr z ↦ absurd (d z.2)
 ]
 
--- What a list must prove: which lock words a thread can hold, depending on the thread's private state.
+-- What the proof of a list has to show: which locks a thread can hold, depending on its private state (`May`).
 pub record MayHold (T : Table) (May : Local → ℕ → Type 0) : Type 0 where
   pub rests : (l : Local) (x : ℕ) → l.pc ≡ 0 → May l x → ⊥
   pub steps : (op : Opening) (last k t x : ℕ) (es : ℕ → Event) → Run T op es last → k < last → es k ≡ Go t → t < op.threads
@@ -69,7 +69,7 @@ module _ (T : Table) (law : Lawful T) (May : Local → ℕ → Type 0) (may : Ma
   Known k = (u : ℕ) → slice_index (state_at T op es k).words x ≡ u + 1
       → (u < op.threads) × May (local_of (state_at T op es k) u) x
 
-  -- One more event preserves the invariant.
+  -- Each event preserves that only pending calls hold locks, and only locks that `May` allows.
   known_after : (k : ℕ) → k < last → (e : Event) → es k ≡ e → Enabled (state_at T op es k) e → Known k → Known (suc k)
   known_after k l (Begin t call) ee en i u h =
       let old : slice_index (state_at T op es k).words x ≡ u + 1 = sym (word_next k l (Begin t call) ee) ∙ h in
@@ -124,7 +124,7 @@ module _ (T : Table) (law : Lawful T) (May : Local → ℕ → Type 0) (may : Ma
   holder_known zero l = opens_free
   holder_known (suc k) l = known_after k (omega arith) (es k) refl (r.enabled k (omega arith)) (holder_known k (omega arith))
 
--- If t cannot hold a lock in its state and no other thread holds it, the lock is free.
+-- If no other thread holds a lock, and t cannot hold it in its private state, the lock is free.
 pub one_or_more : (x : ℕ) → (x ≡ 0) ⊎ ((u : ℕ) × (x ≡ u + 1))
 one_or_more zero = inl refl
 one_or_more (suc u) = inr (u, omega arith)
@@ -145,7 +145,7 @@ module _ (T : Table) (law : Lawful T) (May : Local → ℕ → Type 0) (may : Ma
         ])
   ]
 
--- A step of t does not give any other thread a lock.
+-- A step of thread t cannot make any other thread the holder of a lock.
 module _ (T : Table) (law : Lawful T) (op : Opening) (es : ℕ → Event) (k t : ℕ) (r : Run T op es (suc k)) (ee : es k ≡ Go t) where
   word_after : (x : ℕ) → IsLockWord x → x < word_count (sizes op)
       → slice_index (after T (state_at T op es k) (Go t)).words x

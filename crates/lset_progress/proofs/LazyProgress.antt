@@ -1,4 +1,5 @@
--- The rows of LazyList. A walk from the head that is made alone passes validation and meets no marked node.
+-- Progress of LazyList: what each row does to the number of steps that remain. A call that runs alone passes validation
+-- at its second walk at the latest, and meets no marked node.
 use Rattle.std.specs.Prelude.{◌≡◌, ◌≢◌, ℕ, ◌+◌, ◌*◌, ◌/◌, ◌%◌, ◌<◌, ◌≤◌, ◌⊎◌, ◌||◌, Bool, true, false, Option, Some, None, if◌then◌else◌, ◌==◌}
 use Rattle.std.specs.Prelude.{is_some, List, [], ◌∷◌, slice_index, refl}
 use Rattle.std.proofs.Common.{arith, get_or, inl, inr, sym, ◌∙◌, ap, subst}
@@ -47,17 +48,17 @@ use Rattle.lset_progress.proofs.Windows.{counted_or_not}
 pub follows : Discipline lazy true At
 follows = discipline_of lazy (node_locks true) At lazy_follows
 
--- What a thread knows at row 12 and at the rows of reads.
+-- What a thread knows at row 12 of the step table, at which it is about to unlink a marked node, and at the rows of
+-- `ceiling`.
 what_stands : {q t : ℕ} {vs : ℕ → View} {first now : ℕ} {v : View} {done : Bool} {l : Local} → At q t vs first now v done l
     → Stands v t l
 what_stands at = record { takes_out = λ h. (grind arith, grind arith); ceiling = λ h. grind arith }
 
--- Returns whether a change adds a key.
+-- Returns false if the change removes a key, else true.
 abbrev puts_in : Option (Key × Bool) → Bool
 puts_in None = true
 puts_in (Some c) = c.1
 
--- Only the step at row 11 removes a key.
 takes_out_at : (l : Local) (seen : ℕ) (k : Key) → lazy.effect l seen ≡ Some (k, false) → l.pc ≡ 11
 takes_out_at l seen k h = elim (same_or_not l.pc 11) [
   | inl e ↦ e
@@ -80,8 +81,9 @@ lazy_marks = record {
   takes_at = takes_out_at;
 }
 
--- Returns the number of steps that remain after the next one, by row, beginning with row 0, if the walk will pass
--- validation. A call without a reply releases both locks and walks again.
+-- The number of steps that one more walk from the head adds. `left` returns how many steps of a walk that will pass
+-- validation remain after the next one: a number for each row of the step table. A call without a reply releases both
+-- locks and walks again.
 abbrev round : ℕ → ℕ
 round size = 2 * size + 7
 
@@ -98,9 +100,9 @@ left size key l = get_or (0 ∷ (2 * size + 6) ∷ (2 * ahead key size (key l.cu
     ∷ (2 * ahead key size (key l.curr) + 8) ∷ 8 ∷ 7 ∷ 6 ∷ 5 ∷ 4 ∷ 3 ∷ 2 ∷ 3 ∷ 2 ∷ (1 + then_again size l.reply)
     ∷ (then_again size l.reply) ∷ []) l.pc (reads_left size key l)
 
--- A walk is valid if pred is in the chain, curr comes after it, and neither is marked from the row on at which both are
--- locked. A thread that releases its locks after its decision has a reply. While a ceiling walks, no node of the chain
--- is marked.
+-- What the general proofs need to know of LazyList. The walk is valid, which means that validation will succeed, if
+-- pred is in the chain, curr is the next node, and neither is marked when both are locked. After its decision, a thread
+-- that releases its locks has a reply. While a `ceiling` walks, no node of the chain is marked.
 abbrev pub shape : Shape
 shape = record {
   may = NodeLocks (within 5 14) (within 6 13);
@@ -134,14 +136,14 @@ module _ {sz : Sizes} {ws : List ℕ} {used : ℕ → ℕ} {t : ℕ} {vs : ℕ �
   abbrev Row : Local → Type 0
   Row k = RowOf shape size lazy sz ws t (lazy_steps sz) k
 
-  -- States that a load at row n leads to the state k.
+  -- States that row n of the step table loads a word and leads to state k.
   abbrev To : ℕ → Local → Type 0
   To n k = Loads shape size ws (record l { pc = n }) (continued k)
 
   user : (a : ℕ) → node_key ws a < target l.call → a ≢ 1
   user a lt = inner true sz ws used h.memory a (target l.call) lt h.registers.low
 
-  -- Fewer nodes are ahead of curr than of pred.
+  -- The number of nodes with greater keys is smaller for curr than for pred.
   curr_less : Found V (target l.call) l.pred l.curr l.ckey → rest size ws l.curr < rest size ws l.pred
   curr_less f =
       let below : node_key ws l.pred < target l.call = f.spot.below in
@@ -150,14 +152,15 @@ module _ {sz : Sizes} {ws : List ℕ} {used : ℕ → ℕ} {t : ℕ} {vs : ℕ �
       ahead_less (node_key ws) size (node_key ws l.pred) l.curr (inside true sz ws used h.memory l.curr f.spot.curr_published)
       (omega arith)
 
-  -- The walk has arrived at curr.
+  -- The links from the head that the walk has followed lead to curr.
   comes : Path (node_link ws) 0 l.pred × (node_link ws l.pred / 2 ≡ l.curr) → node_key ws l.pred < target l.call
       → Path (node_link ws) 0 l.curr
   comes v below = path_on (node_link ws) 0 l.pred l.curr v.0 (user l.pred below) v.1
 
   module _ (few : rest size ws l.curr < size) (pred : l.pred < node_count sz) (curr : l.curr < node_count sz)
       (round_few : then_again size l.reply ≤ 2 * size + 7) where
-    -- States that the step releases the last lock.
+    -- States that row 14 of the step table releases the last lock, and that the call ends with reply r or, without a
+    -- reply, starts again.
     abbrev Last : Option Reply → Type 0
     Last r = Stores shape size ws (record l { pc = 14 }) (lock_index l.pred) ws (released r (record l { pc = 14 }))
 
@@ -170,7 +173,7 @@ module _ {sz : Sizes} {ws : List ℕ} {used : ℕ → ℕ} {t : ℕ} {vs : ℕ �
       | inr z ↦ subst Last (sym z.1) (stops (λ x o m. gave_pred o m))
     ]
 
-    -- A row of a contains or a ceiling.
+    -- What a row of a `contains` or a `ceiling` does to the number of steps that remain.
     read : (n : ℕ) {f : Fed} → IsReadRow n → Reads (round size) size (node_key ws) ws (record l { pc = n }) f
         → Loads shape size ws (record l { pc = n }) f
     read n {f} row a = reads_then shape size (node_key ws) ws (reads_at size (node_key ws) ws) (record l { pc = n }) f row a
@@ -254,8 +257,7 @@ lazy_calls_end = calls_end lazy lazy_lawful shape lazy_steps shows
 pub lazy_gets_on : SomeThreadGetsOn lazy
 lazy_gets_on = gets_on lazy lazy_lawful shape lazy_steps shows
 
--- If a call is neither a contains nor a ceiling, its steps count. Only such a call holds locks or decides to change the
--- list.
+-- Calls that hold locks or have decided to change the list are `add` and `remove`. Their steps are counted.
 late_counts : (reads : Bool) (c : Call) → (IsRead c → ⊥) → counted reads c ≡ 1
 late_counts reads (Add k) no_read = refl
 late_counts reads (Remove k) no_read = refl

@@ -1,5 +1,6 @@
--- Two runs in which two threads hinder each other forever. Lock freedom rejects a list without locks in which two adds
--- do this. Freedom from livelock and from deadlock reject a list with locks in which an add and a remove do this.
+-- Two runs, written out, in which two threads hinder each other forever. In the first, two adds do so in a broken list
+-- without locks, which is therefore not lock-free. In the second, an add and a remove do so in a broken list with
+-- locks, which is therefore not free from livelock and deadlock.
 use Rattle.std.specs.Prelude.{◌≡◌, ℕ, ◌<◌, Bool, List, [], ◌∷◌, refl}
 use Rattle.std.proofs.Common.{arith, zero, suc}
 use Rattle.lset_words.specs.declared.Call.TheVariants.{Add, Remove}
@@ -10,24 +11,25 @@ use Rattle.lset_progress.specs.DeadlockFreedom.{IsDeadlockFree, moves}
 use Rattle.lset_progress.specs.Wrong.{claiming, yielding, NotLivelockFree, NotLockFree}
 use Rattle.lset_progress.proofs.WrittenRuns.{turn, rounds_never_end, rounds_are_fair}
 
--- Both threads have walked to head and tail and have written their numbers. Thread 1 wrote last.
+-- The run up to the loop: both threads have walked to the head and the tail, and have written their numbers, thread 1
+-- last.
 abbrev claims : List Event
 claims = Begin 0 (Add (record { 0 = 3 })) ∷ Go 0 ∷ Go 0 ∷ Go 0 ∷ Begin 1 (Add (record { 0 = 5 })) ∷ Go 1 ∷ Go 1 ∷ Go 1 ∷ Go 0
     ∷ Go 1 ∷ []
 
--- The repeated round: each thread reads the other's number, and writes its own again.
+-- The events of the loop: each thread reads the other's number, and writes its own again.
 pub claiming_is_not_lock_free : NotLockFree claiming
 claiming_is_not_lock_free reads most law = rounds_never_end claiming claims (Go 0) (Go 0 ∷ Go 1 ∷ Go 1 ∷ []) refl refl refl refl
     (steps_of reads) refl most law
 
--- Thread 0 has added 5. Thread 0, which will add 3, and thread 1, which will remove 5, have both walked to the head and
--- the node of 5.
+-- The run up to the loop: thread 0 has added 5. Then thread 0, which adds 3, and thread 1, which removes 5, have both
+-- walked to the head and the node of 5.
 abbrev yields : List Event
 yields = Begin 0 (Add (record { 0 = 5 })) ∷ Go 0 ∷ Go 0 ∷ Go 0 ∷ Go 0 ∷ Go 0 ∷ Go 0 ∷ Go 0 ∷ Go 0 ∷ Go 0 ∷ Go 0 ∷ Go 0 ∷ Go 0
     ∷ Begin 0 (Add (record { 0 = 3 })) ∷ Go 0 ∷ Go 0 ∷ Begin 1 (Remove (record { 0 = 5 })) ∷ Go 1 ∷ Go 1 ∷ []
 
--- The repeated round: each thread takes its first lock, sees that the second is taken, releases the first, and walks to
--- the same place again.
+-- The events of the loop: each thread takes its first lock, sees that the second is taken, releases the first, and
+-- walks to the same nodes again.
 abbrev gives_back : List Event
 gives_back = Go 1 ∷ Go 0 ∷ Go 1 ∷ Go 0 ∷ Go 1 ∷ Go 0 ∷ Go 0 ∷ Go 1 ∷ Go 1 ∷ []
 
@@ -35,7 +37,7 @@ pub yielding_is_refused : (reads : Bool) → NotLivelockFree (counted reads) yie
 yielding_is_refused reads most law = rounds_never_end yielding yields (Go 0) gives_back refl refl refl refl
     (moves (counted reads) yielding) refl most law
 
--- Each thread makes a step in every round.
+-- The run is fair: each thread makes a step in every round of the loop.
 turns : (t : ℕ) → t < 2 → (d : ℕ) × (turn (Go 0) gives_back [] d ≡ Go t)
 turns zero l = (0, refl)
 turns (suc zero) l = (1, refl)

@@ -1,6 +1,6 @@
--- Proof: a list with locks is free from livelock, given its rows. Only a call that has decided stores to a word other
--- than a lock, and it then makes at most 5 more steps. Between two such stores, each thread makes at most as many steps
--- as a call that runs alone.
+-- Proof that a list with locks is free from livelock. Only a call that has decided writes a word other than a lock, and
+-- at most 5 of its steps remain then. Between two such writes, each thread makes at most as many steps as a call that
+-- runs alone. A potential, computed from both numbers, decreases with each counted step.
 use Rattle.std.specs.Prelude.{◌≡◌, ◌≢◌, ℕ, ◌+◌, ◌*◌, ◌%◌, ◌<◌, ◌≤◌, ◌⊎◌, List, if◌then◌else◌, ◌==◌, nat_lt, true, false, refl}
 use Rattle.std.specs.Prelude.{slice_index, slice_set}
 use Rattle.std.proofs.Common.{arith, inl, inr, sym, ◌∙◌, ap, subst, suc}
@@ -30,9 +30,9 @@ is_lock_test x (inr (i, e)) =
     if_other x 0 (omega arith) true (if nat_lt x 5 then false else if x % 3 == 2 then true else false)
     ∙ if_not_below x 5 (omega arith) false (if x % 3 == 2 then true else false) ∙ if_same (x % 3) 2 (omega arith) true false
 
--- What a list must prove about the calls that count. They include every call that holds locks or changes the list; all
--- other calls only read. If a step of a call that counts is not a failed attempt to take a lock, the words satisfy the
--- step's condition.
+-- What the proof of a list has to show of the calls whose steps are counted: they include every call that holds a lock
+-- or changes the list; all other calls only read. If a counted step is no failed attempt to take a lock, the words are
+-- as this step needs them (`calm`).
 pub record Counts (T : Table) (S : Shape) (calls : Call → ℕ) : Type 0 where
   pub one_or_none : (c : Call) → (calls c ≡ 0) ⊎ (calls c ≡ 1)
   pub late : (op : Opening) (last k t : ℕ) (es : ℕ → Event) → Run T op es last → k ≤ last → t < op.threads
@@ -49,16 +49,16 @@ pub record Counts (T : Table) (S : Shape) (calls : Call → ℕ) : Type 0 where
 
 module _ (T : Table) (law : Lawful T) (S : Shape) (most : Sizes → ℕ) (shows : Shows T S most) (calls : Call → ℕ)
     (counts : Counts T S calls) where
-  -- States that a step budget suffices: for a call that counts, it covers the steps that remain; for a thread that has
-  -- not begun such a call, it is the maximum.
+  -- States that m steps are enough for a thread: those that remain of its counted call or, if the thread has no such
+  -- call, the maximum of a whole call.
   abbrev Fits : Sizes → List ℕ → ℕ → Local → Type 0
   Fits sz ws m l = (most sz ≤ m) ⊎ ((l.pc ≢ 0) × (calls l.call ≡ 1) × Timed S (node_count sz) ws m l)
 
-  -- States that a thread can make at most m more steps after its decision.
+  -- States that m is enough for the steps that the thread can make after its decision: 5, or those that remain.
   abbrev Owes : ℕ → Local → Type 0
   Owes m l = (5 ≤ m) ⊎ LateBy S m l
 
-  -- Returns the maximum number of steps that one store can add to the budgets of all threads.
+  -- Returns how much one write can add to the numbers of steps that are enough for all threads.
   abbrev price : Sizes → ℕ
   price sz = sz.threads * most sz
 
@@ -69,7 +69,7 @@ module _ (T : Table) (law : Lawful T) (S : Shape) (most : Sizes → ℕ) (shows 
     owes : (u : ℕ) → u < sz.threads → Owes (stores u) (local_of s u)
     within : price sz * total stores sz.threads + total time sz.threads ≤ p
 
-  -- If no thread's budget changes, the potential does not increase.
+  -- If, after an event, the same numbers of steps are still enough for all threads, the potential has not increased.
   same_phase : (sz : Sizes) (s s' : State) (p : ℕ) (f : Phase sz s p)
       → ((u : ℕ) → u < sz.threads → Fits sz s'.words (f.time u) (local_of s' u) × Owes (f.stores u) (local_of s' u))
       → Phase sz s' p
@@ -81,7 +81,7 @@ module _ (T : Table) (law : Lawful T) (S : Shape) (most : Sizes → ℕ) (shows 
     within = f.within;
   }
 
-  -- Beginning a call does not increase the potential.
+  -- The begin of a call does not increase the potential.
   begins : (sz : Sizes) (s : State) (t : ℕ) (c : Call) → Enabled s (Begin t c) → (p : ℕ) → Phase sz s p
       → Phase sz (after T s (Begin t c)) p
   begins sz s t c en p f = same_phase sz s (after T s (Begin t c)) p f (λ u un. elim (same_or_not u t) [
@@ -94,7 +94,7 @@ module _ (T : Table) (law : Lawful T) (S : Shape) (most : Sizes → ℕ) (shows 
         (sym (put_other s t u (T.begin c (local_of s t)) y)) (f.times u un, f.owes u un)
   ])
 
-  -- A step that does not end a call that counts decreases the potential by the amount that the step counts.
+  -- A counted step decreases the potential by one, unless it ends its call. No other step increases the potential.
   module _ (op : Opening) (last k : ℕ) (es : ℕ → Event) (r : Run T op es last) (below : k < last) (t : ℕ) (ee : es k ≡ Go t)
       (en : Enabled (state_at T op es k) (Go t)) (p : ℕ) (f : Phase (sizes op) (state_at T op es k) p) where
     abbrev s : State
@@ -128,7 +128,7 @@ module _ (T : Table) (law : Lawful T) (S : Shape) (most : Sizes → ℕ) (shows 
     abbrev Later : Type 0
     Later = (p' : ℕ) × (p' + moves calls T s (Go t) ≤ p) × Phase (sizes op) s' p'
 
-    -- A failed attempt to take a lock changes nothing.
+    -- The case of a failed attempt to take a lock, which changes nothing.
     module _ (w from to : ℕ) (acts : T.next L ≡ Exchange w from to) (y : Row (Exchange w from to))
         (held : slice_index s.words w ≢ 0) where
       not_from : slice_index (state_at T op es k).words w ≢ from
@@ -159,7 +159,7 @@ module _ (T : Table) (law : Lawful T) (S : Shape) (most : Sizes → ℕ) (shows 
             × Owes (f.stores u) l) (sym (local_stays u)) (f.times u un, f.owes u un))),
       )
 
-    -- A step that is not a failed attempt to take a lock.
+    -- The case of a step that is not a failed attempt to take a lock.
     module _ (free : IsFree s.words (T.next L)) where
       weighs : (a : Action) → IsFree (state_at T op es k).words a → Row a
           → unless_failed (state_at T op es k).words a (calls (local_of (state_at T op es k) t).call)
@@ -186,7 +186,7 @@ module _ (T : Table) (law : Lawful T) (S : Shape) (most : Sizes → ℕ) (shows 
         timed_same S (node_count (sizes op)) s.words s'.words m l same.0 same.1 h.2,
       )
 
-      -- A step of a call whose steps do not count.
+      -- The case of a call whose steps are not counted.
       module _ (none : calls L.call ≡ 0) where
         not_late : S.late L → ⊥
         not_late h = let one : calls L.call ≡ 1 = counts.late op last k t es r (omega arith) tn h in omega arith
@@ -208,10 +208,10 @@ module _ (T : Table) (law : Lawful T) (S : Shape) (most : Sizes → ℕ) (shows 
           ]),
         )
 
-      -- A step of a call that counts and has n steps left after it.
+      -- The case of a counted step, with n more steps that are enough for the call.
       module _ (one : calls L.call ≡ 1) (n : ℕ) (is : f.time t ≡ suc n)
           (time : Timed S (node_count (sizes op)) s.words (suc n) L) where
-        -- Returns the budgets after a store: every other thread has its full budget again.
+        -- Returns the numbers of steps that are enough after a write: n for thread t, and the maximum for all others.
         abbrev again : ℕ → ℕ
         again = put (λ u. most (sizes op)) t n
 
@@ -239,7 +239,7 @@ module _ (T : Table) (law : Lawful T) (S : Shape) (most : Sizes → ℕ) (shows 
                 (subst (λ m. Owes m (local_of s u)) (sym (others u y)) (f.owes u un))
           ]
 
-          -- If keys and links do not change, the potential decreases.
+          -- If keys and links do not change, the potential decreases by the thread's own step.
           quiet : Kept → Later
           quiet same =
               let fewer : total (put f.time t n) op.threads + 1 ≤ total f.time op.threads =
@@ -265,7 +265,7 @@ module _ (T : Table) (law : Lawful T) (S : Shape) (most : Sizes → ℕ) (shows 
                 },
               )
 
-          -- If the step comes after the call's decision, the potential decreases.
+          -- If the thread has decided, the potential decreases by one of its 5 steps after the decision.
           stores_on : LateBy S 5 L → (m : ℕ) → f.stores t ≡ suc m → S.left 0 (λ a. 0) L < suc m → Later
           stores_on x m e few =
               let fewer : total (put f.stores t m) op.threads + 1 ≤ total f.stores op.threads =
@@ -389,7 +389,7 @@ module _ (T : Table) (law : Lawful T) (S : Shape) (most : Sizes → ℕ) (shows 
       (λ j p l f. one_event op (k + n) es r j p l f (es j) refl (r.enabled j l)) (none_left op (k + n) es r (some (sizes op)))
       n k (lock_window most (sizes op)) (omega arith) (starts op (k + n) es r k) h
 
--- If no step puts a condition on the words, all calls can count.
+-- If no step needs anything of the words (`calm`), the steps of all calls can be counted.
 pub each_counts : (T : Table) (S : Shape) → ((ws : List ℕ) (l : Local) → S.calm ws l) → Counts T S (λ call. 1)
 each_counts T S calm = record {
   one_or_none = λ call. inr refl;

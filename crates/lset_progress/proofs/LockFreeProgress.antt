@@ -1,4 +1,5 @@
--- The rows of LockFreeList. They imply that its calls end alone, whatever the other threads are about to do.
+-- Progress of LockFreeList: what each row does to the number of steps that remain. It follows that calls end alone, in
+-- whatever state the other threads are.
 use Rattle.std.specs.Prelude.{◌≡◌, ◌≢◌, ℕ, ◌+◌, ◌*◌, ◌/◌, ◌%◌, ◌<◌, ◌≤◌, ◌⊎◌, Bool, true, Some, None, List, [], ◌∷◌, refl}
 use Rattle.std.specs.Prelude.{if◌then◌else◌, ◌==◌, nat_lt, slice_index, slice_set}
 use Rattle.std.proofs.Common.{arith, get_or, inl, inr, sym, ◌∙◌, ap, subst, suc}
@@ -40,8 +41,8 @@ use Rattle.lset_progress.proofs.ReadProgress.{from_24, from_25}
 use Rattle.lset_progress.proofs.RowsWithLocks.{Shape, TimedBy, Then, Any, Only, at_row, no_time, again, on, stops}
 use Rattle.lset_progress.proofs.Standing.{Standing, stands}
 
--- Returns the number of steps that remain after the next one, by row, beginning with row 0, if all exchanges of the
--- walk succeed. If an exchange fails, the walk starts again.
+-- The number of steps that one more walk from the head adds. `left` returns how many steps remain after the next one if
+-- all exchanges succeed: a number for each row of the step table. If an exchange fails, the call walks again.
 abbrev pub round : ℕ → ℕ
 round size = 2 * size + 2
 
@@ -49,16 +50,17 @@ abbrev pub left : ℕ → (ℕ → ℕ) → Local → ℕ
 left size key l = get_or (0 ∷ (2 * size + 1) ∷ (2 * rest_by size key l.curr + 4) ∷ (2 * rest_by size key l.curr + 3)
     ∷ (2 * rest_by size key l.curr + 3) ∷ 2 ∷ 1 ∷ 0 ∷ 2 ∷ 1 ∷ 0 ∷ []) l.pc (reads_left size key l)
 
--- A walk whose exchanges will succeed: pred is not marked, and curr is its next node.
+-- States that the exchanges of the call's walk will succeed if no other thread makes a step: pred is not marked, and
+-- curr is the next node.
 pub record Valid (link : ℕ → ℕ) (l : Local) : Type 0 where
   pub follows : 2 ≤ l.pc → l.pc ≤ 7 → link l.pred ≡ 2 * l.curr
-  -- curr is not marked, and succ is its next node.
+  -- At rows 4 and 9 of the step table, curr is not marked and succ is the next node. At row 8, curr is not marked.
   pub unmarked : l.pc ≡ 4 → link l.curr ≡ 2 * l.succ
   pub plain : l.pc ≡ 8 → link l.curr % 2 ≡ 0
   pub same : l.pc ≡ 9 → link l.curr ≡ 2 * l.succ
   pub along : 23 ≤ l.pc → Path link 0 l.curr
 
--- If pred and curr are not known yet, or not needed any more, the walk is valid.
+-- At rows of the step table that use neither pred nor curr, the exchanges of the walk will succeed.
 outside : (link : ℕ → ℕ) (l : Local) → (2 ≤ l.pc → l.pc ≤ 9 → ⊥) → (23 ≤ l.pc → Path link 0 l.curr) → Valid link l
 outside link l other along = record {
   follows = λ a b. absurd (other a (omega arith));
@@ -68,14 +70,14 @@ outside link l other along = record {
   along = along;
 }
 
--- At the rows of a contains and at the first rows of a ceiling, the walk is valid if it has followed the chain.
+-- Below row 23 of the step table and outside rows 2 to 9, nothing is required of the walk.
 low_read : (link : ℕ → ℕ) (l : Local) → (2 ≤ l.pc → l.pc ≤ 9 → ⊥) → l.pc < 23 → Along link l → Valid link l
 low_read link l other low a = outside link l other (λ h. absurd (omega arith))
 
 high_read : (link : ℕ → ℕ) (l : Local) → (2 ≤ l.pc → l.pc ≤ 9 → ⊥) → Path link 0 l.curr → Valid link l
 high_read link l other a = outside link l other (λ h. a)
 
--- If only pred's link is known, the walk is valid if this link leads to curr.
+-- At rows of the step table that use only the link of pred, the exchanges will succeed if this link leads to curr.
 at_pred : (link : ℕ → ℕ) (l : Local) → (2 ≤ l.pc) × (l.pc ≤ 7) × (l.pc ≢ 4) → link l.pred ≡ 2 * l.curr → Valid link l
 at_pred link l row follows =
     let low : 2 ≤ l.pc = row.0 in let high : l.pc ≤ 7 = row.1 in record {
@@ -86,7 +88,8 @@ at_pred link l row follows =
       along = λ h. absurd (omega arith);
     }
 
--- No thread holds a lock. While a ceiling walks, no node of the chain is marked.
+-- What the general proofs need to know of LockFreeList. No thread holds a lock. While a `ceiling` walks, no node of the
+-- chain is marked.
 abbrev pub shape : Shape
 shape = record {
   may = λ l x. ⊥;
@@ -109,7 +112,8 @@ reads_at size key ws l =
     (λ x m. m, λ z. z, λ z. omega arith, refl, λ v. v.along (omega arith), high_read link _ (λ c d. omega arith), λ c. c)
     l.pc
 
--- States that the walk's exchanges will succeed, or that the budget has room for another walk.
+-- States that the call ends within n steps if it runs alone: the exchanges of its walk will succeed, or n is enough for
+-- one more walk.
 abbrev pub Timed : ℕ → (ℕ → ℕ) → List ℕ → ℕ → Local → Type 0
 Timed size key ws n l = TimedBy shape size key (node_link ws) n l
 
@@ -118,8 +122,7 @@ pub record Left (size : ℕ) (key : ℕ → ℕ) (ws : List ℕ) (n : ℕ) (l : 
   pub plain : 23 ≤ l.pc → Plain ws
   pub time : Timed size key ws n l
 
--- To prove a property of the state after an exchange, prove it for the case that the exchange succeeds and for the case
--- that it fails.
+-- Proof by cases: an exchange succeeds or fails.
 by_exchange : (P : List ℕ → Fed → Type 0) (ws : List ℕ) (w o v : ℕ) {f g : Fed} → (slice_index ws w ≡ o → P (slice_set ws w v) f)
     → (slice_index ws w ≢ o → P ws g) → P (left_by ws (Exchange w o v)) (if slice_index ws w == o then f else g)
 by_exchange P ws w o v {f} {g} this other = elim (same_or_not (slice_index ws w) o) [
@@ -138,7 +141,7 @@ module _ {sz : Sizes} {ws : List ℕ} {used : ℕ → ℕ} {t : ℕ} {vs : ℕ �
   abbrev size : ℕ
   size = node_count sz
 
-  -- States that the step from k leaves the words ws' and has the result f.
+  -- States that the step from state k to the words ws' has the outcome f, and preserves what the general proofs need.
   abbrev After : Local → List ℕ → Fed → Type 0
   After k ws' f = Then shape size key ws k Any key ws' f
       × (((r : Reply) × (f.answer ≡ Some r)) ⊎ ((23 ≤ k.pc → Plain ws) → 23 ≤ f.local.pc → Plain ws'))
@@ -150,8 +153,8 @@ module _ {sz : Sizes} {ws : List ℕ} {used : ℕ → ℕ} {t : ℕ} {vs : ℕ �
   abbrev From : ℕ → List ℕ → Fed → Type 0
   From n ws' f = After (record l { pc = n }) ws' f
 
-  -- The step leads to a row below 23. The lemmas after this one are about steps that start again from the head, and
-  -- about steps that end the call.
+  -- The case of a step to a row below 23 of the step table. The lemmas after it have the cases of a step that starts
+  -- again from the head, and of a step that ends the call.
   to : {k k' : Local} {ws' : List ℕ} → Only (nat_lt 0 k'.pc) → k'.pc < 23 → (Valid (node_link ws) k → Valid (node_link ws') k')
       → left size key k' < left size key k → After k ws' (continued k')
   to busy low valid less = (on (λ x o m. m) busy (λ z. z) valid less, inr (λ c high. absurd (omega arith)))
@@ -186,7 +189,8 @@ module _ {sz : Sizes} {ws : List ℕ} {used : ℕ → ℕ} {t : ℕ} {vs : ℕ �
           (v.follows (omega arith) (omega arith))) (omega arith)),
     )
 
-    -- A marked curr is unlinked. succ, which has fewer nodes ahead, then comes after pred.
+    -- Row 3 of the step table: the exchange unlinks the marked node curr. Then succ, which has a greater key, is the
+    -- node after pred.
     from_3 : Spot V (target l.call) l.pred l.curr → node_link ws l.curr ≡ 2 * l.succ + 1 → Row (record l { pc = 3 })
     from_3 x odd =
         let tail : node_link ws 1 ≡ 2 = h.memory.tail_link in
@@ -203,7 +207,8 @@ module _ {sz : Sizes} {ws : List ℕ} {used : ℕ → ℕ} {t : ℕ} {vs : ℕ �
               (λ z. starts_again (λ v. z (v.follows (omega arith) (omega arith)))),
         )
 
-    -- The key of an unmarked curr is read. The walk continues, or the call decides.
+    -- Row 4 of the step table: the step loads the key of the unmarked node curr. The walk continues, or the call
+    -- decides.
     from_4 : (l.curr ≢ 1 → rest_by size key l.succ < rest_by size key l.curr) → Row (record l { pc = 4 })
     from_4 increases = (
       inr (omega arith),
@@ -224,7 +229,8 @@ module _ {sz : Sizes} {ws : List ℕ} {used : ℕ → ℕ} {t : ℕ} {vs : ℕ �
           (λ r. ends)),
     )
 
-    -- An add writes to its slot, which is not in the list yet, and then links it in.
+    -- Rows 5 to 7 of the step table: an `add` writes its new node, which is not in the chain yet, and then links the
+    -- node.
     from_5 : Row (record l { pc = 5 })
     from_5 = (
       inr (omega arith),
@@ -252,7 +258,7 @@ module _ {sz : Sizes} {ws : List ℕ} {used : ℕ → ℕ} {t : ℕ} {vs : ℕ �
           (λ z. ends) (λ z. starts_again (λ v. z (v.follows (omega arith) (omega arith)))),
     )
 
-    -- A remove loads the link of its node, and then marks the node.
+    -- Rows 8 to 10 of the step table: a `remove` loads the link of its node, marks the node, and unlinks it.
     from_8 : Row (record l { pc = 8 })
     from_8 = (
       inr (omega arith),
@@ -277,7 +283,7 @@ module _ {sz : Sizes} {ws : List ℕ} {used : ℕ → ℕ} {t : ℕ} {vs : ℕ �
     both : {A B : Type 0} → A → B → A × B
     both a b = (a, b)
 
-    -- A row of a contains or a ceiling.
+    -- What a row of a `contains` or a `ceiling` does to the number of steps that remain.
     read : (n : ℕ) {f : Fed} → IsReadRow n → Reads (round size) size key ws (record l { pc = n }) f → From n ws f
     read n {f} row a = (
       reads_then shape size key ws (reads_at size key ws) (record l { pc = n }) f row a,
@@ -301,7 +307,6 @@ module _ {sz : Sizes} {ws : List ℕ} {used : ℕ → ℕ} {t : ℕ} {vs : ℕ �
     reads (reads25 e d c a) = at_row Row l 25 e (both (inr (omega arith)) (read 25 (inr (inr (inr (inr (inr refl)))))
         (from_25 h key agrees (round size) (omega arith))))
 
-    -- succ has a greater key than curr.
     increases_at : Was vs first now l.curr l.succ t (used t) (λ v. v.link l.curr % 2 ≡ 0) → l.curr ≢ 1
         → rest_by size key l.succ < rest_by size key l.curr
     increases_at o user =
@@ -346,7 +351,7 @@ module _ {sz : Sizes} {ws : List ℕ} {used : ℕ → ℕ} {t : ℕ} {vs : ℕ �
   row_of : Row l
   row_of = row (few_by size key l.curr h.registers.curr) h.at
 
--- A moment k of a run, and a thread t that has a pending call at that moment.
+-- A moment of a run, and a thread with a pending call at this moment.
 module _ (op : Opening) (last k : ℕ) (es : ℕ → Event) (r : Run lock_free op es last) (upto : k ≤ last) (key : ℕ → ℕ)
     (agrees : SameKeys key (views lock_free op es k)) (t : ℕ) (tn : t < op.threads) where
   abbrev S : State
@@ -370,7 +375,7 @@ module _ (op : Opening) (last k : ℕ) (es : ℕ → Event) (r : Run lock_free o
         ]
       ]
 
--- The stages of a call of LockFreeList.
+-- States that a call of LockFreeList ends within n steps if it runs alone.
 abbrev Stage : Sizes → State → ℕ → ℕ → Type 0
 Stage sz s t n = (key : ℕ → ℕ) × SameKeys key (view_of sz s) × Left (node_count sz) key s.words n (local_of s t)
 

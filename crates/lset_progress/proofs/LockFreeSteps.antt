@@ -1,5 +1,5 @@
--- How one step of LockFreeList changes the nodes, if the step does not end its call. Only the step that ends an add
--- links in a node.
+-- How a step of LockFreeList that does not end its call can change the nodes. Only the step that ends an `add` links a
+-- node.
 use Rattle.std.specs.Prelude.{◌≡◌, ◌≢◌, ℕ, ◌<◌, ◌≤◌, ◌⊎◌, Bool, true, false, Option, Some, None, ◌||◌, refl}
 use Rattle.std.proofs.Common.{arith, inl, inr, sym, ◌∙◌, ap, subst, suc}
 use Rattle.lset_words.proofs.Numbers.{same_or_not}
@@ -31,7 +31,7 @@ use Rattle.lset_progress.specs.Progress.{IsCeiling, Answers}
 use Rattle.lset_progress.proofs.Rest.{SameKeys}
 use Rattle.lset_progress.proofs.HeadPlain.{the_step, words_are, the_move}
 
--- What is known at each moment of a run.
+-- What is true at each moment of a run.
 abbrev pub Known : Opening → ℕ → (ℕ → Event) → Type 1
 Known op k es = Inv true At (sizes op) (views lock_free op es) k (state_at lock_free op es k)
     (λ u. begun_at (log_of lock_free op es) u k) (λ u. has_changed (log_of lock_free op es) u k)
@@ -42,14 +42,13 @@ keeps = discipline_of lock_free (no_locks true) At lock_free_follows
 pub known : (op : Opening) (last k : ℕ) (es : ℕ → Event) → Run lock_free op es last → k ≤ last → Known op k es
 known op last k es r l = inv_at lock_free true At keeps op es last r k l
 
--- The possible effects of a step: no node of the list changes, or a remove marks its node, or a marked node is
--- unlinked.
+-- What a step can do to the nodes of the list: nothing, mark a node (then a `remove` continues at row 10), or unlink a
+-- marked node.
 pub data Stepped (v w : View) (l' : Local) : Type 0 where
   still : Quiet v w → Stepped v w l'
   marks : (b k : ℕ) → Marks v w b k → l'.pc ≡ 10 → Stepped v w l'
   unlinks : (pred curr : ℕ) → Unlinks v w pred curr → Stepped v w l'
 
--- Keys do not change, and no node is added.
 pub keys_on : (key : ℕ → ℕ) {v w : View} {l' : Local} → Stepped v w l' → SameKeys key v → SameKeys key w
 keys_on key (still q) h a p = let p' = q.published_from a p in h a p' ∙ sym (q.keys a p')
 keys_on key (marks b k q x) h a p = let p' = q.published_from a p in h a p' ∙ sym (q.keys a p')
@@ -58,7 +57,7 @@ keys_on key (unlinks pred curr q) h a p = let p' = q.published_from a p in h a p
 not_both : {done : Bool} → done ≡ true → done ≡ false → ⊥
 not_both y n = let z : true ≡ false = sym y ∙ n in cc
 
--- The position of a call, with the facts that most rows share.
+-- What a thread knows of its call, with the rows of the step table that do the same taken together.
 pub data Place (v : View) (done : Bool) (l : Local) : Type 0 where
   idle : l.pc ≡ 0 → Place v done l
   begins : l.pc ≡ 1 → done ≡ false → Place v done l
@@ -88,25 +87,24 @@ place_of (at_read (reads23 e d c a)) = reads_marks (omega arith) d (subst IsCeil
 place_of (at_read (reads24 e d c a)) = reads_marks (omega arith) d (subst IsCeiling (sym c) tt)
 place_of (at_read (reads25 e d c a)) = reads_marks (omega arith) d (subst IsCeiling (sym c) tt)
 
--- A call that has made its change has ended or is a remove at row 10.
+-- A call that has changed the set has ended, or is a `remove` that is about to unlink its node (row 10 of the step
+-- table).
 changed_at : {v : View} {done : Bool} {l : Local} → done ≡ true → Place v done l
     → (l.pc ≡ 0) ⊎ ((l.pc ≡ 10) × (l.call ≡ Remove (key_of l.call)))
 changed_at y p = grind arith
 
--- A call at row 10 is a remove.
 remove_at : {v : View} {done : Bool} {l : Local} → Place v done l → l.pc ≡ 10 → l.call ≡ Remove (key_of l.call)
 remove_at p h = grind arith
 
--- A call at row 23 or later is a ceiling.
 pub ceiling_at_marks : {v : View} {done : Bool} {l : Local} → Place v done l → 23 ≤ l.pc → IsCeiling l.call
 ceiling_at_marks p h = grind arith
 
--- A walk visits only nodes of the list.
+-- The nodes pred and curr of a walk are published, which means that they have been in the chain at some time.
 pub walk_at : {v : View} {done : Bool} {l : Local} → Place v done l → 2 ≤ l.pc → l.pc ≤ 10
     → v.published l.pred × v.published l.curr
 walk_at p low high = (grind arith, grind arith)
 
--- States that the call is an add or a remove.
+-- States that the call is an `add` or a `remove`.
 abbrev pub IsUpdate : Call → Type 0
 IsUpdate c = ((k : Key) × (c ≡ Add k)) ⊎ ((k : Key) × (c ≡ Remove k))
 
@@ -117,7 +115,7 @@ after_change : (done : Bool) → (done || true) ≡ true
 after_change true = refl
 after_change false = refl
 
--- States that the step ends the call, and that the call is an add or a remove.
+-- States that the step ends its call, and that the call is an `add` or a `remove`.
 abbrev Ends : Call → Option Reply → Type 0
 Ends call answer = ((r : Reply) × (answer ≡ Some r)) × IsUpdate call
 

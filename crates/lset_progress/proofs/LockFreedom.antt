@@ -1,6 +1,6 @@
--- Proof: LockFreeList is lock-free. While no call ends, no node is added. So each thread marks at most one node, and
--- each node is unlinked at most once. Between two such exchanges, each thread makes at most the steps of its current
--- walk and of one more walk.
+-- Proof that LockFreeList is lock-free. As long as no call ends, no node is added, so each thread marks at most one
+-- node, and each node is unlinked at most once. Between two such exchanges, each thread makes at most the steps of its
+-- current walk and of one more. A potential, computed from these numbers, decreases with each counted step.
 use Rattle.std.specs.Prelude.{◌≡◌, ◌≢◌, ℕ, ◌+◌, ◌*◌, ◌%◌, ◌<◌, ◌≤◌, ◌⊎◌, Bool, true, List, if◌then◌else◌, ◌==◌, refl}
 use Rattle.std.proofs.Common.{arith, inl, inr, sym, ◌∙◌, ap, subst, suc}
 use Rattle.lset_words.proofs.Numbers.{same_or_not, if_same, if_other}
@@ -33,20 +33,20 @@ use Rattle.lset_progress.proofs.RowsWithLocks.{no_time, timed_more}
 use Rattle.lset_progress.proofs.StepTotals.{total, total_less, total_all, total_at, total_step, one_price, put, put_this, put_that}
 use Rattle.lset_progress.proofs.Windows.{Then, some_ends, counted_or_not}
 
--- States that a step budget suffices. For a call that counts, it covers the rest of the walk, and one more walk if
--- other threads have disturbed it. For a thread that has not begun such a call, it is the maximum.
+-- States that m steps are enough for a thread: the rest of its counted call and, if other threads have changed the
+-- nodes of its walk, one more walk. If the thread has no such call, m must be the maximum of a whole call.
 abbrev Fits : Bool → Sizes → (ℕ → ℕ) → List ℕ → ℕ → Local → Type 0
 Fits reads sz key ws m l = (lock_free_steps sz ≤ m)
     ⊎ ((l.pc ≢ 0) × (counted reads l.call ≡ 1) × Timed (node_count sz) key ws m l)
 
--- Returns the maximum number of steps that one successful exchange can add to the budgets of all threads.
+-- Returns how much one successful exchange can add to the numbers of steps that are enough for all threads.
 abbrev price : Sizes → ℕ
 price sz = sz.threads * round (node_count sz)
 
 record Phase (reads : Bool) (sz : Sizes) (s : State) (p : ℕ) : Type 0 where
   key : ℕ → ℕ
-  -- The budget of each thread. `may_mark` is 1 for each thread that can still mark a node, `may_leave` is 1 for each
-  -- node that can still be unlinked.
+  -- `time` is a number of steps that is enough for each thread, `may_mark` is 1 for each thread that can still mark a
+  -- node, and `may_leave` is 1 for each node that can still be unlinked.
   time : ℕ → ℕ
   may_mark : ℕ → ℕ
   may_leave : ℕ → ℕ
@@ -66,7 +66,7 @@ update_counts : (reads : Bool) (c : Call) → IsUpdate c → counted reads c ≡
 update_counts reads c (inl x) = subst (λ z. counted reads z ≡ 1) (sym x.1) refl
 update_counts reads c (inr x) = subst (λ z. counted reads z ≡ 1) (sym x.1) refl
 
--- ---- A thread's budget after a step of another thread
+-- ---- How many steps are enough for a thread after a step of another thread
 module _ (reads : Bool) (sz : Sizes) (s s' : State) (done : Bool) (l : Local) (x : Quiet (view_of sz s) (view_of sz s'))
     (place : Place (view_of sz s) done l) where
   valid_on : (IsCeiling l.call → ⊥) → Valid (node_link s.words) l → Valid (node_link s'.words) l
@@ -78,7 +78,7 @@ module _ (reads : Bool) (sz : Sizes) (s s' : State) (done : Bool) (l : Local) (x
     along = λ h. absurd (other (ceiling_at_marks place h));
   }
 
-  -- If no published node changes, the budget still suffices.
+  -- If the step changes no node of the list, the same number of steps is still enough.
   fits_on : (key : ℕ → ℕ) (m : ℕ) → Fits reads sz key s.words m l → Fits reads sz key s'.words m l
   fits_on key m (inl h) = inl h
   fits_on key m (inr f) = inr (
@@ -90,7 +90,7 @@ module _ (reads : Bool) (sz : Sizes) (s s' : State) (done : Bool) (l : Local) (x
     ],
   )
 
--- If published nodes have changed, the thread needs at most one more walk.
+-- If the step changes nodes of the list, one more walk of the thread is enough.
 fits_later : (reads : Bool) (sz : Sizes) (key : ℕ → ℕ) (ws ws' : List ℕ) (m : ℕ) (l : Local) → Fits reads sz key ws m l
     → Fits reads sz key ws' (m + round (node_count sz)) l
 fits_later reads sz key ws ws' m l (inl h) = inl (omega arith)
@@ -103,7 +103,7 @@ fits_later reads sz key ws ws' m l (inr f) = inr (
   ],
 )
 
--- Beginning a call does not increase the potential.
+-- The begin of a call does not increase the potential.
 module _ (reads : Bool) (op : Opening) (last k : ℕ) (es : ℕ → Event) (r : Run lock_free op es last) (upto : k ≤ last) (t : ℕ)
     (c : Call)
     (en : Enabled (state_at lock_free op es k) (Begin t c)) (p : ℕ)
@@ -150,7 +150,7 @@ module _ (reads : Bool) (op : Opening) (last k : ℕ) (es : ℕ → Event) (r : 
     within = f.within;
   }
 
--- A step that does not end a call that counts decreases the potential by the amount that the step counts.
+-- A counted step decreases the potential by one, unless it ends its call. No other step increases the potential.
 module _ (reads : Bool) (op : Opening) (last k : ℕ) (es : ℕ → Event) (r : Run lock_free op es last) (below : k < last) (t : ℕ)
     (en : Enabled (state_at lock_free op es k) (Go t)) (p : ℕ) (f : Phase reads (sizes op) (state_at lock_free op es k) p) where
   abbrev S : State
@@ -180,7 +180,7 @@ module _ (reads : Bool) (op : Opening) (last k : ℕ) (es : ℕ → Event) (r : 
   abbrev EndsNow : Type 0
   EndsNow = Answers lock_free S t × (counted reads (local_of S t).call ≡ 1)
 
-  -- The budget of thread t after its step.
+  -- A number of steps that is enough for thread t after its step: less than before by one, if the step is counted.
   record Own : Type 0 where
     left_now : ℕ
     less : left_now + counted reads (local_of S t).call ≤ f.time t
@@ -225,7 +225,7 @@ module _ (reads : Bool) (op : Opening) (last k : ℕ) (es : ℕ → Event) (r : 
   Later = (p' : ℕ) × (p' + counted reads (local_of S t).call ≤ p) × Phase reads (sizes op) S' p'
 
   module _ (o : Own) (x : Stepped V W (local_of S' t)) (marked : (local_of S t).pc ≢ 10) where
-    -- Returns the budget of each thread after the step. All threads except t get the given number of additional steps.
+    -- Returns the numbers of steps that are enough after the step. For all threads but t, `more` is added.
     abbrev time_then : ℕ → ℕ → ℕ
     time_then more u = if u == t then o.left_now else f.time u + more
 
@@ -260,7 +260,7 @@ module _ (reads : Bool) (op : Opening) (last k : ℕ) (es : ℕ → Event) (r : 
     disturbed : (u : ℕ) → u < op.threads → u ≢ t → Fits reads (sizes op) f.key S'.words (f.time u + round size) (local_of S u)
     disturbed u un d = fits_later reads (sizes op) f.key S.words S'.words (f.time u) (local_of S u) (f.times u un)
 
-    -- The potential after the step, given the marks and unlinkings that remain.
+    -- The potential after the step, from the numbers of nodes that can still be marked and unlinked.
     later : (more : ℕ) (mark leave : ℕ → ℕ)
         → price (sizes op) * (total leave size + total mark op.threads) + total (time_then more) op.threads
         + counted reads (local_of S t).call ≤ p
@@ -295,7 +295,8 @@ module _ (reads : Bool) (op : Opening) (last k : ℕ) (es : ℕ → Event) (r : 
         markers_then
         (λ a an ia. f.nodes a an (quiet_keeps W V (quiet-ordered V W i.memory.ordered q) (quiet_back V W q) a ia))
 
-    -- A successful exchange uses up one mark or one unlinking.
+    -- A successful exchange pays for the additional walks: one thread less can mark a node, or one node less can be
+    -- unlinked.
     disturbs : (mark leave : ℕ → ℕ) → total leave size + total mark op.threads + 1 ≤ total f.may_leave size + total f.may_mark
         op.threads
         → ((u : ℕ) → u < op.threads → (local_of S' u).pc ≢ 10 → mark u ≡ 1)
@@ -351,7 +352,7 @@ module _ (reads : Bool) (op : Opening) (last k : ℕ) (es : ℕ → Event) (r : 
     ]
   ]
 
--- A run, and how many counted steps it can make.
+-- In a whole run, the potential bounds the number of counted steps until a call ends.
 module _ (reads : Bool) (op : Opening) (last : ℕ) (es : ℕ → Event) (r : Run lock_free op es last) where
   abbrev Event' : ℕ → ℕ → Event → Type 0
   Event' k p e = Then lock_free (steps_of reads) op es (Phase reads (sizes op)) k p e

@@ -1,5 +1,5 @@
--- Proof, for a list that marks nodes while it holds two locks: a thread that has marked a node holds the node's lock
--- until it has unlinked it. A node of the chain is marked only while some thread is between these two steps.
+-- Proof, for a list that marks nodes under two locks: a thread that has marked a node holds the node's lock until it
+-- has unlinked the node. Therefore a node of the chain is marked only while some thread is between these two steps.
 use Rattle.std.specs.Prelude.{◌≡◌, ◌≢◌, ℕ, ◌+◌, ◌*◌, ◌/◌, ◌%◌, ◌<◌, ◌≤◌, Bool, true, false, Option, Some, List, refl}
 use Rattle.std.specs.Prelude.{◌⊎◌, slice_index, slice_set}
 use Rattle.std.proofs.Common.{arith, inl, inr, sym, ◌∙◌, ap, subst, zero, suc}
@@ -30,7 +30,7 @@ use Rattle.lset_progress.proofs.HeadPlain.{the_step, words_are, the_move, the_me
 use Rattle.lset_progress.proofs.Paths.{Path, in_chain_of, path_of}
 use Rattle.lset_progress.proofs.ReadProgress.{Plain}
 
--- Some thread is about to unlink node b.
+-- States that some thread is about to unlink node b: it is at row 12 of the step table.
 pub record TakesOut (threads : ℕ) (locals : ℕ → Local) (b : ℕ) : Type 0 where
   pub by : ℕ
   pub thread : by < threads
@@ -41,13 +41,14 @@ pub record TakesOut (threads : ℕ) (locals : ℕ → Local) (b : ℕ) : Type 0 
 abbrev pub Marked : ℕ → List ℕ → (ℕ → Local) → Type 0
 Marked threads ws locals = (b : ℕ) → Path (node_link ws) 0 b → node_link ws b % 2 ≡ 1 → TakesOut threads locals b
 
--- What a thread knows at row 12, and that only ceilings reach row 23 and later rows.
+-- What a thread knows when it is about to unlink a node (row 12 of the step table), and that only a `ceiling` is at row
+-- 23 or later.
 pub record Stands (v : View) (t : ℕ) (l : Local) : Type 0 where
   pub takes_out : l.pc ≡ 12 → Between v t (target l.call) l.pred l.curr × (v.link l.curr ≡ 2 * l.succ + 1)
   pub ceiling : 23 ≤ l.pc → l.call ≡ Ceiling (key_of l.call)
 
--- What a list must prove: row 11 marks curr while both locks are held, row 12 unlinks it, and only ceilings reach row
--- 23 and later rows.
+-- What the proof of a list has to show of its step table: row 11 marks curr while both locks are held, row 12 unlinks
+-- curr, and only a `ceiling` is at row 23 or later.
 pub record Marking (T : Table) (At : Outline) : Type 1 where
   pub lists : T.marks ≡ true
   pub stands : (q t : ℕ) (vs : ℕ → View) (first now : ℕ) (v : View) (done : Bool) (l : Local) → At q t vs first now v done l
@@ -58,7 +59,7 @@ pub record Marking (T : Table) (At : Outline) : Type 1 where
   pub takes_at : (l : Local) (seen : ℕ) (k : Key) → T.effect l seen ≡ Some (k, false) → l.pc ≡ 11
 
 module _ (T : Table) (At : Outline) (follows : Discipline T T.marks At) (rows : Marking T At) where
-  -- What is known at each moment of a run.
+  -- What is true at each moment of a run.
   abbrev Known : Opening → ℕ → (ℕ → Event) → Type 1
   Known op k es = Inv T.marks At (sizes op) (views T op es) k (state_at T op es k) (λ u. begun_at (log_of T op es) u k)
       (λ u. has_changed (log_of T op es) u k)
@@ -113,7 +114,7 @@ module _ (T : Table) (At : Outline) (follows : Discipline T T.marks At) (rows : 
     abbrev After : ℕ → Type 0
     After b = TakesOut op.threads (local_of (after T S (Go t))) b
 
-    -- After its step, the node that t was about to unlink is no longer in the chain.
+    -- The step of thread t at row 12 of the step table removes its node from the chain.
     is_out : L.pc ≡ 12 → Path W.link 0 L.curr → ⊥
     is_out e p =
         let x = (rows.stands _ _ _ _ _ _ _ _ (i.threads t tn).at).takes_out e in
@@ -149,7 +150,7 @@ module _ (T : Table) (At : Outline) (follows : Discipline T T.marks At) (rows : 
         subst (λ z. node_key step.words' L.curr < node_key step.words' z) (sym next) (omega arith) in
         gap W memory.ordered L.pred L.curr at (in_chain_of W L.curr p) b.walk.inner (omega arith) hi
 
-    -- If a marked node of the chain was already marked before the step, some thread is still about to unlink it.
+    -- The case of a node that was marked before the step: the thread that was about to unlink it still is.
     as_before : (b : ℕ) → Path W.link 0 b → W.link b % 2 ≡ 1 → V.published b → W.link b ≡ V.link b → After b
     as_before b p odd published same =
         let x = before b (path_of V b (keeping.back b published (in_chain_of W b p))) (omega arith) in
@@ -164,7 +165,7 @@ module _ (T : Table) (At : Outline) (follows : Discipline T T.marks At) (rows : 
           }
         ]
 
-    -- If the step marks a node, its thread is about to unlink it afterwards.
+    -- The case of a node that the step marks: its thread is about to unlink the node.
     as_now : (b : ℕ) → L.pc ≡ 11 → V.link b % 2 ≡ 0 → W.link b % 2 ≡ 1 → After b
     as_now b e even odd =
         let acts : T.next L ≡ Store (link_index L.curr) (2 * L.succ + 1) = (rows.marks L e).0 in
@@ -249,7 +250,6 @@ module _ (T : Table) (At : Outline) (follows : Discipline T T.marks At) (rows : 
     marked_at zero l = none_opens
     marked_at (suc k) l = marked_after k (omega arith) (es k) (r.enabled k (omega arith)) (marked_at k (omega arith))
 
-  -- If no thread is about to unlink a node of the chain, this node is not marked.
   plain_unless : (op : Opening) (last k : ℕ) (es : ℕ → Event) → Run T op es last → k ≤ last → (b : ℕ)
       → Path (node_link (state_at T op es k).words) 0 b → (TakesOut op.threads (local_of (state_at T op es k)) b → ⊥)
       → node_link (state_at T op es k).words b % 2 ≡ 0
@@ -258,7 +258,7 @@ module _ (T : Table) (At : Outline) (follows : Discipline T T.marks At) (rows : 
     | inr odd ↦ absurd (none (marked_at op es last r k l b p odd))
   ]
 
-  -- States that a thread about to unlink a node holds the locks of this node and of the one before it.
+  -- States that thread u, which is about to unlink a node, holds the locks of this node and of the node before it.
   abbrev Taking : Opening → ℕ → (ℕ → Event) → ℕ → Type 0
   Taking op k es u = Between (view_of (sizes op) (state_at T op es k)) u (target (local_of (state_at T op es k) u).call)
       (local_of (state_at T op es k) u).pred (local_of (state_at T op es k) u).curr
@@ -281,13 +281,12 @@ module _ (T : Table) (At : Outline) (follows : Discipline T T.marks At) (rows : 
         mine = (taking op last k es r l x.by x.thread x.row).walk.held.mine;
       }))
 
-  -- If no thread is about to unlink a node, no node of the chain is marked.
   pub plain_then : (op : Opening) (k : ℕ) (es : ℕ → Event) → Run T op es k
       → ((u : ℕ) → u < op.threads → (local_of (state_at T op es k) u).pc ≢ 12) → Plain (state_at T op es k).words
   plain_then op k es r none b p = plain_unless op k k es r (omega arith) b p (λ x. none x.by x.thread x.row)
 
-  -- A marked node of the chain is locked by the thread that is about to unlink it. So no node that another thread can
-  -- lock is marked.
+  -- A marked node of the chain is locked by the thread that is about to unlink it. Therefore a node that is free, or
+  -- locked by another thread, is not marked.
   pub unmarked_unless : (op : Opening) (last k t : ℕ) (es : ℕ → Event) → Run T op es last → k ≤ last
       → (local_of (state_at T op es k) t).pc ≢ 12 → (b : ℕ) → Path (node_link (state_at T op es k).words) 0 b
       → (slice_index (state_at T op es k).words (lock_index b) ≡ 0)
@@ -303,7 +302,6 @@ module _ (T : Table) (At : Outline) (follows : Discipline T T.marks At) (rows : 
         | inr z ↦ never (let same : x.by ≡ t = omega arith in subst (λ u. (local_of (state_at T op es k) u).pc ≡ 12) same x.row)
       ])
 
-  -- Only ceilings reach row 23 and later rows.
   pub ceiling_row : (op : Opening) (last k t : ℕ) (es : ℕ → Event) → Run T op es last → k ≤ last → t < op.threads
       → 23 ≤ (local_of (state_at T op es k) t).pc
       → (local_of (state_at T op es k) t).call ≡ Ceiling (key_of (local_of (state_at T op es k) t).call)

@@ -1,9 +1,9 @@
--- Paths along links.
+-- Paths along the links of nodes. Unlike segments, paths are defined without a view of the list.
 use Rattle.std.specs.Prelude.{◌≡◌, ◌≢◌, ℕ, ◌/◌, ◌<◌, ◌≤◌, List, [], ◌∷◌}
 use Rattle.std.proofs.Common.{arith, sym, ap, subst, refl}
 use Rattle.lset_steps.specs.Chain.{View, Segment, InChain, IsOrdered}
 
--- States that following links from i visits the nodes ns, then reaches j.
+-- States that the links lead from node i over exactly the nodes ns, none of them the tail, to node j.
 abbrev pub Leads : (ℕ → ℕ) → ℕ → List ℕ → ℕ → Type 0
 Leads link i [] j = i ≡ j
 Leads link i (a ∷ ns) j = (i ≢ 1) × Leads link (link i / 2) ns j
@@ -18,7 +18,6 @@ leads_on : (link : ℕ → ℕ) (i j : ℕ) (ns : List ℕ) → Leads link i ns 
 leads_on link i j [] p d = (i ∷ [], (subst (λ x. x ≢ 1) (sym p) d, ap (λ x. link x / 2) p))
 leads_on link i j (a ∷ ns) p d = let q = leads_on link (link i / 2) j ns p.1 d in (a ∷ q.0, (p.0, q.1))
 
--- A path can be extended by one link at its end.
 pub path_on : (link : ℕ → ℕ) (i j c : ℕ) → Path link i j → j ≢ 1 → link j / 2 ≡ c → Path link i c
 path_on link i j c p d e = subst (Path link i) e (leads_on link i j p.0 p.1 d)
 
@@ -26,7 +25,6 @@ leads_from : (link : ℕ → ℕ) (i j : ℕ) (ns : List ℕ) → i ≢ j → Le
 leads_from link i j [] d p = absurd (d p)
 leads_from link i j (a ∷ ns) d p = (ns, p.1)
 
--- Removing a path's first link leaves a path.
 pub path_from : (link : ℕ → ℕ) (i j : ℕ) → i ≢ j → Path link i j → Path link (link i / 2) j
 path_from link i j d p = leads_from link i j p.0 d p.1
 
@@ -37,11 +35,10 @@ leads_up v ord i j (a ∷ ns) m p =
     let r : v.key (v.link i / 2) ≤ v.key j = leads_up v ord (v.link i / 2) j ns (ord.next_published i m p.0) p.1 in
     omega arith
 
--- Keys increase along a path.
 pub path_up : (v : View) → IsOrdered v → (i j : ℕ) → v.published i → Path v.link i j → v.key i ≤ v.key j
 path_up v ord i j m p = leads_up v ord i j p.0 m p.1
 
--- A path that begins at the head is the part of the chain up to the path's end.
+-- A path from the head is a piece of the chain.
 segment_of : (v : View) (i j : ℕ) (ns : List ℕ) → Leads v.link i ns j → (bs : List ℕ) × Segment v i bs j
 segment_of v i j [] p = ([], p)
 segment_of v i j (a ∷ ns) p = let q = segment_of v (v.link i / 2) j ns p.1 in (i ∷ q.0, (refl, p.0, q.1))

@@ -1,5 +1,5 @@
--- The progress laws of a list with locks, given its rows: its calls end alone, and some thread can always make
--- progress.
+-- The laws of progress of a list with locks, from what each of its rows does: calls end alone, and some thread can
+-- always make a step that is not a failed attempt to take a lock.
 use Rattle.std.specs.Prelude.{◌≡◌, ◌≢◌, ℕ, ◌+◌, ◌<◌, ◌≤◌, ◌⊎◌, List, slice_index, length, Some, refl}
 use Rattle.std.proofs.Common.{arith, inl, inr, sym, ◌∙◌, ap, subst, zero, suc}
 use Rattle.lset_words.proofs.Numbers.{same_or_not}
@@ -33,12 +33,12 @@ pub record Shows (T : Table) (S : Shape) (most : Sizes → ℕ) : Type 0 where
   pub calm_alone : (op : Opening) (last k t : ℕ) (es : ℕ → Event) → Run T op es last → k ≤ last
       → NoOtherHolds (sizes op) (state_at T op es k) t → S.calm (state_at T op es k).words (local_of (state_at T op es k) t)
 
--- Returns the value that an exchange expects to find, or the given value for any other action.
+-- Returns the value that an exchange expects to see. For any other action, returns `other`.
 abbrev expected : Action → ℕ → ℕ
 expected (Exchange x old new) other = old
 expected a other = other
 
--- States that the step is not an attempt to take a lock, or that the lock is free.
+-- States that the action is no attempt to take a lock, or that the lock is free.
 abbrev pub IsFree : List ℕ → Action → Type 0
 IsFree ws (Load w) = Unit {0}
 IsFree ws (Store w v) = Unit {0}
@@ -52,7 +52,7 @@ module _ (S : Shape) (T : Table) (sz : Sizes) (ws : List ℕ) (t : ℕ) (l : Loc
   abbrev Row : Action → Type 0
   Row a = RowBy S size T sz ws t l a
 
-  -- If t holds a lock after the step, it may hold this lock in its new state.
+  -- If thread t holds a lock after its step, it may hold this lock in its new private state.
   may_after : (x : ℕ) → (slice_index ws x ≡ t + 1 → S.may l x) → (a : Action) → Row a → held x t (slice_index ws x) a ≡ t + 1
       → S.may (T.feed l (seen_by ws a)).local x
   may_after x before (Load w) row h = row.keeps x tt (before h)
@@ -74,7 +74,7 @@ module _ (S : Shape) (T : Table) (sz : Sizes) (ws : List ℕ) (t : ℕ) (l : Loc
         ])
   ]
 
-  -- States that the step comes after the decision or leaves keys and links unchanged.
+  -- States that the action changes neither keys nor links.
   abbrev pub Keeps : Action → Type 0
   Keeps a = SameList ws (left_by ws a)
 
@@ -84,7 +84,7 @@ module _ (S : Shape) (T : Table) (sz : Sizes) (ws : List ℕ) (t : ℕ) (l : Loc
   late_or_keeps (Store w v) (inr y) = inr (stay ws w v y.0)
   late_or_keeps (Exchange w from to) row = inr (tried ws w from to row.is_lock)
 
-  -- States that the step ends the call, or that the call continues.
+  -- States that the step ends the call, or that the call continues with fewer steps to make.
   abbrev Comes : List ℕ → Fed → Type 0
   Comes ws' f = ((r : Reply) × (f.answer ≡ Some r)) ⊎ Goes S size (node_key ws) ws l (node_key ws') ws' f.local
 
@@ -113,7 +113,7 @@ module _ (T : Table) (law : Lawful T) (S : Shape) (most : Sizes → ℕ) (shows 
         may_after S T _ _ t _ x before (T.next _) (shows.rows op last k t es r (omega arith) tn en.1).by now;
   }
 
-  -- A moment of a run, and a thread that has a pending call at that moment.
+  -- A moment of a run, and a thread with a pending call at this moment.
   module _ (op : Opening) (last k t : ℕ) (es : ℕ → Event) (r : Run T op es last) (upto : k ≤ last) (tn : t < op.threads)
       (busy : IsPending (state_at T op es k) t) where
     abbrev s : State
@@ -169,7 +169,7 @@ module _ (T : Table) (law : Lawful T) (S : Shape) (most : Sizes → ℕ) (shows 
   calls_end op k t es r tn busy others = ends_alone T law Stage nears op t tn (most (sizes op)) k es r
       (others, busy, (shows.rows op k k t es r (omega arith) tn busy).time)
 
-  -- There is no deadlock: a thread that waits for a lock holds only locks of nodes that come earlier in the list.
+  -- No deadlock: a thread that waits for a lock holds only locks of nodes that are earlier in the list.
   module _ (calls : Call → ℕ) (op : Opening) (k : ℕ) (es : ℕ → Event) (r : Run T op es k)
       (holds : (u x : ℕ) → u < op.threads → S.may (local_of (state_at T op es k) u) x
       → calls (local_of (state_at T op es k) u).call ≡ 1) where
@@ -218,7 +218,8 @@ module _ (T : Table) (law : Lawful T) (S : Shape) (most : Sizes → ℕ) (shows 
     abbrev SomeMeant : Type 0
     SomeMeant = (u : ℕ) × (u < op.threads) × Meant u × GetsOn T now u
 
-    -- If the holder of a lock waits, it waits for a lock of lower rank.
+    -- If the holder of the lock that a thread waits for waits as well, it waits for the lock of a node that is later in
+    -- the list. By induction, some holder does not wait.
     climbs : (n u w : ℕ) → Waits u w → rank_of w < n → SomeMeant
     climbs zero u w y less = absurd (omega arith)
     climbs (suc n) u w y less =

@@ -1,4 +1,4 @@
--- The number of nodes ahead of a node. Writes to locks do not change this number.
+-- How many nodes have greater keys than a given node. Writes to locks do not change this number.
 use Rattle.std.specs.Prelude.{◌≡◌, ◌≢◌, ℕ, ◌/◌, ◌<◌, Bool, List, slice_index, slice_set}
 use Rattle.std.proofs.Common.{arith, inl, inr, sym, subst, refl}
 use Rattle.lset_words.proofs.Numbers.{same_or_not, if_same, if_other}
@@ -11,21 +11,21 @@ use Rattle.lset_steps.proofs.Memory.{Memory, inside}
 use Rattle.lset_steps.proofs.AfterWrite.{key_after_lock, link_after_lock}
 use Rattle.lset_progress.proofs.Ahead.{ahead, ahead_less, ahead_few}
 
--- Returns the number of nodes ahead, computed from the nodes' keys.
+-- Returns how many nodes have a greater key than node a. `key` maps nodes to their keys.
 abbrev pub rest_by : ℕ → (ℕ → ℕ) → ℕ → ℕ
 rest_by size key a = ahead key size (key a)
 
 abbrev pub rest : ℕ → List ℕ → ℕ → ℕ
 rest size ws a = rest_by size (node_key ws) a
 
--- States that `key` maps the nodes of the list to their keys.
+-- States that `key` maps each node that has been in the chain to its key.
 abbrev pub SameKeys : (ℕ → ℕ) → View → Type 0
 SameKeys key v = (a : ℕ) → v.published a → key a ≡ v.key a
 
 pub few_by : (size : ℕ) (key : ℕ → ℕ) (a : ℕ) → a < size → rest_by size key a < size
 few_by size key a h = ahead_few key size (key a) a h (omega arith)
 
--- Fewer nodes are ahead of a node's next node than of the node itself.
+-- Fewer nodes have greater keys than a node's next node than have greater keys than the node itself.
 module _ (marks : Bool) (sz : Sizes) (ws : List ℕ) (used : ℕ → ℕ) (m : Memory marks sz ws used) where
   abbrev V : View
   V = view sz ws used
@@ -43,7 +43,7 @@ module _ (marks : Bool) (sz : Sizes) (ws : List ℕ) (used : ℕ → ℕ) (m : M
   pub fewer : (a : ℕ) → V.published a → a ≢ 1 → rest (node_count sz) ws (node_link ws a / 2) < rest (node_count sz) ws a
   fewer a p d = fewer_by (node_key ws) (λ b q. refl) a p d
 
--- States that keys and links are the same. Neither a write to a lock nor an attempt to take one changes them.
+-- States that keys and links are the same in both lists of words. A write to a lock changes neither.
 abbrev pub SameList : List ℕ → List ℕ → Type 0
 SameList ws ws' = (node_key ws' ≡ node_key ws) × (node_link ws' ≡ node_link ws)
 

@@ -1,5 +1,5 @@
--- What a list with locks must prove for each row: which locks a thread holds after the row, and how many steps of its
--- call remain. The list's progress laws follow from this (see ProgressWithLocks).
+-- What the proof of a list with locks has to show of each row: which locks the thread holds after the row, and how many
+-- steps of its call remain. The laws of progress follow from this (see ProgressWithLocks).
 use Rattle.std.specs.Prelude.{◌≡◌, ◌≢◌, ℕ, ◌+◌, ◌-◌, ◌/◌, ◌<◌, ◌≤◌, ◌⊎◌, ◌&&◌, nat_le, nat_lt, Bool, true, false, MatchBool}
 use Rattle.std.specs.Prelude.{Some, None, List, slice_index, slice_set}
 use Rattle.std.proofs.Common.{arith, inl, inr, subst, sym, ap, suc, refl}
@@ -15,7 +15,6 @@ use Rattle.lset_steps.specs.Chain.{node_key, node_link}
 use Rattle.lset_steps.specs.Laws.{IsLockWord}
 use Rattle.lset_progress.proofs.Rest.{rest}
 
--- If l is at row n, a property of the state at row n holds of l.
 pub at_row : (P : Local → Type 0) (l : Local) (n : ℕ) → l.pc ≡ n → P (record l { pc = n }) → P l
 at_row P l n e x = subst (λ p. P (record l { pc = p })) (sym e) x
 
@@ -29,12 +28,13 @@ When b A = MatchBool b A (Unit {0})
 abbrev pub Only : Bool → Type 0
 Only b = MatchBool b (Unit {0}) ⊥
 
--- States that a thread holds pred's lock at the rows P, and curr's lock at the rows C.
+-- States that x is a lock that the thread can hold: pred's lock at the rows P of the step table, or curr's lock at the
+-- rows C.
 abbrev pub NodeLocks : (ℕ → Bool) → (ℕ → Bool) → Local → ℕ → Type 0
 NodeLocks P C l x = ((x ≡ lock_index l.pred) × Only (P l.pc)) ⊎ ((x ≡ lock_index l.curr) × Only (C l.pc))
 
--- A thread that holds no lock satisfies everything about the locks that it holds. The lemmas after this one are about a
--- thread that holds only pred's lock, and about a thread that releases one of its two locks.
+-- A thread that holds no lock satisfies all conditions on the locks that it holds. The next lemmas are about a thread
+-- that holds only pred's lock, and a thread that releases one of its two locks.
 pub no_lock : {A B C : Type 0} → (A × ⊥) ⊎ (B × ⊥) → C
 no_lock (inl p) = absurd p.1
 no_lock (inr c) = absurd c.1
@@ -51,7 +51,8 @@ pub gave_curr : {A B C : Type 0} {x w : ℕ} → x ≢ w → A ⊎ ((x ≡ w) ×
 gave_curr d (inl p) = inl p
 gave_curr d (inr c) = absurd (d c.0)
 
--- Returns the rank of a lock word: the number of nodes ahead of its node.
+-- Returns the rank of a lock: how many nodes have greater keys than its node. Locks are taken in the order of
+-- decreasing rank.
 abbrev pub rank : ℕ → List ℕ → ℕ → ℕ
 rank size ws w = rest size ws (w / 3 - 1)
 
@@ -62,16 +63,16 @@ ranked size ws a b x e less =
     let there : x / 3 - 1 ≡ b = omega arith in
     subst (λ i. rest size ws i < rank size ws x) (sym here) (subst (λ i. rest size ws a < rest size ws i) (sym there) less)
 
--- A thread that holds only pred's lock attempts to take curr's lock. Fewer nodes are ahead of curr.
+-- A thread that holds only pred's lock attempts to take the lock of curr, which has a lower rank.
 pub after_pred : {A : Type 0} (size : ℕ) (ws : List ℕ) (curr pred x : ℕ) → rest size ws curr < rest size ws pred
     → ((x ≡ lock_index pred) × Unit {0}) ⊎ (A × ⊥) → rank size ws (lock_index curr) < rank size ws x
 after_pred size ws curr pred x less (inl p) = ranked size ws curr pred x p.0 less
 after_pred size ws curr pred x less (inr c) = absurd c.1
 
--- The shape of a list. `may`: the lock words that a thread can hold. `late`: the call has decided, and will not attempt
--- to take more locks. `calm`: the condition that its next step puts on the words. `valid`: its walk is valid, given the
--- links. `left`: the number of steps that remain after the next one in a valid walk, given the number of nodes and
--- their keys. `round`: the number of steps in one more walk.
+-- What the general proofs need to know of a list. `may`: the locks that a thread can hold. `late`: the call has
+-- decided, and takes no more locks. `calm`: what the thread's next step needs of the words. `valid`: the walk will
+-- succeed, in terms of the links. `left`: how many steps of such a walk remain after the next one, from the number of
+-- nodes and their keys. `round`: the steps of one more walk.
 pub record Shape : Type 1 where
   pub may : Local → ℕ → Type 0
   pub late : Local → Type 0
@@ -80,7 +81,7 @@ pub record Shape : Type 1 where
   pub left : ℕ → (ℕ → ℕ) → Local → ℕ
   pub round : ℕ → ℕ
 
--- States that the call has decided and has fewer than n steps left, whatever the words are.
+-- States that the call has decided, and that fewer than n of its steps remain, whatever the words are.
 abbrev pub LateBy : Shape → ℕ → Local → Type 0
 LateBy S n l = S.late l × (S.left 0 (λ a. 0) l < n)
 
@@ -88,7 +89,8 @@ abbrev pub Any : ℕ → Type 0
 Any x = Unit {0}
 
 module _ (S : Shape) (size : ℕ) where
-  -- States that fewer than n steps remain, either of a valid walk, or of any walk and one more.
+  -- States that the call ends within n steps: those that remain of a walk that will succeed, or of any walk and one
+  -- more.
   abbrev pub TimedBy : (ℕ → ℕ) → (ℕ → ℕ) → ℕ → Local → Type 0
   TimedBy key link n l = (S.valid link l × (S.left size key l < n)) ⊎ (S.left size key l + S.round size < n)
 
@@ -108,14 +110,14 @@ module _ (S : Shape) (size : ℕ) where
   no_time key link l (inl v) = let h : S.left size key l < 0 = v.1 in omega arith
   no_time key link l (inr h) = omega arith
 
-  -- A step that does not end its call, from l and ws to l' and ws'. A valid walk stays valid, and an invalid walk
-  -- starts again.
+  -- States what a step does that does not end its call, from l and ws to l' and ws'. A walk that will succeed still
+  -- does, and any other walk starts again.
   pub record Goes (key : ℕ → ℕ) (ws : List ℕ) (l : Local) (key' : ℕ → ℕ) (ws' : List ℕ) (l' : Local) : Type 0 where
     pub busy : l'.pc ≢ 0
     pub late : S.late l → LateBy S (S.left 0 (λ a. 0) l) l'
     pub near : S.calm ws l → (n : ℕ) → TimedBy key (node_link ws) (suc n) l → TimedBy key' (node_link ws') n l'
 
-  -- A step with the result f. Only locks in O can still be held afterwards.
+  -- States what a step with outcome f does. The thread can still hold only those locks that are in O.
   pub record Then (key : ℕ → ℕ) (ws : List ℕ) (l : Local) (O : ℕ → Type 0) (key' : ℕ → ℕ) (ws' : List ℕ) (f : Fed) : Type 0 where
     pub keeps : (x : ℕ) → O x → S.may l x → S.may f.local x
     pub then : ((r : Reply) × (f.answer ≡ Some r)) ⊎ Goes key ws l key' ws' f.local
@@ -127,8 +129,8 @@ module _ (S : Shape) (size : ℕ) where
   Stores ws l w ws' f = Then (node_key ws) ws l (λ x. x ≢ w) (node_key ws') ws' f
 
   module _ (T : Table) (sz : Sizes) (ws : List ℕ) (t : ℕ) (l : Local) where
-    -- An attempt to take a lock. The lock's node comes after the nodes of all locks that the thread can hold. After a
-    -- failed attempt, the thread tries again.
+    -- States what an attempt to take a lock does. The lock has a lower rank than all locks that the thread can hold. If
+    -- the attempt fails, the thread repeats it.
     pub record Tries (w from to : ℕ) : Type 0 where
       pub is_lock : IsLockWord w
       pub inside : w < word_count sz
@@ -140,7 +142,7 @@ module _ (S : Shape) (size : ℕ) where
       pub mine : S.may (T.feed l 0).local w
       pub missed : (seen : ℕ) → seen ≢ 0 → (T.feed l seen).local ≡ l
 
-    -- States what one row may do. In particular, a store to a word other than a lock comes after the decision.
+    -- States what a row may do. In particular, the thread writes a word other than a lock only after its decision.
     abbrev pub RowBy : Action → Type 0
     RowBy (Load w) = Loads ws l (T.feed l (slice_index ws w))
     RowBy (Store w v) = (Stores ws l w (slice_set ws w v) (T.feed l v) × LateBy S 5 l)
@@ -161,7 +163,7 @@ some_row n h = let low : 0 < n = lower_number 0 n (only_true (nat_lt 0 n) h) in 
 module _ {S : Shape} {size : ℕ} {key : ℕ → ℕ} {ws : List ℕ} {l : Local} {O : ℕ → Type 0} {key' : ℕ → ℕ} {ws' : List ℕ}
     {l' : Local}
     (keeps : (x : ℕ) → O x → S.may l x → S.may l' x) where
-  -- The step leads to another row.
+  -- The case of a step that leads to another row.
   pub goes : Only (nat_lt 0 l'.pc) → (S.late l → LateBy S (S.left 0 (λ a. 0) l) l')
       → (S.valid (node_link ws) l → S.valid (node_link ws') l') → S.left size key' l' < S.left size key l
       → Then S size key ws l O key' ws' (record { local = l'; answer = None })
@@ -177,12 +179,12 @@ module _ {S : Shape} {size : ℕ} {key : ℕ → ℕ} {ws : List ℕ} {l : Local
     });
   }
 
-  -- The step leads to another row, and the call has not decided.
+  -- The case of a step that leads to another row, before the decision.
   pub on : Only (nat_lt 0 l'.pc) → (S.late l → ⊥) → (S.valid (node_link ws) l → S.valid (node_link ws') l')
       → S.left size key' l' < S.left size key l → Then S size key ws l O key' ws' (record { local = l'; answer = None })
   on busy early valid less = goes busy (λ h. absurd (early h)) valid less
 
-  -- The step starts again from the head. This does not happen to a valid walk.
+  -- The case of a step after which the call starts again from the head. A walk that will succeed makes no such step.
   pub again : Only (nat_lt 0 l'.pc) → (S.late l → ⊥) → (S.valid (node_link ws) l → ⊥) → S.valid (node_link ws') l'
       → S.left size key' l' < S.left size key l + S.round size
       → Then S size key ws l O key' ws' (record { local = l'; answer = None })
@@ -201,11 +203,11 @@ module _ {S : Shape} {size : ℕ} {key : ℕ → ℕ} {ws : List ℕ} {l : Local
   pub stops : {r : Reply} → Then S size key ws l O key' ws' (record { local = l'; answer = Some r })
   stops {r} = record { keeps = keeps; then = inl (r, refl) }
 
--- The thread releases the lock w.
+-- The case of a store that releases lock w.
 pub unlocks : {A B C : Type 0} → B → C → A ⊎ (B × C)
 unlocks is_lock stores = inr (is_lock, stores)
 
--- What must be proved for one row: the number of steps that remain, and the effect of the row's step.
+-- What the proof of a list has to show of one row: the number of steps that remain, and what the step does.
 pub record RowOf (S : Shape) (size : ℕ) (T : Table) (sz : Sizes) (ws : List ℕ) (t most : ℕ) (l : Local) : Type 0 where
   pub time : Timed S size ws most l
   pub by : RowBy S size T sz ws t l (T.next l)
@@ -214,7 +216,6 @@ module _ {S : Shape} {size : ℕ} {T : Table} {sz : Sizes} {ws : List ℕ} {t mo
   pub timed : Timed S size ws most l → RowBy S size T sz ws t l (T.next l) → RowOf S size T sz ws t most l
   timed time by = record { time = time; by = by }
 
-  -- A row that attempts to take a lock satisfies `RowOf`.
   pub takes : {w : ℕ} → T.next l ≡ Exchange w 0 (l.thread + 1) → IsLockWord w → w < word_count sz → l.thread ≡ t → (S.late l → ⊥)
       → ((x : ℕ) → S.may l x → rank size ws w < rank size ws x)
       → (slice_index ws w ≡ 0 → Loads S size ws l (T.feed l 0)) → S.may (T.feed l 0).local w
@@ -232,7 +233,6 @@ module _ {S : Shape} {size : ℕ} {T : Table} {sz : Sizes} {ws : List ℕ} {t mo
         missed = missed;
       }))
 
-  -- A row that stores after the decision satisfies `RowOf`.
   pub writes : {l' : Local} {w v : ℕ} → T.next l ≡ Store w v → T.feed l v ≡ record { local = l'; answer = None }
       → ((x : ℕ) → S.may l x → S.may l' x) → S.late l → S.late l'
       → Only (nat_lt 0 l'.pc && (nat_lt (S.left 0 (λ a. 0) l') (S.left 0 (λ a. 0) l) && (nat_lt (S.left 0 (λ a. 0) l) 5

@@ -1,4 +1,4 @@
--- Sums over the first n threads or nodes.
+-- Sums of a number for each thread or node below n.
 use Rattle.std.specs.Prelude.{◌≡◌, ◌≢◌, ℕ, ◌+◌, ◌*◌, ◌<◌, ◌≤◌, ◌==◌, if◌then◌else◌, refl}
 use Rattle.std.proofs.Common.{arith, inl, inr, ap, zero, suc}
 use Rattle.lset_words.proofs.Numbers.{same_or_not, if_same, if_other}
@@ -26,7 +26,7 @@ total_most b c (suc n) d h =
     let m : suc n * d ≡ d + n * d = grind arith in
     omega arith
 
--- One summand decreases by x, and each other summand increases by at most d.
+-- The sum after a step that decreases one number by x and increases each other by at most d.
 pub total_step : (b c : ℕ → ℕ) (n u d x : ℕ) → u < n → c u + x ≤ b u → ((v : ℕ) → v < n → v ≢ u → c v ≤ b v + d)
     → total c n + x ≤ total b n + n * d
 total_step b c zero u d x l e h = absurd (omega arith)
@@ -42,14 +42,13 @@ total_step b c (suc n) u d x l e h =
           omega arith)
     ]
 
--- One summand decreases by 1, and the others do not change.
+-- The sum after a step that decreases one number by 1 and changes no other.
 pub total_less : (b c : ℕ → ℕ) (n u : ℕ) → u < n → c u + 1 ≤ b u → ((v : ℕ) → v ≢ u → c v ≡ b v) → total c n + 1 ≤ total b n
 total_less b c n u l e h =
     let x : total c n + 1 ≤ total b n + n * 0 =
     total_step b c n u 0 1 l e (λ v vn d. let y : c v ≡ b v = h v d in omega arith) in
     omega arith
 
--- If a is less than b, then c * a is less than c * b by at least c.
 pub one_price : (c a b : ℕ) → a + 1 ≤ b → c * a + c ≤ c * b
 one_price zero a b l = omega arith
 one_price (suc c) a b l =
@@ -58,7 +57,7 @@ one_price (suc c) a b l =
     let y : suc c * b ≡ c * b + b = grind arith in
     omega arith
 
--- Returns the function b, changed to n at t.
+-- Returns the function b with the value n at u.
 abbrev pub put : (ℕ → ℕ) → ℕ → ℕ → ℕ → ℕ
 put b u n t = if t == u then n else b t
 

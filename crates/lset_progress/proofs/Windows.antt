@@ -1,5 +1,5 @@
--- Proof: if each step that ends no call decreases a potential by the amount that the step counts, then among
--- sufficiently many counted steps of a run, one ends its call.
+-- Proof by a potential: if each counted step decreases it by one, unless the step ends its call, and no other event
+-- increases it, then among sufficiently many counted steps one ends its call.
 use Rattle.std.specs.Prelude.{◌≡◌, ℕ, ◌+◌, ◌<◌, ◌≤◌, ◌⊎◌, Bool, true, false, refl}
 use Rattle.std.proofs.Common.{arith, inl, inr, subst, zero, suc}
 use Rattle.lset_words.specs.declared.Call.{Call}
@@ -10,7 +10,6 @@ use Rattle.lset_steps.specs.declared.Event.TheVariants.{Go}
 use Rattle.lset_steps.specs.Steps.{Table, State, state_at, after}
 use Rattle.lset_progress.specs.Progress.{Answers, SomeEnds, counted, steps_among}
 
--- A call's steps count either 0 or 1.
 pub counted_or_not : (reads : Bool) (c : Call) → (counted reads c ≡ 0) ⊎ (counted reads c ≡ 1)
 counted_or_not reads (call.Add k) = inr refl
 counted_or_not reads (call.Remove k) = inr refl
@@ -18,7 +17,6 @@ counted_or_not true (call.Contains k) = inr refl
 counted_or_not false (call.Contains k) = inl refl
 counted_or_not reads (call.Ceiling k) = inl refl
 
--- If a call ends in a window, it also ends in the window that begins one event earlier.
 pub ends_later : {count : State → Event → ℕ} {T : Table} {op : Opening} {es : ℕ → Event} {k n : ℕ}
     → SomeEnds count T op es (suc k) n
     → SomeEnds count T op es k (suc n)
@@ -33,7 +31,8 @@ ends_later {k = k} {n = n} e = record {
 }
 
 module _ (T : Table) (count : State → Event → ℕ) (op : Opening) (es : ℕ → Event) (Phase : State → ℕ → Type 0) where
-  -- States that event e ends a call at moment k or decreases the potential p.
+  -- States that event e is a counted step that ends its call, or leads to a potential that is smaller by what the event
+  -- counts.
   abbrev pub Then : ℕ → ℕ → Event → Type 0
   Then k p e = ((t : ℕ) × (e ≡ Go t) × Answers T (state_at T op es k) t × (count (state_at T op es k) e ≡ 1))
       ⊎ ((p' : ℕ) × (p' + count (state_at T op es k) e ≤ p) × Phase (after T (state_at T op es k) e) p')

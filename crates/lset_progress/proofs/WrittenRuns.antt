@@ -1,4 +1,5 @@
--- Runs that are written out: some events from the opening state, then a round that repeats forever.
+-- Runs that are written out: some events from the opening state, then a loop of events that repeats forever. Properties
+-- of such a run can be computed.
 use Rattle.std.specs.Prelude.{◌≡◌, ℕ, ◌+◌, ◌*◌, ◌<◌, ◌≤◌, ◌==◌, ◌&&◌, nat_lt, not, is_some, Bool, true, false, Some, List}
 use Rattle.std.specs.Prelude.{[], ◌∷◌, length, refl}
 use Rattle.std.proofs.Common.{arith, inl, inr, sym, ◌∙◌, ap, subst, zero, suc}
@@ -17,12 +18,11 @@ both : (a b : Bool) → (a && b) ≡ true → (a ≡ true) × (b ≡ true)
 both true b e = (refl, e)
 both false b e = absurd cc
 
--- An opening with two threads of two slots each.
+-- The opening of these runs: no keys, and two threads with two slots each.
 abbrev pub op : Opening
 op = empty 2 2
 
--- A test of a state and its next event. For example, a test can check that the event is enabled, ends no call, or
--- counts.
+-- A test of a state and the next event, such as whether the event is enabled, ends no call, or is counted.
 abbrev pub Test : Type 0
 Test = State → Event → Bool
 
@@ -57,7 +57,7 @@ abbrev pub all_so : Test → Table → State → List Event → Bool
 all_so test T s [] = true
 all_so test T s (e ∷ es) = test s e && all_so test T (after T s e) es
 
--- The run: the events r, then the round e ∷ es forever.
+-- Returns the event after moment j of the run: first the events of the third list, then the loop of e and es forever.
 abbrev pub turn : Event → List Event → List Event → ℕ → Event
 turn e es [] zero = e
 turn e es [] (suc j) = turn e es es j
@@ -80,14 +80,13 @@ module _ (T : Table) (e : Event) (es : List Event) where
   comes_to [] s = refl
   comes_to (x ∷ r) s = comes_to r (after T s x)
 
-  -- The test passes at each of the events r.
   at_first : (test : Test) (r : List Event) (s : State) → all_so test T s r ≡ true → (j : ℕ) → j < length r
       → test (state_in T e es s r j) (turn e es r j) ≡ true
   at_first test [] s so j l = absurd (omega arith)
   at_first test (x ∷ r) s so zero l = (both (test s x) (all_so test T (after T s x) r) so).0
   at_first test (x ∷ r) s so (suc j) l = at_first test r _ (both (test s x) (all_so test T _ r) so).1 j (omega arith)
 
-  -- The test passes at each event of the round, and the round leads back to its first state.
+  -- If the loop leads back to its first state, and a test passes at each of its events once, the test passes forever.
   module _ (test : Test) (S0 : State) (round_so : all_so test T S0 (e ∷ es) ≡ true) (back : state_after T S0 (e ∷ es) ≡ S0) where
     split : (test S0 e ≡ true) × (all_so test T (after T S0 e) es ≡ true)
     split = both (test S0 e) (all_so test T (after T S0 e) es) round_so
@@ -107,7 +106,6 @@ module _ (T : Table) (e : Event) (es : List Event) where
     behind (x ∷ r) s is zero l = absurd (omega arith)
     behind (x ∷ r) s is (suc j) l = behind r (after T s x) is j (omega arith)
 
-  -- The round's events repeat.
   pass : (r : List Event) (j : ℕ) → turn e es r (length r + j) ≡ turn e es [] j
   pass [] j = ap (turn e es []) (omega arith)
   pass (x ∷ r) j =
@@ -155,7 +153,8 @@ module _ (T : Table) (events : List Event) (e : Event) (es : List Event) (led : 
     no_reply j r l = replies T (state_at T op run j) (run j) r (subst (λ s. is_silent T s (run j) ≡ true) (sym (is_at j))
         (behind T e es (is_silent T) S0 silent back events (opening op) refl j l))
 
-    -- If each step of the round counts, a call need not end within any number of counted steps.
+    -- If each event of the loop is a counted step and none ends a call, no number of counted steps is enough for a call
+    -- to end.
     module _ (count : State → Event → ℕ) (counts : all_so (is_one count) T S0 (e ∷ es) ≡ true) where
       all_count : (n k : ℕ) → m ≤ k → steps_among count T op run k n ≡ n
       all_count zero k l = refl
@@ -172,7 +171,7 @@ module _ (T : Table) (events : List Event) (e : Event) (es : List Event) (led : 
           let x : SomeEnds count T op run m (most (sizes op)) = law op m (most _) run (runs_on (m + most _)) (omega arith) in
           no_reply x.at x.ends.0 x.from (ap (λ z. (told T (state_at T op run x.at) z).answer) x.own ∙ x.ends.1)
 
-    -- If each thread makes a step in the round, freedom from deadlock fails, too.
+    -- If, in addition, each thread makes a step in the loop, the run is fair, and the list is not free from deadlock.
     module _ (calls : Call → ℕ) (turns : (t : ℕ) → t < 2 → (d : ℕ) × (turn e es [] d ≡ Go t)) where
       is_fair : IsFair T op run
       is_fair = record {
@@ -202,7 +201,7 @@ abbrev pub silent_alone : Table → ℕ → State → ℕ → Bool
 silent_alone T t s zero = true
 silent_alone T t s (suc n) = is_silent T s (Go t) && silent_alone T t (after T s (Go t)) n
 
--- If steps of t alone end no call and lead back to the first state, they never end the call.
+-- If steps of thread t alone lead back to the first state and end no call, the call never ends.
 module _ (T : Table) (t : ℕ) (S0 : State) (p : ℕ) (silent : silent_alone T t S0 (suc p) ≡ true)
     (back : alone T t S0 (suc p) ≡ S0) where
   never_by : (r : ℕ) (s : State) → silent_alone T t s r ≡ true → alone T t s r ≡ S0 → (n : ℕ) → EndsAlone T s t n → ⊥

@@ -1,4 +1,4 @@
--- Proof: the progress laws reject the wrong machines. Each proof is a run that is written out.
+-- Proof that the laws of progress are false for the broken lists. Each proof is a run that is written out.
 use Rattle.std.specs.Prelude.{◌≡◌, ℕ, ◌<◌, List, [], ◌∷◌, length, slice_index, refl}
 use Rattle.std.proofs.Common.{arith, inl, inr, sym, ◌∙◌, ap, subst, zero, suc}
 use Rattle.lset_words.specs.declared.Call.TheVariants.{Add, Remove}
@@ -15,8 +15,8 @@ use Rattle.lset_progress.proofs.WrittenRuns.{op, run, is_run, is_after, state_af
 two_values : (n a b : ℕ) → (a ≡ b → ⊥) → n ≡ a → n ≡ b → ⊥
 two_values n a b d e f = d (sym e ∙ f)
 
--- Thread 1 marks the node of 5. Thread 0 reaches the node and is about to unlink it, but thread 1 unlinks it first.
--- Thread 0 then repeats its attempt forever.
+-- The run up to the loop: thread 1 marks the node of 5, thread 0 is about to unlink the node, but thread 1 unlinks it
+-- first. Then thread 0 repeats its attempt forever.
 abbrev spins : List Event
 spins = Begin 0 (Add (record { 0 = 5 })) ∷ Go 0 ∷ Go 0 ∷ Go 0 ∷ Go 0 ∷ Go 0 ∷ Go 0 ∷ Begin 1
     (Remove (record { 0 = 5 })) ∷ Go 1 ∷ Go 1
@@ -37,8 +37,9 @@ pub spinning_is_not_lock_free : NotLockFree spinning
 spinning_is_not_lock_free reads most law = rounds_never_end spinning spins (Go 0) [] refl refl refl refl
     (steps_of reads) refl most law
 
--- Thread 0 has walked to head and tail. Thread 1 adds 7 between them. Thread 0's validation fails, it keeps the head's
--- lock, and its next walk reaches the head again.
+-- The run up to the loop: thread 0 has walked to the head and the tail, and thread 1 adds 7 between them. Thread 0's
+-- validation fails, it keeps the lock of the head, and its next walk leads to the head again, whose lock it waits for
+-- forever.
 abbrev keeps : List Event
 keeps = Begin 0 (Add (record { 0 = 5 })) ∷ Go 0 ∷ Go 0 ∷ Begin 1
     (Add (record { 0 = 7 })) ∷ Go 1 ∷ Go 1 ∷ Go 1 ∷ Go 1 ∷ Go 1 ∷ Go 1
@@ -47,7 +48,6 @@ keeps = Begin 0 (Add (record { 0 = 5 })) ∷ Go 0 ∷ Go 0 ∷ Begin 1
 abbrev keeping_state : State
 keeping_state = state_after keeping (opening op) keeps
 
--- Thread 1 holds no lock.
 none_of_1 : (x : ℕ) → IsLockWord x → x < 21 → slice_index keeping_state.words x ≡ 2 → ⊥
 none_of_1 x (inl e) h m = two_values (slice_index keeping_state.words 0) 0 2 (λ z. omega arith) refl
     (sym (ap (λ i. slice_index keeping_state.words i) e) ∙ m)
@@ -74,8 +74,8 @@ keeping_is_refused most law =
     (subst (λ s. IsPending s 0) (sym is) (λ z. omega arith)) (subst (λ s. NoOtherHolds (sizes op) s 0) (sym is) others) in
     never_ends_alone keeping 0 keeping_state 0 refl refl (most _) (subst (λ s. EndsAlone keeping s 0 (most (sizes op))) is e)
 
--- Both threads are between the head and the node of 5. Thread 0, which adds 3, holds the lock of the head; thread 1, which
--- removes 5, holds the lock of that node.
+-- The run up to the deadlock: both threads are at the head and the node of 5. Thread 0, which adds 3, holds the lock of
+-- the head. Thread 1, which removes 5, holds the lock of the node of 5.
 abbrev crosses : List Event
 crosses = Begin 0 (Add (record { 0 = 5 })) ∷ Go 0 ∷ Go 0 ∷ Go 0 ∷ Go 0 ∷ Go 0 ∷ Go 0 ∷ Go 0 ∷ Go 0 ∷ Go 0 ∷ Go 0 ∷ Go 0
     ∷ Begin 0 (Add (record { 0 = 3 })) ∷ Go 0 ∷ Go 0 ∷ Go 0 ∷ Begin 1 (Remove (record { 0 = 5 })) ∷ Go 1 ∷ Go 1 ∷ Go 1 ∷ []

@@ -1,5 +1,4 @@
--- Progress of calls, as laws of runs (in Herlihy and Shavit's terms). The laws hold at each moment of each run,
--- whatever the schedule.
+-- Laws of progress, in Herlihy and Shavit's terms: when calls end, at each moment of each run and under every schedule.
 use Rattle.std.specs.Prelude.{◌≡◌, ◌≢◌, ℕ, zero, suc, ◌+◌, ◌*◌, ◌%◌, ◌<◌, ◌≤◌, ◌⊎◌, Bool, true, false, Some, slice_index}
 use Rattle.lset_words.specs.declared.Call.{Call}
 use Rattle.lset_words.specs.declared.Call.TheVariants as call
@@ -16,27 +15,27 @@ use Rattle.lset_steps.specs.Laws.{IsLockWord, views}
 abbrev pub IsPending : State → ℕ → Type 0
 IsPending s t = (local_of s t).pc ≢ 0
 
--- Thread t holds the lock word x.
+-- States that thread t holds the lock at word x.
 pub record Holds (sz : Sizes) (s : State) (t x : ℕ) : Type 0 where
   pub is_lock : IsLockWord x
   pub inside : x < word_count sz
   pub mine : slice_index s.words x ≡ t + 1
 
--- States that no thread except t holds a lock.
+-- States that no thread other than t holds a lock.
 abbrev pub NoOtherHolds : Sizes → State → ℕ → Type 0
 NoOtherHolds sz s t = (u x : ℕ) → u < sz.threads → u ≢ t → Holds sz s u x → ⊥
 
--- States that thread t's next step ends its call.
+-- States that the next step of thread t ends its call.
 abbrev pub Answers : Table → State → ℕ → Type 0
 Answers T s t = (reply : Reply) × ((told T s (Go t)).answer ≡ Some reply)
 
--- [Ends alone]: states that if only thread t makes steps, one of its next n steps ends its call.
+-- [Ends alone]: states that if only thread t makes steps, its call ends within n steps.
 abbrev pub EndsAlone : Table → State → ℕ → ℕ → Type 0
 EndsAlone T s t zero = ⊥
 EndsAlone T s t (suc n) = Enabled s (Go t) × (Answers T s t ⊎ EndsAlone T (after T s (Go t)) t n)
 
--- [Calls end alone]: states that in a list with locks, a call that runs alone while no other thread holds a lock ends
--- within `most` steps (solo termination).
+-- [Calls end alone]: states, for a list with locks, that a call ends within `most` steps if its thread runs alone and
+-- no other thread holds a lock (solo termination).
 abbrev pub CallsEndAlone : Table → (Sizes → ℕ) → Type 0
 CallsEndAlone T most = (op : Opening) (k t : ℕ) (es : ℕ → Event) → Run T op es k → t < op.threads
     → IsPending (state_at T op es k) t → NoOtherHolds (sizes op) (state_at T op es k) t
@@ -49,17 +48,17 @@ IsCeiling call = ⊥
 abbrev pub NoMarkInChain : View → Type 0
 NoMarkInChain v = (b : ℕ) → InChain v b → v.link b % 2 ≡ 0
 
--- [Calls end unhindered]: states that in a list without locks, a call that runs alone ends within `most` steps,
--- whatever the other threads are about to do (obstruction freedom). For a ceiling, no node of the chain may be marked:
--- it starts again at a marked node, and does not unlink it.
+-- [Calls end unhindered]: states, for a list without locks, that a call ends within `most` steps if its thread runs
+-- alone, in whatever state the other threads are (obstruction freedom). For a `ceiling`, the chain must not contain a
+-- marked node: a `ceiling` starts again at a marked node, and does not unlink it.
 abbrev pub CallsEndUnhindered : Table → (Sizes → ℕ) → Type 0
 CallsEndUnhindered T most = (op : Opening) (k t : ℕ) (es : ℕ → Event) → Run T op es k → t < op.threads
     → IsPending (state_at T op es k) t
     → (IsCeiling (local_of (state_at T op es k) t).call → NoMarkInChain (views T op es k))
     → EndsAlone T (state_at T op es k) t (most (sizes op))
 
--- [A ceiling that never ends]: a thread has a pending ceiling, every other thread is idle, and however many steps the
--- thread makes alone, the call does not end.
+-- [A ceiling that never ends]: states that at some moment of some run a `ceiling` is pending and all other threads are
+-- idle, and that the `ceiling` does not end, however many steps its thread makes alone.
 pub record SomeCeilingNeverEnds (T : Table) : Type 0 where
   pub opening : Opening
   pub events : ℕ → Event
@@ -72,20 +71,20 @@ pub record SomeCeilingNeverEnds (T : Table) : Type 0 where
   pub others_idle : (u : ℕ) → u < opening.threads → u ≢ thread → (local_of (state_at T opening events moment) u).pc ≡ 0
   pub never : (n : ℕ) → EndsAlone T (state_at T opening events moment) thread n → ⊥
 
--- Thread t has a pending call, and its next step is not a failed attempt to take a lock.
+-- States that thread t has a pending call, and that its next step is not a failed attempt to take a lock.
 pub record GetsOn (T : Table) (s : State) (t : ℕ) : Type 0 where
   pub enabled : Enabled s (Go t)
   pub tries : (x old new : ℕ) → IsLockWord x → T.next (local_of s t) ≡ Exchange x old new → slice_index s.words x ≡ old
 
--- [Some thread gets on]: states that whenever a call is pending, some thread has a pending call whose next step is not
--- a failed attempt to take a lock.
+-- [Some thread gets on]: states that whenever a call is pending, the next step of some pending call is not a failed
+-- attempt to take a lock.
 abbrev pub SomeThreadGetsOn : Table → Type 0
 SomeThreadGetsOn T = (op : Opening) (k t : ℕ) (es : ℕ → Event) → Run T op es k → t < op.threads
     → IsPending (state_at T op es k) t
     → (u : ℕ) × (u < op.threads) × GetsOn T (state_at T op es k) u
 
--- Returns 1 if the steps of a call count, else 0. Those of add and remove count, those of contains count if `reads` is
--- true, and those of ceiling do not.
+-- Returns 1 if the steps of this call are counted, else 0. Steps of `add` and `remove` are counted, steps of `contains`
+-- if `reads` is true, and steps of `ceiling` never.
 abbrev pub counted : Bool → Call → ℕ
 counted reads (call.Add k) = 1
 counted reads (call.Remove k) = 1
@@ -97,12 +96,12 @@ abbrev pub steps_of : Bool → State → Event → ℕ
 steps_of reads s (Begin t call) = 0
 steps_of reads s (Go t) = counted reads (local_of s t).call
 
--- Returns the number of counted steps among the n events from moment k on. `count` is 1 for a counted step.
+-- Returns how many of the n events from moment k on are counted steps. `count` is 1 for a counted step, else 0.
 abbrev pub steps_among : (State → Event → ℕ) → Table → Opening → (ℕ → Event) → ℕ → ℕ → ℕ
 steps_among count T op es k zero = 0
 steps_among count T op es k (suc n) = count (state_at T op es k) (es k) + steps_among count T op es (suc k) n
 
--- One of these n events is a counted step that ends its call.
+-- States that one of the n events from moment k on is a counted step that ends its call.
 pub record SomeEnds (count : State → Event → ℕ) (T : Table) (op : Opening) (es : ℕ → Event) (k n : ℕ) : Type 0 where
   pub at : ℕ
   pub from : k ≤ at
@@ -117,14 +116,14 @@ abbrev pub EndsAmong : (State → Event → ℕ) → Table → (Sizes → ℕ) �
 EndsAmong count T most = (op : Opening) (k n : ℕ) (es : ℕ → Event) → Run T op es (k + n)
     → most (sizes op) ≤ steps_among count T op es k n → SomeEnds count T op es k n
 
--- [Lock freedom]: states that among any `most` successive steps of adds and removes in a run, one ends its call. It
--- does not matter which threads make the steps or what else happens in between. The same holds for steps of adds,
--- removes and contains.
+-- [Lock freedom]: states that among any `most` successive steps of `add` and `remove`, one ends its call, whichever
+-- threads make the steps and whatever else happens in between. The same is required of steps of `add`, `remove` and
+-- `contains`.
 abbrev pub IsLockFree : Table → (Sizes → ℕ) → Type 0
 IsLockFree T most = (reads : Bool) → EndsAmong (steps_of reads) T most
 
--- Returns a bound on the steps of a call that runs alone, for N nodes: the head, the tail, the slots of n threads with
--- quota q, and the nodes of the opening keys.
+-- The maximum number of steps of a call that runs alone, for each list. `node_count` is the number of nodes: the head,
+-- the tail, the slots of all threads, and the nodes of the opening keys.
 abbrev pub coarse_steps : Sizes → ℕ
 coarse_steps sz = 2 * node_count sz + 3
 
@@ -137,9 +136,9 @@ optimistic_steps sz = 8 * node_count sz + 9
 abbrev pub lock_free_steps : Sizes → ℕ
 lock_free_steps sz = 4 * node_count sz + 5
 
--- Returns the bound on steps for n threads. It has the steps of each thread's pending call and, for each exchange that
--- succeeds without ending a call, one more walk of each thread. There are few such exchanges: each thread marks at most
--- one node, and each node is unlinked at most once.
+-- A bound on the number of counted steps until a call of LockFreeList ends: the steps of each thread's pending call
+-- and, for each successful exchange that ends no call, one more walk of each thread. Few exchanges are of this kind:
+-- each thread marks at most one node, and each node is unlinked at most once.
 abbrev pub lock_free_window : Sizes → ℕ
 lock_free_window sz =
     sz.threads * (2 * node_count sz + 2) * (node_count sz + sz.threads) + sz.threads * lock_free_steps sz

@@ -1,4 +1,4 @@
--- [Wrong machines]: each has one or two wrong rows and violates a progress law.
+-- [Wrong machines]: broken lists, each with one or two wrong rows, for which a law of progress is false.
 use Rattle.std.specs.Prelude.{ℕ, ◌+◌, ◌*◌, if◌then◌else◌, ◌==◌, Bool, Option, Some, None}
 use Rattle.lset_words.specs.declared.Call.{Call}
 use Rattle.lset_words.specs.declared.Call.TheVariants as call
@@ -16,8 +16,8 @@ use Rattle.lset_lock_free.specs.LockFree.{lock_free}
 use Rattle.lset_progress.specs.DeadlockFreedom.{IsLivelockFree}
 use Rattle.lset_progress.specs.Progress.{CallsEndAlone, CallsEndUnhindered, EndsAmong, steps_of}
 
--- LockFreeList, except that after a failed exchange at row 3 the walk repeats the exchange instead of starting again
--- from the head.
+-- A broken LockFreeList. After a failed exchange at row 3, the walk repeats the exchange instead of starting again from
+-- the head.
 abbrev pub spins_on : Local → ℕ → Fed
 spins_on l seen = if seen == 2 * l.curr then continued (record l { pc = 2; curr = l.succ }) else continued l
 
@@ -30,8 +30,9 @@ spinning = record {
   effect = lock_free.effect;
 }
 
--- LockFreeList, except that an add that has decided writes its number into pred's lock word (row 11). It continues only
--- if it then reads its own number there (row 12). Otherwise it writes its number again.
+-- A broken LockFreeList. An `add` that has decided writes its thread's number into pred's lock word (row 11 of the step
+-- table), and continues only if it then reads its own number in this word (row 12). Otherwise it writes the number
+-- again.
 abbrev pub claims_first : Fed → Fed
 claims_first f = record { local = if f.local.pc == 5 then record f.local { pc = 11 } else f.local; answer = f.answer }
 
@@ -57,7 +58,8 @@ claiming = record {
   effect = lock_free.effect;
 }
 
--- OptimisticList, except that it keeps pred's lock if validation fails: it skips row 14 and continues at row 15.
+-- A broken OptimisticList. If validation fails, the call keeps pred's lock: it skips row 14 of the step table and
+-- continues at row 15.
 abbrev pub keeps_pred : Option Reply → Local → Local
 keeps_pred None l = record l { pc = 15 }
 keeps_pred (Some r) l = l
@@ -74,7 +76,7 @@ keeping = record {
   effect = optimistic.effect;
 }
 
--- LazyList, except that a remove locks curr before pred, while an add locks pred before curr.
+-- A broken LazyList. A `remove` locks curr before pred, while an `add` locks pred before curr.
 abbrev pub first_lock : Call → Local → ℕ
 first_lock (call.Remove k) l = l.curr
 first_lock c l = l.pred
@@ -98,9 +100,9 @@ crossed = record {
   effect = lazy.effect;
 }
 
--- LazyList, except that a remove locks curr before pred, while an add locks pred before curr, and that a thread reads
--- its second lock (row 16) before it attempts to take this lock. If the lock is taken, the thread releases its first
--- lock (row 15) and starts again.
+-- A broken LazyList. A `remove` locks curr before pred, while an `add` locks pred before curr. A thread reads its
+-- second lock (row 16) before it attempts to take this lock. If the lock is taken, the thread releases its first lock
+-- (row 15) and starts again.
 abbrev pub looks_first : Fed → Fed
 looks_first f = record { local = if f.local.pc == 5 then record f.local { pc = 16 } else f.local; answer = f.answer }
 
@@ -126,7 +128,7 @@ yielding = record {
   effect = lazy.effect;
 }
 
--- States that the law fails for every number of steps.
+-- States that the law is false for this machine, whatever number of steps is allowed. Three more laws follow.
 abbrev pub NoCallsEndAlone : Table → Type 0
 NoCallsEndAlone T = (most : Sizes → ℕ) → CallsEndAlone T most → ⊥
 

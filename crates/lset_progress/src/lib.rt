@@ -1,8 +1,8 @@
-//! Progress of the five lists, as laws about the runs of their step machines. Each law is the contract of a function
-//! with an empty body. The laws assume nothing about the schedule, except that freedom from deadlock assumes a fair
-//! run.
+//! Progress of the five lists, as laws of the runs of their step machines. Each law is the contract of a function that
+//! does nothing. The laws hold for every schedule, except that freedom from deadlock assumes a fair one.
 //!
-//! N is the number of nodes: the head, the tail, one for each slot of each thread, and one for each opening key.
+//! In the bounds, N is the number of nodes: the head, the tail, one for each slot of each thread, and one for each
+//! opening key.
 #![tactic(auto)]
 
 ghost use Rattle.std.specs.Prelude.{Bool};
@@ -38,48 +38,48 @@ ghost use Rattle.lset_progress.specs.Wrong.{
   yielding,
 };
 
-/// Theorem: while no other thread holds the lock of a CoarseList, a call that runs alone ends within `2N + 3` steps. (Solo
+/// Theorem: if no other thread holds the lock of a CoarseList, a call that runs alone ends within `2N + 3` steps. (Solo
 /// termination, of Herlihy and Shavit's coarse-grained list.)
 #[tactic(auto, using(crate::proofs::CoarseProgress::coarse_calls_end))]
 pub fn coarse_calls_end_alone()
     ensures { CallsEndAlone coarse coarse_steps }
 {}
 
-/// Theorem: while no other thread holds a lock of a FineList, a call that runs alone ends within `4N + 3` steps. (Solo
+/// Theorem: if no other thread holds a lock of a FineList, a call that runs alone ends within `4N + 3` steps. (Solo
 /// termination, of Herlihy and Shavit's fine-grained list.)
 #[tactic(auto, using(crate::proofs::FineProgress::fine_calls_end))]
 pub fn fine_calls_end_alone()
     ensures { CallsEndAlone fine fine_steps }
 {}
 
-/// Theorem: while no other thread holds a lock of an OptimisticList, a call that runs alone ends within `8N + 9` steps. It walks
-/// from the head at most once more, since validation fails only if another thread has changed what the walk read. (Solo
-/// termination, of Herlihy and Shavit's optimistic list.)
+/// Theorem: if no other thread holds a lock of an OptimisticList, a call that runs alone ends within `8N + 9` steps.
+/// The call starts again at most once, since validation fails only if another thread has changed what the call read.
+/// (Solo termination, of Herlihy and Shavit's optimistic list.)
 #[tactic(auto, using(crate::proofs::OptimisticProgress::optimistic_calls_end))]
 pub fn optimistic_calls_end_alone()
     ensures { CallsEndAlone optimistic optimistic_steps }
 {}
 
-/// Theorem: while no other thread holds a lock of a LazyList, a call that runs alone ends within `4N + 15` steps, even
-/// a `ceiling`. A thread that has marked a node holds its lock until the node is unlinked. (Solo termination, of Heller
-/// and others' lazy list.)
+/// Theorem: if no other thread holds a lock of a LazyList, a call that runs alone ends within `4N + 15` steps. This
+/// includes `ceiling`, which starts again at a marked node: a thread that has marked a node holds the node's lock until
+/// it has unlinked the node. (Solo termination, of Heller and others' lazy list.)
 #[tactic(auto, using(crate::proofs::LazyProgress::lazy_calls_end))]
 pub fn lazy_calls_end_alone()
     ensures { CallsEndAlone lazy lazy_steps }
 {}
 
-/// Theorem: a call of a LockFreeList that runs alone ends within `4N + 5` steps, whatever the other threads are about
-/// to do. For a `ceiling` this requires that no node of the chain is marked: a `ceiling` starts again at a marked node,
-/// and unlinks no node. (Obstruction freedom, by Herlihy, Luchangco and Moir; the list is Harris's and Michael's.)
+/// Theorem: a call of a LockFreeList that runs alone ends within `4N + 5` steps, in whatever state the other threads
+/// are. For a `ceiling`, the chain must not contain a marked node: a `ceiling` starts again at a marked node, and
+/// unlinks no node. (Obstruction freedom, by Herlihy, Luchangco and Moir; the list is Harris's and Michael's.)
 #[tactic(auto, using(crate::proofs::LockFreeProgress::lock_free_calls_end))]
 pub fn lock_free_calls_end_alone()
     ensures { CallsEndUnhindered lock_free lock_free_steps }
 {}
 
 /// Theorem: among any `n(2N + 2)(N + n) + n(4N + 5)` successive steps of `add` and `remove` by the n threads of a
-/// LockFreeList, one step ends its call. It does not matter which threads make the steps or what else happens in
-/// between. The same number holds for steps of `add`, `remove` and `contains`. (Lock freedom of Harris's and Michael's
-/// list, as Herlihy and Shavit define it.)
+/// LockFreeList, one ends its call, whichever threads make the steps and whatever else happens in between. The same is
+/// true of steps of `add`, `remove` and `contains`. (Lock freedom of Harris's and Michael's list, as Herlihy and Shavit
+/// define it.)
 #[tactic(auto, using(crate::proofs::LockFreedom::lock_free_is_lock_free))]
 pub fn lock_free_list_is_lock_free()
     ensures { IsLockFree lock_free lock_free_window }
@@ -92,130 +92,132 @@ pub fn a_lock_free_ceiling_may_never_end()
     ensures { SomeCeilingNeverEnds lock_free }
 {}
 
-/// Theorem: while a call of a CoarseList is pending, some thread can make a step that is not a failed attempt to take the lock.
+/// Theorem: if a call of a CoarseList is pending, some thread can make a step that is not a failed attempt to take the
+/// lock.
 #[tactic(auto, using(crate::proofs::CoarseProgress::coarse_gets_on))]
 pub fn some_coarse_call_gets_on()
     ensures { SomeThreadGetsOn coarse }
 {}
 
-/// Theorem: among any `n(2N + 3)(5n + 1)` successive steps of the n threads of a CoarseList that are not failed attempts to take
-/// the lock, one ends its call. (Freedom from livelock.)
+/// Theorem: among any `n(2N + 3)(5n + 1)` successive steps by the n threads of a CoarseList, if failed attempts to take
+/// the lock are not counted, one ends its call. (Freedom from livelock.)
 #[tactic(auto, using(crate::proofs::CoarseProgress::coarse_livelock_free))]
 pub fn coarse_list_is_livelock_free()
     ensures { IsLivelockFree each_call coarse (lock_window coarse_steps) }
 {}
 
-/// Theorem: in each infinite run of a CoarseList in which every thread with a pending call makes further steps,
-/// whenever a call is pending, some call ends later. (Freedom from deadlock, as Herlihy and Shavit define it.)
+/// Theorem: in a fair run of a CoarseList (every thread with a pending call makes another step later), whenever a call
+/// is pending, some call ends later. (Freedom from deadlock, as Herlihy and Shavit define it.)
 #[tactic(auto, using(crate::proofs::CoarseProgress::coarse_deadlock_free))]
 pub fn coarse_list_is_deadlock_free()
     ensures { IsDeadlockFree each_call coarse }
 {}
 
-/// Theorem: while a call of a FineList is pending, some thread can make a step that is not a failed attempt to take a lock.
-/// (Herlihy and Shavit's order of the nodes.)
+/// Theorem: if a call of a FineList is pending, some thread can make a step that is not a failed attempt to take a
+/// lock, since all threads lock nodes in the order of the list. (The order is Herlihy and Shavit's.)
 #[tactic(auto, using(crate::proofs::FineProgress::fine_gets_on))]
 pub fn some_fine_call_gets_on()
     ensures { SomeThreadGetsOn fine }
 {}
 
-/// Theorem: among any `n(4N + 3)(5n + 1)` successive steps of the n threads of a FineList that are not failed attempts to take a
-/// lock, one ends its call. (Freedom from livelock.)
+/// Theorem: among any `n(4N + 3)(5n + 1)` successive steps by the n threads of a FineList, if failed attempts to take a
+/// lock are not counted, one ends its call. (Freedom from livelock.)
 #[tactic(auto, using(crate::proofs::FineProgress::fine_livelock_free))]
 pub fn fine_list_is_livelock_free()
     ensures { IsLivelockFree each_call fine (lock_window fine_steps) }
 {}
 
-/// Theorem: in each infinite run of a FineList in which every thread with a pending call makes further steps, whenever
-/// a call is pending, some call ends later. (Freedom from deadlock, as Herlihy and Shavit define it.)
+/// Theorem: in a fair run of a FineList (every thread with a pending call makes another step later), whenever a call is
+/// pending, some call ends later. (Freedom from deadlock, as Herlihy and Shavit define it.)
 #[tactic(auto, using(crate::proofs::FineProgress::fine_deadlock_free))]
 pub fn fine_list_is_deadlock_free()
     ensures { IsDeadlockFree each_call fine }
 {}
 
-/// Theorem: while a call of an OptimisticList is pending, some thread can make a step that is not a failed attempt to take a
-/// lock. (Herlihy and Shavit's order of the nodes.)
+/// Theorem: if a call of an OptimisticList is pending, some thread can make a step that is not a failed attempt to take
+/// a lock, since all threads lock nodes in the order of the list. (The order is Herlihy and Shavit's.)
 #[tactic(auto, using(crate::proofs::OptimisticProgress::optimistic_gets_on))]
 pub fn some_optimistic_call_gets_on()
     ensures { SomeThreadGetsOn optimistic }
 {}
 
-/// Theorem: among any `n(8N + 9)(5n + 1)` successive steps of the n threads of an OptimisticList that are not failed attempts to
-/// take a lock, one ends its call. (Freedom from livelock.)
+/// Theorem: among any `n(8N + 9)(5n + 1)` successive steps by the n threads of an OptimisticList, if failed attempts to
+/// take a lock are not counted, one ends its call. (Freedom from livelock.)
 #[tactic(auto, using(crate::proofs::OptimisticProgress::optimistic_livelock_free))]
 pub fn optimistic_list_is_livelock_free()
     ensures { IsLivelockFree each_call optimistic (lock_window optimistic_steps) }
 {}
 
-/// Theorem: in each infinite run of an OptimisticList in which every thread with a pending call makes further steps,
-/// whenever a call is pending, some call ends later. (Freedom from deadlock, as Herlihy and Shavit define it.)
+/// Theorem: in a fair run of an OptimisticList (every thread with a pending call makes another step later), whenever a
+/// call is pending, some call ends later. (Freedom from deadlock, as Herlihy and Shavit define it.)
 #[tactic(auto, using(crate::proofs::OptimisticProgress::optimistic_deadlock_free))]
 pub fn optimistic_list_is_deadlock_free()
     ensures { IsDeadlockFree each_call optimistic }
 {}
 
-/// Theorem: while a call of a LazyList is pending, some thread can make a step that is not a failed attempt to take a lock.
-/// (Herlihy and Shavit's order of the nodes.)
+/// Theorem: if a call of a LazyList is pending, some thread can make a step that is not a failed attempt to take a
+/// lock, since all threads lock nodes in the order of the list. (The order is Herlihy and Shavit's.)
 #[tactic(auto, using(crate::proofs::LazyProgress::lazy_gets_on))]
 pub fn some_lazy_call_gets_on()
     ensures { SomeThreadGetsOn lazy }
 {}
 
-/// Theorem: among any `n(4N + 15)(5n + 1)` successive steps of `add` and `remove` by the n threads of a LazyList that
-/// are not failed attempts to take a lock, one ends its call, whatever else happens in between. The same number holds
-/// for steps of `add`, `remove` and `contains`. (Freedom from livelock.)
+/// Theorem: among any `n(4N + 15)(5n + 1)` successive steps of `add` and `remove` by the n threads of a LazyList, if
+/// failed attempts to take a lock are not counted, one ends its call, whatever else happens in between. The same is
+/// true of steps of `add`, `remove` and `contains`. (Freedom from livelock.)
 pub fn lazy_list_is_livelock_free()
     ensures { (reads : Bool) → IsLivelockFree (counted reads) lazy (lock_window lazy_steps) }
 {}
 
-/// Theorem: in each infinite run of a LazyList in which every thread with a pending call makes further steps, whenever
-/// a call is pending, some call ends later. If an `add` or a `remove` is pending, an `add` or a `remove` ends. If an
-/// `add`, `remove` or `contains` is pending, one of these three ends. (Freedom from deadlock, as Herlihy and Shavit
-/// define it.)
+/// Theorem: in a fair run of a LazyList (every thread with a pending call makes another step later), whenever a call is
+/// pending, some call ends later. If an `add` or a `remove` is pending, an `add` or a `remove` ends. If an `add`,
+/// `remove` or `contains` is pending, one of these three ends. (Freedom from deadlock, as Herlihy and Shavit define
+/// it.)
 #[tactic(auto, using(crate::proofs::CeilingEnds::all_deadlock_free, crate::proofs::LazyProgress::lazy_deadlock_free))]
 pub fn lazy_list_is_deadlock_free()
     ensures all { IsDeadlockFree each_call lazy }
     ensures counted { (reads : Bool) → IsDeadlockFree (counted reads) lazy }
 {}
 
-/// Lemma: the law of `lock_free_calls_end_alone` rejects a LockFreeList whose walk repeats a failed attempt to unlink a
-/// marked node instead of starting again from the head.
+/// Lemma: the law of `lock_free_calls_end_alone` is false for a broken LockFreeList. After a failed attempt to unlink a
+/// marked node, its walk repeats the attempt instead of starting again from the head.
 #[tactic(auto, using(crate::proofs::WrongMachines::spinning_is_refused))]
 pub fn a_spinning_walk_is_refused()
     ensures { NoCallsEndUnhindered spinning }
 {}
 
-/// Lemma: the law of `lock_free_list_is_lock_free` rejects a LockFreeList whose walk repeats a failed attempt to unlink
-/// a marked node, whether or not steps of `contains` count.
+/// Lemma: the law of `lock_free_list_is_lock_free` is false for a broken LockFreeList whose walk repeats a failed
+/// attempt to unlink a marked node. This is so with and without the steps of `contains`.
 #[tactic(auto, using(crate::proofs::WrongMachines::spinning_is_not_lock_free))]
 pub fn a_spinning_walk_is_not_lock_free()
     ensures { NotLockFree spinning }
 {}
 
-/// Lemma: the law of `lock_free_list_is_lock_free` rejects a LockFreeList in which two calls of `add` can hinder each
-/// other forever. Each writes its number next to where its node belongs, and continues only if it then reads its own
-/// number there.
+/// Lemma: the law of `lock_free_list_is_lock_free` is false for a broken LockFreeList in which two calls of `add` can
+/// hinder each other forever. Before an `add` links its node, it writes its thread's number into the lock word of the
+/// node before, and continues only if it then reads its own number in this word.
 #[tactic(auto, using(crate::proofs::Livelock::claiming_is_not_lock_free))]
 pub fn two_that_claim_a_place_are_not_lock_free()
     ensures { NotLockFree claiming }
 {}
 
-/// Lemma: the law of `optimistic_calls_end_alone` rejects an OptimisticList that keeps a lock if its validation fails.
+/// Lemma: the law of `optimistic_calls_end_alone` is false for a broken OptimisticList that keeps a lock after a failed
+/// validation.
 #[tactic(auto, using(crate::proofs::WrongMachines::keeping_is_refused))]
 pub fn a_kept_lock_is_refused()
     ensures { NoCallsEndAlone keeping }
 {}
 
-/// Lemma: the law of `some_lazy_call_gets_on` rejects a LazyList whose `remove` takes its two locks in the opposite
-/// order.
+/// Lemma: the law of `some_lazy_call_gets_on` is false for a broken LazyList whose `remove` takes its two locks in the
+/// opposite order.
 #[tactic(auto, using(crate::proofs::WrongMachines::crossed_is_refused))]
 pub fn crossed_locks_are_refused()
     ensures { SomeThreadGetsOn crossed → ⊥ }
 {}
 
-/// Lemma: the laws of freedom from livelock and from deadlock reject a LazyList whose `remove` takes its two locks in
-/// the opposite order, and in which a thread that finds its second lock taken releases the first and starts again. In a
-/// fair run, two threads can repeat this forever.
+/// Lemma: freedom from livelock and freedom from deadlock are false for a broken LazyList whose `remove` takes its two
+/// locks in the opposite order, and in which a thread that finds its second lock taken releases the first and starts
+/// again. In a fair run, two threads can repeat this forever.
 pub fn two_that_yield_are_not_deadlock_free()
     ensures bounded { (reads : Bool) → NotLivelockFree (counted reads) yielding }
     ensures fair { (reads : Bool) → IsDeadlockFree (counted reads) yielding → ⊥ }

@@ -1,4 +1,4 @@
--- How many fields the lines of each kind have.
+-- How many fields the lines of each kind have. A line with another number of fields is refused.
 use Rattle.std.proofs.Common.{◌≡◌, ℕ, ◌<◌, ◌&&◌, Bool, true, false, cond, List, [], ◌∷◌, length, Result, Err, refl, ap, ◌∙◌, arith, codes}
 use Rattle.std.specs.Str.{bytes_eq}
 use Rattle.std.proofs.lemmas.Bool.{and_right}
@@ -17,7 +17,7 @@ many_pieces : (s : Section) (a b c : List ℕ) (more : List (List ℕ)) → firs
 many_pieces section.Title a b c more = refl
 many_pieces s a b c more = refl
 
--- Case distinction: whether the line's first field is `call`.
+-- Proof by cases: the first field of the line is `call`, or it is not.
 call_word : (w : Bool) (a b c : List ℕ) (more : List (List ℕ)) → bytes_eq a (codes "call") ≡ w
     → first_of One wrong.Line call_kinds (a ∷ b ∷ c ∷ more)
     ≡ cond w (first_of One wrong.Line call_kinds (codes "call" ∷ b ∷ c ∷ more)) (Err wrong.Line)
@@ -49,7 +49,6 @@ call_pieces s a b (c ∷ more) some =
     ∙ guarded (takes_calls s) (bytes_eq a (codes "call")) (first_of One wrong.Line call_kinds (a ∷ b ∷ c ∷ more))
     (first_of One wrong.Line call_kinds (codes "call" ∷ b ∷ c ∷ more)) wrong.Line (call_word (bytes_eq a (codes "call")) a b c more refl)
 
--- A line with more than seven fields is not the line of a call.
 pub call_many : (a b c d e f g : List ℕ) (more : List (List ℕ)) → 0 < length more
     → first_of One wrong.Line call_kinds (a ∷ b ∷ c ∷ d ∷ e ∷ f ∷ g ∷ more) ≡ Err wrong.Line
 call_many a b c d e f g more some =

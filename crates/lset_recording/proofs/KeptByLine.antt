@@ -1,4 +1,4 @@
--- Proof: the reader's state stays correct from line to line.
+-- Proof that the reader's state stays right from line to line.
 use Rattle.std.proofs.Common.{◌≡◌, ℕ, ◌+◌, ◌-◌, ◌<◌, ◌^◌, true, List, [], ◌∷◌, ◌++◌, length, min, Option, Some, None, refl, sym, ap, subst, ◌∙◌}
 use Rattle.std.proofs.Common.{arith}
 use Rattle.std.specs.Prelude.{nat_lt, slice_get}
@@ -48,7 +48,7 @@ no_calls : (opening more : List ℕ) (calls : List CallRecord) (o : Option Judge
 no_calls opening more calls None none kept = kept
 no_calls opening more calls (Some s) none kept = absurd cc
 
--- An opening key extends a text that has only opening keys so far: the keys stay increasing, and there is no judge yet.
+-- If an opening key can come next, the opening keys still increase with it, and the reader has no judge yet.
 pub opening_parts : (s : SoFar) (k : ℕ) (j : Judging) → IsJudging s j → Comes s.section (told.Opening k) → k < 2 ^ 32
     → is_above j.opening.items k ≡ true
     → (is_above s.told.opening k ≡ true) × AreKeys (s.told.opening ++ k ∷ [])

@@ -1,4 +1,4 @@
--- The lines of each kind, and what they say.
+-- Proof that a line and what it says determine each other, for each kind of line in a recording.
 use Rattle.std.proofs.Common.{◌≡◌, subst, ℕ, ◌<◌, ◌≤◌, ◌^◌, Bool, true, false, Result, length, List, [], ◌∷◌, Option, Some, None, Ok, Err, refl, arith, codes, cond}
 use Rattle.std.specs.Prelude.{IfSome, nat_lt}
 use Rattle.std.specs.Fmt.{decimal}
@@ -31,7 +31,7 @@ use Rattle.lset_recording.specs.Texts.{end_pieces, call_pieces, title}
 use Rattle.lset_recording.specs.Reading.{kinds, from_calls, opening_kind, open_kind, true_kind, false_kind, key_kind, end_kind, cut_kind}
 use Rattle.lset_recording.specs.Reading.{Comes, IsFormed, line_told, line_behind_title}
 
--- Returns the fields of a line.
+-- Returns the fields of the line that says this.
 abbrev pub line_pieces : Line → List (List ℕ)
 line_pieces told.Title = title ∷ []
 line_pieces (told.Opening k) = codes "opening" ∷ decimal k ∷ []
@@ -43,7 +43,7 @@ line_pieces told.Cut = codes "cut" ∷ []
 abbrev pub IsMoment : ℕ → Type 0
 IsMoment m = (1 ≤ m) × (m ≤ LAST_MOMENT)
 
--- The numbers and words of a call's line are valid.
+-- States that the numbers of a call are in range for a recording, and that the call is no `ceiling`.
 pub record IsNumbered (x : StreamCall) : Type 0 where
   pub thread : x.thread < 2 ^ 32
   pub key : (key_of x.call).0 < 2 ^ 32
@@ -153,7 +153,6 @@ pub line_found_in : (s : Section) (line : List ℕ) (l : Line) → line_told s l
 line_found_in section.Title line l is = titled (bytes_eq line title) line l refl is
 line_found_in s line l is = behind_title s line l is
 
--- A line of the section of calls contains no newline.
 pub line_lacks : (line : List ℕ) (l : Line) → line_told section.Calls line ≡ Ok l → Lacks 10 line
 line_lacks line l is =
     line_found_lacks One wrong.Line line_pieces (IsLineIn section.Calls) (kinds section.Calls) line l (kinds_known section.Calls)

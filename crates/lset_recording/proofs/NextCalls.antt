@@ -1,4 +1,4 @@
--- A call can follow the earlier calls of a history if and only if it can come next in the judge's stream.
+-- A call can follow the earlier calls of a history if and only if the judge accepts it after these calls.
 use Rattle.std.proofs.Common.{◌≡◌, ℕ, ◌+◌, ◌<◌, ◌≤◌, inl, inr, true, Result, Ok, Err, List, [], ◌∷◌, ◌++◌, length, Option, Some, None, sym, ap, subst}
 use Rattle.std.proofs.Common.{arith, length-append}
 use Rattle.std.specs.Prelude.{IfSome, IfOk}
@@ -35,7 +35,7 @@ may_come calls moment pending are latest x before plain follows =
 
 -- ---- Lemmas about the judge of the calls so far
 
--- After one more call, the judge has advanced to the moment at which this call begins.
+-- When the judge has accepted a call, it has advanced to the begin of this call.
 pub one_more : (opening : List ℕ) (calls : List CallRecord) (x : CallRecord) (s t : Judge) → IsJudgeKept opening calls (Some s)
     → (x.thread < all_threads → IsJudgeOf all_threads opening calls s → IsJudgeOf all_threads opening (calls ++ x ∷ []) t)
     → x.thread < all_threads → moment_of t.stream ≡ x.begun
@@ -53,7 +53,7 @@ one_more opening calls x s t kept added of_thread at =
         let low = begun_after calls (moment_of s.stream) kept.1 x follows in
         omega (arith, long, so_far, low, at)
 
--- A judge that has just been created has judged no calls.
+-- A new judge has judged no calls.
 pub opened : {E : Type 0} (opening : List ℕ) (o : Option Judge) (r : Result Judge E) → o ≡ None
     → IfOk r (λ s. (threads : ℕ) → IsJudgeOf threads opening [] s) → IfOk r (λ s. moment_of s.stream ≡ 0)
     → IfOk r (λ s. (calls : List CallRecord) → IsJudgeKept opening calls o → IsJudgeKept opening calls (Some s))

@@ -1,4 +1,4 @@
--- Reading a text byte by byte and line by line.
+-- How the reader's state changes with the bytes and the lines of a text.
 use Rattle.std.proofs.Common.{◌≡◌, ◌≢◌, ℕ, zero, suc, ◌+◌, ◌<◌, ◌≤◌, inl, inr, Bool, true, false, eqb, List, [], ◌∷◌, ◌++◌, length, refl, sym, ap, subst, ◌∙◌}
 use Rattle.std.proofs.Common.{append_assoc, append-nil, arith, length-append, Result, Ok, Err, cond}
 use Rattle.std.specs.Prelude.{◌==◌, IfOk, IfErr, Option, Some, None}
@@ -45,7 +45,6 @@ reads_last : (n : ℕ) (s : SoFar) (line : List ℕ) (parts : List (List ℕ)) (
 reads_last n s line [] cause some refused = absurd (omega arith)
 reads_last n s line (y ∷ ys) cause some refused = inr (cause, refused, refl)
 
--- A line that has too many bytes is refused.
 pub too_long : (s : SoFar) (line : List ℕ) → LONGEST_LINE < length line → IsRefused s line (cause_if_long s.section)
 too_long s line many = inl (by s.section)
   where
@@ -74,7 +73,6 @@ no_newlines (b ∷ bs) lacks =
     let others = no_newlines bs lacks.1 in
     omega (arith, cons, here, others)
 
--- A newline in a piece ends one of the piece's lines.
 pub line_of_piece : (bytes done line more : List ℕ) (n : ℕ) → n ≡ first_line + newlines (bytes ++ done)
     → IsLineOf bytes (done ++ (line ++ 10 ∷ more)) n
 line_of_piece bytes done line more n at =
@@ -87,7 +85,8 @@ line_of_piece bytes done line more n at =
 
 -- ---- Lemmas about the bytes read so far
 
--- The reader's position in a text: what the complete lines say, and the stored bytes of the next line.
+-- States where the reader is in a text: the complete lines have led to state `s`, and `held` are the bytes of the next
+-- line.
 pub record StandsAt (bytes held : List ℕ) (n : ℕ) (s : SoFar) : Type 0 where
   pub lacks : Lacks 10 held
   pub goes : (more : List ℕ) (read : Result Recording LineFault) → Reads n s (cut_at 10 (held ++ more)) read → Says (bytes ++ more) read
@@ -109,7 +108,6 @@ read_at bytes held s r at judging line sound = record {
   sound = sound;
 }
 
--- More bytes of the same line are added to the stored bytes.
 pub held_more : (bytes held more : List ℕ) (n : ℕ) (s : SoFar) → StandsAt bytes held n s → Lacks 10 more
     → StandsAt (bytes ++ more) (held ++ more) n s
 held_more bytes held more n s at lacks = record {
@@ -131,7 +129,6 @@ module _ (bytes held : List ℕ) (n : ℕ) (s : SoFar) (at : StandsAt bytes held
       subst (λ (t : List ℕ). Says t read) (sym (append_assoc bytes (10 ∷ []) more))
       (at.goes (10 ∷ more) read (subst (λ (ps : List (List ℕ)). Reads n s ps read) (sym (line_and held more at.lacks)) h))
 
-  -- If the line is accepted, the reader continues with the next line.
   line_taken : (t : SoFar) → IsTaken s held t → StandsAt (bytes ++ 10 ∷ []) [] (n + 1) t
   line_taken t taken = record {
     lacks = All-nil (λ b. eqb b 10 ≡ false);
@@ -143,7 +140,6 @@ module _ (bytes held : List ℕ) (n : ℕ) (s : SoFar) (at : StandsAt bytes held
         omega (arith, and, one, was);
   }
 
-  -- If the line is refused, the text has this error.
   pub line_refused : (cause : Cause) → IsRefused s held cause → (more : List ℕ)
       → Says ((bytes ++ 10 ∷ []) ++ more) (Err (fault n cause))
   line_refused cause refused more =
@@ -155,7 +151,6 @@ module _ (bytes held : List ℕ) (n : ℕ) (s : SoFar) (at : StandsAt bytes held
       read_at (bytes ++ 10 ∷ []) [] t q (subst (λ (m : ℕ). StandsAt (bytes ++ 10 ∷ []) [] m t) (sym next) (line_taken t taken)) judging
       (subst (IsHeld [] q.line.items) (sym short) (sym none)) sound
 
-  -- If the text ends here, its result is `ending`.
   pub at_end : (read : Result Recording LineFault) → read ≡ ending n s held → Says bytes read
   at_end read ends =
       subst (λ (t : List ℕ). Says t read) (append-nil bytes)
@@ -163,7 +158,7 @@ module _ (bytes held : List ℕ) (n : ℕ) (s : SoFar) (at : StandsAt bytes held
       (subst (λ (ps : List (List ℕ)). Reads n s ps read)
       (sym (ap (cut_at 10) (append-nil held) ∙ slice_split_none (λ b. eqb b 10) held at.lacks)) ends))
 
--- Bytes are stored, or dropped if the line is too long to be stored.
+-- The bytes of an incomplete line are stored, or the line is noted as too long.
 pub held_on : (long : Bool) (held kept new more : List ℕ) → IsHeld held kept long → new ≡ kept ++ more → IsHeld (held ++ more) new long
 held_on true held kept new more is now = omega (arith, is, length-append held more)
 held_on false held kept new more is now = ap (λ (t : List ℕ). t ++ more) is ∙ sym now
@@ -186,11 +181,11 @@ whole_line bytes line r is lacks short none =
 
 -- ---- Lemmas about the line of a completed call within a piece
 
--- The line tells this call in each section that allows calls.
+-- States that the line has this call, in each section that allows calls.
 abbrev pub Tells : List ℕ → StreamCall → Type 0
 Tells line x = (p : Section) → takes_calls p ≡ true → line_told p line ≡ Ok (told.Call x)
 
--- After the line, the section allows calls.
+-- After a line with a call, the reader is at the beginning of a line, in a section that allows calls.
 pub call_read : (bytes line : List ℕ) (r q : RecordingReader) (x : StreamCall) → IsRead bytes r → r.line.items ≡ [] → r.is_long ≡ false
     → takes_calls r.judging.section ≡ true → Tells line x
     → ((s : SoFar) → IsJudging s r.judging → Comes s.section (told.Call x) → GoesOn s.told (told.Call x)
@@ -218,7 +213,6 @@ call_refused bytes line r x cause is none short takes tells put more =
     line_refused (bytes ++ line) line r.judging.number s (whole_line bytes line r is lacks short none) cause
     (inr (told.Call x, tells_here, put.1 s is.judging, put.0)) more
 
--- The line of an error in the rest of a piece is a line of the piece.
 pub line_of_rest : (bytes done rest : List ℕ) (n : ℕ) → IsLineOf (bytes ++ done) rest n → IsLineOf bytes (done ++ rest) n
 line_of_rest bytes done rest n is =
     let before = newlines_and bytes done in
@@ -267,7 +261,7 @@ module _ (r : RecordingReader) where
 
 -- ---- Lemmas about the lines within a piece
 
--- If a text has an error, it has the same error whatever bytes follow.
+-- If a text has an error in its first lines, it has the same error however it continues.
 pub refused_on : (bytes done line more : List ℕ) (e : LineFault) → IsRefusedAt (bytes ++ done ++ line ++ 10 ∷ []) e
     → IsRefusedAt (bytes ++ (done ++ (line ++ 10 ∷ more))) e
 refused_on bytes done line more e refused other rest =

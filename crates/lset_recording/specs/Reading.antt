@@ -1,4 +1,4 @@
--- Reading a recording line by line. The result is the recording, or the first error.
+-- How the text of a recording is read, line by line. The result is the recording, or the first error.
 use Rattle.std.specs.Prelude.{◌≡◌, ℕ, ◌+◌, ◌<◌, ◌^◌, nat_lt, Bool, true, false, List, [], ◌∷◌, ◌++◌, length, codes, Option, Some, None, ◌⊎◌, IfSome}
 use Rattle.std.specs.Prelude.{Result, Ok, Err, if◌then◌else◌}
 use Rattle.std.specs.Str.{bytes_eq}
@@ -39,11 +39,11 @@ opening_kind = (opening_form, λ t. told.Opening t.1.0)
 abbrev pub moment : Piece
 moment = piece.number 1 LAST_MOMENT
 
--- The mark in place of a missing end or reply.
+-- The field `-`, in place of the end or reply that a pending call does not have.
 abbrev pub none : Piece
 none = piece.word dash
 
--- Returns the line of a call with this end, given the values of its thread, name, key and begin.
+-- Returns the value of a line that has a call: `t` has the thread, name, key and begin of the call, `end` its end.
 abbrev pub call_told : {X : Type 0} → ℕ × (CallWord × (ℕ × (ℕ × X))) → Option (ℕ × Reply) → RecordingLine
 call_told t end = told.Call (record {
   thread = t.0;
@@ -52,11 +52,11 @@ call_told t end = told.Call (record {
   ended = end;
 })
 
--- Returns the form of a call's line, given the form of its end.
+-- Returns the form of a line that has a call. `end` is the form of the last fields, for the call's end and reply.
 abbrev pub call_form : Form → Form
 call_form end = piece.word (codes "call") ∷ piece.any ∷ piece.call ∷ piece.any ∷ moment ∷ end
 
--- The lines of a pending call, of a call that returned true, and of a call that returned false.
+-- The line of a pending call. `true_kind` and `false_kind` are the lines of a call that returned true or false.
 abbrev pub open_kind : LineKind RecordingLine
 open_kind = (call_form (none ∷ none ∷ []), λ t. call_told t.1 None)
 
@@ -75,7 +75,8 @@ end_kind = (piece.word (codes "end") ∷ [], λ t. told.End)
 abbrev pub cut_kind : LineKind RecordingLine
 cut_kind = (piece.word (codes "cut") ∷ [], λ t. told.Cut)
 
--- Sections have a fixed order, and each can be missing. A recording that was cut off has no final keys.
+-- The kinds of lines that can still come when the final keys have begun (`from_keys`) and when the calls have begun
+-- (`from_calls`). Sections have a fixed order, and each can be empty. A recording that was cut off has no final keys.
 abbrev pub from_keys : List (LineKind RecordingLine)
 from_keys = key_kind ∷ end_kind ∷ []
 
@@ -85,7 +86,7 @@ call_kinds = open_kind ∷ true_kind ∷ false_kind ∷ []
 abbrev pub from_calls : List (LineKind RecordingLine)
 from_calls = call_kinds ++ cut_kind ∷ from_keys
 
--- Returns the kinds of lines allowed in a section after the title.
+-- Returns the kinds of lines that can come next if the reader is in this section.
 abbrev pub kinds : Section → List (LineKind RecordingLine)
 kinds section.Title = []
 kinds section.Opening = opening_kind ∷ from_calls
@@ -100,19 +101,19 @@ is_title section.Calls = false
 is_title section.Keys = false
 is_title section.Done = false
 
--- Reads the first line, which must be the title.
+-- Reads the first line of a recording, which must be the title.
 abbrev pub title_told : List ℕ → Result RecordingLine Cause
 title_told line = if bytes_eq line title then Ok told.Title else Err wrong.Header
 
--- Reads any later line. A line with too many bytes is an error.
+-- Reads a line after the title, in section `s`. A line with more than `LONGEST_LINE` bytes is refused.
 abbrev pub line_behind_title : Section → List ℕ → Result RecordingLine Cause
 line_behind_title s line = if nat_lt LONGEST_LINE (length line) then Err wrong.Line else line_in One wrong.Line (kinds s) line
 
--- Reads a line in a section.
+-- Reads a line, if the reader is in section `s`.
 abbrev pub line_told : Section → List ℕ → Result RecordingLine Cause
 line_told s line = if is_title s then title_told line else line_behind_title s line
 
--- Returns the cause of the error if a line has too many bytes.
+-- Returns the cause of the error if a line in this section has too many bytes.
 abbrev pub cause_if_long : Section → Cause
 cause_if_long s = if is_title s then wrong.Header else wrong.Line
 
@@ -134,7 +135,7 @@ with_line c (told.Key k) = record c { keys = c.keys ++ k ∷ [] }
 with_line c told.End = c
 with_line c told.Cut = record c { cut_off = true }
 
--- What the lines read so far say: the current section, and the recording up to here.
+-- What the reader knows after some lines: the section that it is in, and the recording up to here.
 pub record SoFar : Type 0 where
   pub section : Section
   pub told : Recording
@@ -148,8 +149,8 @@ nothing_told = record {
   told = record { opening = []; calls = []; keys = []; cut_off = false };
 }
 
--- States that a line can follow the lines before it: keys increase, and calls form a history, in the order in which
--- they began.
+-- States that a line agrees with the recording so far: keys must increase, and the calls must form a history, in the
+-- order in which they began.
 abbrev pub GoesOn : Recording → RecordingLine → Type 0
 GoesOn c told.Title = Unit {0}
 GoesOn c (told.Opening k) = is_above c.opening k ≡ true
@@ -158,13 +159,13 @@ GoesOn c (told.Key k) = is_above c.keys k ≡ true
 GoesOn c told.End = Unit {0}
 GoesOn c told.Cut = Unit {0}
 
--- Returns the cause of the error if a line cannot follow.
+-- Returns the cause of the error if a line does not agree with the recording so far.
 abbrev pub cause_of : RecordingLine → Cause
 cause_of (told.Call x) = wrong.History
 cause_of l = wrong.Opening
 
--- States that the keys of opening and key lines, and the threads and moments of calls, are in range, and that a call
--- that ended is no `ceiling` and returned true or false.
+-- States that a line's numbers are in range, and that its call, if completed, is no `ceiling` and returned true or
+-- false.
 abbrev pub IsFormed : RecordingLine → Type 0
 IsFormed told.Title = Unit {0}
 IsFormed (told.Opening k) = k < 2 ^ 32
@@ -174,7 +175,7 @@ IsFormed (told.Key k) = k < 2 ^ 32
 IsFormed told.End = Unit {0}
 IsFormed told.Cut = Unit {0}
 
--- States that this line is allowed in a section.
+-- States that a line of this kind can come next if the reader is in this section.
 abbrev pub Comes : Section → RecordingLine → Type 0
 Comes section.Title told.Title = Unit {0}
 Comes section.Title l = ⊥
@@ -188,18 +189,18 @@ Comes section.Keys told.End = Unit {0}
 Comes section.Keys l = ⊥
 Comes section.Done l = ⊥
 
--- States that a line is accepted, and that the lines then say `t`.
+-- States that the reader accepts a line in state `s`, and is in state `t` after it.
 abbrev pub IsTaken : SoFar → List ℕ → SoFar → Type 0
 IsTaken s line t = (l : RecordingLine) × (line_told s.section line ≡ Ok l) × GoesOn s.told l × (t ≡ with_told s l)
 
--- States that a line is refused with this cause.
+-- States that the reader refuses a line in state `s` with this cause.
 abbrev pub IsRefused : SoFar → List ℕ → Cause → Type 0
 IsRefused s line cause = (line_told s.section line ≡ Err cause)
     ⊎ ((l : RecordingLine) × (line_told s.section line ≡ Ok l) × (GoesOn s.told l → ⊥) × (cause ≡ cause_of l))
 
 -- ---- Reading whole texts
 
--- Returns whether a text can end here: its last line was `end` or `cut`.
+-- Returns whether the text can end here, after a line `end` or `cut`.
 abbrev pub is_done : Section → Bool
 is_done section.Title = false
 is_done section.Opening = false
@@ -207,18 +208,18 @@ is_done section.Calls = false
 is_done section.Keys = false
 is_done section.Done = true
 
--- Returns the cause of the error if the text ends in this section.
+-- Returns the cause of the error if the text ends after a line and the reader is in this section.
 abbrev pub cause_at_end : Section → Cause
 cause_at_end s = if is_title s then wrong.Header else wrong.NotEnded
 
--- Returns the result if the text ends here, with these bytes after its last newline.
+-- Returns the result if the text ends here. The last argument has the bytes after the last newline, and must be empty.
 abbrev pub ending : ℕ → SoFar → List ℕ → Result Recording LineFault
 ending line s [] = if is_done s.section then Ok s.told else Err (fault line (cause_at_end s.section))
 ending line s (b ∷ bs) = Err (fault line wrong.NotEnded)
 
--- Reads the parts of a text: its complete lines, then the bytes after the last newline. `line` is the number of the
--- first part, and `s` is what the lines above say. Either every line is accepted, or the first refused line is the
--- error.
+-- States that reading the rest of a text has the result `read`. The rest is given by its complete lines and, as the
+-- last part, the bytes after the last newline. `line` is the number of the first of these lines, and `s` is the
+-- reader's state before it. Either every line is accepted, or the first refused line is the error.
 abbrev pub Reads : ℕ → SoFar → List (List ℕ) → Result Recording LineFault → Type 0
 Reads line s [] read = ⊥
 Reads line s (rest ∷ []) read = read ≡ ending line s rest
@@ -226,24 +227,24 @@ Reads line s (x ∷ y ∷ more) read =
     ((next : SoFar) × IsTaken s x next × Reads (line + 1) next (y ∷ more) read)
     ⊎ ((cause : Cause) × IsRefused s x cause × (read ≡ Err (fault line cause)))
 
--- The number of the first line.
+-- The number of a text's first line.
 abbrev pub first_line : ℕ
 first_line = 1
 
--- Reads bytes as a recording. The result is the recording, or the first error.
+-- States that reading these bytes as a recording has the result `read`: the recording, or the first error.
 abbrev pub Says : List ℕ → Result Recording LineFault → Type 0
 Says bytes read = Reads first_line nothing_told (cut_at 10 bytes) read
 
--- States that if bytes are read as a recording, they are the text of this recording.
+-- States that a recording has only one text: if bytes are read as a recording, they are the text of this recording.
 abbrev pub RecordingsAreRead : Type 0
 RecordingsAreRead = (bytes : List ℕ) (c : Recording) → Says bytes (Ok c) → bytes ≡ recording_text c
 
--- States that the verdict on a whole recording is correct or, for `true`, the verdict on a recording that was cut off.
+-- States that the verdict is right for a whole recording or, if the flag is true, for a recording that was cut off.
 abbrev pub IsVerdictIf : Bool → Recording → Verdict → Type 0
 IsVerdictIf true c verdict = IsVerdictCutOff all_threads c.opening c.calls verdict
 IsVerdictIf false c verdict = IsVerdict all_threads c.opening c.calls c.keys verdict
 
--- States that the verdict on a recording is correct.
+-- States that the verdict on a recording is right. If the recording was cut off, its final keys are unknown.
 abbrev pub IsVerdictOnRecording : Recording → Verdict → Type 0
 IsVerdictOnRecording c verdict = IsVerdictIf c.cut_off c verdict
 
@@ -263,7 +264,7 @@ takes_calls section.Calls = true
 takes_calls section.Keys = false
 takes_calls section.Done = false
 
--- Returns whether final keys or the end of the text are allowed in a section.
+-- Returns whether a final key or the end of the text can come next if the reader is in this section.
 abbrev pub takes_keys : Section → Bool
 takes_keys section.Title = false
 takes_keys section.Opening = true

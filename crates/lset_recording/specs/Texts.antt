@@ -1,4 +1,4 @@
--- [Recording] and its text: the calls of a set, in the order in which they began.
+-- [Recording] and its text: the calls that threads made to a set, in the order in which they began.
 use Rattle.std.specs.Prelude.{ℕ, ◌^◌, Bool, if◌then◌else◌, List, [], ◌∷◌, ◌++◌, map, codes, Option, Some, None, All}
 use Rattle.std.specs.Fmt.{decimal}
 use Rattle.std.specs.List.Sorted.{IsStrictlyIncreasing}
@@ -14,19 +14,19 @@ use Rattle.lset_judge.specs.Verdict.{IsPlain}
 use Rattle.lset_judge.specs.Stream.{IsBefore}
 
 pub record Recording : Type 0 where
-  -- The opening keys. The calls and the final keys follow.
+  -- The opening keys. The calls follow, then the keys of the set after all calls.
   pub opening : List ℕ
   pub calls : List CallRecord
   pub keys : List ℕ
   -- Whether the recording was cut off, so that its final keys are unknown.
   pub cut_off : Bool
 
--- The number of possible threads. Threads are numbers below 2^32.
+-- The number of possible threads. A thread is any number below 2^32.
 abbrev pub all_threads : ℕ
 all_threads = 2 ^ 32
 
--- A recording: its opening keys and its final keys increase. Its calls are a history with moments below 2^63, and each
--- call that ended is no `ceiling` and returned true or false.
+-- States what a recording must satisfy: the opening keys and the final keys increase strictly, the calls are a history
+-- with moments below 2^63, and each completed call is no `ceiling` and returned true or false.
 pub record IsRecording (c : Recording) : Type 0 where
   pub opening : IsStrictlyIncreasing c.opening
   pub calls : IsHistory all_threads c.calls
@@ -36,15 +36,15 @@ pub record IsRecording (c : Recording) : Type 0 where
 
 -- ---- The text of a recording
 
--- The first line of the text.
+-- The first line of the text of a recording.
 abbrev pub title : List ℕ
 title = codes "listset-calls 1"
 
--- The mark in place of a missing end or reply.
+-- The field `-`, in place of the end or reply that a pending call does not have.
 abbrev pub dash : List ℕ
 dash = codes "-"
 
--- Returns the fields with the end and the reply of a call. A pending call has two marks instead.
+-- Returns the fields for the end and the reply of a call. A pending call has `-` twice.
 abbrev pub end_pieces : Option (ℕ × Reply) → List (List ℕ)
 end_pieces None = dash ∷ dash ∷ []
 end_pieces (Some end) = decimal end.0 ∷ reply_text end.1 ∷ []
@@ -58,13 +58,13 @@ call_line x = line_of (call_pieces x)
 abbrev pub key_line : ℕ → List ℕ
 key_line key = number_line (codes "key") key
 
--- Returns the last line of the text.
+-- Returns the last line of the text, `cut` if the recording was cut off.
 abbrev pub end_line : Bool → List ℕ
 end_line cut_off = if cut_off then codes "cut" else codes "end"
 
 abbrev pub lines : Recording → List (List ℕ)
 lines c = title ∷ opening_lines c.opening ++ map call_line c.calls ++ map key_line c.keys ++ end_line c.cut_off ∷ []
 
--- [Recording text]: the lines of a recording, each with a newline.
+-- [Recording text]: the lines of a recording, each followed by a newline.
 abbrev pub recording_text : Recording → List ℕ
 recording_text c = text_of (lines c)

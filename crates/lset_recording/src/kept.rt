@@ -4,18 +4,18 @@ use crate::recording_lines::Section;
 use lset_judge::Judge;
 use std::alloc::Global;
 
-/// The state of a reader after some lines.
+/// What a reader knows after some lines of a recording.
 #[derive(Drop)]
 pub(crate) struct Judging {
     pub(crate) alloc: Global,
     pub(crate) section: Section,
     pub(crate) opening: Vec<u32>,
-    // The judge of the calls. None before the first call.
+    // The judge of the calls, or `None` before the first call.
     pub(crate) judge: Option<Judge>,
     pub(crate) calls: u64,
     pub(crate) keys: Vec<u32>,
     pub(crate) cut_off: bool,
-    // The number of the next line.
+    // The number of the line that comes next.
     pub(crate) number: u64,
     ghost opens: { IsStrictlyIncreasing opening.items },
     ghost left: { IsStrictlyIncreasing keys.items },

@@ -1,5 +1,6 @@
-//! A fast path for the lines of completed calls, which are most lines of a long recording. It reads such a line in one
-//! pass. For any other line, and for an error, the result is `None`, and the line is read in the general way.
+//! A fast path for the lines of completed calls, which are most lines of a long recording. Each function reads such a
+//! line in one pass. For any other line, right or wrong, the result is `None`, and the caller reads the line in the
+//! general way.
 
 ghost use Rattle.std.specs.Prelude.{◌≡◌, ◌≤◌, ◌++◌, ◌∷◌, IfSome, List, ℕ, Ok, true, codes};
 ghost use Rattle.std.specs.Fmt.{decimal};
@@ -15,10 +16,11 @@ use lset_judge::{LAST_MOMENT, StreamCall};
 use lset_text::{CallWord, Cause};
 use lset_words::{Key, Reply};
 
-/// The maximum number of digits that are read. A number with so many digits is less than 2^64.
+/// The maximum number of digits that `digits_before` reads. A number of 19 digits is below 2^64.
 const MOST_DIGITS: usize = 19;
 
-/// Returns the number before the first space, and the bytes after the space.
+/// Returns the number with which a text begins and the bytes after the number's space. Returns `None` if the text does
+/// not begin with a number and a space.
 #[inline(always)]
 fn digits_before(text: &[u8]) -> Option<(u64, &[u8])>
     ensures { IfSome result (λ p. text.now ≡ decimal p.0 ++ 32 ∷ p.1.now) }
@@ -33,14 +35,15 @@ fn digits_before(text: &[u8]) -> Option<(u64, &[u8])>
     if i == text.len() || text[i] != b' ' {
         return None;
     }
-    // The number needs a digit, and none may follow a leading zero.
+    // A number has a digit, and does not begin with 0 unless it is 0. (A space is below the digit 0.)
     if text[0] <= b'0' && i != 1 {
         return None;
     }
     Some((value, &text[i + 1..]))
 }
 
-/// Returns the thread or key before the first space, and the bytes after the space.
+/// Returns the thread or key with which a text begins and the bytes after the space. Returns `None` if the text does
+/// not begin with a number below 2^32 and a space.
 #[inline(always)]
 fn number_before(text: &[u8]) -> Option<(u32, &[u8])>
     ensures { IfSome result (λ p. (text.now ≡ decimal p.0 ++ 32 ∷ p.1.now) × (p.0 ≤ max_number)) }
@@ -52,7 +55,8 @@ fn number_before(text: &[u8]) -> Option<(u32, &[u8])>
     Some((value as u32, rest))
 }
 
-/// Returns the moment before the first space, and the bytes after the space.
+/// Returns the moment with which a text begins and the bytes after the space. Returns `None` if the text does not begin
+/// with a moment and a space.
 #[inline(always)]
 fn moment_before(text: &[u8]) -> Option<(u64, &[u8])>
     ensures { IfSome result (λ p. (text.now ≡ decimal p.0 ++ 32 ∷ p.1.now) × (1 ≤ p.0) × (p.0 ≤ LAST_MOMENT)) }
@@ -64,7 +68,8 @@ fn moment_before(text: &[u8]) -> Option<(u64, &[u8])>
     Some((value, rest))
 }
 
-/// Returns the name of a call before the first space, and the bytes after the space.
+/// Returns the name of a call with which a text begins and the bytes after the space. Returns `None` for any other
+/// text.
 #[inline(always)]
 fn word_before(text: &[u8]) -> Option<(CallWord, &[u8])>
     ensures { IfSome result (λ p. (text.now ≡ call_word_text p.0 ++ 32 ∷ p.1.now) × HasWord One p.0) }
@@ -88,7 +93,8 @@ fn word_before(text: &[u8]) -> Option<(CallWord, &[u8])>
     }
 }
 
-/// Returns the reply `true` or `false` with which the text begins, and the bytes after the reply.
+/// Returns the reply `true` or `false` with which a text begins and the bytes after it. Returns `None` for any other
+/// text.
 fn reply_before(text: &[u8]) -> Option<(Reply, &[u8])>
     ensures { IfSome result (λ p. (text.now ≡ reply_text p.0 ++ p.1.now) × (is_truth p.0 ≡ true)) }
 {
@@ -99,7 +105,7 @@ fn reply_before(text: &[u8]) -> Option<(Reply, &[u8])>
     }
 }
 
-/// Returns the bytes after the first field, `call`, of a call's line.
+/// Returns the bytes after `call ` if the line begins so. Otherwise returns `None`.
 fn behind_call(line: &[u8]) -> Option<&[u8]>
     ensures { IfSome result (λ rest. line.now ≡ codes "call " ++ rest.now) }
 {
@@ -109,8 +115,8 @@ fn behind_call(line: &[u8]) -> Option<&[u8]>
     }
 }
 
-/// Reads the line of a completed call with which a text begins, in a section that allows calls. Returns the call, and
-/// the bytes after its reply. `None` does not mean that the line is wrong.
+/// Reads a completed call from the beginning of a text. Returns the call and the bytes after its reply. Returns `None`
+/// for anything else, which can still be a right line. The reader must be in a section that allows calls.
 #[inline(always)]
 pub(crate) fn quick_call(text: &[u8]) -> Option<(StreamCall, &[u8])>
     ensures { IfSome result (λ p. (line : List ℕ) × (text.now ≡ line ++ p.1.now)
@@ -132,8 +138,9 @@ pub(crate) fn quick_call(text: &[u8]) -> Option<(StreamCall, &[u8])>
     Some((call, rest))
 }
 
-/// Reads the line of a completed call and its newline with which a text begins, in a section that allows calls. Returns
-/// the call, and the bytes after the newline. `None` does not mean that the line is wrong.
+/// Reads a line with a completed call from the beginning of a text. Returns the call and the bytes after the newline.
+/// Returns `None` for anything else, which can still be a right line. The reader must be in a section that allows
+/// calls.
 pub(crate) fn quick_line(text: &[u8]) -> Option<(StreamCall, &[u8])>
     ensures { IfSome result (λ p. (line : List ℕ) × (text.now ≡ line ++ 10 ∷ p.1.now)
         × ((section : Section) → takes_calls section ≡ true → line_told section line ≡ Ok (Call p.0))) }

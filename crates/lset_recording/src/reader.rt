@@ -14,7 +14,7 @@ use lset_text::{Cause, LineFault};
 use memchr::memchr;
 use std::alloc::Global;
 
-/// Returns the bytes before the first newline and the bytes after it, or `None` if there is no newline.
+/// Returns the bytes before the first newline and the bytes after it. Returns `None` if there is no newline.
 fn next_line(bytes: &[u8]) -> Option<(&[u8], &[u8])>
     ensures { MatchOption result (Lacks 10 bytes.now) (λ p. (bytes.now ≡ p.0.now ++ 10 ∷ p.1.now) × Lacks 10 p.0.now) }
 {
@@ -22,22 +22,22 @@ fn next_line(bytes: &[u8]) -> Option<(&[u8], &[u8])>
     Some((&bytes[..at], &bytes[at + 1..]))
 }
 
-/// A reader of a recording. The bytes of the text come in pieces of any length. The calls are judged as they come. The
-/// reader stores the keys, the pending calls, at most one ended call of each key, and at most `LONGEST_LINE` bytes of a
-/// line. So its memory grows with the number of keys, of threads and of pending calls, but not with the number of
-/// calls. The first line of a recording is `listset-calls 1`. (This project's own format.)
+/// A reader of a recording, whose text is passed in pieces of any length. The reader judges the calls as they come. It
+/// stores the keys, the pending calls, at most one completed call of each key, and at most `LONGEST_LINE` bytes of an
+/// incomplete line. Its memory grows with the number of keys, of threads and of pending calls, but not with the number
+/// of calls. The first line of a recording is `listset-calls 1`. (This project's own format.)
 #[derive(Drop)]
 pub struct RecordingReader {
     judging: Judging,
     line: ArrayVec<u8, LONGEST_LINE>,
-    // Whether the current line is too long to be stored.
+    // Whether the incomplete line has more bytes than `line` can store.
     is_long: bool,
-    // The error that `feed` has returned.
+    // The error that `feed` has returned, if any.
     failed: Option<LineFault>,
 }
 
 impl RecordingReader {
-    /// Returns a reader that has not read anything yet. Does not allocate.
+    /// Returns a reader that has not read anything yet. Does not allocate; later calls use `alloc`.
     pub fn new(alloc: Global) -> RecordingReader
         ensures { IsRead [] result }
     {
@@ -55,14 +55,14 @@ impl RecordingReader {
         LineFault::at(self.judging.number(), cause)
     }
 
-    /// Returns whether no bytes of a line are stored.
+    /// Returns whether the reader is at the beginning of a line, so that it stores no bytes.
     fn holds_none(&self) -> bool
         ensures { IsTrue result → (self.now.line.items ≡ []) × (self.now.is_long ≡ false) }
     {
         !self.is_long && self.line.as_slice().is_empty()
     }
 
-    /// Stores the first bytes of a line, or more bytes of it. The line has not ended yet.
+    /// Stores bytes of a line whose newline is yet to come. If the line gets too long, notes that instead.
     fn hold(&mut self, bytes: &[u8])
         requires { Lacks 10 bytes.now }
         ensures read { (before : List ℕ) → IsRead before self.old → IsRead (before ++ bytes.now) self.new }
@@ -74,7 +74,7 @@ impl RecordingReader {
         }
     }
 
-    /// Reads the stored line, which is complete.
+    /// Reads the newline of the line whose bytes are stored, and so completes the line.
     fn newline_in(&mut self) -> Result<(), LineFault>
         ensures taken { OnOk result ((bytes : List ℕ) → IsRead bytes self.old → IsRead (bytes ++ 10 ∷ []) self.new) }
         ensures refused { IfErr result (λ fault. (bytes : List ℕ) → IsRead bytes self.old → IsRefusedAt (bytes ++ 10 ∷ []) fault) }
@@ -92,7 +92,7 @@ impl RecordingReader {
         }
     }
 
-    /// Reads a line and its newline without copying the line. The reader must not have stored any bytes of the line.
+    /// Reads a whole line, without its newline, from the piece and without a copy. No bytes of the line may be stored.
     fn whole_line_in(&mut self, line: &[u8]) -> Result<(), LineFault>
         requires lacks { Lacks 10 line.now }
         requires none { self.old.line.items ≡ [] }
@@ -108,7 +108,7 @@ impl RecordingReader {
         }
     }
 
-    /// Reads the rest of a line and its newline.
+    /// Reads the rest of a line, without its newline, and so completes the line.
     fn line_in(&mut self, line: &[u8]) -> Result<(), LineFault>
         requires { Lacks 10 line.now }
         ensures taken { OnOk result ((bytes : List ℕ) → IsRead bytes self.old → IsRead (bytes ++ line.now ++ 10 ∷ []) self.new) }
@@ -123,8 +123,8 @@ impl RecordingReader {
         self.newline_in()
     }
 
-    /// Reads the lines of completed calls with which the bytes begin. Returns the bytes after these lines. No bytes of a
-    /// line may be stored, and the section must allow calls.
+    /// Reads lines with completed calls from the beginning of a piece, as many as follow each other. Returns the bytes
+    /// after them. The reader must be at the beginning of a line, in a section that allows calls.
     fn quick_calls_in<'a>(&mut self, piece: &'a [u8]) -> Result<&'a [u8], LineFault>
         requires none { self.old.line.items ≡ [] }
         requires short { self.old.is_long ≡ false }
@@ -144,8 +144,8 @@ impl RecordingReader {
         Ok(rest)
     }
 
-    /// Reads the lines of completed calls with which the bytes begin, if a line begins here. Returns the bytes after
-    /// these lines.
+    /// Reads lines with completed calls from the beginning of a piece, if the reader is at the beginning of a line and
+    /// its section allows calls. Returns the bytes that remain.
     fn calls_in<'a>(&mut self, piece: &'a [u8]) -> Result<&'a [u8], LineFault>
         ensures taken { IfOk result (λ rest. (done : List ℕ) × (piece.now ≡ done ++ rest.now)
             × ((bytes : List ℕ) → IsRead bytes self.old → IsRead (bytes ++ done) self.new)) }
@@ -159,7 +159,7 @@ impl RecordingReader {
         }
     }
 
-    /// Reads the next bytes. There has been no error so far.
+    /// Reads a piece of the text. `feed` calls this function only if it has returned no error before.
     fn bytes_in(&mut self, piece: &[u8]) -> Result<(), LineFault>
         ensures taken { OnOk result ((bytes : List ℕ) → IsRead bytes self.old → IsRead (bytes ++ piece.now) self.new) }
         ensures refused { IfErr result (λ fault. (bytes : List ℕ) → IsRead bytes self.old → IsRefusedAt (bytes ++ piece.now) fault) }
@@ -179,14 +179,13 @@ impl RecordingReader {
         Ok(())
     }
 
-    /// Reads the next bytes of the text, and judges the calls whose lines end in these bytes. Allocates; does not
-    /// block.
+    /// Reads the next piece of the text, and judges the calls whose lines end in this piece. Allocates; does not block.
     ///
     /// # Errors
     ///
-    /// Returns the first error of the text, which does not depend on the bytes that follow, or `Cause::Memory` if an
-    /// allocation fails. The newline of the line that it names is in `piece`. After an error, each further call of
-    /// `feed` or `finish` returns the same error.
+    /// Returns the first error of the text, which does not depend on later pieces, or `Cause::Memory` if an allocation
+    /// fails. The error names a line whose newline is in `piece`. After an error, each later call of `feed` or `finish`
+    /// returns the same error.
     #[tactic(auto, using(crate::proofs::ReadLaws::none_failed, crate::proofs::ReadLaws::one_failed))]
     pub fn feed(&mut self, piece: &[u8]) -> Result<(), LineFault>
         ensures taken { OnOk result ((bytes : List ℕ) → IsRead bytes self.old → IsRead (bytes ++ piece.now) self.new) }
@@ -207,8 +206,8 @@ impl RecordingReader {
         }
     }
 
-    /// Ends the text here and returns the answer on it, or the error if the text cannot end here. There must not have
-    /// been an error before.
+    /// Ends the text here, and returns the verdict and the counts, or the error if the text cannot end here. `finish`
+    /// calls this function only if `feed` has returned no error.
     fn end(self) -> Result<RecordingAnswer, LineFault>
         ensures said { IfOk result (λ answer. (bytes : List ℕ) → IsRead bytes self
             → (c : Recording) × Says bytes (Ok c) × IsAnswered c answer) }
@@ -222,8 +221,8 @@ impl RecordingReader {
         self.judging.finish()
     }
 
-    /// Ends the text here, and returns the verdict on it: whether some order explains its calls and leaves its final
-    /// keys. If the recording was cut off, any final keys will do. Allocates; does not block.
+    /// Ends the text here, and returns the verdict: whether some order of the calls explains them and leaves the final
+    /// keys. If the recording was cut off, its final keys are unknown, and any will do. Allocates; does not block.
     ///
     /// # Errors
     ///
@@ -245,7 +244,8 @@ impl RecordingReader {
     }
 }
 
-/// Lemma: if bytes are read as a recording, they are its text. So each recording has only one text.
+/// Lemma: if bytes are read as a recording, they are the text of this recording. Hence each recording has only one
+/// text. The function does nothing.
 #[tactic(auto, using(crate::proofs::TextFound::text_found))]
 pub fn recordings_are_read()
     ensures { RecordingsAreRead }

@@ -1,4 +1,4 @@
-//! The state of a reader after some lines: the judge of the calls, and the keys.
+//! What a reader does with the lines of a recording: it passes the calls to a judge and stores the keys.
 
 ghost use Rattle.std.specs.Prelude.{◌≡◌, ◌≢◌, ◌+◌, ◌++◌, ◌∷◌, [], true, false, Ok, Err, None, Some, IfOk, IfErr, OnOk, OnErr, List, ℕ, is_some};
 ghost use Rattle.std.specs.List.Sorted.{IsStrictlyIncreasing};
@@ -16,23 +16,24 @@ use lset_judge::{Judge, StreamCall, StreamFault, Verdict};
 use lset_text::{Cause, LineFault, is_above};
 use std::alloc::{AllocError, Global};
 
-/// The number of the first line, which is the title.
+/// The number of the title line, which is the first.
 const FIRST_LINE: u64 = 1;
 
-/// The verdict on a recording, and how many calls it has.
+/// The verdict on a recording, with the number of its calls.
 #[derive(Debug, Drop)]
 pub struct RecordingAnswer {
-    /// Whether some order explains the recording's calls and, if not, why.
+    /// Whether some order of the recording's calls explains them and, if not, why.
     pub verdict: Verdict,
-    /// How many calls the recording has.
+    /// The number of calls in the recording.
     pub calls: u64,
-    /// How many of the calls overlap another call that changes their key.
+    /// The number of calls that overlap another call which changes their key.
     pub overlapped: u64,
-    /// Whether the recording was cut off.
+    /// Whether the recording was cut off, so that its final keys are unknown.
     pub cut_off: bool,
 }
 
-/// Returns the judge, or creates one for a set that opens with these keys.
+/// Returns `judge` or, if it is `None`, a new judge for a set that opens with these keys. If an allocation fails,
+/// returns `AllocError`.
 #[tactic(auto, using(crate::proofs::NextCalls::opened))]
 fn or_opened(alloc: Global, judge: Option<Judge>, opening: &[u32]) -> Result<Judge, AllocError>
     requires { IsStrictlyIncreasing opening.now }
@@ -44,7 +45,7 @@ fn or_opened(alloc: Global, judge: Option<Judge>, opening: &[u32]) -> Result<Jud
     }
 }
 
-/// Returns the cause to report for a call that cannot come next.
+/// Returns the cause to report for a call that the judge refuses: `History`, or `Memory` if an allocation failed.
 fn cause_of_fault(fault: StreamFault) -> Cause
     ensures memory { result ≢ Cause.Memory → fault ≢ StreamFault.Memory }
     ensures other { result ≢ Cause.Memory → result ≡ Cause.History }
@@ -59,7 +60,8 @@ fn cause_of_fault(fault: StreamFault) -> Cause
     }
 }
 
-/// Adds a call to the judge.
+/// Passes a call to the judge. Returns `History` if the call cannot follow the calls before it, `Memory` if an
+/// allocation fails.
 fn add_call(judge: &mut Judge, call: StreamCall) -> Result<(), Cause>
     requires { IsFormed (Line.Call call) }
     ensures added { OnOk result ((opening : List ℕ) (calls : List RecordedCall) → IsJudgeKept opening calls (Some judge.old)
@@ -74,7 +76,8 @@ fn add_call(judge: &mut Judge, call: StreamCall) -> Result<(), Cause>
     }
 }
 
-/// Appends a key to increasing keys. Fails if the key is not above the last one.
+/// Appends a key to strictly increasing keys. Returns `Opening` if the key is not above the last one, `Memory` if an
+/// allocation fails.
 fn add_key(keys: &mut Vec<u32>, key: u32) -> Result<(), Cause>
     requires { IsStrictlyIncreasing keys.old.items }
     ensures increase { IsStrictlyIncreasing keys.new.items }
@@ -89,7 +92,8 @@ fn add_key(keys: &mut Vec<u32>, key: u32) -> Result<(), Cause>
     Ok(())
 }
 
-/// Stores a judge without calls in `place`. This is a separate function so that lines need no stack space for a judge.
+/// Stores a new judge in `place`. This is a separate function so that its callers need no stack space for a judge. If
+/// an allocation fails, returns `AllocError`.
 fn create_judge(alloc: Global, opening: &[u32], place: &mut Option<Judge>) -> Result<(), AllocError>
     requires increase { IsStrictlyIncreasing opening.now }
     requires none { place.old ≡ None }
@@ -118,7 +122,8 @@ impl Judging {
         }
     }
 
-    /// Creates the judge from the opening keys, unless there is one already.
+    /// Creates the judge from the opening keys, unless the reader has a judge already. If an allocation fails, returns
+    /// `AllocError`.
     fn open(&mut self) -> Result<(), AllocError>
         ensures kept { OnOk result ((c : Recording) → IsKept c self.old → IsKept c self.new) }
         ensures ready { OnOk result (is_some self.new.judge ≡ true) }
@@ -152,7 +157,7 @@ impl Judging {
         Ok(())
     }
 
-    /// Adds a line to the recording read so far.
+    /// Adds what a line says to the recording so far. If the line does not agree with the recording, returns the cause.
     #[inline(always)]
     fn keep(&mut self, line: Line) -> Result<(), Cause>
         requires { IsFormed line }
@@ -174,7 +179,8 @@ impl Judging {
         }
     }
 
-    /// Adds a line that is allowed in the section. If it cannot follow the lines before it, returns the cause.
+    /// Accepts a line whose kind is allowed in the current section. If the line does not agree with the recording so
+    /// far, returns the cause.
     #[inline(always)]
     pub(crate) fn put(&mut self, line: Line) -> Result<(), Cause>
         requires { IsFormed line }
@@ -190,14 +196,14 @@ impl Judging {
         Ok(())
     }
 
-    /// Returns the number of the next line.
+    /// Returns the number of the line that comes next.
     pub(crate) fn number(&self) -> u64
         ensures { result ≡ self.now.number }
     {
         self.number
     }
 
-    /// Reads a line. If it has an error, returns the cause.
+    /// Reads a line, without its newline. If the line is refused, returns the cause.
     pub(crate) fn read_line(&mut self, line: &[u8]) -> Result<(), Cause>
         ensures taken { OnOk result ((s : SoFar) → IsJudging s self.old
             → (t : SoFar) × IsTaken s line.now t × IsJudging t self.new × (self.new.number ≡ self.old.number + 1)) }
@@ -209,7 +215,7 @@ impl Judging {
         self.put(line)
     }
 
-    /// Returns whether calls are allowed in the current section.
+    /// Returns whether the line of a call can come next.
     pub(crate) fn takes_calls(&self) -> bool
         ensures { result ≡ takes_calls self.now.section }
     {
@@ -227,7 +233,7 @@ impl Judging {
         }
     }
 
-    /// Returns the cause of the error if the text ends here.
+    /// Returns the cause of the error if the text ends here, although its last line is neither `end` nor `cut`.
     fn cause_at_end(&self) -> Cause
         ensures { result ≡ cause_at_end self.now.section }
     {
@@ -262,7 +268,8 @@ impl Judging {
         }
     }
 
-    /// Returns the answer on the text, which ends here after a newline.
+    /// Ends the text after a complete line, and returns the verdict and the counts. If the text cannot end here, or an
+    /// allocation fails, returns the error.
     pub(crate) fn finish(self) -> Result<RecordingAnswer, LineFault>
         ensures said { IfOk result (λ answer. (s : SoFar) → IsJudging s self
             → (ending self.number s [] ≡ Ok s.told) × IsAnswered s.told answer) }

@@ -23,13 +23,14 @@ use lset_judge::{LAST_MOMENT, StreamCall};
 use lset_text::{Cause, Version, cut, long_number, number, read_call};
 use lset_words::{Key, Reply};
 
-/// The maximum length of a line in bytes, without its newline.
+/// The maximum length of a line after the title, in bytes without the newline.
 pub const LONGEST_LINE: usize = 128;
 
-/// The first line, without its newline.
+/// The title: the first line of a recording, without its newline.
 const TITLE: &[u8] = b"listset-calls 1";
 
-/// A section of a recording.
+/// A section of a recording, named after the lines that it has. A reader is in section `Opening` after the title, and
+/// in `Done` after the last line.
 #[derive(Clone, Copy)]
 pub enum Section {
     Title,
@@ -39,7 +40,7 @@ pub enum Section {
     Done,
 }
 
-/// A line of a recording: the title, an opening key, a call, a final key, the end, or the mark of a recording that was
+/// What a line of a recording says: the title, an opening key, a call, a final key, the end, or that the recording was
 /// cut off.
 #[derive(Clone, Copy)]
 pub enum Line {
@@ -52,7 +53,7 @@ pub enum Line {
 }
 
 impl Line {
-    /// Returns the section after the line.
+    /// Returns the section that a reader is in after this line.
     pub fn section(self) -> Section
         ensures { result ≡ section_after self }
     {
@@ -91,7 +92,7 @@ impl Section {
     }
 }
 
-/// The fields of a call's line after the first one, up to the moment at which the call begins.
+/// The fields of a call's line from the thread to the moment at which the call begins.
 #[derive(Clone, Copy)]
 struct CallPieces<'a> {
     thread: &'a [u8],
@@ -171,7 +172,7 @@ fn ended_call(pieces: CallPieces<'_>, end: &[u8], reply: &[u8]) -> Result<Line, 
     }
 }
 
-/// Reads the call of a line, given the thread's field and the bytes after it.
+/// Reads the line of a call from the field of its thread and the bytes after this field.
 fn call(thread: &[u8], rest: &[u8]) -> Result<Line, Cause>
     ensures { result ≡ first_of One Cause.Line call_kinds (codes "call" ∷ thread.now ∷ cut_at 32 rest.now) }
 {
@@ -240,7 +241,7 @@ fn line_in(section: Section, line: &[u8]) -> Result<Line, Cause>
     call(second, rest)
 }
 
-/// Reads the first line, which must be the title.
+/// Reads the first line of a recording, which must be the title. Otherwise returns `Header`.
 fn title_told(line: &[u8]) -> Result<Line, Cause>
     ensures { result ≡ title_told line.now }
 {
@@ -251,13 +252,13 @@ fn title_told(line: &[u8]) -> Result<Line, Cause>
     }
 }
 
-/// Reads a line, given without its newline, in a section. Does not allocate.
+/// Reads a line, without its newline, if the reader is in this section. Does not allocate.
 ///
 /// # Errors
 ///
-/// Returns `Header` if the first line is not the title. For a later line, returns `Line` if it has more than
-/// `LONGEST_LINE` bytes or does not have the fields of a line that is allowed in the section, and `Number` if a field
-/// must be a number, and is not a number or is out of range.
+/// Returns `Header` if the first line is not the title. For a later line, returns `Line` if the line has more than
+/// `LONGEST_LINE` bytes or is of no kind that can come next, and `Number` if a field that must be a number is none or
+/// is out of range.
 pub fn line_told(section: Section, line: &[u8]) -> Result<Line, Cause>
     ensures { result ≡ line_told section line.now }
 {

@@ -1,5 +1,5 @@
--- The chain and the content as lists: the chain reaches the tail, and the keys of its unmarked nodes increase and are
--- exactly the content.
+-- The chain and the set as lists: links lead from the head to the tail, and the keys of the unmarked nodes on the way
+-- increase and are exactly the keys of the set.
 use Rattle.std.proofs.Common.{◌≡◌, ◌≢◌, ℕ, zero, suc, ◌+◌, ◌-◌, ◌/◌, ◌%◌, ◌<◌, ◌≤◌, true, false, inl, inr, List, [], ◌∷◌, sym}
 use Rattle.std.proofs.Common.{refl, ap, subst, ◌∙◌, arith, rules}
 use Rattle.std.specs.Prelude.{Contains, nat_lt, nat_eq, ◌&&◌}
@@ -10,7 +10,8 @@ use Rattle.lset_steps.specs.Chain.{View, Segment, InChain, IsChain, InContent, I
 use Rattle.lset_steps.specs.Worlds.{keys_in}
 use Rattle.lset_steps.proofs.Segments.{segment_increases}
 
--- From every published node, links lead to the tail.
+-- From every node that has been in the chain, links lead to the tail. By induction over the distance of keys, since
+-- keys increase along links.
 reaches-by : (v : View) → IsOrdered v → (d i : ℕ) → v.published i → v.key 1 ≤ v.key i + d → (ns : List ℕ) × Segment v i ns 1
 reaches-by v ord zero i m le = elim (same_or_not i 1) [
   | inl e ↦ ([], e)
@@ -31,7 +32,6 @@ reaches v ord i m = reaches-by v ord (v.key 1) i m (omega arith)
 pub chain_is : (v : View) → IsOrdered v → (ns : List ℕ) × IsChain v ns
 chain_is v ord = reaches v ord 0 ord.head_published
 
--- A node of a segment is reachable from the segment's start.
 pub segment_prefix : (v : View) (i j b : ℕ) (ns : List ℕ) → Segment v i ns j → Contains ns b → (ps : List ℕ) × Segment v i ps b
 segment_prefix v i j b [] s c = absurd (contains-nil b c)
 segment_prefix v i j b (a ∷ ns) s c = elim (contains-cons a b ns c) [
@@ -43,14 +43,12 @@ segment_prefix v i j b (a ∷ ns) s c = elim (contains-cons a b ns c) [
 pub chain_member : (v : View) (b : ℕ) (ns : List ℕ) → IsChain v ns → Contains ns b → InChain v b
 chain_member v b ns s c = segment_prefix v 0 1 b ns s c
 
--- The list has each node that is reachable before the end.
 pub segment_member : (v : View) (i b : ℕ) (ns ps : List ℕ) → Segment v i ns 1 → Segment v i ps b → b ≢ 1 → Contains ns b
 segment_member v i b [] [] s t n = absurd (n (sym t ∙ s))
 segment_member v i b [] (p ∷ ps) s t n = absurd (t.1 s)
 segment_member v i b (a ∷ ns) [] s t n = contains-head a b ns (s.0 ∙ t)
 segment_member v i b (a ∷ ns) (p ∷ ps) s t n = contains-tail a b ns (segment_member v (v.link i / 2) b ns ps s.2 t.2 n)
 
--- The list of keys has a node's key if the node is unmarked and is neither the head nor the tail.
 kept-yes : (v : View) (b : ℕ) → 1 < b → v.link b % 2 ≡ 0 → (nat_lt 1 b && nat_eq (v.link b % 2) 0) ≡ true
 kept-yes v b u e = search rules
 
@@ -95,7 +93,6 @@ keys_from v (a ∷ ns) k c = elim (cases_Bool (nat_lt 1 a && nat_eq (v.link a % 
       (r.0, contains-tail a r.0 ns r.1, r.2, r.3, r.4))
 ]
 
--- Each node of the chain other than the head has a key word above 0.
 pub user_key : (v : View) → IsOrdered v → (b : ℕ) → InChain v b → 1 < b → 0 < v.key b
 user_key v ord b ib u = at ib.0 ib.1
   where
@@ -106,7 +103,6 @@ user_key v ord b ib u = at ib.0 ib.1
         segment_increases v ord (v.link 0 / 2) b ns (ord.next_published 0 ord.head_published s.1) s.2 in
         omega arith
 
--- The list of keys has each key of the content.
 pub content_have : (v : View) (ns : List ℕ) (k : ℕ) → IsChain v ns → InContent v k → Contains (keys_in v ns) k
 content_have v ns k s c =
     let u : 1 < c.0 = c.2 in
@@ -120,7 +116,6 @@ content_from v ord ns k s c =
     let e : v.key r.0 - 1 ≡ k = r.4 in
     (r.0, ib, r.2, omega arith, r.3)
 
--- The list of keys increases strictly.
 keys_increase : (v : View) → IsOrdered v → (i j lo : ℕ) (ns : List ℕ) → v.published i → Segment v i ns j
     → lo + 1 ≤ v.key i → IncreasesFrom lo (keys_in v ns)
 keys_increase v ord i j lo [] m s l = tt

@@ -1,5 +1,5 @@
--- The decision of a call at the key word of curr. pred is in the chain and has a smaller key than the call's, and curr
--- comes next. All lists whose calls decide at two nodes pred and curr share this proof.
+-- What follows when a call decides at two neighbours in the chain: pred has a smaller key than the call's, and curr,
+-- the next node, does not. Shared by the proofs of all lists whose calls decide at two such nodes.
 use Rattle.std.specs.Prelude.{◌≡◌, ◌≢◌, ℕ, ◌*◌, ◌/◌, ◌%◌, ◌<◌, ◌≤◌, ◌⊎◌, Bool, true, false, Some, None, List, [], ◌==◌, nat_lt, refl}
 use Rattle.std.proofs.Common.{arith, inl, inr, sym, ◌∙◌, ap}
 use Rattle.lset_words.proofs.Numbers.{same_number, other_number, lower_number, not_lower_number}
@@ -13,7 +13,7 @@ use Rattle.lset_steps.proofs.Memory.{Memory}
 use Rattle.lset_steps.proofs.QuietMove.{chain_on}
 use Rattle.lset_steps.proofs.Replies.{Adding, Removing, decided_cases, absent_between, ceiling_fits}
 
--- After the decision, either the call has a reply that is correct now, or the facts hold that the rows for adding or
+-- After the decision, either the call has a reply that is correct now, or the thread knows what the rows for adding or
 -- removing need.
 pub decides : {marks : Bool} {sz : Sizes} {ws : List ℕ} {used : ℕ → ℕ} (m : Memory marks sz ws used) (t : ℕ) {pred curr : ℕ}
     (rows : Targets) (c : ℕ) (l : Local) → InChain (view sz ws used) pred → pred ≢ 1 → node_link ws pred ≡ 2 * curr

@@ -1,5 +1,5 @@
--- What a thread knows about the nodes that it has locked, and how it can change them. This applies to every list that
--- writes links only while it holds node locks.
+-- What a thread knows about nodes that it has locked, and how it can change them. Applies to every list that writes
+-- links only while it holds node locks.
 use Rattle.std.specs.Prelude.{◌≡◌, ◌≢◌, ℕ, ◌+◌, ◌*◌, ◌/◌, ◌%◌, ◌<◌, Bool, true, false, Option, Some, None, List, [], slice_set, refl}
 use Rattle.std.proofs.Common.{arith, inl, inr, sym, ◌∙◌, ap}
 use Rattle.lset_words.specs.Words.{key_index, link_index, lock_index, tail_word, node_count, word_count, slot_node, target, key_of, Sizes}
@@ -18,17 +18,16 @@ use Rattle.lset_steps.proofs.MarkMove.{mark_keeps}
 use Rattle.lset_steps.proofs.Rely.{Rely, Guarded}
 use Rattle.lset_steps.proofs.Replies.{Adding, Removing}
 
--- Thread t holds the lock of node a, which is in the chain.
+-- States that thread t holds the lock of node a, and that a is in the chain.
 pub record Held (v : View) (t a : ℕ) : Type 0 where
   pub mine : v.lock a ≡ t + 1
   pub at : InChain v a
   pub published : v.published a
 
--- The head is in every chain, so a thread that holds its lock satisfies `Held`.
 pub head_held : {v : View} {t : ℕ} → v.published 0 → v.lock 0 ≡ t + 1 → Held v t 0
 head_held published mine = record { mine = mine; at = ([], refl); published = published }
 
--- Thread t holds the lock of pred, whose key is smaller than `key`. curr is the next node.
+-- States that thread t holds the lock of pred, that pred's key is smaller than `key`, and that curr is the next node.
 pub record Behind (v : View) (t key pred curr : ℕ) : Type 0 where
   pub held : Held v t pred
   pub inner : pred ≢ 1
@@ -36,12 +35,12 @@ pub record Behind (v : View) (t key pred curr : ℕ) : Type 0 where
   pub below : v.key pred < key
   pub next : v.published curr
 
--- As `Behind`, and thread t also holds the lock of curr.
+-- States that thread t holds the locks of pred and of curr, the next node, and that pred's key is smaller than `key`.
 pub record Between (v : View) (t key pred curr : ℕ) : Type 0 where
   pub walk : Behind v t key pred curr
   pub mine : v.lock curr ≡ t + 1
 
--- Thread t holds the locks of two different nodes.
+-- States that thread t holds the locks of two different nodes, pred and curr.
 pub record Both (v : View) (t pred curr : ℕ) : Type 0 where
   pub pred_mine : v.lock pred ≡ t + 1
   pub curr_mine : v.lock curr ≡ t + 1
@@ -56,8 +55,8 @@ in_chain {v} {t} {key} {pred} {curr} b =
     let half : v.link pred / 2 ≡ curr = omega arith in
     chain_on v pred curr curr [] b.held.at b.inner half refl
 
--- The facts of thread t that a step preserves. Either another thread makes the step, or t makes it but writes no link
--- of the chain and releases no lock.
+-- What a step preserves for thread t. The step is either made by another thread, or made by t without writing a link of
+-- the chain and without releasing a lock.
 pub record Leaves (v w : View) (t : ℕ) : Type 0 where
   pub used : w.used t ≡ v.used t
   pub grows : (a : ℕ) → v.published a → w.published a
@@ -69,7 +68,6 @@ pub record Leaves (v w : View) (t : ℕ) : Type 0 where
 pub leaves_of : {v w : View} {q t : ℕ} → Rely v w q t → Leaves v w t
 leaves_of r = record { used = r.used; grows = r.goes.grows; keys = r.goes.keys; locks = r.lock; links = r.link; chain = r.chain }
 
--- Nothing changes if no step is made.
 pub rely_same : (v : View) (q t : ℕ) → Rely v v q t
 rely_same v q t = record {
   goes = record { keys = λ i p. refl; grows = λ i p. p; kept = λ i p. inl refl; back = λ i p c. c };
@@ -111,7 +109,7 @@ module _ {v w : View} {t : ℕ} (s : Leaves v w t) where
   pub removing_on : {curr : ℕ} {op : Call} → v.published curr → Removing v curr op → Removing w curr op
   removing_on {curr} p a = record { call = a.call; found = s.keys curr p ∙ a.found }
 
--- Steps of other threads do not change the words of the slot that t uses next.
+-- Steps of other threads do not change the words of the slot (the thread's own node) that t will use next.
 module _ {v w : View} {q t : ℕ} (r : Rely v w q t) where
   pub own_key_on : (x : ℕ) → v.used t < q → v.key (slot_node q t (v.used t)) ≡ x → w.key (slot_node q t (w.used t)) ≡ x
   own_key_on x room e = rw r.used (r.own_key room ∙ e)
@@ -119,7 +117,7 @@ module _ {v w : View} {q t : ℕ} (r : Rely v w q t) where
   pub own_link_on : (x : ℕ) → v.used t < q → v.link (slot_node q t (v.used t)) ≡ x → w.link (slot_node q t (w.used t)) ≡ x
   own_link_on x room e = rw r.used (r.own_link room ∙ e)
 
--- States that a step writes links of the chain only while its thread holds the node's lock.
+-- States that a step writes a link of the chain only while its thread holds the node's lock.
 abbrev pub LockedStep : (marks : Bool) (sz : Sizes) (t : ℕ) (ws : List ℕ) (used : ℕ → ℕ) (a : Action) (ws' : List ℕ) (used' : ℕ →
     ℕ)
     (change : Option (Key × Bool)) → Type 0
@@ -172,7 +170,6 @@ found_no_tail {ws = ws} m {curr} {op} a low e =
     let found : node_key ws curr ≡ target op = a.found in
     omega arith
 
--- A node stays in the chain when its link is written.
 pub stays_behind : {marks : Bool} {sz : Sizes} {ws : List ℕ} {used : ℕ → ℕ} (m : Memory marks sz ws used) {a : ℕ} (x : ℕ)
     (used' : ℕ → ℕ) → InChain (view sz ws used) a → InChain (view sz (slice_set ws (link_index a) x) used') a
 stays_behind {marks} {sz} {ws} {used} m {a} x used' i =
@@ -183,7 +180,7 @@ module _ {marks : Bool} {sz : Sizes} {ws : List ℕ} {used : ℕ → ℕ} (m : M
   pub held_from : {a : ℕ} → node_lock ws a ≡ t + 1 → InChain (view sz ws used) a → Held (view sz ws used) t a
   held_from {a} mine i = record { mine = mine; at = i; published = in_chain_published (view sz ws used) m.ordered a i }
 
-  -- Loading the link of a locked node leads to the next node.
+  -- If a thread that holds the lock of pred reads pred's link, the link leads to the node curr of `Behind`.
   pub behind_from : {pred key : ℕ} → Held (view sz ws used) t pred → node_link ws pred % 2 ≡ 0 → node_key ws pred < key
       → key < tail_word
       → Behind (view sz ws used) t key pred (node_link ws pred / 2)
@@ -199,7 +196,6 @@ module _ {marks : Bool} {sz : Sizes} {ws : List ℕ} {used : ℕ → ℕ} (m : M
       let same : node_key ws (node_link ws pred / 2) ≡ node_key ws pred = ap (node_key ws) half in
       omega arith
 
-  -- Writing a link releases no locks.
   pub both_after : {key pred curr : ℕ} (p x : ℕ) (used' : ℕ → ℕ) → Between (view sz ws used) t key pred curr
       → Both (view sz (slice_set ws (link_index p) x) used') t pred curr
   both_after {key} {pred} {curr} p x used' b = record {
@@ -245,7 +241,7 @@ module _ {marks : Bool} {sz : Sizes} {ws : List ℕ} {used : ℕ → ℕ} (m : M
     (b.walk.held.mine, b.mine),
   )
 
--- Steps of t that do not affect the nodes it has locked.
+-- What a thread still knows of its locked nodes after its own steps that do not write them.
 module _ {marks : Bool} {sz : Sizes} {ws : List ℕ} {used : ℕ → ℕ} (m : Memory marks sz ws used) {t : ℕ} (tn : t < sz.threads) where
   pub leaves_locked : (a : ℕ) → node_lock ws a ≡ 0
       → Leaves (view sz ws used) (view sz (slice_set ws (lock_index a) (t + 1)) used) t
@@ -261,7 +257,6 @@ module _ {marks : Bool} {sz : Sizes} {ws : List ℕ} {used : ℕ → ℕ} (m : M
         chain = λ b z i. quiet_keeps _ _ m.ordered (at_lock marks sz ws used m t tn (lock_index a) (t + 1) k) b i;
       }
 
-  -- A locked node stays locked when another node is released.
   pub held_past : {a : ℕ} (b : ℕ) → a ≢ b → Held (view sz ws used) t a
       → Held (view sz (slice_set ws (lock_index b) 0) used) t a
   held_past {a} b d h = record {
@@ -270,7 +265,7 @@ module _ {marks : Bool} {sz : Sizes} {ws : List ℕ} {used : ℕ → ℕ} (m : M
     published = h.published;
   }
 
-  -- When curr is marked, it still comes after pred.
+  -- Marking curr does not separate pred and curr: curr is still the next node.
   pub between_marked : {pred curr : ℕ} {op : Call} (x : ℕ) → Between (view sz ws used) t (target op) pred curr
       → Removing (view sz ws used) curr op → node_link ws curr % 2 ≡ 0 → x ≡ node_link ws curr + 1 → target op < tail_word
       → Between (view sz (slice_set ws (link_index curr) x) used) t (target op) pred curr

@@ -1,13 +1,12 @@
 -- Hindsight (after O'Hearn and others): if a node was in the chain at some moment of a call, then at some moment of the
--- call it was in the chain with the link word that it has now. So the result of a walk was true at some moment of the
--- call.
+-- call it was in the chain with the link that it has now. Therefore the result of a walk without locks was true at some
+-- moment of the call.
 use Rattle.std.proofs.Common.{◌≡◌, ◌≢◌, ℕ, zero, suc, ◌+◌, ◌-◌, ◌/◌, ◌%◌, ◌<◌, ◌≤◌, ◌⊎◌, inl, inr, [], sym, refl, ap, subst, ◌∙◌, arith}
 use Rattle.lset_steps.specs.Chain.{View, InChain, IsOrdered, Seen}
 use Rattle.lset_steps.proofs.Moves.{KeepsNodes, Course, InPast, Had, Lacked}
 use Rattle.lset_steps.proofs.Segments.{gap, one_key}
 use Rattle.lset_steps.proofs.QuietMove.{in_chain_published, chain_on}
 
--- A published node stays published and keeps its key.
 pub later_published : (vs : ℕ → View) (n b d m t : ℕ) → Course vs n → t ≡ m + d → t ≤ n → (vs m).published b
     → (vs t).published b × ((vs t).key b ≡ (vs m).key b)
 later_published vs n b zero m t r e l mb =
@@ -23,7 +22,7 @@ later_published vs n b (suc d) m t r e l mb =
 pub key_stays : (vs : ℕ → View) (n b m t : ℕ) → Course vs n → m ≤ t → t ≤ n → (vs m).published b → (vs t).key b ≡ (vs m).key b
 key_stays vs n b m t r l h mb = (later_published vs n b (t - m) m t r (omega arith) h mb).1
 
--- A marked node keeps its link. So a node that is unmarked now was never marked before.
+-- A marked node keeps its link, so a node that is unmarked now was unmarked at all earlier moments.
 marked_by : (vs : ℕ → View) (n b d m t : ℕ) → Course vs n → t ≡ m + d → t ≤ n → (vs m).published b → (vs m).link b % 2 ≡ 1
     → (vs t).link b ≡ (vs m).link b
 marked_by vs n b zero m t r e l p odd = let f : m ≡ t = omega arith in subst (λ x. (vs x).link b ≡ (vs m).link b) f refl
@@ -43,8 +42,8 @@ unmarked_before vs n b m t r l h p even = elim (even_or_not ((vs m).link b)) [
     even_or_not : (x : ℕ) → (x % 2 ≡ 0) ⊎ (x % 2 ≡ 1)
     even_or_not x = grind arith
 
--- Hindsight: if a node was once in the chain, each link read from it later is one that it had while it was in the
--- chain.
+-- Hindsight: if a node was once in the chain, each link that it has later is one that it had while it was in the chain.
+-- By induction over the moments: a link changes only while its node is in the chain.
 hindsight-by : (vs : ℕ → View) (n b d m t : ℕ) → Course vs n → t ≡ m + d → t ≤ n → InChain (vs m) b
     → Seen vs m t b ((vs t).link b)
 hindsight-by vs n b zero m t r e l i =
@@ -75,7 +74,6 @@ hindsight vs n first now b r l p =
     let d : p.at ≤ s.at = s.from in
     record { at = s.at; from = omega arith; upto = s.upto; in_chain = s.in_chain; link = s.link }
 
--- If a node was in the chain with the link l, the node to which l leads was in the chain, too.
 pub next_in_past : (vs : ℕ → View) (first now b l : ℕ) → b ≢ 1 → Seen vs first now b l → InPast vs first now (l / 2)
 next_in_past vs first now b l n s = record {
   at = s.at;
@@ -84,7 +82,6 @@ next_in_past vs first now b l n s = record {
   in_chain = chain_on (vs s.at) b (l / 2) (l / 2) [] s.in_chain n (ap (λ x. x / 2) s.link) refl;
 }
 
--- A node that was in the chain at some moment up to now was in the chain at some moment up to any later moment.
 abbrev pub in_past_on : (vs : ℕ → View) (first now later b : ℕ) → now ≤ later → InPast vs first now b → InPast vs first later b
 in_past_on vs first now later b l s =
     record { at = s.at; from = s.from; upto = (let u : s.at ≤ now = s.upto in omega arith); in_chain = s.in_chain }
@@ -93,7 +90,8 @@ abbrev pub seen_on : (vs : ℕ → View) (first now later b l : ℕ) → now ≤
 seen_on vs first now later b k l s =
     record { at = s.at; from = s.from; upto = (let u : s.at ≤ now = s.upto in omega arith); in_chain = s.in_chain; link = s.link }
 
--- If a contains stops at a gap between two keys, the set did not have its key at some moment of the call.
+-- If a `contains` finds that its key is between the keys of two neighbours, the set lacked the key at some moment of
+-- the call.
 pub lacked_between : (vs : ℕ → View) (n first now a l k : ℕ) → Course vs n → now ≤ n → a ≢ 1 → Seen vs first now a l
     → (vs now).key a < k + 1 → k + 1 < (vs now).key (l / 2) → Lacked vs first now k
 lacked_between vs n first now a l k r le na s lo hi =
@@ -113,7 +111,7 @@ lacked_between vs n first now a l k r le na s lo hi =
           gap (vs s.at) ord a c.0 s.in_chain c.1 na (omega arith) (omega arith);
     }
 
--- If a contains finds its key unmarked, the set had the key at some moment of the call.
+-- If a `contains` finds its key at an unmarked node, the set had the key at some moment of the call.
 pub had_at : (vs : ℕ → View) (n first now b k : ℕ) → Course vs n → now ≤ n → InPast vs first now b → 1 < b
     → (vs now).key b ≡ k + 1 → (vs now).link b % 2 ≡ 0 → Had vs first now k
 had_at vs n first now b k r le p user kb even =
@@ -129,7 +127,7 @@ had_at vs n first now b k r le p user kb even =
       has = (b, s.in_chain, user, sym ks ∙ kb, ap (λ x. x % 2) s.link ∙ even);
     }
 
--- If a contains finds its key marked, the set did not have the key at some moment of the call.
+-- If a `contains` finds its key at a marked node, the set lacked the key at some moment of the call.
 pub lacked_at : (vs : ℕ → View) (n first now b k : ℕ) → Course vs n → now ≤ n → InPast vs first now b
     → (vs now).key b ≡ k + 1 → (vs now).link b % 2 ≡ 1 → Lacked vs first now k
 lacked_at vs n first now b k r le p kb odd =

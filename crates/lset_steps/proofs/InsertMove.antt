@@ -1,11 +1,12 @@
--- How inserting a node after a node of the chain affects the order of keys, the chain and the content.
+-- What changes when a node is inserted after a node of the chain: the order of keys, the chain, and the keys of the
+-- set.
 use Rattle.std.proofs.Common.{◌≡◌, ◌≢◌, ℕ, ◌+◌, ◌*◌, ◌/◌, ◌%◌, ◌<◌, ◌≤◌, ◌⊎◌, inl, inr, List, [], ◌∷◌, sym, refl, ap, subst, ◌∙◌, arith}
 use Rattle.lset_steps.specs.Chain.{View, Segment, InChain, InContent, IsOrdered}
 use Rattle.lset_steps.proofs.Moves.{Inserts, KeepsNodes}
 use Rattle.lset_steps.proofs.Segments.{sides, gap}
 use Rattle.lset_steps.proofs.QuietMove.{in_chain_published, chain_before, chain_on, segment_after, apart, apart'}
 
--- Basic facts about an insertion.
+-- The inserted node `own`, the nodes pred and curr on both sides of it, and their keys and links.
 pub record Facts (v w : View) (pred own curr k : ℕ) : Type 0 where
   pub curr_is : v.link pred / 2 ≡ curr
   pub own_is : w.link pred / 2 ≡ own
@@ -100,7 +101,6 @@ insert-ordered v w ord pred own k q = record {
         let e : w.key (w.link i / 2) ≡ w.key (v.link i / 2) = ap (λ x. w.key (x / 2)) (q.links i o d) in
         let c : v.key i < v.key (v.link i / 2) = ord.increases i o n in omega arith
 
--- pred is still in the chain.
 pub insert_pred : (v w : View) → IsOrdered v → (pred own k : ℕ) → Inserts v w pred own k → InChain w pred
 insert_pred v w ord pred own k q =
     chain_before v w ord pred pred (λ a m l. ap (λ x. x / 2) (q.links a m (apart v a pred l))) (omega arith) q.in_chain
@@ -109,7 +109,6 @@ pub insert_own : (v w : View) → IsOrdered v → (pred own k : ℕ) → Inserts
 insert_own v w ord pred own k q =
     chain_on w pred own own [] (insert_pred v w ord pred own k q) q.no_tail ((facts v w ord pred own k q).own_is) refl
 
--- Each node of the chain stays in the chain.
 pub insert_keeps : (v w : View) → IsOrdered v → (pred own k : ℕ) → Inserts v w pred own k → (b : ℕ) → InChain v b → InChain w b
 insert_keeps v w ord pred own k q b ib = elim (sides v ord pred b q.in_chain ib) [
   | inl le ↦ chain_before v w ord pred b (λ a m l. ap (λ x. x / 2) (q.links a m (apart v a pred l))) le ib
@@ -123,7 +122,6 @@ insert_keeps v w ord pred own k q b ib = elim (sides v ord pred b q.in_chain ib)
     after : (a : ℕ) → v.published a → v.key (v.link pred / 2) ≤ v.key a → w.link a / 2 ≡ v.link a / 2
     after a m l = ap (λ x. x / 2) (q.links a m (apart' v pred a (omega arith)))
 
--- The inserted node is the only new node of the chain.
 pub insert_back : (v w : View) → IsOrdered v → (pred own k : ℕ) → Inserts v w pred own k → (b : ℕ) → InChain w b
     → InChain v b ⊎ (b ≡ own)
 insert_back v w ord pred own k q b ib =
@@ -178,7 +176,7 @@ insert-goes v w ord pred own k q = record {
     cases : (i : ℕ) → (i ≡ pred) ⊎ (i ≢ pred)
     cases i = grind arith
 
--- ---- How an insertion changes the content
+-- ---- How an insertion changes the keys of the set
 
 pub insert_absent : (v w : View) → IsOrdered v → (pred own k : ℕ) → Inserts v w pred own k → InContent v k → ⊥
 insert_absent v w ord pred own k q c =
@@ -192,7 +190,6 @@ insert_has v w ord pred own k q =
     let e : w.link own ≡ 2 * (v.link pred / 2) = q.own_link in
     (own, insert_own v w ord pred own k q, q.user, q.own_key, omega arith)
 
--- Each published node keeps its mark bit.
 pub insert_mark : (v w : View) → IsOrdered v → (pred own k : ℕ) → Inserts v w pred own k → (b : ℕ) → v.published b
     → w.link b % 2 ≡ v.link b % 2
 insert_mark v w ord pred own k q b m = elim (cases b) [

@@ -1,4 +1,4 @@
--- How marking a node of the chain affects the order of keys, the chain and the content.
+-- What changes when a node of the chain is marked: its key leaves the set, but the chain and the order of keys stay.
 use Rattle.std.proofs.Common.{◌≡◌, ◌≢◌, ℕ, ◌+◌, ◌/◌, ◌%◌, ◌<◌, ◌≤◌, inl, inr, sym, ap, subst, ◌∙◌, arith}
 use Rattle.lset_words.proofs.Numbers.{same_or_not}
 use Rattle.lset_steps.specs.Chain.{View, InChain, InContent, IsOrdered}
@@ -6,7 +6,6 @@ use Rattle.lset_steps.proofs.Moves.{Marks, KeepsNodes}
 use Rattle.lset_steps.proofs.Segments.{one_key}
 use Rattle.lset_steps.proofs.QuietMove.{in_chain_published, chain_same}
 
--- Each node still has the same next node.
 pub mark_next : (v w : View) (b k : ℕ) → Marks v w b k → (a : ℕ) → v.published a → w.link a / 2 ≡ v.link a / 2
 mark_next v w b k q a m = elim (same_or_not a b) [
   | inl e ↦ subst (λ x. w.link x / 2 ≡ v.link x / 2) (sym e)

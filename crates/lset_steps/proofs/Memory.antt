@@ -1,4 +1,4 @@
--- How a step can change the words, and which words it does not change.
+-- The steps that can change the words of a list, and which words they leave unchanged.
 use Rattle.std.specs.Prelude.{◌≡◌, ◌≢◌, ℕ, ◌+◌, ◌*◌, ◌/◌, ◌%◌, ◌<◌, ◌≤◌, ◌⊎◌, Bool, true, false, Option, Some, None, List, []}
 use Rattle.std.specs.Prelude.{slice_index, slice_set, length, refl, if◌then◌else◌, ◌==◌}
 use Rattle.std.proofs.Common.{arith, inl, inr, sym, ◌∙◌, ap, subst, length-set}
@@ -20,18 +20,17 @@ use Rattle.lset_steps.proofs.MoveLaws.{move-ordered, move-goes, tail_stays, mark
 use Rattle.lset_steps.proofs.AfterWrite.{key_after_key, key_after_link, key_after_lock, link_after_key, link_after_link}
 use Rattle.lset_steps.proofs.AfterWrite.{link_after_lock, not_key, not_link, set_same}
 
--- Slots of different threads are different nodes.
+-- Slots of different threads are different nodes: quotient and remainder of a slot's number are unique.
 pub row_once : (q t u i j : ℕ) → i < q → j < q → t * q + i ≡ u * q + j → (t ≡ u) × (i ≡ j)
 row_once q t u i j a b e =
     let r : t ≡ u = grind arith in
     let p : t * q ≡ u * q = ap (λ x. x * q) r in
     (r, omega arith)
 
--- A slot has a smaller number than the nodes of the opening keys.
 slot_in : (sz : Sizes) (t j : ℕ) → t < sz.threads → j < sz.quota → slot_node sz.quota t j < opening_node sz 0
 slot_in sz t j h k = let z : t * sz.quota + j < sz.threads * sz.quota = grind arith in omega arith
 
--- Returns the slot that a thread uses next.
+-- Returns the slot that thread t will use next: the node for its next successful add.
 abbrev pub own_of : ℕ → ℕ → (ℕ → ℕ) → ℕ
 own_of q t used = slot_node q t (used t)
 
@@ -44,11 +43,12 @@ one_more_same used t = grind (arith, nat_tests)
 pub one_more_other : (used : ℕ → ℕ) (t u : ℕ) → u ≢ t → one_more used t u ≡ used u
 one_more_other used t u d = grind (arith, nat_tests)
 
--- States that the action writes x to word i.
+-- States that the action writes x to word i. An exchange does so if it succeeds.
 abbrev pub Writes : List ℕ → Action → ℕ → ℕ → Type 0
 Writes ws a i x = (a ≡ Store i x) ⊎ (a ≡ Exchange i (slice_index ws i) x)
 
--- The possible steps of thread t: each action with the words and counts after it, and the change of the content.
+-- The steps that thread t may make. Each constructor has the action, the words and each thread's number of successful
+-- adds after it, and the key that is added or removed.
 pub data WordStep (marks : Bool) (sz : Sizes) (t : ℕ) (ws : List ℕ) (used : ℕ → ℕ) : Action → List ℕ → (ℕ → ℕ)
     → Option (Key × Bool) → Type 0 where
   reads : (x : ℕ) → x < word_count sz → WordStep marks sz t ws used (Load x) ws used None
@@ -82,7 +82,7 @@ pub data WordStep (marks : Bool) (sz : Sizes) (t : ℕ) (ws : List ℕ) (used : 
       → node_link ws p ≡ 2 * c → node_link ws c / 2 ≡ d → node_key ws c ≡ key_word_of k
       → WordStep marks sz t ws used a (slice_set ws (link_index p) (2 * d)) used (Some (k, false))
 
--- The invariant of the words at every moment of a run.
+-- What is true of the words of a list at every moment of a run.
 pub record Memory (marks : Bool) (sz : Sizes) (ws : List ℕ) (used : ℕ → ℕ) : Type 0 where
   pub words : length ws ≡ word_count sz
   pub room : (t : ℕ) → t < sz.threads → used t ≤ sz.quota
@@ -91,7 +91,7 @@ pub record Memory (marks : Bool) (sz : Sizes) (ws : List ℕ) (used : ℕ → �
   pub tail_key : node_key ws 1 ≡ tail_word
   pub tail_link : node_link ws 1 ≡ 2
   pub marked : UnmarkedInChain marks (view sz ws used)
-  -- In a list that does not mark nodes, no link is marked, not even that of an unused slot.
+  -- In a list that does not mark nodes, no node has a mark, not even one that no add has used yet.
   pub unmarked : marks ≡ false → (i : ℕ) → i < node_count sz → node_link ws i % 2 ≡ 0
 
 module _ (marks : Bool) (sz : Sizes) (ws : List ℕ) (used : ℕ → ℕ) (m : Memory marks sz ws used) where
@@ -132,14 +132,12 @@ module _ (marks : Bool) (sz : Sizes) (ws : List ℕ) (used : ℕ → ℕ) (m : M
       let s : used t ≡ h.1 = z.1 in
       omega arith
 
-  -- A published node is not a slot that a thread uses next.
   pub no_own : (t a : ℕ) → t < sz.threads → used t < sz.quota → Published sz used a → a ≢ own_of sz.quota t used
   no_own t a th r p e = fresh t th r (subst (λ x. Published sz used x) e p)
 
   pub own_in : (t : ℕ) → t < sz.threads → used t < sz.quota → own_of sz.quota t used < node_count sz
   own_in t h r = let z : slot_node sz.quota t (used t) < opening_node sz 0 = slot_in sz t (used t) h r in omega arith
 
-  -- If a node's key word is smaller than some call's, the node is not the tail.
   pub inner : (a k : ℕ) → node_key ws a < k → k < tail_word → a ≢ 1
   inner a k x y e = let z : node_key ws a ≡ node_key ws 1 = ap (node_key ws) e in
       let w : node_key ws 1 ≡ tail_word = m.tail_key in omega arith
@@ -150,7 +148,6 @@ module _ (marks : Bool) (sz : Sizes) (ws : List ℕ) (used : ℕ → ℕ) (m : M
   pub next_in : (a b : ℕ) → InChain (view sz ws used) a → a ≢ 1 → node_link ws a / 2 ≡ b → InChain (view sz ws used) b
   next_in a b i d e = chain_on (view sz ws used) a b b [] i d e refl
 
-  -- The node after a published node is published. It can be the tail.
   pub next_published : (a : ℕ) → Published sz used a → Published sz used (node_link ws a / 2)
   next_published a p = elim (same_or_not a 1) [
     | inl e ↦ (let tail : node_link ws 1 ≡ 2 = m.tail_link in
@@ -211,7 +208,7 @@ grown_from sz t used i (inr (inl h)) = elim (same_or_not h.0 t) [
         let c : one_more used t h.0 ≡ used t + 1 = rw a (one_more_same used t) in
         grind arith
 
--- Lemmas about the words after an action that writes x to word i.
+-- The words after an action that writes x to word i: word i has the value x, and the others are unchanged.
 module _ (ws : List ℕ) where
   written : (a : Action) (i x : ℕ) → Writes ws a i x → left_by ws a ≡ slice_set ws i x
   written a i x (inl e) = rw e refl
@@ -323,7 +320,7 @@ module _ (marks : Bool) (sz : Sizes) (ws : List ℕ) (used : ℕ → ℕ) (m : M
   even_at c e at = let z : UnmarkedInChain false (view sz ws used) =
       subst (λ b. UnmarkedInChain b (view sz ws used)) e m.marked in z c (chain_published c at)
 
-  -- Each step makes one of the moves of `Moves`.
+  -- Each step of `WordStep` makes one of the moves of `Moves`, which speak of nodes instead of words.
   pub moved : (a : Action) (ws' : List ℕ) (used' : ℕ → ℕ) (ch : Option (Key × Bool)) → WordStep marks sz t ws used a ws' used' ch
       → Move marks (view sz ws used) (view sz ws' used') ch
   moved a ws' used' ch (reads x i) = quiet
@@ -387,7 +384,7 @@ module _ (marks : Bool) (sz : Sizes) (ws : List ℕ) (used : ℕ → ℕ) (m : M
   lock_use a ws' used' ch (cuts b p c d w at first inn follows next) = no_lock ws a t p (2 * d) w
   lock_use a ws' used' ch (drops b p c d k y w at first inn follows next key) = no_lock ws a t p (2 * d) w
 
-  -- The thread's own count changes as the step's change of the content requires.
+  -- The number of the thread's successful adds increases by one if the step adds a key, and otherwise stays.
   pub mine_counted : (a : Action) (ws' : List ℕ) (used' : ℕ → ℕ) (ch : Option (Key × Bool))
       → WordStep marks sz t ws used a ws' used' ch → used' t ≡ count_after ch (used t)
   mine_counted a ws' used' ch (puts b p c k w at nt follows r ready key above under) = one_more_same used t
@@ -421,7 +418,6 @@ module _ (marks : Bool) (sz : Sizes) (ws : List ℕ) (used : ℕ → ℕ) (m : M
   same_length a ws' used' ch (cuts b p c d w at first inn follows next) = length-set ws (link_index p) (2 * d)
   same_length a ws' used' ch (drops b p c d k y w at first inn follows next key) = length-set ws (link_index p) (2 * d)
 
-  -- If an even value is written to one link, even links stay even.
   even_link : (p x i : ℕ) → p < node_count sz → x % 2 ≡ 0 → node_link ws i % 2 ≡ 0
       → node_link (slice_set ws (link_index p) x) i % 2 ≡ 0
   even_link p x i inn even before = elim (same_or_not i p) [

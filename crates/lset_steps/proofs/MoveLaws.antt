@@ -1,4 +1,4 @@
--- Properties that every move preserves.
+-- What every move of a list preserves: the order of keys, unlinked nodes, and marks.
 use Rattle.std.proofs.Common.{◌≡◌, ℕ, ◌%◌, ◌<◌, Bool, true, false, inl, inr, sym, refl, ap, subst, ◌∙◌, arith, Option, ◌*◌, ◌/◌}
 use Rattle.lset_words.proofs.Numbers.{same_or_not}
 use Rattle.lset_words.specs.declared.Key.{Key}
@@ -27,7 +27,7 @@ module _ (marks : Bool) (v w : View) (ord : IsOrdered v) where
   move-goes ch (clears pred curr q m) = unlink-goes v w ord pred curr q
   move-goes ch (removes pred curr k y q m u e) = unlink-goes v w ord pred curr q
 
-  -- The content changes exactly as the move declares.
+  -- The keys of the set change exactly as the move declares.
   pub move-changed : (ch : Option (Key × Bool)) → Move marks v w ch → Changed ch v w
   move-changed ch (quiet q) = λ j. (quiet_content v w ord q j, quiet_content w v (quiet-ordered v w ord q) (quiet_back v w q) j)
   move-changed ch (inserts pred own k q) = (
@@ -51,7 +51,6 @@ module _ (marks : Bool) (v w : View) (ord : IsOrdered v) where
     λ j n. (unlink_others v w ord pred curr q j (inr (λ f. n (omega arith))), unlink_only v w ord pred curr q j),
   )
 
-  -- A marked node keeps its link.
   pub marked_stays : (ch : Option (Key × Bool)) → Move marks v w ch → (b : ℕ) → v.published b → v.link b % 2 ≡ 1
       → w.link b ≡ v.link b
   marked_stays ch (quiet q) b i o = q.links b i
@@ -64,7 +63,6 @@ module _ (marks : Bool) (v w : View) (ord : IsOrdered v) where
   marked_stays ch (removes pred curr k y q m u e) b i o = q.links b i
       (λ g. let u : v.link pred % 2 ≡ 0 = q.unmarked in let f : v.link b ≡ v.link pred = ap v.link g in omega arith)
 
--- The tail keeps its link.
 pub tail_stays : (marks : Bool) (v w : View) → IsOrdered v → (ch : Option (Key × Bool)) → Move marks v w ch → w.link 1 ≡ v.link 1
 tail_stays marks v w ord ch (quiet q) = q.links 1 ord.tail_published
 tail_stays marks v w ord ch (inserts pred own k q) = q.links 1 ord.tail_published (λ e. q.no_tail (sym e))
@@ -75,7 +73,8 @@ tail_stays marks v w ord ch (removes pred curr k y q m u e) = q.links 1 ord.tail
 not_both : {A : Type 0} (b : Bool) → b ≡ true → b ≡ false → A
 not_both b x y = absurd (let z : true ≡ false = sym x ∙ y in cc)
 
--- In a list that marks nodes, each unmarked published node stays in the chain.
+-- In a list that marks nodes, every node that has been in the chain (published) and has no mark is still in the chain
+-- after a move.
 module _ (v w : View) (ord : IsOrdered v) where
   live_stays : (ch : Option (Key × Bool)) → Move true v w ch → UnmarkedInChain true v → UnmarkedInChain true w
   live_stays ch (quiet q) h b mb e =
@@ -114,7 +113,8 @@ pub marked_after : (marks : Bool) (v w : View) → IsOrdered v → (ch : Option 
 marked_after true v w ord ch m h = live_stays v w ord ch m h
 marked_after false v w ord ch m h = plain_stays v w ord ch m h
 
--- `UnlinkedStays` holds of a published node across one move and across any number of moves.
+-- What is required of a published node (one that has been in the chain) at two moments is true after one move, and
+-- therefore after any number of moves.
 pub later_same : (marks : Bool) (v : View) (i : ℕ) → v.published i → UnlinkedStays marks v v i
 later_same marks v i m = record { published = m; key = refl; unlinked = λ c. (refl, c); marked = λ e o. refl }
 

@@ -1,25 +1,26 @@
--- The moves of a list: how one step can change its nodes, and what a thread can know about the past. The laws are
--- proved from these definitions. To read the laws, you do not need them.
+-- Moves: the ways in which one step can change the nodes of a list. And what a thread can know about earlier moments.
+-- Only proofs use these definitions.
 use Rattle.std.specs.Prelude.{◌≡◌, ◌≢◌, ℕ, ◌+◌, ◌*◌, ◌/◌, ◌%◌, ◌<◌, ◌≤◌, ◌⊎◌, Bool, true, false, Option, Some, None}
 use Rattle.lset_words.specs.declared.Key.{Key}
 use Rattle.lset_steps.specs.Chain.{View, InChain, InContent, IsOrdered, Seen}
 
--- What each step preserves: keys do not change, no node returns to the chain, and a link changes only if its node is in
--- the chain both before and after the step.
+-- What every step preserves: nodes keep their keys and stay published, an unlinked node does not return to the chain,
+-- and the link of a node changes only if the node is in the chain before and after the step.
 pub record KeepsNodes (v w : View) : Type 0 where
   pub keys : (i : ℕ) → v.published i → w.key i ≡ v.key i
   pub grows : (i : ℕ) → v.published i → w.published i
   pub kept : (b : ℕ) → v.published b → (w.link b ≡ v.link b) ⊎ (InChain v b × InChain w b)
   pub back : (b : ℕ) → v.published b → InChain w b → InChain v b
 
--- A quiet move changes no published node.
+-- A move that changes no published node (none that has been in the chain), such as a load, or a write to a lock or to
+-- an unused node.
 pub record Quiet (v w : View) : Type 0 where
   pub keys : (i : ℕ) → v.published i → w.key i ≡ v.key i
   pub links : (i : ℕ) → v.published i → w.link i ≡ v.link i
   pub grows : (i : ℕ) → v.published i → w.published i
   pub published_from : (i : ℕ) → w.published i → v.published i
 
--- An insertion links the node `own`, with key k, between pred and the node after pred.
+-- An insertion: links the node `own`, which has key k, between pred and the next node.
 pub record Inserts (v w : View) (pred own k : ℕ) : Type 0 where
   pub keys : (i : ℕ) → v.published i → w.key i ≡ v.key i
   pub links : (i : ℕ) → v.published i → i ≢ pred → w.link i ≡ v.link i
@@ -37,7 +38,7 @@ pub record Inserts (v w : View) (pred own k : ℕ) : Type 0 where
   pub own_published : w.published own
   pub published_from : (i : ℕ) → w.published i → v.published i ⊎ (i ≡ own)
 
--- A marking sets the mark of node b, whose key is k.
+-- A marking: marks node b, which has key k, as removed.
 pub record Marks (v w : View) (b k : ℕ) : Type 0 where
   pub keys : (i : ℕ) → v.published i → w.key i ≡ v.key i
   pub links : (i : ℕ) → v.published i → i ≢ b → w.link i ≡ v.link i
@@ -49,7 +50,7 @@ pub record Marks (v w : View) (b k : ℕ) : Type 0 where
   pub grows : (i : ℕ) → v.published i → w.published i
   pub published_from : (i : ℕ) → w.published i → v.published i
 
--- An unlinking removes curr, the node after pred, from the chain.
+-- An unlinking: links pred to the node after curr, so that curr, the node after pred, leaves the chain.
 pub record Unlinks (v w : View) (pred curr : ℕ) : Type 0 where
   pub keys : (i : ℕ) → v.published i → w.key i ≡ v.key i
   pub links : (i : ℕ) → v.published i → i ≢ pred → w.link i ≡ v.link i
@@ -62,7 +63,8 @@ pub record Unlinks (v w : View) (pred curr : ℕ) : Type 0 where
   pub grows : (i : ℕ) → v.published i → w.published i
   pub published_from : (i : ℕ) → w.published i → v.published i
 
--- The moves of a list, each with its change of the content. `marks` is whether the list marks nodes.
+-- The moves of a list, each with the key that it adds to the set or removes. `marks` is whether the list marks nodes
+-- before it unlinks them. Otherwise, the unlinking removes the key.
 pub data Move (marks : Bool) (v w : View) : Option (Key × Bool) → Type 0 where
   quiet : Quiet v w → Move marks v w None
   inserts : (pred own : ℕ) (k : Key) → Inserts v w pred own k.0 → Move marks v w (Some (k, true))
@@ -71,46 +73,46 @@ pub data Move (marks : Bool) (v w : View) : Option (Key × Bool) → Type 0 wher
   removes : (pred curr : ℕ) (k : Key) → marks ≡ false → Unlinks v w pred curr → v.link curr % 2 ≡ 0 → 1 < curr
       → v.key curr ≡ k.0 + 1 → Move marks v w (Some (k, false))
 
--- States that each marked node keeps its link.
+-- States that each marked node keeps its link in a step.
 abbrev pub KeepsMarked : View → View → Type 0
 KeepsMarked v w = (b : ℕ) → v.published b → v.link b % 2 ≡ 1 → w.link b ≡ v.link b
 
--- The views at the moments 0 to n of a run. Each view is ordered, and each step has the properties of `KeepsNodes` and
--- `KeepsMarked`.
+-- States that the views at moments 0 to n can be those of a run: keys are in order at each moment, and each step
+-- preserves what every step of a list must preserve.
 pub record Course (vs : ℕ → View) (n : ℕ) : Type 0 where
   pub ordered : (t : ℕ) → t ≤ n → IsOrdered (vs t)
   pub goes : (t : ℕ) → t < n → KeepsNodes (vs t) (vs (t + 1))
   pub marked : (t : ℕ) → t < n → KeepsMarked (vs t) (vs (t + 1))
 
--- Node b was in the chain at some moment from `first` to `now`.
+-- States that node b was in the chain at some moment from `first` to `now`.
 pub record InPast (vs : ℕ → View) (first now b : ℕ) : Type 0 where
   pub at : ℕ
   pub from : first ≤ at
   pub upto : at ≤ now
   pub in_chain : InChain (vs at) b
 
--- Key k was in the content at some moment from `first` to `now`.
+-- States that key k was in the set at some moment from `first` to `now`.
 pub record Had (vs : ℕ → View) (first now k : ℕ) : Type 0 where
   pub at : ℕ
   pub from : first ≤ at
   pub upto : at ≤ now
   pub has : InContent (vs at) k
 
--- Key k was not in the content at some moment from `first` to `now`.
+-- States that key k was not in the set at some moment from `first` to `now`.
 pub record Lacked (vs : ℕ → View) (first now k : ℕ) : Type 0 where
   pub at : ℕ
   pub from : first ≤ at
   pub upto : at ≤ now
   pub lacks : InContent (vs at) k → ⊥
 
--- What a contains of k knows before it loads the link of curr: curr was in the chain, and its key is smaller than k.
--- The call began at `first`.
+-- What a `contains` of k knows at row 20 of the step table, before it loads the link of curr. The node curr was in the
+-- chain at some moment since the call began at `first`, and its key is smaller than k.
 pub record At20 (vs : ℕ → View) (first now k curr : ℕ) : Type 0 where
   pub past : InPast vs first now curr
   pub low : (vs past.at).key curr < k + 1
 
--- What a contains knows before it loads the key of curr: it has loaded a link to curr from a node whose key is smaller
--- than k.
+-- What a `contains` of k knows at row 21 of the step table, before it loads the key of curr. It has read a link to curr
+-- in a node with a smaller key than k, and that node had this link while it was in the chain.
 pub record At21 (vs : ℕ → View) (first now k curr : ℕ) : Type 0 where
   pub from : ℕ
   pub word : ℕ
@@ -118,14 +120,14 @@ pub record At21 (vs : ℕ → View) (first now k curr : ℕ) : Type 0 where
   pub next : word / 2 ≡ curr
   pub low : (vs seen.at).key from < k + 1
 
--- What a contains knows before it loads the mark of curr: curr has the key k and was in the chain at some moment of the
--- call.
+-- What a `contains` of k knows at row 22 of the step table, before it loads the mark of curr. The node curr has the key
+-- k, and was in the chain at some moment since the call began at `first`.
 pub record At22 (vs : ℕ → View) (first now k curr : ℕ) : Type 0 where
   pub past : InPast vs first now curr
   pub found : (vs past.at).key curr ≡ k + 1
 
--- What a ceiling of k knows before it loads the mark of curr: curr was in the chain, and its key word is ckey, which is
--- at least k.
+-- What a `ceiling` of k knows at row 25 of the step table, before it loads the mark of curr. The node curr was in the
+-- chain at some moment since the call began, and its key word is `ckey`, which is not smaller than that of k.
 pub record At25 (vs : ℕ → View) (first now k curr ckey : ℕ) : Type 0 where
   pub past : InPast vs first now curr
   pub walk : At21 vs first now k curr

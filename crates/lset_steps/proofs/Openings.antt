@@ -1,5 +1,5 @@
--- The opening world. Its chain consists of the head, the nodes of the opening keys and the tail. Its content is the
--- opening keys.
+-- The opening state of a list: its chain consists of the head, the nodes of the opening keys and the tail, and the keys
+-- of the set are the opening keys.
 use Rattle.std.specs.Prelude.{◌≡◌, ℕ, zero, suc, ◌+◌, ◌*◌, ◌-◌, ◌/◌, ◌%◌, ◌^◌, ◌<◌, ◌≤◌, ◌⊎◌, Bool, true, false, List, []}
 use Rattle.std.specs.Prelude.{◌∷◌, length, slice_index, refl, Contains}
 use Rattle.std.specs.List.{range_with_len}
@@ -26,7 +26,7 @@ opening_local op t h = get_or-map-range_with_len (idle op.quota) 0 op.threads t 
 pub none_used : (op : Opening) (t : ℕ) → t < op.threads → used_in (opening op) t ≡ 0
 none_used op t h = ap (λ (l : Local). l.used) (opening_local op t h)
 
--- ---- The words of the opening world, node by node
+-- ---- The words of a list when it opens, node by node
 key_word : (op : Opening) (a : ℕ) → opening_word op (key_index a) ≡ opening_key op a
 key_word op a =
     let e : key_index a / 3 - 1 ≡ a = omega arith in
@@ -104,7 +104,6 @@ module _ (op : Opening) where
   next_last : (i : ℕ) → length op.keys ≤ i → opening_next (sizes op) i ≡ 1
   next_last i h = if_not_below i (length op.keys) h (opening_node (sizes op) i) 1
 
-  -- Unused slots have the key word 0.
   slot_key : (a : ℕ) → 1 < a → a < opening_node (sizes op) 0 → opening_key op a ≡ 0
   slot_key a l h = rw (unequal_test a 1 (λ e. omega arith))
       (if_below a (opening_node (sizes op) 0) h 0 (slice_index op.keys (a - opening_node (sizes op) 0) + 1))
@@ -140,7 +139,8 @@ module _ (op : Opening) where
       ∙ sym (map-range_with_len_more (opening_word op) 0 (9 + n) (9 + n) (omega arith))
       ∙ ap (λ k. map (opening_word op) (range_with_len 0 k)) next
 
-  -- States that a node is published at the opening: it is the head, the tail, or the node of an opening key.
+  -- States that node a can be in the chain when the list opens (is published): it is the head, the tail, or the node of
+  -- an opening key.
   abbrev OneOf : ℕ → Type 0
   OneOf a = (a ≡ 0) ⊎ (a ≡ 1) ⊎ ((i : ℕ) × (i < length op.keys) × (a ≡ opening_node (sizes op) i))
 
@@ -168,7 +168,6 @@ module _ (op : Opening) where
     | inr h ↦ subst (Published (sizes op) (used_in (opening op))) (sym (next_last i h)) (inl (omega arith))
   ]
 
-  -- Each link is even and leads to the next node.
   half_head : node_link (opening op).words 0 / 2 ≡ opening_next (sizes op) 0
   half_head = let e : node_link (opening op).words 0 ≡ 2 * opening_next (sizes op) 0 = head_link in omega arith
 
@@ -189,7 +188,6 @@ module _ (op : Opening) (o : Opens op) where
   key_last : (i : ℕ) → length op.keys ≤ i → node_key (opening op).words (opening_next (sizes op) i) ≡ tail_word
   key_last i h = ap (node_key (opening op).words) (next_last op i h) ∙ tail_key op
 
-  -- The key word of the next node is above 0, and greater than that of the node before it.
   above_head : node_key (opening op).words 0 < node_key (opening op).words (node_link (opening op).words 0 / 2)
   above_head = rw (head_key op, half_head op) (elim (below_or_not 0 (length op.keys)) [
     | inl h ↦ (let e : node_key (opening op).words (opening_next (sizes op) 0) ≡ slice_index op.keys 0 + 1 = key_more 0 h in
@@ -241,7 +239,6 @@ module _ (op : Opening) (o : Opens op) where
     ];
   }
 
-  -- The node of each opening key is in the chain, and so is the tail.
   chain_next : (i : ℕ) → InChain (view_of (sizes op) (opening op)) (opening_next (sizes op) i)
   chain_next zero = chain_on (view_of (sizes op) (opening op)) 0 (opening_next (sizes op) 0) (opening_next (sizes op) 0) [] (
     [],
@@ -296,7 +293,6 @@ module _ (op : Opening) (o : Opens op) where
     unmarked = λ bare i l. even_each i l;
   }
 
-  -- The content of the opening world is the opening keys.
   pub content_opens : (k : ℕ) → (InContent (view_of (sizes op) (opening op)) k → Contains op.keys k)
       × (Contains op.keys k → InContent (view_of (sizes op) (opening op)) k)
   content_opens k = (from, back)

@@ -1,4 +1,4 @@
--- Proof: if a machine satisfies its law, it satisfies every law in `Promises`.
+-- Proof that a machine that satisfies its law has all the properties of `Promises`.
 use Rattle.std.specs.Prelude.{◌≡◌, ◌≢◌, ℕ, suc, ◌+◌, ◌/◌, ◌<◌, ◌≤◌, ◌⊎◌, Bool, true, false, if◌then◌else◌, ◌==◌, List, [], ◌∷◌}
 use Rattle.std.specs.Prelude.{◌++◌, map, Some, length, refl}
 use Rattle.std.proofs.Common.{arith, inl, inr, sym, ap, subst}
@@ -26,7 +26,8 @@ use Rattle.lset_steps.specs.Promises.{FrozenNodes, NoLinkIsMarked, InRange, Thre
 use Rattle.lset_steps.specs.Promises.{UnlinkedNodesStay, SeenInThePast, UnmarkedNodesInChain, ChangeIsNamed, NamedChange, RepliesFit}
 use Rattle.lset_steps.specs.Promises.{IsContains, TrueMeansChange, HasAccount, ContentIsListed, ListedContent}
 
--- A run up to moment k, and one more step by thread t, which has a pending call.
+-- A run up to moment k that is continued by a step of thread t, whether or not the given run continues so. Thus laws of
+-- steps apply to the thread's next step.
 module _ (T : Table) (law : Lawful T) (op : Opening) (last k t : ℕ) (es : ℕ → Event) (r : Run T op es last) (l : k ≤ last)
     (below : t < op.threads) where
   abbrev more : ℕ → Event
@@ -109,7 +110,6 @@ seen_before_of T law op last j k b es r below l c = law.seen_before op last j k 
 pub unmarked_in_chain_of : (T : Table) → Lawful T → UnmarkedNodesInChain T
 unmarked_in_chain_of T law op last k es r l = (law.states op last k es r l).marked
 
--- By its account, a log states how each entry changes the content.
 pub account_is : (T : Table) → Lawful T → HasAccount T
 account_is T law op last es r = account_of T law op es last r
 

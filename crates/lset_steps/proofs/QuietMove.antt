@@ -1,5 +1,5 @@
--- A step that changes no published node has no effect on the chain. This file also has basic facts about nodes in the
--- chain.
+-- A step that changes no published node (none that has been in the chain) changes neither the chain nor the keys of the
+-- set. Also basic facts about nodes in the chain.
 use Rattle.std.proofs.Common.{◌≡◌, ◌≢◌, ℕ, ◌/◌, ◌%◌, ◌<◌, ◌≤◌, inl, List, ◌∷◌, ◌++◌, sym, refl, ap, subst, ◌∙◌, arith}
 use Rattle.lset_steps.specs.Chain.{View, Segment, InChain, InContent, IsOrdered}
 use Rattle.lset_steps.proofs.Moves.{Quiet, KeepsNodes}
@@ -8,24 +8,24 @@ use Rattle.lset_steps.proofs.Segments.{segment-append, segment_published, segmen
 pub in_chain_published : (v : View) → IsOrdered v → (b : ℕ) → InChain v b → v.published b
 in_chain_published v ord b ib = segment_published v ord 0 b ib.0 ord.head_published ib.1
 
--- If each node's next node stays the same, the chain stays the same.
+-- If each node's link leads to the same node as before, the same nodes are in the chain.
 pub chain_same : (v w : View) → IsOrdered v → ((a : ℕ) → v.published a → w.link a / 2 ≡ v.link a / 2) → (b : ℕ)
     → InChain v b → InChain w b
 chain_same v w ord h b ib = (ib.0, segment_same v w ord 0 b 0 ib.0 (λ a m l t. h a m) ord.head_published (omega arith) ib.1)
 
--- If no link of a node before p changes, the nodes up to p stay in the chain.
+-- If the links of all nodes with smaller keys than p's stay the same, each node up to p stays in the chain.
 pub chain_before : (v w : View) → IsOrdered v → (p b : ℕ)
     → ((a : ℕ) → v.published a → v.key a < v.key p → w.link a / 2 ≡ v.link a / 2)
     → v.key b ≤ v.key p → InChain v b → InChain w b
 chain_before v w ord p b h le ib =
     (ib.0, segment_same v w ord 0 b 0 ib.0 (λ a m l t. h a m (omega arith)) ord.head_published (omega arith) ib.1)
 
--- If p is in the chain, each node reachable from its next node is in the chain.
 pub chain_on : (v : View) (p q b : ℕ) (cs : List ℕ) → InChain v p → p ≢ 1 → v.link p / 2 ≡ q → Segment v q cs b → InChain v b
 chain_on v p q b cs ip n e s =
     (ip.0 ++ (p ∷ cs), segment-append v 0 p b ip.0 (p ∷ cs) ip.1 (refl, n, subst (λ x. Segment v x cs b) (sym e) s))
 
--- If no link from p on changes, a segment that begins at or after p stays the same.
+-- If the links of node i and of all nodes with greater keys stay the same, a piece of the chain from i on stays the
+-- same.
 pub segment_after : (v w : View) → IsOrdered v → (i j : ℕ) (cs : List ℕ)
     → ((a : ℕ) → v.published a → v.key i ≤ v.key a → w.link a / 2 ≡ v.link a / 2)
     → v.published i → Segment v i cs j → Segment w i cs j
@@ -40,7 +40,7 @@ apart v i j l e = let f : v.key i ≡ v.key j = ap v.key e in omega arith
 pub apart' : (v : View) (i j : ℕ) → v.key i < v.key j → j ≢ i
 apart' v i j l e = let f : v.key j ≡ v.key i = ap v.key e in omega arith
 
--- ---- Lemmas about quiet moves
+-- ---- Lemmas about moves that change no published node
 
 pub quiet_keeps : (v w : View) → IsOrdered v → Quiet v w → (b : ℕ) → InChain v b → InChain w b
 quiet_keeps v w ord q b ib = chain_same v w ord (λ a m. ap (λ x. x / 2) (q.links a m)) b ib

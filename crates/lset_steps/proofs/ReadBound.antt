@@ -1,5 +1,5 @@
--- Proof that a contains makes a bounded number of steps. The keys that it reads increase, so it visits no node twice,
--- and the number of nodes is bounded.
+-- Proof that a `contains` makes a bounded number of steps: the keys that it reads increase, so it visits no node twice,
+-- and the number of nodes is limited.
 use Rattle.std.specs.Prelude.{◌≡◌, ◌≢◌, ℕ, ◌+◌, ◌*◌, ◌/◌, ◌%◌, ◌<◌, ◌≤◌, ◌⊎◌, Bool, true, false, if◌then◌else◌, ◌==◌, slice_set}
 use Rattle.std.specs.Prelude.{slice_index_or, length, refl}
 use Rattle.std.proofs.Common.{arith, inl, inr, sym, ◌∙◌, ap, subst, zero, suc, get_or-set_other, get_or-set_same}
@@ -23,7 +23,7 @@ use Rattle.lset_steps.specs.Rows.{ceiling_at}
 use Rattle.lset_steps.proofs.ReadTables.{HasReadRows, IsReadRow}
 use Rattle.lset_steps.specs.BoundedReads.{BoundedReads, ReadsNext, steps_after, steps_since}
 
--- Returns how many numbers below n satisfy f.
+-- Returns how many of the numbers below n satisfy f.
 abbrev count : (ℕ → Bool) → ℕ → ℕ
 count f zero = 0
 count f (suc n) = (if f n then 1 else 0) + count f n
@@ -72,7 +72,8 @@ true_or_false : (b : Bool) → (b ≡ true) ⊎ (b ≡ false)
 true_or_false true = inl refl
 true_or_false false = inr refl
 
--- The number of published nodes visited so far is `amount`. All their key words are smaller than `below`.
+-- Counts the nodes that a call has visited: `amount` nodes that have been in the chain, all with key words smaller than
+-- `below`. The nodes are numbers below `size`.
 record Tally (v : View) (size below amount : ℕ) : Type 0 where
   met : ℕ → Bool
   are : (i : ℕ) → met i ≡ true → v.published i × (v.key i < below)
@@ -103,7 +104,7 @@ tally_more {v} {size} {amount} c p l a = record {
   ]) ∙ ap (λ k. suc k) a.amount_is;
 }
 
--- If the tail has not been visited, the number of visited nodes is smaller than the number of nodes.
+-- A call that has not visited the tail has visited fewer nodes than the list has.
 tally_few : {v : View} {size below amount : ℕ} → v.published 1 → 1 < size → below ≤ v.key 1 → Tally v size below amount
     → amount < size
 tally_few {v} {size} {below} {amount} p l le a =
@@ -112,7 +113,8 @@ tally_few {v} {size} {below} {amount} p l le a =
     let e : count b.met size ≡ suc amount = b.amount_is in
     omega arith
 
--- States that published nodes stay published and keep their keys.
+-- States that published nodes (those that have been in the chain) stay published and keep their keys from one moment to
+-- a later one.
 abbrev Later : View → View → Type 0
 Later v w = (i : ℕ) → v.published i → w.published i × (w.key i ≡ v.key i)
 
@@ -125,12 +127,12 @@ tally_on {v} {w} {size} {below} g a = record {
   amount_is = a.amount_is;
 }
 
--- States that the row is one of a ceiling.
+-- States that this row of the step table is one of a `ceiling` without locks.
 abbrev IsCeilingRow : ℕ → Type 0
 IsCeilingRow pc = (pc ≡ 23) ⊎ (pc ≡ 24) ⊎ (pc ≡ 25)
 
--- How far a thread's call has come after `steps` steps. For a contains, each row states how many nodes have been
--- visited.
+-- How far the call of a thread has come after `steps` steps. At each row of a `contains`, the number of visited nodes
+-- determines the number of steps.
 data Walked (v : View) (size steps : ℕ) (l : Local) : Type 0 where
   resting : l.pc ≡ 0 → Walked v size steps l
   writing : (IsRead l.call → ⊥) → Walked v size steps l
@@ -164,7 +166,7 @@ module _ (T : Table) (law : Lawful T) (rows : HasReadRows T) (op : Opening) wher
   abbrev size : ℕ
   size = node_count (sizes op)
 
-  -- A step of thread t. `s` is the state before it.
+  -- A step of thread t in state `s`.
   module _ (s : State) (o : StateLaws T.marks (sizes op) s) (t : ℕ) (th : t < op.threads) (steps : ℕ) where
     abbrev V : View
     V = view_of (sizes op) s
@@ -261,7 +263,6 @@ module _ (T : Table) (law : Lawful T) (rows : HasReadRows T) (op : Opening) wher
               (resting refl)
         ]
 
-  -- When a call begins, it has made no step.
   starts : (s : State) (o : StateLaws T.marks (sizes op) s) (call : Call) (l : Local) →
       Walked (view_of (sizes op) s) size 0 (T.begin call l)
   starts s o (Add k) l = writing (λ r. subst IsRead (law.begins (Add k) l).called r)
@@ -294,7 +295,8 @@ module _ (T : Table) (law : Lawful T) (rows : HasReadRows T) (op : Opening) wher
     opening_local : local_of (state_at T op es 0) t ≡ idle op.quota t
     opening_local = get_or-map-range_with_len (idle op.quota) 0 op.threads t t (idle 0 0) th (omega arith)
 
-    -- After one more event, `Walked` still describes the thread's progress.
+    -- After one more event, the thread's progress is still described by `Walked`. By cases: the thread's own begin, its
+    -- own step, or an event of another thread.
     walked_after : (k : ℕ) → k < last → (e : Event) → es k ≡ e → Enabled (state_at T op es k) e
         → Walked (views T op es k) size (steps_since es t k) (local_of (state_at T op es k) t)
         → Walked (views T op es k) size (steps_after e t (steps_since es t k)) (local_of (after T (state_at T op es k) e) t)
@@ -385,7 +387,6 @@ pub bounded_reads : (T : Table) → Lawful T → HasReadRows T → BoundedReads 
 bounded_reads T law rows op last k t es r l th busy reads =
     reads_next T law rows op es last r t th k l busy reads (walked_at T law rows op es last r t th k l)
 
--- A pending contains or ceiling is at a row of its own.
 row_of : {v : View} {size steps : ℕ} {l : Local} → l.pc ≢ 0 → IsRead l.call → Walked v size steps l → IsReadRow l.pc
 row_of busy reads (resting e) = absurd (busy e)
 row_of busy reads (writing c) = absurd (c reads)

@@ -1,5 +1,6 @@
--- The proof outline of a contains without locks, and the proof that each row preserves it. The call's reply is correct
--- at some moment of the call. That moment can be a step of another thread (after O'Hearn and others).
+-- What a thread knows at each row of a `contains` or a `ceiling` without locks (its proof outline). Proof that each row
+-- preserves this, and that the reply is correct at some moment of the call, possibly one before a step of another
+-- thread (after O'Hearn and others).
 use Rattle.std.specs.Prelude.{◌≡◌, ◌≢◌, ℕ, suc, ◌-◌, ◌==◌, if◌then◌else◌, ◌/◌, ◌%◌, ◌<◌, ◌≤◌, ◌⊎◌, Bool, false, None, List, [], refl}
 use Rattle.std.proofs.Common.{arith, inl, inr, sym, ◌∙◌, ap, subst}
 use Rattle.lset_words.proofs.Numbers.{same_or_not, below_or_not, if_below, if_not_below, if_same, if_other}
@@ -43,7 +44,7 @@ pub data Reading (vs : ℕ → View) (first now : ℕ) (done : Bool) (l : Local)
   reads25 : l.pc ≡ 25 → done ≡ false → l.call ≡ Ceiling (key_of l.call) → At25 vs first now (key_of l.call).0 l.curr l.ckey
       → Reading vs first now done l
 
--- The outline still holds at the next moment.
+-- What a thread knows in a `contains` or a `ceiling` is about the past, so it is still true at the next moment.
 pub reading_on : {vs : ℕ → View} {first now : ℕ} {done : Bool} {l : Local} → Reading vs first now done l
     → Reading vs first (suc now) done l
 reading_on {vs} {first} {now} {done} {l} (reads20 e d c a) =
@@ -59,18 +60,17 @@ reading_on {vs} {first} {now} {done} {l} (reads24 e d c a) =
 reading_on {vs} {first} {now} {done} {l} (reads25 e d c a) =
     reads25 e d c (at25_on vs first now (suc now) (key_of l.call).0 l.curr l.ckey (omega arith) a)
 
--- Beginning a call satisfies the law of beginnings.
 pub begun_reading_is : (call : Call) (l : Local) → BeginLaws begun_reading call l
 begun_reading_is (Add k) l = record { called = refl; used = refl; opened = λ e. omega arith; alike = refl }
 begun_reading_is call l = record { called = refl; used = refl; opened = λ e. omega arith; alike = refl }
 
--- A walk starts at the head, where the outline holds before the first load.
+-- A call starts at the head, which is in the chain at every moment and has the smallest key.
 at_head : (vs : ℕ → View) (first now : ℕ) (v : View) (k : ℕ) → first ≤ now → vs now ≡ v → v.key 0 ≡ 0 → At20 vs first now k 0
 at_head vs first now v k from present head =
     let low : (vs now).key 0 ≡ 0 = ap (λ x. x.key 0) present ∙ head in
     record { past = record { at = now; from = from; upto = omega arith; in_chain = ([], refl) }; low = omega arith }
 
--- A call begins at row 1 or, if it is a contains or a ceiling, at the first of its own rows.
+-- An `add` or a `remove` begins at row 1 of the step table, a `contains` or a `ceiling` at the first of its own rows.
 pub call_begins : (At : Outline) (q t : ℕ) (vs : ℕ → View) (now : ℕ) (v : View) (call : Call) (l : Local) → vs now ≡ v →
     v.key 0 ≡ 0
     → ((l' : Local) → l'.pc ≡ 1 → At q t vs now now v false l')
@@ -83,8 +83,8 @@ call_begins At q t vs now v (Contains k) l e z walks reads =
 call_begins At q t vs now v (Ceiling k) l e z walks reads =
     reads (begun_reading (Ceiling k) l) (reads23 refl refl refl (at_head vs now now v k.0 (omega arith) e z))
 
--- A contains may reply True if the set had the key at some moment of the call, and False if the set did not have it at
--- some moment.
+-- `True` is a correct reply to a `contains` if the set had the key at some moment of the call, and `False` if the set
+-- lacked the key at some moment.
 fits_had : (q : ℕ) (vs : ℕ → View) (first now t : ℕ) (call : Call) → call ≡ Contains (key_of call)
     → Had vs first now (key_of call).0
     → FitsSometime q (contents_of vs) (counts_of vs) first now t call True
@@ -108,7 +108,8 @@ fits_lacked q vs first now t call c a = record {
 pub even_or_odd : (x : ℕ) → (x % 2 ≡ 0) ⊎ (x % 2 ≡ 1)
 even_or_odd x = grind arith
 
--- Rows 20 to 25, in every table that has them, for every protocol.
+-- Rows 20 to 25 of the step table, which belong to `contains` and `ceiling`, for every protocol by which threads share
+-- the words.
 module _ (T : Table) (P : Protocol T.marks) (At : Outline) (sz : Sizes) (t : ℕ) (vs : ℕ → View) (first now : ℕ) (ws : List ℕ)
     (used : ℕ → ℕ) (done : Bool) (l : Local)
     (h : Here T.marks sz vs now ws used) (th : Thread At sz t vs first now ws used done l)
@@ -133,7 +134,6 @@ module _ (T : Table) (P : Protocol T.marks) (At : Outline) (sz : Sizes) (t : ℕ
   link_now : (a : ℕ) → (vs now).link a ≡ node_link ws a
   link_now a = ap (λ v. v.link a) h.present
 
-  -- A node that was in the chain is published.
   past_published : (a : ℕ) → InPast vs first now a → V.published a
   past_published a p =
       let upto : p.at ≤ now = p.upto in
@@ -150,7 +150,8 @@ module _ (T : Table) (P : Protocol T.marks) (At : Outline) (sz : Sizes) (t : ℕ
       let low : target l.call < tail_word = regs.low in
       omega arith
 
-  -- After the load of a link, the outline of the next row holds for the node to which the link leads.
+  -- The load of a link leads from row 20 of the step table to row 21: what the thread must know at row 21 is true of
+  -- the node to which the link leads.
   behind : At20 vs first now (key_of l.call).0 l.curr
       → (node_link ws l.curr / 2 < node_count sz) × At21 vs first (suc now) (key_of l.call).0 (node_link ws l.curr / 2)
   behind a =
@@ -256,8 +257,8 @@ module _ (T : Table) (P : Protocol T.marks) (At : Outline) (sz : Sizes) (t : ℕ
       (keep_walk sz t 24 l.pred (s / 2) l regs.pred next.0 regs, refl, refl, λ x. omega arith)
       (reading (record l { pc = 24; curr = s / 2 }) (reads24 refl d c next.1))
 
-  -- If a ceiling stops at a key word, its reply was correct at the moment at which the previous node's link led to this
-  -- node.
+  -- If a `ceiling` stops at a key word, its reply was correct at the moment at which the previous node was in the chain
+  -- with the link that the call read.
   found_then : (a : At21 vs first now (key_of l.call).0 l.curr) (c : ℕ) → l.call ≡ Ceiling (key_of l.call)
       → (vs a.seen.at).key l.curr ≡ c → target l.call ≤ c → (c < tail_word → (vs now).link l.curr % 2 ≡ 0)
       → FitsSometime sz.quota (contents_of vs) (counts_of vs) first now t l.call (ceiling_at c)

@@ -1,4 +1,4 @@
--- Tables whose contains and ceiling have the rows of `ReadRows`.
+-- Tables whose `contains` and `ceiling` have rows 20 to 25 of `ReadRows`.
 use Rattle.std.specs.Prelude.{◌≡◌, ◌⊎◌, ℕ, None}
 use Rattle.std.proofs.Common.{inl, inr, sym, subst}
 use Rattle.lset_words.specs.declared.Call.{Call}
@@ -15,7 +15,6 @@ pub record HasReadRows (T : Table) : Type 0 where
   pub feeds : (l : Local) (seen : ℕ) → IsReadRow l.pc → T.feed l seen ≡ read_fed l seen
   pub tells : (l : Local) (seen : ℕ) → IsReadRow l.pc → T.effect l seen ≡ None
 
--- To prove a property of the rows of reads, prove it for each row from 20 to 25.
 pub in_each_read_row : (P : ℕ → Type 0) → P 20 → P 21 → P 22 → P 23 → P 24 → P 25 → (pc : ℕ) → IsReadRow pc → P pc
 in_each_read_row P a b c d e f pc (inl is) = subst P (sym is) a
 in_each_read_row P a b c d e f pc (inr (inl is)) = subst P (sym is) b

@@ -1,4 +1,5 @@
--- Proof: each node that a contains or a ceiling visits was in the chain.
+-- Proof that each node that a `contains` or a `ceiling` without locks passes was in the chain at some moment of the
+-- call.
 use Rattle.std.specs.Prelude.{◌≡◌, ◌≢◌, ℕ, zero, suc, ◌<◌, ◌≤◌, Bool, if◌then◌else◌, ◌==◌, refl}
 use Rattle.std.proofs.Common.{arith, inl, inr, sym, ◌∙◌, ap, subst}
 use Rattle.lset_words.proofs.Numbers.{same_or_not, if_same, if_other}
@@ -25,7 +26,6 @@ use Rattle.lset_steps.proofs.Discipline.{Outline, Discipline, Inv, inv_at, lawfu
 
 module _ (T : Table) (rows : HasReadRows T) (vs : ℕ → View) (first now : ℕ) (course : Course vs now) (done : Bool) (l : Local)
     (a : ℕ) (next : T.next l ≡ Load (link_index a)) where
-  -- A load of curr's link sees a link that curr had while it was in the chain.
   at_curr : IsReadRow l.pc → T.next l ≡ Load (link_index l.curr) → InPast vs first now l.curr →
       Seen vs first now a ((vs now).link a)
   at_curr row acts p =
@@ -49,12 +49,13 @@ module _ (T : Table) (rows : HasReadRows T) (vs : ℕ → View) (first now : ℕ
   seen_now (reads25 e d c x) =
       at_curr (inr (inr (inr (inr (inr e))))) (rows.acts l (inr (inr (inr (inr (inr e))))) ∙ (rw e refl)) x.past
 
--- States that the outline includes what a read knows, at the rows of a contains and of a ceiling.
+-- States that a list's proof outline includes, at rows 20 to 25 of the step table, what a `contains` or a `ceiling`
+-- knows there.
 abbrev pub ShowsReading : Outline → Type 1
 ShowsReading At = (q t : ℕ) (vs : ℕ → View) (first now : ℕ) (v : View) (done : Bool) (l : Local) → IsReadRow l.pc
     → At q t vs first now v done l → Reading vs first now done l
 
--- Before a contains or a ceiling loads a link, the node was in the chain with the link that the load will see.
+-- When a `contains` or a `ceiling` loads a link, the node was in the chain with this link at some moment of the call.
 loads_seen : (T : Table) (At : Outline) → Discipline T T.marks At → HasReadRows T → ShowsReading At
     → (op : Opening) (last k t a : ℕ) (es : ℕ → Event) → Run T op es last → k ≤ last → t < op.threads
     → (local_of (state_at T op es k) t).pc ≢ 0 → IsRead (local_of (state_at T op es k) t).call
@@ -69,7 +70,7 @@ loads_seen T At d rows shows op last k t a es r l th busy reads next =
     (local_of (state_at T op es k) t)
     (read_row T (lawful_of T At d) rows op last k t es r l th busy reads) (i.threads t th).at)
 
--- If a thread begins no call between two moments, its last call is the same at both.
+-- States that thread t begins no call between moments `at` and k, so that its last call is the same at both.
 record SameCall (log : Log) (t at k : ℕ) : Type 0 where
   begun : begun_at log t k ≡ begun_at log t at
   call : last_call log t k ≡ last_call log t at

@@ -1,4 +1,5 @@
--- The rely condition of every list, with or without locks: what a thread's step does not change for the other threads.
+-- The rely condition of every list, with or without locks: what a step of one thread leaves unchanged for another
+-- thread.
 use Rattle.std.specs.Prelude.{◌≡◌, ◌≢◌, ℕ, ◌+◌, ◌*◌, ◌%◌, ◌<◌, Bool, Option, List, refl}
 use Rattle.std.proofs.Common.{arith, inl, sym}
 use Rattle.lset_words.specs.Words.{slot_node, Sizes}
@@ -12,8 +13,8 @@ use Rattle.lset_steps.proofs.Memory.{WordStep, Memory, reads, fails, takes, give
 use Rattle.lset_steps.proofs.Memory.{drops, own_of, row_once, no_own, moved, goes_on, others_counted}
 use Rattle.lset_steps.proofs.AfterWrite.{key_after_link, link_after_link, link_after_key, key_after_key, key_after_lock, link_after_lock}
 
--- What a step of another thread, from view v to view w, does not change for thread u with quota q, whoever holds locks:
--- the keys and the marked links of nodes, u's count, and u's next slot.
+-- What a step from view v to view w by another thread leaves unchanged for thread u with quota q, even without locks:
+-- keys, the links of marked nodes, how many adds of u have succeeded, and the node for its next add.
 pub record Remains (v w : View) (q u : ℕ) : Type 0 where
   pub goes : KeepsNodes v w
   pub marked : (a : ℕ) → v.published a → v.link a % 2 ≡ 1 → w.link a ≡ v.link a
@@ -21,7 +22,6 @@ pub record Remains (v w : View) (q u : ℕ) : Type 0 where
   pub own_key : v.used u < q → w.key (slot_node q u (v.used u)) ≡ v.key (slot_node q u (v.used u))
   pub own_link : v.used u < q → w.link (slot_node q u (v.used u)) ≡ v.link (slot_node q u (v.used u))
 
--- Nothing changes if no step is made.
 pub remains_same : (v : View) (q u : ℕ) → Remains v v q u
 remains_same v q u = record {
   goes = record { keys = λ i p. refl; grows = λ i p. p; kept = λ i p. inl refl; back = λ i p c. c };
@@ -31,7 +31,7 @@ remains_same v q u = record {
   own_link = λ r. refl;
 }
 
--- A step of thread t, seen by another thread u.
+-- A step of thread t, as another thread u sees it.
 module _ (marks : Bool) (sz : Sizes) (ws : List ℕ) (used : ℕ → ℕ) (m : Memory marks sz ws used) (t : ℕ) (h : t < sz.threads)
     (u : ℕ) (k : u < sz.threads) (d : u ≢ t) where
   at_chain : (p : ℕ) → InChain (view sz ws used) p → Published sz used p

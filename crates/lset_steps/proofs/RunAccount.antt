@@ -1,4 +1,4 @@
--- Proof: every run of a lawful machine has an account. The calls are placed from the account.
+-- Proof that every run of a lawful machine has an account, which states the effect of each event on the set.
 use Rattle.std.specs.Prelude.{◌≡◌, ◌≢◌, ℕ, ◌<◌, ◌≤◌, Bool, true, false, ◌==◌, Option, Some, None, length, refl}
 use Rattle.std.proofs.Common.{arith, inl, inr, sym, ◌∙◌, ap, subst, zero, suc}
 use Rattle.std.proofs.lemmas.List.FromFn.{get_or-map-range_with_len}
@@ -19,14 +19,15 @@ use Rattle.lset_words.specs.Words.{Opening, sizes}
 use Rattle.lset_steps.proofs.Openings.{content_opens}
 use Rattle.lset_steps.proofs.Discipline.{pick_yes, pick_not, put_same, put_other}
 
--- Returns the contents and the counts at the moments of a run.
+-- Returns the keys of the set at each moment of a run. `counts_at` returns the number of successful adds of each
+-- thread.
 abbrev pub contents_at : Table → Opening → (ℕ → Event) → Contents
 contents_at T op es = contents_of (views T op es)
 
 abbrev pub counts_at : Table → Opening → (ℕ → Event) → Counts
 counts_at T op es = counts_of (views T op es)
 
--- The log and the thread's private state agree on whether a call is pending, and on which call it is.
+-- States that the log and the thread's private state agree on whether a call is pending, and on which call this is.
 pub record Tied (open_now : Bool) (call : Call) (l : Local) : Type 0 where
   pub closed : l.pc ≡ 0 → open_now ≡ false
   pub opened : l.pc ≢ 0 → (open_now ≡ true) × (l.call ≡ call)

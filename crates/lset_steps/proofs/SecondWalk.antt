@@ -1,7 +1,7 @@
 -- A second walk from the head decides whether a locked node is in the chain (Herlihy and Shavit's validation). The walk
--- can pass nodes that are being unlinked. But each node that it reaches was in the chain at some moment since the lock
--- was taken, and a node is unlinked only by the thread that holds its lock. So if the walk reaches the locked node,
--- this node is in the chain.
+-- can pass nodes that are being unlinked. But each node that the walk reaches was in the chain at some moment since the
+-- lock was taken, and a node is unlinked only by a thread that holds the node's lock. Therefore, if the walk reaches
+-- the locked node, this node is in the chain.
 use Rattle.std.specs.Prelude.{◌≡◌, ◌≢◌, ℕ, suc, ◌+◌, ◌/◌, ◌<◌, ◌≤◌, ◌⊎◌, [], refl}
 use Rattle.std.proofs.Common.{arith, inl, inr, subst, sym}
 use Rattle.lset_steps.specs.Chain.{View, InChain, IsOrdered}
@@ -9,8 +9,8 @@ use Rattle.lset_steps.proofs.Moves.{Course, InPast}
 use Rattle.lset_steps.proofs.Hindsight.{hindsight, next_in_past, in_past_on}
 use Rattle.lset_steps.proofs.Held.{Leaves}
 
--- Thread t has held the lock of pred since the moment `start`, and its walk has reached `node`. `v` is the current
--- view.
+-- What thread t knows during its second walk: it has held the lock of pred since the moment `start`, and the node that
+-- the walk has reached was in the chain at some moment since then. `v` is the current view.
 pub record SecondWalk (vs : ℕ → View) (start now : ℕ) (v : View) (t pred node : ℕ) : Type 0 where
   pub seen : InPast vs start now node
   pub kept : (s : ℕ) → start ≤ s → s < now → (vs s).lock pred ≡ t + 1
@@ -34,7 +34,6 @@ this_or_before : (s now : ℕ) → s < suc now → (s ≡ now) ⊎ (s < now)
 this_or_before s now l = grind arith
 
 module _ (vs : ℕ → View) {start now t pred : ℕ} {v : View} (present : vs now ≡ v) where
-  -- The lock has been held up to and including this moment.
   pub kept_upto : {node : ℕ} → SecondWalk vs start now v t pred node → (s : ℕ) → start ≤ s → s < suc now
       → (vs s).lock pred ≡ t + 1
   kept_upto w s a b = elim (this_or_before s now b) [
@@ -49,7 +48,6 @@ module _ (vs : ℕ → View) {start now t pred : ℕ} {v : View} (present : vs n
     | inr l ↦ w.stays s a l i
   ]
 
-  -- A step of another thread does not affect what the walk knows.
   pub second_walk_on : {w : View} {node : ℕ} → Leaves v w t → SecondWalk vs start now v t pred node
       → SecondWalk vs start (suc now) w t pred node
   second_walk_on {w} {node} l x = record {
@@ -61,7 +59,7 @@ module _ (vs : ℕ → View) {start now t pred : ℕ} {v : View} (present : vs n
     node_published = l.grows node x.node_published;
   }
 
-  -- Loading the link of `node` moves the walk to the next node.
+  -- If t loads the link of the node that its second walk has reached, the walk has reached the next node.
   pub second_walk_goes : {node : ℕ} → Course vs now → IsOrdered v → node ≢ 1 → SecondWalk vs start now v t pred node
       → SecondWalk vs start (suc now) v t pred (v.link node / 2)
   second_walk_goes {node} course ord inn x = record {
@@ -75,7 +73,7 @@ module _ (vs : ℕ → View) {start now t pred : ℕ} {v : View} (present : vs n
     node_published = ord.next_published node x.node_published inn;
   }
 
-  -- If the walk arrives at pred, pred is in the chain.
+  -- If the second walk reaches pred, pred is in the chain now.
   pub second_walk_arrives : {node : ℕ} → node ≡ pred → SecondWalk vs start now v t pred node → InChain v pred
   second_walk_arrives e x =
       let u : x.seen.at ≤ now = x.seen.upto in

@@ -1,4 +1,5 @@
--- Segments of the chain: they can be joined, their keys increase, and different nodes of the chain have different keys.
+-- Segments, the pieces of a chain: they can be joined, and keys increase along them, so different nodes have different
+-- keys.
 use Rattle.std.proofs.Common.{◌≡◌, ◌≢◌, ℕ, ◌/◌, ◌<◌, ◌≤◌, ◌⊎◌, inl, inr, List, [], ◌∷◌, ◌++◌, sym, refl, ap, subst, arith}
 use Rattle.lset_steps.specs.Chain.{View, Segment, InChain, IsOrdered}
 
@@ -38,7 +39,7 @@ segment_meet v i j k [] bs s t = inl (bs, subst (λ x. Segment v x bs k) s t)
 segment_meet v i j k (a ∷ ns) [] s t = inr (a ∷ ns, subst (λ x. Segment v x (a ∷ ns) j) t s)
 segment_meet v i j k (a ∷ ns) (b ∷ bs) s t = segment_meet v (v.link i / 2) j k ns bs s.2 t.2
 
--- A node of the chain has a key not above p's, or is reachable from p's next node.
+-- A node b of the chain comes before p or is p, in terms of keys, or is reachable from the node after p.
 pub sides : (v : View) → IsOrdered v → (p b : ℕ) → InChain v p → InChain v b
     → (v.key b ≤ v.key p) ⊎ ((cs : List ℕ) × Segment v (v.link p / 2) cs b)
 sides v ord p b ip ib = elim (segment_meet v 0 p b ip.0 ib.0 ip.1 ib.1) [
@@ -50,7 +51,6 @@ sides v ord p b ip ib = elim (segment_meet v 0 p b ip.0 ib.0 ip.1 ib.1) [
     after [] s = inl (let e : v.key p ≡ v.key b = ap v.key s in omega arith)
     after (c ∷ cs) s = inr (cs, s.2)
 
--- No node of the chain has a key between a's key and the key of a's next node.
 pub gap : (v : View) → IsOrdered v → (a c : ℕ) → InChain v a → InChain v c → a ≢ 1
     → v.key a < v.key c → v.key c < v.key (v.link a / 2) → ⊥
 gap v ord a c ia ic na lo hi = elim (sides v ord a c ia ic) [
@@ -60,7 +60,6 @@ gap v ord a c ia ic na lo hi = elim (sides v ord a c ia ic) [
       omega arith
 ]
 
--- Two nodes of the chain with the same key are the same node.
 pub segment_strict : (v : View) → IsOrdered v → (i j : ℕ) (ns : List ℕ) → v.published i → Segment v i ns j
     → v.key i ≡ v.key j → i ≡ j
 segment_strict v ord i j [] m s e = s
@@ -75,7 +74,6 @@ one_key v ord b c ib ic e = elim (segment_meet v 0 b c ib.0 ic.0 ib.1 ic.1) [
   | inr t ↦ sym (segment_strict v ord c b t.0 (segment_published v ord 0 c ic.0 ord.head_published ic.1) t.1 (sym e))
 ]
 
--- Two lists that both describe the chain are equal.
 pub chain_once : (v : View) (i : ℕ) (ns bs : List ℕ) → Segment v i ns 1 → Segment v i bs 1 → ns ≡ bs
 chain_once v i [] [] s t = refl
 chain_once v i [] (b ∷ bs) s t = absurd (t.1 s)

@@ -1,5 +1,5 @@
--- Proof: if the threads of a list share its words by a protocol, the list satisfies the law of a machine. This file
--- states what must be proved for each row, and proves that this is enough.
+-- Proof that a list satisfies the law of a machine if its threads share the words by a protocol. States what has to be
+-- shown for each row of the step table, and proves that this is enough.
 use Rattle.std.specs.Prelude.{◌≡◌, ◌≢◌, ℕ, suc, ◌+◌, ◌<◌, ◌≤◌, Bool, true, false, Option, Some, None, List, ◌||◌, if◌then◌else◌}
 use Rattle.std.specs.Prelude.{◌==◌, slice_set, refl}
 use Rattle.std.proofs.Common.{arith, inl, inr, sym, ◌∙◌, ap, subst}
@@ -23,12 +23,12 @@ use Rattle.lset_steps.proofs.Discipline.{Outline, Before, Discipline, StepOf, He
 use Rattle.lset_steps.proofs.Replies.{fed, fitted_on, or_false}
 use Rattle.lset_steps.proofs.Held.{LockedStep, rely_same, reads_word, locks_free, finds_locked}
 
--- A call without a change may give a reply that is correct at some moment of the call.
 pub due_of : (done : Bool) (q : ℕ) (vs : ℕ → View) (first now t : ℕ) (call : Call) (r : Reply) → done ≡ false
     → FitsSometime q (contents_of vs) (counts_of vs) first now t call r → Due done q vs first now t call r
 due_of done q vs first now t call r unchanged fits = rw unchanged fits
 
--- A call without a change may give a reply that is correct now, when it decides.
+-- If a call that has not changed the set decides on a reply that is correct now, the reply is correct at a moment of
+-- the call.
 pub due_now : (done : Bool) (q : ℕ) (vs : ℕ → View) (first now t : ℕ) (v : View) (call : Call) (r : Reply)
     → done ≡ false → first ≤ now → vs now ≡ v → FitsIn q v t call r → Due done q vs first (suc now) t call r
 due_now done q vs first now t v call r unchanged from present fits = due_of done q vs first (suc now) t call r unchanged (record {
@@ -38,14 +38,13 @@ due_now done q vs first now t v call r unchanged from present fits = due_of done
   fits = subst (λ w. FitsIn q w t call r) (sym present) fits;
 })
 
--- A reply that is correct for a call stays correct for it at later moments.
 pub due_on : (done : Bool) (q : ℕ) (vs : ℕ → View) (first now t : ℕ) (call : Call) (r : Reply) → Due done q vs first now t call r
     → Due done q vs first (suc now) t call r
 due_on true q vs first now t call r d = d
 due_on false q vs first now t call r d = fitted_on q vs first now (suc now) t call r (omega arith) d
 
--- States the outcome of a call that is about to release its locks. Either it has a correct reply, or it has made no
--- change and will start again.
+-- States what is known of a call that is about to release its locks: it has a correct reply, or it has changed nothing
+-- and will start again.
 abbrev pub Outcome : Bool → ℕ → (ℕ → View) → ℕ → ℕ → ℕ → Call → Option Reply → Type 0
 Outcome done q vs first now t call None = done ≡ false
 Outcome done q vs first now t call (Some reply) = Due done q vs first now t call reply
@@ -55,8 +54,8 @@ pub outcome_on : (done : Bool) (q : ℕ) (vs : ℕ → View) (first now t : ℕ)
 outcome_on done q vs first now t call None o = o
 outcome_on done q vs first now t call (Some reply) o = due_on done q vs first now t call reply o
 
--- A protocol of sharing the words: which steps a thread may make (loads are always allowed), and what such a step does
--- not change for another thread.
+-- A protocol by which threads share the words of a list: the steps that a thread may make, besides loads, and what such
+-- a step leaves unchanged for another thread (`rely`).
 pub record Protocol (marks : Bool) : Type 1 where
   pub step : (sz : Sizes) (t : ℕ) (ws : List ℕ) (used : ℕ → ℕ) → Action → List ℕ → (ℕ → ℕ) → Option (Key × Bool) → Type 0
   pub rely : View → View → ℕ → ℕ → Type 0
@@ -71,7 +70,8 @@ pub record Protocol (marks : Bool) : Type 1 where
       → step sz t ws used a ws' used' change → rely (view sz ws used) (view sz ws' used') sz.quota u
   pub still : (v : View) (q u : ℕ) → rely v v q u
 
--- The protocol of lists that write links only while the thread holds node locks.
+-- The protocol of lists with locks: a thread writes the link of a node in the chain only while it holds the node's
+-- lock.
 abbrev pub node_locks : (marks : Bool) → Protocol marks
 node_locks marks = record {
   step = LockedStep marks;
@@ -82,8 +82,8 @@ node_locks marks = record {
   still = rely_same;
 }
 
--- The protocol of lists without locks: a thread writes a link of the chain only if the link has the value that the
--- thread expects.
+-- The protocol of lists without locks: a thread writes the link of a node in the chain only if the link has the value
+-- that the thread expects.
 abbrev pub no_locks : (marks : Bool) → Protocol marks
 no_locks marks = record {
   step = WordStep marks;
@@ -94,18 +94,18 @@ no_locks marks = record {
   still = remains_same;
 }
 
--- States that a thread's outline still holds after a step of another thread.
+-- States that what a thread knows at its row of the step table stays true in steps of other threads.
 abbrev pub Stands : {marks : Bool} → Protocol marks → Outline → Type 1
 Stands P At = (q t : ℕ) (vs : ℕ → View) (first now : ℕ) (v w : View) (done : Bool) (l : Local) → vs now ≡ v → P.rely v w q t
     → At q t vs first now v done l → At q t vs first (suc now) w done l
 
--- States which parts of its state a thread keeps in a step that does not end its call.
+-- States which parts of its private state a thread keeps in a step that does not end its call.
 abbrev pub Onward : Sizes → ℕ → Local → Local → Type 0
 Onward sz t l l' = Registers sz t l' × (l'.call ≡ l.call) × (l'.used ≡ l.used) × (l'.pc ≢ 0)
 
--- One row, made by thread t in state `l`. The row continues the call, changes the content, replies, or changes the
--- content and replies. Each case states the table's row, its effect on the words, the thread's next state, and the
--- outline there.
+-- What has to be shown of one row of the step table: thread t, in private state `l`, makes the step. The row continues
+-- the call, changes the set, ends the call, or does both of the latter. Each case has the row's action, its effect on
+-- the words, the thread's next private state, and what the outline says after the step.
 pub data Turn (T : Table) (P : Protocol T.marks) (At : Outline) (sz : Sizes) (t : ℕ) (vs : ℕ → View) (first now : ℕ) (ws : List ℕ)
     (used : ℕ → ℕ) (done : Bool) (l : Local) : Type 0 where
   passes : (a : Action) (ws' : List ℕ) (l' : Local)
@@ -128,7 +128,7 @@ pub data Turn (T : Table) (P : Protocol T.marks) (At : Outline) (sz : Sizes) (t 
       → Registers sz t l' → l'.call ≡ l.call → l'.used ≡ used' t → l'.pc ≡ 0
       → At sz.quota t vs first (suc now) (view sz ws' used') true l' → Turn T P At sz t vs first now ws used done l
 
--- States that the protocol lets a thread attempt to take the lock of any node.
+-- States that the protocol allows a thread to attempt to take the lock of any node.
 abbrev pub Locks : {marks : Bool} → Protocol marks → Type 0
 Locks P = (sz : Sizes) (t : ℕ) (ws : List ℕ) (used : ℕ → ℕ) (a : ℕ) → a < node_count sz
     → (node_lock ws a ≡ 0 → P.step sz t ws used (Exchange (lock_index a) 0 (t + 1)) (slice_set ws (lock_index a) (t + 1)) used None)
@@ -137,7 +137,7 @@ Locks P = (sz : Sizes) (t : ℕ) (ws : List ℕ) (used : ℕ → ℕ) (a : ℕ) 
 pub locks_nodes : (marks : Bool) → Locks (node_locks marks)
 locks_nodes marks sz t ws used a inn = (λ free. locks_free a inn free, λ taken. finds_locked a inn taken)
 
--- A row that attempts to take the lock of node a is a step of the protocol.
+-- A row that attempts to take the lock of node a is a step of the protocol, whether the attempt succeeds or fails.
 pub tries : {T : Table} {P : Protocol T.marks} {At : Outline} {sz : Sizes} {t : ℕ} {vs : ℕ → View} {first now : ℕ} {ws : List ℕ}
     {used : ℕ → ℕ} {done : Bool} {l : Local}
     → Locks P → (a : ℕ) (on same : Local) → a < node_count sz → T.next l ≡ Exchange (lock_index a) 0 (t + 1)
@@ -154,8 +154,9 @@ tries {P = P} {sz = sz} {t = t} {ws = ws} {used = used} locks a on same inn acts
       ((locks sz t ws used a inn).1 other) again stays
 ]
 
--- What a list must prove to use its protocol. Its outline holds when a call begins. Each row is a step of the protocol
--- and preserves the outline of its own thread. Steps of other threads preserve the outline.
+-- What the proof of a list has to show for its protocol. What a thread knows at its row (the outline) is true when a
+-- call begins. Each row is a step of the protocol, and preserves what its own thread knows. Steps of other threads
+-- preserve it, too.
 pub record Follows (T : Table) (P : Protocol T.marks) (At : Outline) : Type 1 where
   pub idle_at : (op : Opening) → Opens op → (t : ℕ) (vs : ℕ → View)
       → At op.quota t vs 0 0 (view_of (sizes op) (opening op)) false (idle op.quota t)
@@ -169,8 +170,8 @@ pub record Follows (T : Table) (P : Protocol T.marks) (At : Outline) : Type 1 wh
       → Here T.marks sz vs now ws used → Thread At sz t vs first now ws used done l → t < sz.threads → l.pc ≢ 0
       → Turn T P At sz t vs first now ws used done l
 
--- Adds an invariant of the shared words to an outline. Each step of the protocol must preserve the invariant. Then the
--- rows can be proved with `At` alone, given the invariant, and the list follows its protocol with `Keeping`.
+-- Adds an invariant of the shared words to what a thread knows (the outline). Each step of the protocol must preserve
+-- the invariant. Then the proof of each row can use the invariant without proving it again.
 abbrev pub Keeping : (View → Type 0) → Outline → Outline
 Keeping Always At q t vs first now v done l = At q t vs first now v done l × Always v
 

@@ -1,4 +1,5 @@
--- How unlinking the node after a node of the chain affects the order of keys, the chain and the content.
+-- What changes when the node after a node of the chain is unlinked: the order of keys, the chain, and the keys of the
+-- set.
 use Rattle.std.proofs.Common.{◌≡◌, ◌≢◌, ℕ, ◌+◌, ◌*◌, ◌/◌, ◌%◌, ◌<◌, ◌≤◌, ◌⊎◌, inl, inr, List, [], ◌∷◌, sym, refl, ap, subst, ◌∙◌, arith}
 use Rattle.lset_words.proofs.Numbers.{same_or_not}
 use Rattle.lset_steps.specs.Chain.{View, Segment, InChain, InContent, IsOrdered}
@@ -6,7 +7,7 @@ use Rattle.lset_steps.proofs.Moves.{Unlinks, KeepsNodes}
 use Rattle.lset_steps.proofs.Segments.{segment_increases, sides, one_key}
 use Rattle.lset_steps.proofs.QuietMove.{in_chain_published, chain_before, chain_on, segment_after, apart, apart'}
 
--- Basic facts about an unlinking. s is the node after curr.
+-- The unlinked node curr, the nodes pred and s on both sides of it, and their keys and links.
 pub record Facts (v w : View) (pred curr s : ℕ) : Type 0 where
   pub curr_is : v.link pred / 2 ≡ curr
   pub s_is : v.link curr / 2 ≡ s
@@ -75,7 +76,6 @@ pub unlink_pred : (v w : View) → IsOrdered v → (pred curr : ℕ) → Unlinks
 unlink_pred v w ord pred curr q =
     chain_before v w ord pred pred (λ a m l. ap (λ x. x / 2) (q.links a m (apart v a pred l))) (omega arith) q.in_chain
 
--- Before the unlinking, curr was in the chain.
 pub unlink_curr : (v w : View) → IsOrdered v → (pred curr : ℕ) → Unlinks v w pred curr → InChain v curr
 unlink_curr v w ord pred curr q = chain_on v pred curr curr [] q.in_chain q.no_tail q.is_next refl
 
@@ -149,7 +149,7 @@ unlink_mark v w pred curr q b m = elim (same_or_not b pred) [
   | inr d ↦ ap (λ x. x % 2) (q.links b m d)
 ]
 
--- ---- How an unlinking changes the content
+-- ---- How an unlinking changes the keys of the set
 
 pub unlink_only : (v w : View) → IsOrdered v → (pred curr : ℕ) → Unlinks v w pred curr → (j : ℕ) → InContent w j → InContent v j
 unlink_only v w ord pred curr q j c =
@@ -157,7 +157,6 @@ unlink_only v w ord pred curr q j c =
     let m : v.published c.0 = in_chain_published v ord c.0 i in
     (c.0, i, c.2, sym (q.keys c.0 m) ∙ c.3, sym (unlink_mark v w pred curr q c.0 m) ∙ c.4)
 
--- Another key stays in the content, and so does the key of a node that was marked.
 pub unlink_others : (v w : View) → IsOrdered v → (pred curr : ℕ) → Unlinks v w pred curr → (j : ℕ)
     → (v.link curr % 2 ≡ 1) ⊎ (v.key curr ≢ j + 1) → InContent v j → InContent w j
 unlink_others v w ord pred curr q j h c = elim (unlink_keeps v w ord pred curr q c.0 c.1) [
@@ -170,7 +169,6 @@ unlink_others v w ord pred curr q j h c = elim (unlink_keeps v w ord pred curr q
     not_curr e (inl o) = let u : v.link curr % 2 ≡ 0 = subst (λ x. v.link x % 2 ≡ 0) e c.4 in omega arith
     not_curr e (inr n) = n (sym (ap v.key e) ∙ c.3)
 
--- The key of curr is not in the content afterwards.
 pub unlink_absent : (v w : View) → IsOrdered v → (pred curr k : ℕ) → Unlinks v w pred curr → v.key curr ≡ k + 1
     → InContent w k → ⊥
 unlink_absent v w ord pred curr k q e c =

@@ -1,5 +1,5 @@
--- What a walk without locks knows about the two nodes that it has reached: they are published, and the call's key is
--- between their keys. They need not be in the chain.
+-- What a walk without locks knows about the two nodes that it has reached: they have been in the chain (are published),
+-- and the call's key is above that of the first. They can have left the chain.
 use Rattle.std.specs.Prelude.{◌≡◌, ◌≢◌, ℕ, ◌+◌, ◌*◌, ◌/◌, ◌<◌, ◌≤◌, Bool, true, None, List, slice_set}
 use Rattle.std.proofs.Common.{arith, ◌∙◌, ap}
 use Rattle.lset_words.specs.Words.{lock_index, tail_word, node_count, Sizes}
@@ -9,13 +9,14 @@ use Rattle.lset_steps.proofs.Moves.{KeepsNodes}
 use Rattle.lset_steps.proofs.Memory.{Memory, inner, inside, next_published, goes_on}
 use Rattle.lset_steps.proofs.Held.{Behind, locks_free}
 
--- pred's key is smaller than the call's, and both nodes are published.
+-- States that pred has a smaller key than the call's, and that pred and curr have been in the chain (are published).
 pub record Spot (v : View) (key pred curr : ℕ) : Type 0 where
   pub pred_published : v.published pred
   pub below : v.key pred < key
   pub curr_published : v.published curr
 
--- curr has the key word that was read, which is at least the call's.
+-- States that, in addition to `Spot`, the key word of curr is the one that was read, and is not smaller than the
+-- call's.
 pub record Found (v : View) (key pred curr ckey : ℕ) : Type 0 where
   pub spot : Spot v key pred curr
   pub is : v.key curr ≡ ckey
@@ -29,7 +30,6 @@ found_apart {v} {key} {pred} {curr} {ckey} f e =
     let above : key ≤ ckey = f.above in
     omega arith
 
--- Every step preserves `Spot` and `Found`.
 module _ {v w : View} (g : KeepsNodes v w) where
   pub same_key_kept : (a : ℕ) {x : ℕ} → v.published a → v.key a ≡ x → w.key a ≡ x
   same_key_kept a p e = g.keys a p ∙ e
@@ -49,12 +49,11 @@ module _ {v w : View} (g : KeepsNodes v w) where
   }
 
 module _ {marks : Bool} {sz : Sizes} {ws : List ℕ} {used : ℕ → ℕ} (m : Memory marks sz ws used) where
-  -- If a node's key is smaller than the call's, the node and the one to which its link leads satisfy `Spot`.
+  -- If node a has a smaller key than the call's, a and the node to which its link leads satisfy `Spot`.
   pub spot_behind : {key : ℕ} (a : ℕ) → (view sz ws used).published a → node_key ws a < key
       → Spot (view sz ws used) key a (node_link ws a / 2)
   spot_behind a p below = record { pred_published = p; below = below; curr_published = next_published marks sz ws used m a p }
 
-  -- The head and the node to which its link leads satisfy `Spot`.
   pub spot_behind_head : {key : ℕ} → 0 < key → Spot (view sz ws used) key 0 (node_link ws 0 / 2)
   spot_behind_head low = let head : node_key ws 0 ≡ 0 = m.head_key in spot_behind 0 m.ordered.head_published (omega arith)
 
@@ -66,15 +65,14 @@ module _ {marks : Bool} {sz : Sizes} {ws : List ℕ} {used : ℕ → ℕ} (m : M
       let top : node_key ws a ≤ node_key ws 1 = m.ordered.top a p in let tail : node_key ws 1 ≡ tail_word = m.tail_key in
       omega arith
 
-  -- The thread's attempt to take a lock does not change the nodes.
   pub keeps_locked : {t : ℕ} → t < sz.threads → (a : ℕ) → a < node_count sz → node_lock ws a ≡ 0
       → KeepsNodes (view sz ws used) (view sz (slice_set ws (lock_index a) (t + 1)) used)
   keeps_locked {t} tn a inn free =
       goes_on marks sz ws used m t tn (Exchange (lock_index a) 0 (t + 1)) (slice_set ws (lock_index a) (t + 1)) used None
       (locks_free a inn free).0
 
--- For lists that mark nodes: a load of pred's link while its lock is held. If the link is not marked, pred is in the
--- chain.
+-- For lists that mark nodes: a thread that holds the lock of pred loads pred's link. If the link has no mark, pred is
+-- in the chain.
 pub behind_of_load : {sz : Sizes} {ws : List ℕ} {used : ℕ → ℕ} (m : Memory true sz ws used) {t key pred curr : ℕ} → key < tail_word
     → Spot (view sz ws used) key pred curr → node_lock ws pred ≡ t + 1 → node_link ws pred ≡ 2 * curr
     → Behind (view sz ws used) t key pred curr

@@ -1,4 +1,4 @@
--- The invariant of a walk along the chain: the one in `World::walk`, and the one in `Closed::keys` of the crate
+-- The invariant of a loop that walks along the chain. `World::walk` is such a loop, and so is `Closed::keys` of
 -- `lset_live`.
 use Rattle.std.proofs.Common.{◌≡◌, ◌≢◌, ℕ, ◌-◌, ◌/◌, ◌%◌, ◌<◌, ◌≤◌, Bool, true, false, inl, inr, List, [], ◌∷◌, ◌++◌, sym, refl}
 use Rattle.std.proofs.Common.{ap, subst, arith, rules, ◌∙◌, append-nil}
@@ -15,7 +15,7 @@ use Rattle.lset_steps.proofs.ContentLists.{content_increases}
 use Rattle.lset_steps.proofs.Segments.{segment-append}
 use Rattle.lset_steps.proofs.QuietMove.{not_one}
 
--- The invariant: the walk has reached curr and has collected these items.
+-- The loop invariant: the walk has reached node curr, and has collected these items from the nodes before.
 pub record HasPicked {A : Type 0} (answers : ChainKey → Option A → Type 0) (v : View) (items : List A) (curr : ℕ) : Type 0 where
   pub nodes : List ℕ
   pub seg : Segment v 0 nodes curr
@@ -43,7 +43,6 @@ module _ {A : Type 0} (answers : ChainKey → Option A → Type 0) (v : View) (o
         picked = λ pick same. refl;
       }
 
-  -- The walk advances by one node.
   pub goes : (items more : List A) (curr next : ℕ) → curr ≢ 1 → next ≡ v.link curr / 2
       → ((pick : ChainKey → Option A) → AnswersAs answers pick → filter_map pick (chain_keys v (curr ∷ [])) ≡ more)
       → HasPicked answers v items curr → HasPicked answers v (items ++ more) next
@@ -60,7 +59,7 @@ module _ {A : Type 0} (answers : ChainKey → Option A → Type 0) (v : View) (o
             ∙ sym (ap (λ ks. filter_map pick ks) (chain_keys-append v w.nodes (curr ∷ [])));
       })
 
-  -- The walk passes a node with a key and collects the answer for this key.
+  -- The walk passes a node with a key, and collects the answer for this key, if any.
   pub picked_more : (items : List A) (curr next : ℕ) (met : ChainKey) (answer : Option A) → v.key 0 ≡ 0 → curr ≢ 1
       → next ≡ v.link curr / 2 → met ≡ record { key = v.key curr - 1; marked = v.link curr % 2 == 1 } → answers met answer
       → HasPicked answers v items curr → HasPicked answers v (items ++ option_to_list answer) next
@@ -76,7 +75,7 @@ module _ {A : Type 0} (answers : ChainKey → Option A → Type 0) (v : View) (o
       listed None = refl
       listed (Some x) = refl
 
-  -- The measure of the loop decreases.
+  -- The key distance to the tail decreases in each round, so the loop ends.
   pub falls : (items : List A) (curr next : ℕ) → curr ≢ 1 → next ≡ v.link curr / 2 → HasPicked answers v items curr
       → v.key 1 - v.key next < v.key 1 - v.key curr
   falls items curr next n e w =
@@ -85,7 +84,6 @@ module _ {A : Type 0} (answers : ChainKey → Option A → Type 0) (v : View) (o
       let f : v.key next ≡ v.key (v.link curr / 2) = ap v.key e in
       omega arith
 
-  -- The key of a node before the tail fits in a u32.
   pub fits : (items : List A) (curr : ℕ) → v.key 1 ≡ 4294967297 → curr ≢ 1 → HasPicked answers v items curr
       → v.key curr - 1 < 4294967296
   fits items curr tail n w =
@@ -93,7 +91,6 @@ module _ {A : Type 0} (answers : ChainKey → Option A → Type 0) (v : View) (o
       let t : v.key (v.link curr / 2) ≤ v.key 1 = ord.top (v.link curr / 2) (ord.next_published curr w.published n) in
       omega arith
 
-  -- At the tail, the walk has visited the whole chain.
   pub all_picked : (items : List A) (curr : ℕ) → curr ≡ 1 → HasPicked answers v items curr → IsPickedFromChain answers v items
   all_picked items curr e w =
       let chain : IsChain v w.nodes = subst (λ z. Segment v 0 w.nodes z) e w.seg in
@@ -104,7 +101,7 @@ module _ {A : Type 0} (answers : ChainKey → Option A → Type 0) (v : View) (o
         picked = w.picked;
       }
 
--- The test of a mark agrees with the last bit of the word.
+-- The mark of a node is the last bit of its link word.
 pub mark_of_word : (word : ℕ) (mark : Bool) → (IsTrue mark ↔ (word % 2 ≡ 1)) → mark ≡ (word % 2 == 1)
 mark_of_word word true same = let e : word % 2 ≡ 1 = same.0 refl in search rules
 mark_of_word word false same = let e : word % 2 ≢ 1 = λ p. not_true (same.1 p) in search rules
@@ -112,7 +109,7 @@ mark_of_word word false same = let e : word % 2 ≢ 1 = λ p. not_true (same.1 p
     not_true : IsTrue false → ⊥
     not_true t = absurd (cc)
 
--- ---- A walk that collects the content skips marked keys
+-- ---- A walk that collects the keys of the set skips marked nodes
 abbrev pub unmarked_key : ChainKey → Option ℕ
 unmarked_key met = if met.marked then None else Some met.key
 
@@ -139,7 +136,7 @@ content_picked answers v items same w =
     ∙ unmarked_picked (chain_keys v w.nodes) ∙ sym (unmarked v w.nodes) in
     ((w.nodes, w.is_chain, keys), subst IsStrictlyIncreasing (sym keys) w.increasing)
 
--- ---- A walk that collects the whole chain takes each key
+-- ---- A walk that collects all keys of the chain skips no node
 picked_whole : (keys : List ChainKey) → filter_map (λ met. Some met) keys ≡ keys
 picked_whole [] = refl
 picked_whole (k ∷ ks) = ap (λ xs. k ∷ xs) (picked_whole ks)
@@ -157,7 +154,7 @@ module _ (answers : ChainKey → Option ChainKey → Type 0) (v : View) (items :
       let keys : unmarked_keys items ≡ keys_in v w.nodes = ap (λ ks. unmarked_keys ks) keys_are ∙ sym (unmarked v w.nodes) in
       ((w.nodes, w.is_chain, keys), subst IsStrictlyIncreasing (sym keys) w.increasing)
 
--- States that the walk collects the unmarked keys, as `Closed::keys` does.
+-- States that the walk has reached node curr, and has collected the keys of the unmarked nodes before.
 abbrev pub WalkedTo : View → List ℕ → ℕ → Type 0
 WalkedTo v items curr = HasPicked (λ met answer. answer ≡ unmarked_key met) v items curr
 
@@ -198,7 +195,6 @@ module _ (v : View) (ord : IsOrdered v) where
   pub walk_ends : (items : List ℕ) (curr : ℕ) → curr ≡ 1 → WalkedTo v items curr → IsContent v items
   walk_ends items curr e w = content_picked _ v items (λ met answer is. is) (all_picked _ v ord items curr e w)
 
--- If the test of a mark fails, the word's last bit is 0.
 pub unmarked_word : (word : ℕ) (mark : Bool) → (IsTrue mark ↔ (word % 2 ≡ 1)) → mark ≡ false → word % 2 ≡ 0
 unmarked_word word mark same e = let h : word % 2 ≢ 1 = λ p. not_true mark e (same.1 p) in omega arith
   where

@@ -1,4 +1,4 @@
--- Proof: the state of a world is the last state of a run, and stays so after each step.
+-- Proof that the state of a world is always the last state of a run, also after each of its steps.
 use Rattle.std.specs.Prelude.{◌≡◌, ℕ, ◌<◌, List, [], ◌∷◌, ◌++◌, length, refl, All, ◌^◌, Bool, true, false, if◌then◌else◌}
 use Rattle.std.specs.Prelude.{◌==◌, slice_index, slice_set, suc}
 use Rattle.std.specs.List.Sorted.{IsStrictlyIncreasing}
@@ -27,7 +27,6 @@ words_length : (T : Table) (s : State) (e : Event) → length (after T s e).word
 words_length T s (Begin t call) = refl
 words_length T s (Go t) = left_length s.words (T.next (local_of s t))
 
--- The events of a world lead from its opening to its state.
 runs_to : (T : Table) (w : WorldState) (r : IsRun T w) → RunsTo T r.opening r.events w.state
 runs_to T w r = record { run = r.run; is = r.is; locals = r.locals ∙ ap (λ (z : Sizes). z.threads) (sym r.of_sizes) }
 
@@ -58,7 +57,7 @@ is_run_opening T op opens =
       locals = none.locals;
     }
 
--- The opening world belongs to an empty run, if it has as many keys as its sizes require.
+-- A world that opens with these keys belongs to a run without events, if the keys are as many as its sizes say.
 pub is_run_of_keys : (T : Table) (sz : Sizes) (keys : List ℕ) → length keys ≡ sz.opening → IsWithin sz → IsStrictlyIncreasing keys
     → All (λ (k : ℕ). k < 2 ^ 32) keys
     → IsRun T (record { sizes = sz; state = opening (opening_of sz keys) })

@@ -1,5 +1,5 @@
 -- Laws of lists whose `contains` makes only loads. With n threads of quota q and m opening keys, a `contains` makes at
--- most 2(nq + m) + 2 steps, whatever the other threads do. Each node that the walk passes was in the chain.
+-- most 2(nq + m) + 2 steps, whatever the other threads do. And each node that the call passes was in the chain.
 use Rattle.std.specs.Prelude.{◌≡◌, ◌≢◌, ℕ, zero, suc, ◌+◌, ◌*◌, ◌<◌, ◌≤◌, if◌then◌else◌, ◌==◌}
 use Rattle.lset_steps.specs.declared.Action.TheVariants.{Load}
 use Rattle.lset_steps.specs.declared.Event.{Event}
@@ -11,7 +11,8 @@ use Rattle.lset_steps.specs.Chain.{Seen}
 use Rattle.lset_steps.specs.Laws.{views}
 use Rattle.lset_steps.specs.Promises.{IsContains, IsRead}
 
--- Returns the number of steps that thread t has made since it began its last call, after one more event.
+-- Returns how many steps thread t has made since its last call began, after one more event. `before` is the number
+-- before the event.
 abbrev pub steps_after : Event → ℕ → ℕ → ℕ
 steps_after (Begin u call) t before = if u == t then 0 else before
 steps_after (Go u) t before = if u == t then before + 1 else before
@@ -20,13 +21,12 @@ abbrev pub steps_since : (ℕ → Event) → ℕ → ℕ → ℕ
 steps_since es t zero = 0
 steps_since es t (suc k) = steps_after (es k) t (steps_since es t k)
 
--- The maximum number of steps of a contains.
+-- The maximum number of steps of a `contains`: two for each node that can have a user's key, and two more.
 abbrev pub most_reads : Sizes → ℕ
 most_reads sz = 2 * (sz.threads * sz.quota + sz.opening) + 2
 
--- [Bounded contains]: thread t has a pending contains, its next action is a load, and it has made fewer steps than the
--- bound. So with the next step it has made at most that many. The bound minus the steps made is above 0 while the call
--- is pending, decreases by one at each step of t, and does not change at events of other threads.
+-- [Bounded contains]: thread t has a pending `contains` whose next step is a load, and it has made fewer steps than the
+-- bound. Hence no `contains` ever makes more steps than the bound.
 pub record ReadsNext (T : Table) (op : Opening) (es : ℕ → Event) (k t : ℕ) : Type 0 where
   pub loads : (word : ℕ) × (T.next (local_of (state_at T op es k) t) ≡ Load word)
   pub few : steps_since es t k < most_reads (sizes op)
@@ -37,8 +37,8 @@ BoundedReads T = (op : Opening) (last k t : ℕ) (es : ℕ → Event) → Run T 
     → ReadsNext T op es k t
 
 -- [Walk was in the chain]: thread t's last call, pending or completed at moment k, has passed node a with the link word
--- l: one of its steps loaded the node's link word and saw l. (The load of the mark of the node with the key is such a
--- step, too.)
+-- l: in one of its steps, `at`, it loaded the node's link word and saw l. (The load of the mark of the node at which
+-- the call stops is such a step, too.)
 pub record HasPassed (T : Table) (op : Opening) (es : ℕ → Event) (k t a l : ℕ) : Type 0 where
   pub at : ℕ
   pub from : begun_at (log_of T op es) t k ≤ at
@@ -47,8 +47,8 @@ pub record HasPassed (T : Table) (op : Opening) (es : ℕ → Event) (k t a l : 
   pub loads : T.next (local_of (state_at T op es at) t) ≡ Load (link_index a)
   pub read : seen_next T (state_at T op es at) t ≡ l
 
--- States that each node passed by a contains or a ceiling was in the chain with the link that was read. It was so at
--- some moment of the call, no later than the load.
+-- States that each node that a `contains` or a `ceiling` has passed was in the chain, with the link word that the call
+-- saw, at some moment of the call before the load or at the load.
 abbrev pub WalkWasInChain : Table → Type 0
 WalkWasInChain T = (op : Opening) (last k t a l : ℕ) (es : ℕ → Event) → Run T op es last → k ≤ last
     → IsRead (last_call (log_of T op es) t k) → (p : HasPassed T op es k t a l)

@@ -1,4 +1,5 @@
--- The chain of a list and its content, computed from the words and from the threads' counts (Herlihy and Shavit).
+-- The chain of a list, the nodes reachable from the head, and its content, the keys of the set. Both are computed from
+-- the words of the list and from how many slots each thread has used (Herlihy and Shavit).
 use Rattle.std.specs.Prelude.{◌≡◌, ◌≢◌, ℕ, ◌+◌, ◌/◌, ◌%◌, ◌<◌, ◌≤◌, ◌⊎◌, Bool, true, false, List, [], ◌∷◌, Option, slice_index}
 use Rattle.lset_words.specs.Words.{key_index, link_index, lock_index, slot_node, opening_node, Sizes}
 use Rattle.lset_words.specs.declared.Key.{Key}
@@ -15,8 +16,9 @@ node_link ws a = slice_index ws (link_index a)
 abbrev pub node_lock : List ℕ → ℕ → ℕ
 node_lock ws a = slice_index ws (lock_index a)
 
--- The view of a world: its nodes' keys, link words and lock words, the list's lock, each thread's count of successful
--- adds, and which nodes are published.
+-- What the laws need to know of a list at one moment: the key, link and lock word of each node, the lock of the whole
+-- list, how many adds of each thread have succeeded, and which nodes are published, which means that they have been in
+-- the chain at some time.
 pub record View : Type 1 where
   pub key : ℕ → ℕ
   pub link : ℕ → ℕ
@@ -25,8 +27,9 @@ pub record View : Type 1 where
   pub used : ℕ → ℕ
   pub published : ℕ → Type 0
 
--- States that a node is published: it is the head, the tail, slot j of a thread whose count is above j, or the node of
--- an opening key.
+-- States that a node is published, which means that it has been in the chain at some time. Published are the head, the
+-- tail, the nodes of the opening keys, and the slots that the threads have used: slot j of a thread with more than j
+-- successful adds.
 abbrev pub Published : Sizes → (ℕ → ℕ) → ℕ → Type 0
 Published sz used i = (i < 2) ⊎ ((t : ℕ) × (j : ℕ) × (t < sz.threads) × (j < used t) × (i ≡ slot_node sz.quota t j))
     ⊎ ((j : ℕ) × (j < sz.opening) × (i ≡ opening_node sz j))
@@ -41,12 +44,13 @@ view sz ws used = record {
   published = Published sz used;
 }
 
--- States that following links from i visits exactly the nodes ns, none of which is the tail, and then reaches j.
+-- States that following links from node i visits exactly the nodes ns in this order, none of them the tail, and then
+-- reaches node j. A link word is twice the number of the next node, plus 1 if the node is marked.
 abbrev pub Segment : View → ℕ → List ℕ → ℕ → Type 0
 Segment v i [] j = i ≡ j
 Segment v i (a ∷ ns) j = (a ≡ i) × (i ≢ 1) × Segment v (v.link i / 2) ns j
 
--- States that node b is reachable from the head without passing the tail.
+-- States that node b is in the chain: links lead to it from the head, without passing the tail.
 abbrev pub InChain : View → ℕ → Type 0
 InChain v b = (ns : List ℕ) × Segment v 0 ns b
 
@@ -54,12 +58,13 @@ InChain v b = (ns : List ℕ) × Segment v 0 ns b
 abbrev pub IsChain : View → List ℕ → Type 0
 IsChain v ns = Segment v 0 ns 1
 
--- States that k is the key of an unmarked node of the chain other than the head and the tail.
+-- States that k is in the set: k is the key of an unmarked node of the chain, other than the head and the tail. A node
+-- stores its key plus 1.
 abbrev pub InContent : View → ℕ → Type 0
 InContent v k = (b : ℕ) × InChain v b × (1 < b) × (v.key b ≡ k + 1) × (v.link b % 2 ≡ 0)
 
--- The head and the tail are published, and no published key is above the tail's. The link of each published node except
--- the tail leads to a published node with a greater key.
+-- States that the keys are in order: the link of each published node (one that has been in the chain) except the tail
+-- leads to a published node with a greater key, and no key is above the tail's.
 pub record IsOrdered (v : View) : Type 0 where
   pub head_published : v.published 0
   pub tail_published : v.published 1
@@ -67,14 +72,14 @@ pub record IsOrdered (v : View) : Type 0 where
   pub next_published : (i : ℕ) → v.published i → i ≢ 1 → v.published (v.link i / 2)
   pub increases : (i : ℕ) → v.published i → i ≢ 1 → v.key i < v.key (v.link i / 2)
 
--- In a list that marks nodes, states that each unmarked published node is in the chain. In any other list, states that
--- no published node is marked.
+-- States, for a list that marks nodes before it unlinks them (`true`), that each published node (one that has been in
+-- the chain) without a mark is still in the chain. For any other list, states that no published node has a mark.
 abbrev pub UnmarkedInChain : Bool → View → Type 0
 UnmarkedInChain true v = (b : ℕ) → v.published b → v.link b % 2 ≡ 0 → InChain v b
 UnmarkedInChain false v = (b : ℕ) → v.published b → v.link b % 2 ≡ 0
 
--- [Content] of a world: states that the content changes from `v` to `w` as `change` says. `contents_of` has the
--- contents at the moments of a run.
+-- [Content] at two moments: states that the keys of the set change from `v` to `w` as `change` says, and in no other
+-- way.
 abbrev pub Changed : Option (Key × Bool) → View → View → Type 0
 Changed change v w = Changes change (InContent v) (InContent w)
 
@@ -87,16 +92,16 @@ counts_of vs moment thread = (vs moment).used thread
 abbrev pub FitsIn : ℕ → View → ℕ → Call → Reply → Type 0
 FitsIn quota v thread call reply = Fits quota (InContent v) (v.used thread) call reply
 
--- [Unlinked stays]: for a later view w, and a node i that is published in v. The node is published in w, with the same
--- key. If the node is unlinked in v, it is unlinked in w, with the same link. In a list that marks nodes, a node that
--- is marked in v has the same link in w.
+-- [Unlinked stays]: compares node i at two moments, if it is published at the first (`v`), which means that it has been
+-- in the chain. At the second moment (`w`) it has the same key and is still published. If it was unlinked, it is still
+-- unlinked and has the same link. In a list that marks nodes, a marked node still has the same link.
 pub record UnlinkedStays (marks : Bool) (v w : View) (i : ℕ) : Type 0 where
   pub published : w.published i
   pub key : w.key i ≡ v.key i
   pub unlinked : (InChain v i → ⊥) → (w.link i ≡ v.link i) × (InChain w i → ⊥)
   pub marked : marks ≡ true → v.link i % 2 ≡ 1 → w.link i ≡ v.link i
 
--- [Seen]: at some moment from `first` to `now` of a run, node b was in the chain with the link word l.
+-- [Seen]: states that at some moment from `first` to `now`, node b was in the chain and had the link word l.
 pub record Seen (vs : ℕ → View) (first now b l : ℕ) : Type 0 where
   pub at : ℕ
   pub from : first ≤ at

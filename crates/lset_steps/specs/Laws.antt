@@ -1,4 +1,5 @@
--- The law of a machine. Each list proves that it holds in every run.
+-- The law of a machine, a list set described as a table of steps. Each list of this project proves that it satisfies
+-- the law in every run.
 use Rattle.std.specs.Prelude.{◌≡◌, ◌≢◌, ℕ, suc, ◌+◌, ◌<◌, ◌≤◌, ◌⊎◌, ◌%◌, Bool, false, List, Option, Some, None, slice_index, length}
 use Rattle.lset_words.specs.Words.{lock_index, word_count, node_count, tail_word, target, Sizes, Opening, sizes}
 use Rattle.lset_words.specs.declared.Key.{Key}
@@ -14,8 +15,8 @@ use Rattle.lset_steps.specs.declared.Event.TheVariants.{Go}
 use Rattle.lset_steps.specs.Steps.{Table, State, state_at, Run, local_of, seen_next, log_of, idle}
 use Rattle.lset_steps.specs.Chain.{View, view, IsOrdered, InChain, UnmarkedInChain, Changed, UnlinkedStays, Seen, contents_of, counts_of}
 
--- Returns a thread's count of successful adds. `view_of` returns the view of a state, and `views` the view at each
--- moment of a run.
+-- Returns how many adds of thread t have succeeded in state s. `view_of` returns the nodes and locks of a state, and
+-- `views` those at each moment of a run.
 abbrev pub used_in : State → ℕ → ℕ
 used_in s t = (local_of s t).used
 
@@ -33,7 +34,8 @@ word_named (Exchange w old new) = w
 abbrev pub IsLockWord : ℕ → Type 0
 IsLockWord x = (x ≡ 0) ⊎ ((i : ℕ) × (x ≡ lock_index i))
 
--- The state of thread t has its own number and quota, and its registers are in range.
+-- States that the private state of thread t has the thread's own number and quota, and that its registers are in range:
+-- nodes of the table, and key words up to the tail's.
 pub record Registers (sz : Sizes) (t : ℕ) (l : Local) : Type 0 where
   pub thread : l.thread ≡ t
   pub quota : l.quota ≡ sz.quota
@@ -46,7 +48,7 @@ pub record Registers (sz : Sizes) (t : ℕ) (l : Local) : Type 0 where
   pub pkey : l.pkey ≤ tail_word
   pub ckey : l.ckey ≤ tail_word
 
--- The properties of every state in a run.
+-- The laws of a single state: properties of every state in every run.
 pub record StateLaws (marks : Bool) (sz : Sizes) (s : State) : Type 0 where
   pub words : length s.words ≡ word_count sz
   pub locals : length s.locals ≡ sz.threads
@@ -58,35 +60,35 @@ pub record StateLaws (marks : Bool) (sz : Sizes) (s : State) : Type 0 where
   pub marked : UnmarkedInChain marks (view_of sz s)
   pub unmarked : marks ≡ false → (i : ℕ) → i < node_count sz → (view_of sz s).link i % 2 ≡ 0
 
--- States that a lock word is written only in two ways: by an attempt to take the lock, or by the thread that holds it,
--- which stores 0.
+-- States that the action of thread t uses locks properly. It writes a lock word only to take the lock, by an exchange
+-- of 0 for t + 1, or to release a lock that t holds, by a store of 0.
 abbrev pub LockUse : List ℕ → ℕ → Action → Type 0
 LockUse ws t (Load w) = Unit {0}
 LockUse ws t (Store w v) = IsLockWord w → (v ≡ 0) × (slice_index ws w ≡ t + 1)
 LockUse ws t (Exchange w old new) = IsLockWord w → (old ≡ 0) × (new ≡ t + 1)
 
--- States that the reply is correct: True after a change, otherwise a reply that the set returns at some moment of the
--- call.
+-- States that the reply r to the call is correct: `True` if the call has changed the set (`done`), else a reply that a
+-- sequential set returns at some moment from `first` to `now`.
 abbrev pub Due : Bool → ℕ → (ℕ → View) → ℕ → ℕ → ℕ → Call → Reply → Type 0
 Due done q vs first now t call r = RightReply done q (contents_of vs) (counts_of vs) first now t call (Some r)
 
--- States that a call ends if and only if it replies, and that the reply is correct.
+-- States that the call has ended (pc is 0) if and only if the step has a reply, and that the reply is correct.
 abbrev pub Answered : Bool → ℕ → (ℕ → View) → ℕ → ℕ → ℕ → Call → ℕ → Option Reply → Type 0
 Answered done q vs first now t call pc None = pc ≢ 0
 Answered done q vs first now t call pc (Some r) = (pc ≡ 0) × Due done q vs first now t call r
 
--- The laws of a step that thread t makes in state `l` after the first k events. `change` is the step's change of the
--- content.
+-- The laws of a step that thread t, in private state `l`, makes between moments k and k + 1. `change` is the key that
+-- the table says is added or removed.
 pub record StepLaws (T : Table) (op : Opening) (es : ℕ → Event) (k t : ℕ) (s : State) (l : Local)
     (change : Option (Key × Bool)) : Type 0 where
-  -- The step accesses a word of the table.
+  -- The step accesses a word of the table, and no word outside it.
   pub in_table : word_named (T.next l) < word_count (sizes op)
   -- The step writes a lock word only to take or to release the lock.
   pub lock_use : LockUse s.words t (T.next l)
   pub same_call : (T.feed l (seen_next T s t)).local.call ≡ l.call
-  -- The content changes as `change` says, and in no other way.
+  -- The keys of the set change as `change` says, and in no other way.
   pub content : Changed change (views T op es k) (views T op es (suc k))
-  -- The thread's call may make this change.
+  -- The pending call of the thread may make this change.
   pub by_call : MayChange op.quota l.used l.call (has_changed (log_of T op es) t k) change
   pub counts : (T.feed l (seen_next T s t)).local.used ≡ count_after change l.used
   -- The call ends if and only if the step has a reply, and the reply is correct.
@@ -99,42 +101,40 @@ StepAt T op es k t =
     StepLaws T op es k t (state_at T op es k) (local_of (state_at T op es k) t)
     (T.effect (local_of (state_at T op es k) t) (seen_next T (state_at T op es k) t))
 
--- The laws for a call that begins, made by a thread in state `l`.
+-- The laws of a call's begin by a thread in private state `l`.
 pub record BeginLaws (begin : Call → Local → Local) (call : Call) (l : Local) : Type 0 where
   pub called : (begin call l).call ≡ call
   pub used : (begin call l).used ≡ l.used
   pub opened : (begin call l).pc ≢ 0
-  -- The new state depends only on the thread's number, quota and count of successful adds.
+  -- The state after the begin depends only on the call and on the thread's number, quota and number of successful adds.
   pub alike : begin call l ≡ begin call (record (idle l.quota l.thread) { used = l.used })
 
--- The laws of a machine: properties of every begin, every state and every step, in each of its runs, and of nodes at
--- two moments of a run.
+-- The law of a machine: properties of every begin, every state and every step of each of its runs, and of nodes at two
+-- moments of a run. `lset_steps::laws` has the consequences that a user of the law needs.
 pub record Lawful (T : Table) : Type 0 where
   pub begins : (call : Call) (l : Local) → BeginLaws T.begin call l
-  -- Every state of every run has the properties of `StateLaws`.
   pub states : (op : Opening) (last k : ℕ) (es : ℕ → Event) → Run T op es last → k ≤ last →
       StateLaws T.marks (sizes op) (state_at T op es k)
-  -- Every step has the properties of `StepLaws`.
   pub steps : (op : Opening) (last k t : ℕ) (es : ℕ → Event) → Run T op es last → k < last → es k ≡ Go t → StepAt T op es k t
-  -- At every later moment, a published node is published and has the same key. An unlinked node stays unlinked, with
-  -- the same link. In a list that marks nodes, a marked node has the same link.
+  -- At every later moment, a published node (one that has been in the chain) is still published and has the same key.
+  -- An unlinked node stays unlinked, with the same link. In a list that marks nodes, a marked node keeps its link.
   pub unlinked_stays : (op : Opening) (last j k i : ℕ) (es : ℕ → Event) → Run T op es last → j ≤ k → k ≤ last
       → (views T op es j).published i
       → UnlinkedStays T.marks (views T op es j) (views T op es k) i
-  -- If a node is in the chain at moment j, the link that it has at a later moment k is one that it had while it was in
-  -- the chain, at some moment from j to k.
+  -- If a node is in the chain at moment j, then the link that it has at a later moment k is one that it had at some
+  -- moment from j to k at which it was in the chain.
   pub seen_before : (op : Opening) (last j k b : ℕ) (es : ℕ → Event) → Run T op es last → j ≤ k → k ≤ last
       → InChain (views T op es j) b
       → Seen (views T op es) j k b ((views T op es k).link b)
 
--- A run of k events within the limits, after which thread t has a pending call.
+-- States that the first k events are a run within the limits, and that thread t has a pending call after them.
 pub record UnderWay (T : Table) (op : Opening) (es : ℕ → Event) (k t : ℕ) : Type 0 where
   pub run : Run T op es k
   pub thread : t < op.threads
   pub open_call : (local_of (state_at T op es k) t).pc ≢ 0
 
--- States that a thread with a pending call is in state `l` at some moment of some run. `Sees` adds that its next step
--- sees this value.
+-- States that `l` is the private state of some thread with a pending call, at some moment of some run. `Sees` adds that
+-- the thread's next step sees the value `seen`.
 abbrev pub Occurs : Table → Local → Type 0
 Occurs T l = (op : Opening) × (es : ℕ → Event) × (k : ℕ) × (t : ℕ) × UnderWay T op es k t
     × (local_of (state_at T op es k) t ≡ l)

@@ -1,5 +1,5 @@
--- The laws of every run of a machine, each under its own name. In each of them, op is the opening, es the events of a
--- run of `last` events, and k a moment: the state after k events.
+-- The consequences of the law of a machine, each under its own name. In all of them, `op` is how the set opens, `es`
+-- are the events of a run of `last` events, and k is a moment: the state after k events.
 use Rattle.std.specs.Prelude.{◌≡◌, ◌≢◌, ℕ, zero, suc, ◌+◌, ◌%◌, ◌^◌, ◌<◌, ◌≤◌, ◌⊎◌, true, false, if◌then◌else◌, ◌==◌, List, []}
 use Rattle.std.specs.Prelude.{◌∷◌, ◌++◌, map, Option, Some, Contains, slice_index}
 use Rattle.std.specs.List.Sorted.{IsStrictlyIncreasing}
@@ -21,7 +21,8 @@ use Rattle.lset_steps.specs.Chain.{View, InContent, IsChain, InChain, UnmarkedIn
 use Rattle.lset_steps.specs.Laws.{Registers, IsLockWord, LockUse, word_named, views}
 use Rattle.lset_steps.specs.Worlds.{IsContent}
 
--- [In range]: each thread's registers are in range, and the next action of a pending call accesses a word of the table.
+-- [In range]: states that the registers of thread t are in range and that, if the thread has a pending call, its next
+-- step accesses a word of the table.
 pub record ThreadInRange (T : Table) (sz : Sizes) (t : ℕ) (l : Local) : Type 0 where
   pub registers : Registers sz t l
   pub action : l.pc ≢ 0 → word_named (T.next l) < word_count sz
@@ -30,8 +31,8 @@ abbrev pub InRange : Table → Type 0
 InRange T = (op : Opening) (last k t : ℕ) (es : ℕ → Event) → Run T op es last → k ≤ last → t < op.threads
     → ThreadInRange T (sizes op) t (local_of (state_at T op es k) t)
 
--- [Sorted chain]: the chain reaches the tail, which is node 1. The keys of the chain, including the tail's, increase
--- strictly.
+-- [Sorted chain]: states that the chain reaches the tail, and that the keys along the chain increase strictly, up to
+-- and including the tail's.
 pub record ChainIsSorted (v : View) : Type 0 where
   pub nodes : List ℕ
   pub chain : IsChain v nodes
@@ -40,20 +41,21 @@ pub record ChainIsSorted (v : View) : Type 0 where
 abbrev pub SortedChain : Table → Type 0
 SortedChain T = (op : Opening) (last k : ℕ) (es : ℕ → Event) → Run T op es last → k ≤ last → ChainIsSorted (views T op es k)
 
--- [Lock words]: a lock word is t + 1 from the step at which thread t takes the lock until the store of 0 that releases
--- it, and is otherwise 0. Returns the value of lock word x after an action of thread t, given its value before it.
+-- [Lock words]: a lock word is t + 1 from the step with which thread t takes the lock to the store of 0 that releases
+-- it, and 0 at all other times. This function returns lock word x after an action of thread t. `old` is the word before
+-- the action.
 abbrev pub held : ℕ → ℕ → ℕ → Action → ℕ
 held x t old (Load w) = old
 held x t old (Store w v) = if w == x then 0 else old
 held x t old (Exchange w o v) = if w == x then (if old == 0 then t + 1 else old) else old
 
--- Returns the value of lock word x after an event.
+-- Returns lock word x after an event. `old` is the word before the event.
 abbrev pub held_after : Table → State → ℕ → ℕ → Event → ℕ
 held_after T s x old (Begin t call) = old
 held_after T s x old (Go t) = held x t old (T.next (local_of s t))
 
--- Returns the value of lock word x at each moment of a run, computed only from the attempts to take the lock and the
--- stores.
+-- Returns lock word x at each moment of a run, computed only from the attempts to take the lock and the stores that
+-- release it.
 abbrev pub holder : Table → Opening → (ℕ → Event) → ℕ → ℕ → ℕ
 holder T op es x zero = 0
 holder T op es x (suc k) = held_after T (state_at T op es k) x (holder T op es x k) (es k)
@@ -63,24 +65,25 @@ LockWords T = (op : Opening) (last k x : ℕ) (es : ℕ → Event) → Run T op 
     x < word_count (sizes op)
     → slice_index (state_at T op es k).words x ≡ holder T op es x k
 
--- States that each exchange on a lock word is an attempt to take the lock, and each store to it is a store of 0 by the
--- thread that holds the lock.
+-- States that in each step, an exchange on a lock word is an attempt to take the lock, and a store to a lock word is a
+-- 0 by the thread that holds the lock.
 abbrev pub LockUses : Table → Type 0
 LockUses T = (op : Opening) (last k t : ℕ) (es : ℕ → Event) → Run T op es last → k < last → es k ≡ Go t
     → LockUse (state_at T op es k).words t (T.next (local_of (state_at T op es k) t))
 
--- [Unlinked stays]: states that a node published at moment j has the same key at each later moment k. If it is unlinked
--- at j, it is unlinked at k, with the same link. In a list that marks nodes, a node marked at j has the same link at k.
+-- [Unlinked stays]: states that a node that is published at moment j, which means that it has been in the chain, has
+-- the same key at each later moment k. If the node is unlinked at j, it is unlinked at k and has the same link. In a
+-- list that marks nodes, a node that is marked at j has the same link at k.
 abbrev pub UnlinkedNodesStay : Table → Type 0
 UnlinkedNodesStay T = (op : Opening) (last j k i : ℕ) (es : ℕ → Event) → Run T op es last → j ≤ k → k ≤ last
     → (views T op es j).published i → UnlinkedStays T.marks (views T op es j) (views T op es k) i
 
--- [Frozen]: states that the link word of node i does not change from moment k to the end of a run of `last` events.
+-- [Frozen]: states that the link word of node i never changes from moment k to the end of the run.
 abbrev pub IsFrozen : Table → Opening → ℕ → (ℕ → Event) → ℕ → ℕ → Type 0
 IsFrozen T op last es k i = (later : ℕ) → k ≤ later → later ≤ last → (views T op es later).link i ≡ (views T op es k).link i
 
--- A node is frozen from the moment at which it is unlinked or, in a list that marks nodes, from the moment at which it
--- is marked.
+-- States that a node's link is frozen as soon as the node is unlinked or, in a list that marks nodes, as soon as it is
+-- marked.
 pub record Freezes (T : Table) (op : Opening) (last : ℕ) (es : ℕ → Event) (k i : ℕ) : Type 0 where
   pub unlinked : (InChain (views T op es k) i → ⊥) → IsFrozen T op last es k i
   pub marked : T.marks ≡ true → (views T op es k).link i % 2 ≡ 1 → IsFrozen T op last es k i
@@ -90,25 +93,26 @@ FrozenNodes T = (op : Opening) (last k i : ℕ) (es : ℕ → Event) → Run T o
     → Freezes T op last es k i
 
 -- [Seen in the past]: states that if a node was in the chain at moment j and its link word is read at a later moment k,
--- then at some moment from j to k it was in the chain with this link word.
+-- then the node was in the chain with this very link word at some moment from j to k.
 abbrev pub SeenInThePast : Table → Type 0
 SeenInThePast T = (op : Opening) (last j k b : ℕ) (es : ℕ → Event) → Run T op es last → j ≤ k → k ≤ last
     → InChain (views T op es j) b → Seen (views T op es) j k b ((views T op es k).link b)
 
--- [Unmarked in chain]: states that in a list that marks nodes, each unmarked published node is in the chain at every
--- moment.
+-- [Unmarked in chain]: states that in a list that marks nodes, a node that has been in the chain (published) and is not
+-- marked is in the chain, at every moment.
 abbrev pub UnmarkedNodesInChain : Table → Type 0
 UnmarkedNodesInChain T = (op : Opening) (last k : ℕ) (es : ℕ → Event) → Run T op es last → k ≤ last
     → UnmarkedInChain T.marks (views T op es k)
 
--- States that in a list that does not mark nodes, no link is marked, not even that of an unused slot.
+-- States that in a list that does not mark nodes, no node has a mark, not even one that no add has used yet.
 abbrev pub NoLinkIsMarked : Table → Type 0
 NoLinkIsMarked T = (op : Opening) (last k i : ℕ) (es : ℕ → Event) → Run T op es last → k ≤ last → T.marks ≡ false →
     i < node_count (sizes op)
     → (views T op es k).link i % 2 ≡ 0
 
--- [Named change]: states how entry k of a log changes the content and the threads' counts of successful adds. Only the
--- call that the entry's thread began last can make the change, and each call makes at most one.
+-- [Named change]: states how entry k of a log, the event between moments k and k + 1, changes the keys of the set and
+-- each thread's number of successful adds. Only the thread's own pending call can make the change, and each call makes
+-- at most one.
 abbrev pub ChangeIsNamed : ℕ → ℕ → Log → Contents → Counts → ℕ → Entry → Type 0
 ChangeIsNamed threads quota log contents counts k (began t call) =
     Same (contents k) (contents (suc k))
@@ -124,8 +128,8 @@ NamedChange T = (op : Opening) (last k : ℕ) (es : ℕ → Event) → Run T op 
     → ChangeIsNamed op.threads op.quota (log_of T op es) (contents_of (views T op es)) (counts_of (views T op es)) k
     (log_of T op es k)
 
--- [Replies fit]: states that a call that ends at entry k either has made a change and replies True, or gives a reply
--- that is correct at some moment of the call.
+-- [Replies fit]: states that a call that ends in the step between moments k and k + 1 has a correct reply: `True` if
+-- the call has changed the set, else one that a sequential set returns at some moment of the call.
 abbrev pub RepliesFit : Table → Type 0
 RepliesFit T = (op : Opening) (last k t : ℕ) (es : ℕ → Event) (change : Option Change) (reply : Reply) → Run T op es last →
     k < last
@@ -133,30 +137,30 @@ RepliesFit T = (op : Opening) (last k t : ℕ) (es : ℕ → Event) (change : Op
     → RightReply (has_changed (log_of T op es) t (suc k)) op.quota (contents_of (views T op es)) (counts_of (views T op es))
     (begun_at (log_of T op es) t k) (suc k) t (last_call (log_of T op es) t k) (Some reply)
 
--- States that the call is a contains.
 abbrev pub IsContains : Call → Type 0
 IsContains (call.Contains k) = Unit {0}
 IsContains call = ⊥
 
--- States that the call is a contains or a ceiling.
 abbrev pub IsRead : Call → Type 0
 IsRead (call.Add k) = ⊥
 IsRead (call.Remove k) = ⊥
 IsRead (call.Contains k) = Unit {0}
 IsRead (call.Ceiling k) = Unit {0}
 
--- States that only a contains can reply True without having made a change.
+-- States that only a `contains` can reply `True` without having changed the set.
 abbrev pub TrueMeansChange : Table → Type 0
 TrueMeansChange T = (op : Opening) (last k t : ℕ) (es : ℕ → Event) (change : Option Change) → Run T op es last → k < last
     → log_of T op es k ≡ stepped t change (Some True)
     → (has_changed (log_of T op es) t (suc k) ≡ true) ⊎ IsContains (last_call (log_of T op es) t k)
 
--- All laws together, in terms of the set and without nodes or locks: states that every run has an account.
+-- States that every run has an account: each event changes the keys of the set as its call allows, and each reply is
+-- correct at some moment of its call. These are all laws together, without nodes or locks.
 abbrev pub HasAccount : Table → Type 0
 HasAccount T = (op : Opening) (last : ℕ) (es : ℕ → Event) → Run T op es last
     → Account op last (log_of T op es) (contents_of (views T op es)) (counts_of (views T op es))
 
--- At each moment, the content is one list of keys in strictly increasing order, each below 2^32.
+-- States that the keys of the set are one list of numbers below 2^32, in strictly increasing order: the keys of the
+-- unmarked nodes along the chain.
 pub record ContentIsListed (v : View) : Type 0 where
   pub keys : List ℕ
   pub increasing : IsContent v keys

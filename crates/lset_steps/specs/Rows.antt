@@ -1,5 +1,5 @@
--- Parts of rows that all tables share: the nodes and words that rows access, and how a call decides at the first key
--- that is not smaller than its own.
+-- What the rows of all step tables have in common: the nodes and words that they access, and how a call decides what to
+-- do at the first key that is not smaller than its own.
 use Rattle.std.specs.Prelude.{ℕ, ◌-◌, ◌<◌, ◌≤◌, Bool, if◌then◌else◌, Option, Some, None, ◌==◌, nat_lt}
 use Rattle.lset_words.specs.declared.TheConstants.{MOST_THREADS, MOST_QUOTA, MOST_NODES}
 use Rattle.lset_words.specs.declared.Call.{Call}
@@ -11,26 +11,27 @@ use Rattle.lset_steps.specs.declared.Local.{Local}
 use Rattle.lset_steps.specs.Steps.{idle}
 use Rattle.lset_steps.specs.declared.rows.Targets.{Targets}
 
--- Returns the node of the slot that the thread's next successful add links into the chain.
+-- Returns the node that the thread's next successful add will use: the first slot of the thread that is not used yet.
 abbrev pub own_slot : Local → ℕ
 own_slot l = slot_node l.quota l.thread l.used
 
--- Returns the state of a thread that has begun a call. It differs from the idle state only in the call, the row, and
--- the slots used.
+-- Returns the private state of a thread that has just begun a call at row `pc`. All other values are as in an idle
+-- thread, except for the number of slots used.
 abbrev pub begun : ℕ → Call → Local → Local
 begun pc call l = record (idle l.quota l.thread) { used = l.used; call = call; pc = pc }
 
--- Continues the call at another row, with a reply or `None`.
+-- Returns the private state, with another row of the step table and another reply.
 abbrev pub goes_to : ℕ → Option Reply → Local → Local
 goes_to pc reply l = record l { pc = pc; reply = reply }
 
--- Returns the reply of a ceiling that stops at a key word: its key, or Nothing at the tail.
+-- Returns the reply of a `ceiling` that stops at this key word: the key, which is the word minus 1, or `Nothing` if the
+-- word is the tail's.
 abbrev pub ceiling_at : ℕ → Reply
 ceiling_at word = if nat_lt word tail_word then At (record { 0 = word - 1 }) else Nothing
 
--- Decides a call: it continues at the row that adds, at the row that removes, or at the row that leaves with a reply.
--- This depends on whether the key was found and whether the quota allows another add. A ceiling leaves with the key of
--- the key word, or with Nothing.
+-- Decides how a call continues, from whether its key was found and whether the thread's quota allows another add
+-- (`room`). An `add` or a `remove` that will change the set continues at row `adds` or `removes` of the step table. All
+-- other calls have a reply now, and continue at row `leaves`.
 abbrev pub decided : ℕ → ℕ → ℕ → Call → Bool → Bool → ℕ → Local → Local
 decided adds removes leaves (Add k) found room key l =
     if found then goes_to leaves (Some False) l else if room then goes_to adds None l else goes_to leaves (Some Full) l
@@ -39,11 +40,11 @@ decided adds removes leaves (Contains k) found room key l = if found then goes_t
     else goes_to leaves (Some False) l
 decided adds removes leaves (Ceiling k) found room key l = goes_to leaves (Some (ceiling_at key)) l
 
--- Decides a call at a key word.
+-- Decides how a call continues at key word `key`, the first that is not smaller than its own.
 abbrev pub decided_on : Targets → ℕ → Local → Local
 decided_on rows key l = decided rows.adds rows.removes rows.leaves l.call (key == target l.call) (nat_lt l.used l.quota) key l
 
--- All numbers in a thread's state are small enough for 64-bit arithmetic.
+-- States that the numbers in a thread's private state are so small that arithmetic with them cannot overflow 64 bits.
 pub record IsSmall (l : Local) : Type 0 where
   pub thread : l.thread < MOST_THREADS
   pub quota : l.quota ≤ MOST_QUOTA

@@ -1,4 +1,5 @@
--- [Machine] and [Run]: step tables, states, single events, and runs of events.
+-- [Machine] and [Run]: a list set as a table of steps, the states of the list, and runs of single steps by several
+-- threads.
 use Rattle.std.specs.Prelude.{◌≡◌, ◌≢◌, ℕ, ◌<◌, ◌*◌, ◌+◌, ◌-◌, ◌/◌, ◌%◌, nat_lt, Bool, if◌then◌else◌, List, map, length, Option}
 use Rattle.std.specs.Prelude.{None, ◌==◌, slice_index, slice_index_or, slice_set, zero, suc}
 use Rattle.std.specs.List.{range_with_len}
@@ -16,7 +17,9 @@ use Rattle.lset_steps.specs.declared.Told.{Told}
 use Rattle.lset_steps.specs.declared.Event.{Event}
 use Rattle.lset_steps.specs.declared.Event.TheVariants.{Begin, Go}
 
--- A machine: its four functions, and whether it marks nodes before it unlinks them.
+-- A machine: a list set as a table of steps. `begin` begins a call, `next` is the thread's next access to a word,
+-- `feed` is the thread's state after the access, and `effect` is the key that the step adds or removes. `marks` is
+-- whether the list marks nodes before it unlinks them.
 pub record Table : Type 0 where
   pub marks : Bool
   pub begin : Call → Local → Local
@@ -24,7 +27,7 @@ pub record Table : Type 0 where
   pub feed : Local → ℕ → Fed
   pub effect : Local → ℕ → Option (Key × Bool)
 
--- A state: the shared words, and the private state of each thread.
+-- A state of a list: the shared words, and each thread's private state.
 pub record State : Type 0 where
   pub words : List ℕ
   pub locals : List Local
@@ -45,8 +48,8 @@ idle q t = record {
   ckey = 0;
 }
 
--- The opening world: the head links to the nodes of the opening keys in turn, and the last of them to the tail. Returns
--- the node of opening key i, or the tail if i is past the last key.
+-- The opening state of a list: the head links to the node of the first opening key, each such node to the next, and the
+-- last one to the tail. This function returns the node of opening key i, or the tail if i is past the last key.
 abbrev pub opening_next : Sizes → ℕ → ℕ
 opening_next sz i = if nat_lt i sz.opening then opening_node sz i else 1
 
@@ -85,13 +88,13 @@ opening_of sz keys = record { threads = sz.threads; quota = sz.quota; keys = key
 abbrev pub local_of : State → ℕ → Local
 local_of s t = slice_index_or s.locals t (idle 0 0)
 
--- Returns the value that an action sees.
+-- Returns the value that an action sees: the word loaded, the value stored, or the word before an exchange.
 abbrev pub seen_by : List ℕ → Action → ℕ
 seen_by ws (Load w) = slice_index ws w
 seen_by ws (Store w v) = v
 seen_by ws (Exchange w old new) = slice_index ws w
 
--- Returns the words after an action.
+-- Returns the words after an action. An exchange writes only if the word has the expected value.
 abbrev pub left_by : List ℕ → Action → List ℕ
 left_by ws (Load w) = ws
 left_by ws (Store w v) = slice_set ws w v
@@ -118,21 +121,23 @@ abbrev pub Enabled : State → Event → Type 0
 Enabled s (Begin t call) = (t < length s.locals) × ((local_of s t).pc ≡ 0) × (target call < tail_word)
 Enabled s (Go t) = (t < length s.locals) × ((local_of s t).pc ≢ 0)
 
--- Returns the state of a run after its first k events. The events are given as a function of moments.
+-- Returns the state of a run after its first k events. `es k` is the event between moments k and k + 1.
 abbrev pub state_at : Table → Opening → (ℕ → Event) → ℕ → State
 state_at T op es zero = opening op
 state_at T op es (suc k) = after T (state_at T op es k) (es k)
 
--- A run of `last` events: the opening is within its limits, and each event is enabled in the state before it.
+-- States that the first `last` events are a run: the set opens within the limits, and each event is enabled in the
+-- state before it.
 pub record Run (T : Table) (op : Opening) (es : ℕ → Event) (last : ℕ) : Type 0 where
   pub opens : Opens op
   pub enabled : (k : ℕ) → k < last → Enabled (state_at T op es k) (es k)
 
--- Converts a list of events to a function of moments.
+-- Converts a list of events to a function that returns the event after each moment.
 abbrev pub event_at : List Event → ℕ → Event
 event_at es k = slice_index_or es k (Go 0)
 
--- Returns the log entry of an event: the event with its reply and change.
+-- Returns what the log of a run records of an event: who began which call, or who made a step with which change and
+-- reply.
 abbrev pub entry_of : Table → State → Event → Entry
 entry_of T s (Begin t call) = began t call
 entry_of T s (Go t) = stepped t (told T s (Go t)).change (told T s (Go t)).answer

@@ -1,4 +1,5 @@
--- The model values of worlds, and the results of their steps.
+-- The value of the Rust type `World`, a list with its threads that is run one event at a time, and what its functions
+-- return.
 use Rattle.std.specs.Prelude.{◌≡◌, ◌≢◌, ℕ, ◌-◌, ◌%◌, ◌<◌, ◌≤◌, Bool, not, List, [], ◌∷◌, map, filter, filter_map, length, Option}
 use Rattle.std.specs.Prelude.{Result, Ok, Err, if◌then◌else◌, ◌==◌, nat_lt, ◌&&◌}
 use Rattle.std.specs.List.Sorted.{IsStrictlyIncreasing}
@@ -16,7 +17,8 @@ pub record WorldState : Type 0 where
   pub sizes : Sizes
   pub state : State
 
--- The world's state is the last state of a run whose opening has the world's sizes.
+-- States that the state of a world is the last state of a run, which opened with the world's numbers of threads, slots
+-- and opening keys.
 pub record IsRun (T : Table) (w : WorldState) : Type 0 where
   pub opening : Opening
   pub of_sizes : sizes opening ≡ w.sizes
@@ -30,7 +32,8 @@ abbrev pub thread_of : Event → ℕ
 thread_of (Begin t call) = t
 thread_of (Go t) = t
 
--- States that this is the error of an event that is not enabled: the first that applies of NoThread, Busy and Idle.
+-- States that this is the error of an event that is not enabled. If several apply, it is the first of NoThread, Busy
+-- and Idle.
 abbrev pub Refused : WorldState → Event → StepFault → Type 0
 Refused w e NoThread = w.sizes.threads ≤ thread_of e
 Refused w (Begin t call) Busy = (t < w.sizes.threads) × ((local_of w.state t).pc ≢ 0)
@@ -38,32 +41,33 @@ Refused w (Go t) Busy = ⊥
 Refused w (Begin t call) Idle = ⊥
 Refused w (Go t) Idle = (t < w.sizes.threads) × ((local_of w.state t).pc ≡ 0)
 
--- States the result of a step and the world after it. An enabled event is executed. A refused event changes nothing.
+-- States what a step returns, and that `w'` is the world after it. If the event is enabled, it is executed. If the step
+-- returns an error, the world is unchanged.
 abbrev pub StepResult : Table → WorldState → Event → Result Told StepFault → WorldState → Type 0
 StepResult T w e (Ok answer) w' = Enabled w.state e × (w' ≡ record w { state = after T w.state e }) × (answer ≡ told T w.state e)
 StepResult T w e (Err cause) w' = Refused w e cause × (w' ≡ w)
 
--- Returns the keys of the unmarked nodes in the list, except head and tail.
+-- Returns the keys of those nodes of the list that are not marked, without head and tail.
 abbrev pub keys_in : View → List ℕ → List ℕ
 keys_in v [] = []
 keys_in v (b ∷ bs) = if nat_lt 1 b && v.link b % 2 == 0 then (v.key b - 1) ∷ keys_in v bs else keys_in v bs
 
--- [Content] as a list: states that these are the keys of the unmarked nodes of the chain between head and tail, in
--- increasing order.
+-- [Content] as a list: states that these are the keys of the unmarked nodes along the chain, and that they increase
+-- strictly.
 abbrev pub IsContent : View → List ℕ → Type 0
 IsContent v keys = ((ns : List ℕ) × IsChain v ns × (keys ≡ keys_in v ns)) × IsStrictlyIncreasing keys
 
--- Returns the keys of the nodes in the list, except head and tail, each with its node's mark.
+-- Returns the keys of the nodes in the list, without head and tail, each with its node's mark.
 abbrev pub chain_keys : View → List ℕ → List ChainKey
 chain_keys v [] = []
 chain_keys v (b ∷ bs) =
     if nat_lt 1 b then record { key = v.key b - 1; marked = v.link b % 2 == 1 } ∷ chain_keys v bs else chain_keys v bs
 
--- States that these are the keys of the chain from the head to the tail, each with its node's mark.
+-- States that these are the keys along the chain, from head to tail, each with its node's mark.
 abbrev pub AreChainKeys : View → List ChainKey → Type 0
 AreChainKeys v keys = (ns : List ℕ) × IsChain v ns × (keys ≡ chain_keys v ns)
 
--- Returns whether the key's node is unmarked. `unmarked_keys` returns the keys of such nodes.
+-- Returns whether the node of this key is unmarked. `unmarked_keys` returns the keys of all such nodes.
 abbrev pub is_unmarked : ChainKey → Bool
 is_unmarked k = not k.marked
 
@@ -73,11 +77,13 @@ key_alone k = k.key
 abbrev pub unmarked_keys : List ChainKey → List ℕ
 unmarked_keys keys = map key_alone (filter is_unmarked keys)
 
--- States that each answer is the result of `pick`.
+-- States that a relation between keys and answers is the function `pick`. (`World::walk` knows only the contract of its
+-- closure, which is such a relation.)
 abbrev pub AnswersAs : {A : Type 0} → (ChainKey → Option A → Type 0) → (ChainKey → Option A) → Type 0
 AnswersAs {A} answers pick = (met : ChainKey) (answer : Option A) → answers met answer → answer ≡ pick met
 
--- The items are those that the answers select from the keys of the chain, in order from head to tail.
+-- States that the items are what a function `pick` selects from the keys along the chain, in this order. `answers` is
+-- all that is known of `pick`: which answers it can have for a key.
 pub record IsPickedFromChain {A : Type 0} (answers : ChainKey → Option A → Type 0) (v : View) (items : List A) : Type 0 where
   pub nodes : List ℕ
   pub is_chain : IsChain v nodes

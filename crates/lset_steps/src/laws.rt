@@ -1,5 +1,5 @@
-//! Laws of every run of every machine, for any number of events. Each law is the contract of a function with an empty
-//! body.
+//! Laws of every run of every machine, for any number of events. Each law is the contract of a function that does
+//! nothing.
 
 ghost use Rattle.lset_steps.specs.BoundedReads.{BoundedReads, WalkWasInChain};
 ghost use Rattle.lset_steps.specs.Promises.{
@@ -21,20 +21,20 @@ ghost use Rattle.lset_steps.specs.Promises.{
 
 use crate::{Machine, OpenReads};
 
-/// Lemma: in every world of every run, the registers are in the layout's range, and the next action of a pending call
+/// Lemma: at each moment of a run, the registers of each thread are in range, and the next step of a pending call
 /// accesses a word of the table.
 pub fn in_range<M: Machine>()
     ensures { InRange M.table }
 {}
 
-/// Lemma: in every world of every run, the chain reaches the tail, and its keys are in strictly increasing order.
-/// (Herlihy and Shavit's representation invariant.)
+/// Lemma: at each moment of a run, the chain from the head reaches the tail, and its keys increase strictly. (Herlihy
+/// and Shavit's representation invariant.)
 pub fn sorted_chain<M: Machine>()
     ensures { SortedChain M.table }
 {}
 
-/// Lemma: a lock word is `t + 1` from the step at which thread `t` takes the lock until the store of 0 that releases
-/// it. At all other moments it is 0.
+/// Lemma: a lock word is `t + 1` from the step with which thread `t` takes the lock to the store of 0 that releases it.
+/// At all other moments the word is 0.
 pub fn lock_words<M: Machine>()
     ensures { LockWords M.table }
 {}
@@ -45,8 +45,9 @@ pub fn lock_uses<M: Machine>()
     ensures { LockUses M.table }
 {}
 
-/// Lemma: a published node keeps its key. An unlinked node keeps its link and stays out of the chain. In a list that marks nodes,
-/// a marked node keeps its link. (Heller and others, for their lazy list; Harris, for marks.)
+/// Lemma: a node that has been in the chain at some time (published) keeps its key. An unlinked node keeps its link and
+/// stays out of the chain. In a list that marks nodes, a marked node keeps its link. (Heller and others, for their lazy
+/// list; Harris, for marks.)
 pub fn unlinked_nodes_stay<M: Machine>()
     ensures { UnlinkedNodesStay M.table }
 {}
@@ -57,62 +58,64 @@ pub fn frozen_nodes<M: Machine>()
     ensures { FrozenNodes M.table }
 {}
 
-/// Lemma: if a node was in the chain at some moment, each link read from it later is one that the node had while it was in the
-/// chain, at that moment or a later one. (O'Hearn and others' hindsight.)
+/// Lemma: if a node was in the chain at some moment, each link read from the node later is one that the node had while
+/// it was in the chain, at that moment or a later one. (O'Hearn and others' hindsight.)
 pub fn seen_in_the_past<M: Machine>()
     ensures { SeenInThePast M.table }
 {}
 
-/// Lemma: in a list that marks nodes, every unmarked published node is in the chain. In any other list no published node is
-/// marked. (Heller and others, for their lazy list.)
+/// Lemma: in a list that marks nodes before it unlinks them, every node that has been in the chain (published) and has
+/// no mark is in the chain. In any other list, no such node has a mark. (Heller and others, for their lazy list.)
 pub fn unmarked_nodes_in_chain<M: Machine>()
     ensures { UnmarkedNodesInChain M.table }
 {}
 
-/// Lemma: in a list that does not mark nodes, no link is marked, not even that of an unused slot.
+/// Lemma: in a list that does not mark nodes, no node has a mark, not even one that no add has used yet.
 pub fn no_link_is_marked<M: Machine>()
     ensures { NoLinkIsMarked M.table }
 {}
 
-/// Lemma: the content changes only at a step whose effect names a key, and only by that key. Only an `Add` of the key
-/// can add it, while its thread is below its quota. Only a `Remove` of the key can remove it. A call changes the
-/// content at most once. (Herlihy and Shavit's linearization points of calls that change the set.)
+/// Lemma: the keys of the set change only in a step whose effect names a key, and only by this key. Only an `Add` of
+/// the key can add it, and only while its thread is below its quota. Only a `Remove` of the key can remove it. A call
+/// changes the set at most once. (Herlihy and Shavit's linearization points of calls that change the set.)
 pub fn named_change<M: Machine>()
     ensures { NamedChange M.table }
 {}
 
-/// Lemma: a call that ends replies `True` if it has changed the content. Otherwise its reply is the one that the set returns at
-/// some moment of the call. (Herlihy and Wing's linearizability; the moments are those of O'Hearn and others' hindsight.)
+/// Lemma: a call that ends replies `True` if it has changed the set. Otherwise, its reply is what a sequential set
+/// returns at some moment of the call. (Herlihy and Wing's linearizability; the moments are those of O'Hearn and
+/// others' hindsight.)
 pub fn replies_fit<M: Machine>()
     ensures { RepliesFit M.table }
 {}
 
-/// Lemma: an `Add` or a `Remove` that ends without a change does not reply `True`. (Herlihy and Shavit's interface.)
+/// Lemma: an `Add` or a `Remove` that ends without having changed the set does not reply `True`. (Herlihy and Shavit's
+/// interface.)
 pub fn true_means_change<M: Machine>()
     ensures { TrueMeansChange M.table }
 {}
 
-/// Lemma: every run has an account. The account states how each event changes the set and which replies are correct,
-/// and mentions neither nodes nor locks. (A form of Herlihy and Wing's linearizability.)
+/// Lemma: every run has an account, which states how each event changes the keys of the set and that each reply is
+/// correct, without nodes or locks. (A form of Herlihy and Wing's linearizability.)
 pub fn has_account<M: Machine>()
     ensures { HasAccount M.table }
 {}
 
-/// Lemma: at each moment of a run, the content is one list of keys in strictly increasing order. (Herlihy and Shavit's
+/// Lemma: at each moment of a run, the keys of the set are one list in strictly increasing order. (Herlihy and Shavit's
 /// abstraction map.)
 pub fn listed_content<M: Machine>()
     ensures { ListedContent M.table }
 {}
 
-/// Lemma: in a list with open reads, each step of a `contains` is a load, and a `contains` makes at most `bound` steps,
-/// whatever the other threads do. (Herlihy and Shavit's wait-free `contains`.)
+/// Lemma: in a list whose reads take no locks (`OpenReads`), each step of a `contains` is a load, and a `contains`
+/// makes at most `bound` steps, whatever the other threads do. (Herlihy and Shavit's wait-free `contains`.)
 pub fn bounded_reads<M: OpenReads>()
     ensures { BoundedReads M.table }
 {}
 
-/// Lemma: in a list with open reads, each node that a `contains` or a `ceiling` has passed was in the chain at some
-/// moment of the call, with the link that was read. The node can have left the chain before the load. (O'Hearn and
-/// others' hindsight.)
+/// Lemma: in a list whose reads take no locks (`OpenReads`), each node that a `contains` or a `ceiling` has passed was
+/// in the chain at some moment of the call, with the link that the call saw. The node can have left the chain before it
+/// was read. (O'Hearn and others' hindsight.)
 pub fn walk_was_in_chain<M: OpenReads>()
     ensures { WalkWasInChain M.table }
 {}

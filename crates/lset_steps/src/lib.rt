@@ -1,4 +1,4 @@
-//! Step machines over the words of a list, and worlds that run them one atomic step at a time.
+//! Step machines, which are list sets described one atomic step at a time, and worlds, which run them event by event.
 #![tactic(auto)]
 
 ghost use Rattle.std.specs.Prelude.{◌≡◌, ◌+◌, ◌*◌, ◌<◌};
@@ -15,9 +15,9 @@ mod world;
 use lset_words::{Call, Key, Kind, Layout, Reply};
 pub use world::{ChainKey, StepFault, World, opening_words};
 
-/// The private state of a thread: its number, its quota and the number of slots used; its call, the reply, and the
-/// program counter, which is 0 if no call is pending; and its registers. Each value of the program counter is one row
-/// of the list's table.
+/// The private state of a thread: its number, its quota and how many slots it has used; its call and the reply; the
+/// program counter `pc`, which is the row of the step table that is next, or 0 if no call is pending; and the registers
+/// `pred` to `ckey`.
 #[derive(Clone, Copy)]
 pub struct Local {
     pub thread: u32,
@@ -35,14 +35,14 @@ pub struct Local {
 }
 
 impl Local {
-    /// Returns the state of thread `t` before its first call. `t` must be below the layout's number of threads.
+    /// Returns the private state of thread `t` before its first call. `t` must be below the number of threads.
     pub fn idle(layout: &Layout, t: u32) -> Local
         ensures { result ≡ idle layout.now.quota t }
     {
         Local::at_rest(t, layout.quota())
     }
 
-    /// Returns the state of a thread that has used no slot and has begun no call.
+    /// Returns the private state of a thread before its first call.
     pub(crate) fn at_rest(thread: u32, quota: u32) -> Local
         ensures { result ≡ idle quota thread }
     {
@@ -63,8 +63,8 @@ impl Local {
     }
 }
 
-/// One atomic access to one 64-bit word: the word's index, then the values. An exchange writes its second value if the
-/// word contains the first.
+/// One atomic access to a 64-bit word of the list. The first number is the word's index. A store has the new value; an
+/// exchange has the expected value and the new value, and writes only if the word has the expected value.
 #[derive(Clone, Copy)]
 pub enum Action {
     Load(u64),
@@ -72,31 +72,32 @@ pub enum Action {
     Exchange(u64, u64, u64),
 }
 
-/// The state of a thread after a step, and the reply if the step ends the call.
+/// The private state of a thread after a step, and the reply if the step ends the call.
 #[derive(Clone, Copy)]
 pub struct Fed {
     pub local: Local,
     pub answer: Option<Reply>,
 }
 
-/// An event of a run: a thread begins a call, or makes one atomic step of its pending call. Threads are numbered from 0.
+/// An event of a run: a thread begins a call, or makes one atomic step of its pending call. Threads are numbered from
+/// 0.
 #[derive(Clone, Copy, Debug, PartialEq, Eq)]
 pub enum Event {
     Begin(u32, Call),
     Go(u32),
 }
 
-/// The outcome of an event: the reply, if the event ended a call, and the key that it added (`true`) or removed
-/// (`false`), if it changed the set.
+/// What an event does: the reply, if the event ends a call, and the key that the event adds (`true`) or removes
+/// (`false`), if any.
 #[derive(Clone, Copy, Debug, PartialEq, Eq)]
 pub struct Told {
     pub answer: Option<Reply>,
     pub change: Option<(Key, bool)>,
 }
 
-/// A list set as a step table. Each function describes one step of one thread. The five lists are Herlihy and Shavit's
-/// algorithms. `seen` is the value that was loaded or stored; for an exchange it is the value before the exchange, which
-/// succeeded if `seen` is the expected value.
+/// A list set as a table of steps. Each function describes one step of one thread. The five lists of this library are
+/// Herlihy and Shavit's algorithms. The argument `seen` is the value that the step loads or stores; for an exchange, it
+/// is the value before the exchange, which succeeds if `seen` is the expected value.
 pub trait Machine {
     const KIND: Kind;
 
@@ -104,23 +105,24 @@ pub trait Machine {
 
     ghost table: { Table };
 
-    /// Returns the state of a thread after it begins `call`. The thread must have no pending call.
+    /// Returns the private state of a thread after it begins `call`. The thread must have no pending call.
     fn begin(call: Call, local: &Local) -> Local
         ensures { result ≡ table.begin call local.now };
 
-    /// Returns the next step of a thread with a pending call. `local` must occur in a world of a run.
+    /// Returns the access to a word that the thread, which must have a pending call, makes next. `local` must be the
+    /// thread's private state at some moment of a run.
     fn next(local: &Local) -> Action
         requires { Occurs table local.now }
         ensures { result ≡ table.next local.now };
 
-    /// Returns the thread's state after its next step, and the reply if the step ends the call. `local` and `seen` must occur in
-    /// a world of a run.
+    /// Returns the private state of a thread after its next step, and the reply if the step ends the call. `local` and
+    /// `seen` must occur at some moment of a run.
     fn feed(local: &Local, seen: u64) -> Fed
         requires { Sees table local.now seen }
         ensures { result ≡ table.feed local.now seen };
 
-    /// Returns the key that the next step adds (`true`) or removes (`false`); `None` if the step does not change the set. `local`
-    /// and `seen` must occur in a world of a run.
+    /// Returns the key that the thread's next step adds (`true`) or removes (`false`), or `None` if the step does not
+    /// change the set. `local` and `seen` must occur at some moment of a run.
     fn effect(local: &Local, seen: u64) -> Option<(Key, bool)>
         requires { Sees table local.now seen }
         ensures { result ≡ table.effect local.now seen };
@@ -128,8 +130,8 @@ pub trait Machine {
     ghost lawful: { Lawful table };
 }
 
-/// A list whose `contains` takes no lock and writes nothing. Such a `contains` does not block (Herlihy and Shavit's wait-free
-/// `contains`).
+/// A list set whose `contains` takes no lock and writes nothing, so that it never waits for another thread (Herlihy and
+/// Shavit's wait-free `contains`).
 pub trait OpenReads: Machine {
     /// Returns the maximum number of steps that a `contains` makes, whatever the other threads do. Each step is a load.
     fn bound(layout: &Layout) -> u64

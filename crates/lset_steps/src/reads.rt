@@ -6,8 +6,8 @@ use crate::rows::{TAIL_WORD, begun, ceiling_at, key_index, link_index};
 use crate::{Action, Fed, Local};
 use lset_words::{Call, Reply};
 
-/// Returns the state of a thread that has begun a call, at the first row for its kind of call. `contains` and `ceiling`
-/// have their own rows, which take no lock and write nothing (Herlihy and Shavit's wait-free `contains`).
+/// Returns the private state of a thread that begins a call, at the first row for this kind of call. `contains` and
+/// `ceiling` have rows of their own, which take no lock and write nothing (Herlihy and Shavit's wait-free `contains`).
 #[inline(always)]
 pub fn begun_reading(call: Call, local: &Local) -> Local
     ensures { result ≡ begun_reading call local.now }
@@ -20,7 +20,7 @@ pub fn begun_reading(call: Call, local: &Local) -> Local
     begun(pc, call, local)
 }
 
-/// Returns a step after which the call continues in the given state.
+/// Returns the outcome of a step after which the call continues in the given private state.
 #[inline(always)]
 pub fn continued(local: Local) -> Fed
     ensures { result ≡ continued local }
@@ -31,7 +31,7 @@ pub fn continued(local: Local) -> Fed
     }
 }
 
-/// Returns a step after which the call has ended with `reply`.
+/// Returns the outcome of a step that ends the call with `reply`.
 #[inline(always)]
 pub fn leaves_with(reply: Reply, local: Local) -> Fed
     ensures { result ≡ leaves_with reply local }
@@ -42,7 +42,7 @@ pub fn leaves_with(reply: Reply, local: Local) -> Fed
     }
 }
 
-/// Returns the next step of a `contains` or a `ceiling` that takes no lock.
+/// Returns the next access of a `contains` or a `ceiling` that takes no lock.
 #[inline(always)]
 pub fn read_action(local: &Local) -> Action
     requires { IsSmall local.now }
@@ -55,8 +55,8 @@ pub fn read_action(local: &Local) -> Action
     }
 }
 
-/// Returns the result of a `ceiling`'s step that has read a key word. The walk continues while the key is smaller than
-/// the call's own, and the call replies `Nothing` at the tail.
+/// Returns the outcome of a step in which a `ceiling` read the key word `seen`. The call continues with the next node
+/// if the key is smaller than its own, replies `Nothing` at the tail, and otherwise reads the node's mark.
 #[inline(always)]
 fn ceiling_key(local: &Local, seen: u64) -> Fed
     ensures { result ≡ ceiling_key local.now seen }
@@ -74,8 +74,8 @@ fn ceiling_key(local: &Local, seen: u64) -> Fed
     }
 }
 
-/// Returns the result of a `ceiling`'s step that has read the link of the node at which it stopped. The call replies
-/// with the node's key, or starts again from the head if the node is marked.
+/// Returns the outcome of a step in which a `ceiling` read the mark of the node at which it stopped. The call replies
+/// with the node's key or, if the node is marked, starts again from the head.
 #[inline(always)]
 fn ceiling_mark(local: &Local, seen: u64) -> Fed
     ensures { result ≡ ceiling_mark local.now seen }
@@ -91,9 +91,9 @@ fn ceiling_mark(local: &Local, seen: u64) -> Fed
     }
 }
 
-/// Returns a thread's state after the next step of a `contains` or a `ceiling` that takes no lock, and the reply if the
-/// step ends the call. A `contains` walks to the first key that is not smaller than its own. It replies `True` if this
-/// is its own key and the node is not marked.
+/// Returns the outcome of the next step of a `contains` or a `ceiling` that takes no lock; `seen` is the word that the
+/// step loaded. A `contains` walks to the first key that is not smaller than its own, and replies `True` if this is its
+/// own key and the node is not marked.
 #[inline(always)]
 pub fn read_fed(local: &Local, seen: u64) -> Fed
     ensures { result ≡ read_fed local.now seen }

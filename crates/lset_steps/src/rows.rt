@@ -6,7 +6,8 @@ use crate::{Action, Local};
 use lset_words::{Call, Key, MOST_NODES, Reply, slot_node};
 pub use lset_words::{key_index, link_index, lock_index};
 
-/// Returns the node of the slot that the thread's next successful `add` links into the chain.
+/// Returns the node that the thread's next successful `add` will use: the first slot of the thread that is not used
+/// yet.
 #[inline(always)]
 pub fn own_slot(local: &Local) -> u64
     requires { IsSmall local.now }
@@ -16,8 +17,8 @@ pub fn own_slot(local: &Local) -> u64
     slot_node(local.quota, local.thread, local.used)
 }
 
-/// Returns the attempt to take the lock of `node`, which must be below `2^62`: an exchange of 0, which means free, for
-/// the thread's number plus 1. (Herlihy and Shavit's node locks.)
+/// Returns an attempt to take the lock of `node`, which must be below `2^62`: an exchange of 0, a free lock, for the
+/// thread's number plus 1. (Herlihy and Shavit's node locks.)
 #[inline(always)]
 pub fn try_lock(node: u64, local: &Local) -> Action
     requires { node < 2 ^ 62 }
@@ -26,7 +27,7 @@ pub fn try_lock(node: u64, local: &Local) -> Action
     Action::Exchange(lock_index(node), 0, u64::from(local.thread) + 1)
 }
 
-/// Returns the state of a thread that has begun a call, at row `pc`, with all registers 0.
+/// Returns the private state of a thread that begins a call at row `pc` of the step table. All registers are 0.
 #[inline(always)]
 pub fn begun(pc: u8, call: Call, local: &Local) -> Local
     ensures { result ≡ begun pc call local.now }
@@ -39,10 +40,10 @@ pub fn begun(pc: u8, call: Call, local: &Local) -> Local
     }
 }
 
-/// The key word of the tail, `2^32 + 1`.
+/// The word that stores the tail's key: `2^32 + 1`.
 pub const TAIL_WORD: u64 = 4_294_967_297;
 
-/// Returns the reply of a `ceiling` that stops at this key word: the key, or `Nothing` at the tail.
+/// Returns the reply of a `ceiling` that stops at this key word: the key, or `Nothing` if the word is the tail's.
 #[inline(always)]
 pub fn ceiling_at(word: u64) -> Reply
     ensures { result ≡ ceiling_at word }
@@ -54,8 +55,8 @@ pub fn ceiling_at(word: u64) -> Reply
     }
 }
 
-/// The rows at which a call continues after its decision: the row that adds, the row that removes, or the row that
-/// leaves with a reply.
+/// The rows of a step table at which a call continues when it has reached its position in the list: one row for an
+/// `add` that will add, one for a `remove` that will remove, and one for all calls that can reply now.
 #[derive(Clone, Copy)]
 pub struct Targets {
     pub adds: u8,
@@ -63,10 +64,10 @@ pub struct Targets {
     pub leaves: u8,
 }
 
-/// Decides a call at the first key word that is not smaller than its own. `add` leaves with `False` if the key is
-/// present, and with `Full` if the quota is used up. `remove` and `contains` leave with `False` if the key is absent.
-/// `ceiling` leaves with the word's key, or with `Nothing` at the tail. Any other call continues at its row of
-/// `Targets`.
+/// Decides how a call continues at the first key word that is not smaller than its own. `add` replies `False` if the
+/// key is present, and `Full` if the quota is used up. `remove` and `contains` reply `False` if the key is absent;
+/// `contains` replies `True` if it is present. `ceiling` replies with the word's key, or with `Nothing` at the tail. An
+/// `add` or `remove` without a reply continues at its own row of `rows`.
 #[inline(always)]
 pub fn decide(rows: Targets, key: u64, local: Local) -> Local
     ensures { result ≡ decided_on rows key local }

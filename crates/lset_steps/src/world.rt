@@ -20,7 +20,7 @@ use thiserror::Error;
 /// The error of `World::step`. If several apply, the first in this order is returned. The world is unchanged.
 #[derive(Clone, Copy, Debug, PartialEq, Eq, Error)]
 pub enum StepFault {
-    /// The thread does not exist.
+    /// The world has no thread with this number.
     #[error("no such thread")]
     NoThread,
     /// The thread already has a pending call, so it cannot begin another.
@@ -31,15 +31,15 @@ pub enum StepFault {
     Idle,
 }
 
-/// A key of the chain, and whether its node is marked.
+/// A key in the chain of a list, and whether its node is marked as removed.
 #[derive(Clone, Copy, Debug, PartialEq, Eq)]
 pub struct ChainKey {
     pub key: u32,
     pub marked: bool,
 }
 
-/// The words of a list and each thread's state, after the events of a run of the machine `M`. A world executes a run
-/// one event at a time, in one thread.
+/// A list and the threads that use it, at one moment of a run of machine `M`: the words of the list, and each thread's
+/// private state. A world executes the run one event at a time, in a single real thread.
 #[derive(Drop)]
 pub struct World<M: Machine> {
     alloc: Global,
@@ -65,7 +65,7 @@ impl<M: Machine> Model for World<M> {
     }) };
 }
 
-/// Returns the node of the first opening key, or the number of nodes if there are no opening keys.
+/// Returns the number of the first node after all slots: the node of the first opening key, if any.
 fn first_opening_node(layout: &Layout) -> u64
     ensures node { result ≡ opening_node layout.now 0 }
     ensures few { result + layout.now.opening ≤ MOST_NODES }
@@ -141,8 +141,8 @@ fn opening_word_at(layout: &Layout, keys: &[u32], i: u64) -> u64
 }
 
 /// Returns the words of a list before any event: a chain from the head through the nodes of the opening keys to the
-/// tail, free locks, and unused slots filled with zeros. `keys` must have as many keys as `layout` has opening keys.
-/// Allocates one vector of `layout.words()` words, at most 6,291,465. Returns `AllocError` if that fails.
+/// tail, free locks, and zeros in unused slots. `keys` must be as many as the layout's opening keys. Allocates one
+/// vector of `layout.words()` words, at most 6,291,465. If that fails, returns `AllocError`.
 pub fn opening_words(alloc: Global, layout: &Layout, keys: &[u32]) -> Result<Vec<u64>, AllocError>
     requires { length keys.now ≡ layout.now.opening }
     ensures words { IfOk result (λ v. v.items ≡ (opening (opening_of layout.now keys.now)).words) }
@@ -154,7 +154,7 @@ pub fn opening_words(alloc: Global, layout: &Layout, keys: &[u32]) -> Result<Vec
     for i in 0..9 {
         words.push(opening_word_at(layout, keys, i))?;
     }
-    // Almost all of the words belong to slots, so one fill writes them.
+    // The words of slots, nodes that no add has used yet, are zeros. One fill writes them all.
     words.resize(behind_slots as usize, 0)?;
     for i in behind_slots..words_in_all {
         words.push(opening_word_at(layout, keys, i))?;
@@ -172,7 +172,7 @@ fn idle_locals(alloc: Global, layout: &Layout) -> Result<Vec<Local>, AllocError>
     Ok(locals)
 }
 
-/// Performs one access, and returns the value that it saw.
+/// Performs one access to a word, and returns the value that the access sees.
 #[inline(always)]
 fn access(words: &mut Vec<u64>, action: Action) -> u64
     requires { word_named action < length words.old.items }
@@ -195,7 +195,7 @@ fn access(words: &mut Vec<u64>, action: Action) -> u64
     }
 }
 
-/// Returns the value that an access will see.
+/// Returns the value that an access will see, without performing it.
 fn sight(words: &[u64], action: Action) -> u64
     requires { word_named action < length words.now }
     ensures { result ≡ seen_by words.now action }
@@ -207,8 +207,8 @@ fn sight(words: &[u64], action: Action) -> u64
 }
 
 impl<M: Machine> World<M> {
-    /// Returns the world of a list that opens empty, before any event: every thread is idle. The layout must have no
-    /// opening keys. Allocates the table and the threads' states. Returns `AllocError` if an allocation fails.
+    /// Returns a list that opens empty, before any event: no thread has a pending call. The layout must have no opening
+    /// keys. Allocates the words and the threads' states. If an allocation fails, returns `AllocError`.
     pub fn new(alloc: Global, layout: Layout) -> Result<World<M>, AllocError>
         requires { layout.opening ≡ 0 }
         ensures { IfOk result (λ w. w ≡ record {
@@ -219,10 +219,9 @@ impl<M: Machine> World<M> {
         World::opened(alloc, layout, &[])
     }
 
-    /// Returns the world of a list that opens with `keys`, before any event: every thread is idle. `keys` must be in
-    /// strictly increasing order, and as many as the layout's opening keys. They are in the set from moment 0, and any
-    /// thread can remove them. Allocates the table and the threads' states. Returns `AllocError` if an allocation
-    /// fails.
+    /// Returns a list that opens with `keys`, before any event: no thread has a pending call. `keys` must increase
+    /// strictly, and be as many as the layout's opening keys. They are in the set from moment 0, and any thread can
+    /// remove them. Allocates the words and the threads' states. If an allocation fails, returns `AllocError`.
     pub fn opened(alloc: Global, layout: Layout, keys: &[u32]) -> Result<World<M>, AllocError>
         requires many { length keys.now ≡ layout.opening }
         requires rising { IsStrictlyIncreasing keys.now }
@@ -241,7 +240,7 @@ impl<M: Machine> World<M> {
         })
     }
 
-    /// Returns the word with index `w`, which must be below the number of words.
+    /// Returns the word of the list with index `w`, which must be below the number of words.
     pub fn word(&self, w: u64) -> u64
         requires { w < word_count self.now.sizes }
         ensures { result ≡ slice_index self.now.state.words w }
@@ -257,7 +256,7 @@ impl<M: Machine> World<M> {
         self.locals[t as usize].pc != 0
     }
 
-    /// Returns the state of thread `t`, or `None` if the thread does not exist.
+    /// Returns the private state of thread `t`, or `None` if no thread has this number.
     pub fn holds(&self, t: u32) -> Option<Local>
         ensures { MatchOption result (self.now.sizes.threads ≤ t) (λ l.
             (t < self.now.sizes.threads) × (l ≡ local_of self.now.state t)) }
@@ -269,8 +268,8 @@ impl<M: Machine> World<M> {
         }
     }
 
-    /// Returns the next access of thread `t` and the value that it will see, or `None` if the thread does not exist or
-    /// has no pending call.
+    /// Returns the next access of thread `t` and the value that the access will see, or `None` if no thread has this
+    /// number or the thread has no pending call.
     pub fn next(&self, t: u32) -> Option<(Action, u64)>
         ensures { MatchOption result (Enabled self.now.state (Event.Go t) → ⊥) (λ s. Enabled self.now.state (Event.Go t)
             × (s.0 ≡ M.table.next (local_of self.now.state t)) × (s.1 ≡ seen_next M.table self.now.state t)) }
@@ -300,7 +299,8 @@ impl<M: Machine> World<M> {
         self.walk(|met| Some(met))
     }
 
-    /// Walks along the chain from head to tail, and collects the results of `pick` for the keys in between.
+    /// Walks along the chain from head to tail, and collects the answers of `pick` to the keys in between. `None` is
+    /// left out.
     fn walk<T: Copy, F: Fn(ChainKey) -> Option<T>>(&self, pick: F) -> Result<Vec<T>, AllocError>
         requires { F.IsAlwaysCallable pick }
         ensures { IfOk result (λ v.
@@ -322,7 +322,7 @@ impl<M: Machine> World<M> {
         Ok(picked)
     }
 
-    /// Lemma: a world satisfies the laws that hold in every state of every run.
+    /// Lemma: a world satisfies the laws of every state of every run. The function does nothing.
     fn keeps_its_laws(&self)
         ensures { StateLaws M.table.marks self.now.sizes self.now.state }
     {
@@ -383,7 +383,7 @@ impl<M: Machine> World<M> {
         }
     }
 
-    /// Makes the next step of thread `t`, whose state is `local`.
+    /// Makes the next step of thread `t`, whose private state is `local`.
     #[inline(always)]
     fn go_holding(&mut self, t: u32, local: Local) -> Told
         requires call { Enabled self.old.state (Event.Go t) }
@@ -403,8 +403,8 @@ impl<M: Machine> World<M> {
         }
     }
 
-    /// Makes the next step of a thread whose call is at row `PC`. `PC` is a constant for the compiler: it compiles only this row
-    /// of the machine's `next`, `feed` and `effect`, and writes only the parts of the thread's state that the row changes.
+    /// Makes the next step of a thread at row `PC` of the step table. Since `PC` is a constant, the compiler keeps only
+    /// this row of the machine's functions, and writes only the parts of the thread's state that this row changes.
     #[inline(always)]
     fn go_at<const PC: u8>(&mut self, t: u32) -> Told
         requires call { Enabled self.old.state (Event.Go t) }
@@ -416,7 +416,7 @@ impl<M: Machine> World<M> {
         self.go_holding(t, Local { pc: PC, ..held })
     }
 
-    /// Makes the next step of a thread whose call is at a row that has no arm in `go`.
+    /// Makes the next step of a thread at any row of the step table. Slower than `go_at`, which has code for one row.
     fn go_elsewhere(&mut self, t: u32) -> Told
         requires { Enabled self.old.state (Event.Go t) }
         ensures new { self.new ≡ record self.old { state = after M.table self.old.state (Event.Go t) } }
@@ -426,8 +426,8 @@ impl<M: Machine> World<M> {
         self.go_holding(t, held)
     }
 
-    /// Makes the next step of a thread by its row's own code. There is an arm for each row of the five tables. Rows of
-    /// other tables work without an arm here, but their steps are slower.
+    /// Makes the next step of a thread with the code for its row of the step table. Each row of the five tables has an
+    /// arm here. Rows of other tables work without an arm, but more slowly.
     #[inline(always)]
     fn go(&mut self, t: u32) -> Told
         requires { Enabled self.old.state (Event.Go t) }
@@ -460,12 +460,13 @@ impl<M: Machine> World<M> {
         }
     }
 
-    /// Executes one event, and returns its reply and its change of the set. Does not allocate.
+    /// Executes one event. Returns the reply, if the event ends a call, and the key that it adds or removes. Does not
+    /// allocate.
     ///
     /// # Errors
     ///
     /// Returns the first error that applies if the event is not enabled. The world is then unchanged.
-    /// - `NoThread`: the thread does not exist;
+    /// - `NoThread`: the world has no thread with this number;
     /// - `Busy`: the thread already has a pending call, so it cannot begin another;
     /// - `Idle`: the thread has no pending call, so it cannot make a step.
     #[inline(always)]

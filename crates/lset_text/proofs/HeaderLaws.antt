@@ -29,7 +29,6 @@ use Rattle.lset_text.proofs.FormLaws.{line_ok, line_again, form_line_lacks}
 title_ok : (title line told : List ℕ) → title_in title line ≡ Some told → line ≡ title
 title_ok title line told is = same_bytes line title (test_some (bytes_eq line title) (Some title) told is).0
 
--- If the values of a line have `a` in second place, the values are the line's fixed word and `a`.
 second : {A : Type 0} (o : Option (Unit {0} × (A × Unit {0}))) (a : A) → option_map (λ t. t.1.0) o ≡ Some a → o ≡ Some (tt, (a, tt))
 second {A} None a is = absurd cc
 second {A} (Some t) a is = ap (λ (x : A). Some (tt, (x, tt))) (some_is t.1.0 a is)
@@ -77,7 +76,7 @@ line_due_ok line cause [] due is = absurd cc
 line_due_ok line cause (rest ∷ []) due is = absurd cc
 line_due_ok line cause (a ∷ b ∷ more) due is = subst (IsDue (a ∷ b ∷ more)) (ok_is (a, b ∷ more) due is) (refl, omega arith)
 
--- States that `read` makes the value of the first part, and that at least one more part follows.
+-- States that `read` makes the value of the first line, and that the text has at least one more part after this line.
 abbrev IsToldBy : {A : Type 0} → (List ℕ → Option A) → List (List ℕ) → A × List (List ℕ) → Type 0
 IsToldBy read parts told = (x : List ℕ) × (parts ≡ x ∷ told.1) × (read x ≡ Some told.0) × (0 < length told.1)
 
@@ -101,8 +100,8 @@ told_again line cause read x y more told is = rw is refl
 abbrev Found : Type 0
 Found = Header × List (List ℕ)
 
--- The checks that remain at each point of reading a header: after the quota line (here), then, below, after the threads
--- line, the kind line, and the title.
+-- What remains of reading a header after each of its lines: after the quota line (here), the threads line, the kind
+-- line, and the title.
 abbrev after_quota : Kind → ℕ → ℕ × List (List ℕ) → Result Found LineFault
 after_quota kind threads quota = Ok (record { kind = kind; threads = threads; quota = quota.0 }, quota.1)
 

@@ -100,7 +100,7 @@ line_made v none pieces Good ks x known is =
     (made_spells v pieces Good (λ ps. cut_at 32 (line_of ps) ≡ ps) (λ k form t fit. cut_form v k.0 t form fit) ks x known is)
     ∙ first_made v none pieces Good ks x known is
 
--- ---- Lemmas about errors
+-- ---- Lemmas about the causes of refused lines
 
 abbrev pub IsOneOf : Cause → Cause → Type 0
 IsOneOf none c = (c ≡ none) ⊎ (c ≡ Number)
@@ -125,7 +125,7 @@ pub first_many : {X : Type 0} (v : Version) (none : Cause) (ks : List (LineKind 
 first_many v none [] ps below = refl
 first_many v none (k ∷ ks) ps below = rw (too_many v k.0 ps below.0) (first_many v none ks ps below.1)
 
--- ---- Lemmas about kinds that are mapped to another type
+-- ---- Lemmas about kinds of lines whose values are mapped by a function
 
 kind_seen : {X Y T : Type 0} (f : X → Y) (g : T → X) (c : Cause) (b : Bool) (o : Option T) (r : Result Y Cause) (s : Result X Cause)
     → r ≡ made f s → cond b (made (λ t. f (g t)) (or_fail c o)) r ≡ made f (cond b (made g (or_fail c o)) s)
@@ -140,8 +140,7 @@ first_as f v none (k ∷ ks) ps =
     kind_seen f k.1 Number (have_form v k.0 ps) (all_told v k.0 ps) (first_of v none (map (kind_as f) ks) ps)
     (first_of v none ks ps) (first_as f v none ks ps)
 
--- If the proofs know enough about some kinds (`Knows`), they also know enough about these kinds with `f` applied to the
--- values.
+-- What the proofs know of kinds of lines (`Knows`) is still true if a function `f` is applied to their values.
 module _ {X Y : Type 0} (f : X → Y) (v : Version) (pieces : X → List (List ℕ)) (seen : Y → List (List ℕ))
     (same : (x : X) → pieces x ≡ seen (f x)) where
   pub knows_as : (Good : X → Type 0) (Fine : Y → Type 0) → ((x : X) → Good x → Fine (f x)) → (ks : List (LineKind X))

@@ -36,7 +36,7 @@ pub push_before : {X : Type 0} (f a : List (List ℕ)) (line : X → List ℕ) (
     → f ++ map line (xs ++ x ∷ []) ++ a ≡ f ++ map line xs ++ a ++ line x ∷ []
 push_before f a line xs x none = rw (none, map_push line xs x) (simp (append-nil, append_assoc))
 
--- ---- Which section the reader is in
+-- ---- Lemmas about the section that a reader is in
 
 -- Returns the section that the reader is in: `s` if the list of items is still empty, else `t`.
 abbrev pub later : {X T : Type 0} → List X → T → T → T

@@ -121,7 +121,7 @@ HasReply One reply.Nothing = ⊥
 HasReply version r = Unit {0}
 
 -- States that reading inverts writing for kinds of lists: a field is read as a kind if and only if it is the kind's
--- name. Calls and replies have the same law, below.
+-- name. `CallsReadBack` and `RepliesReadBack` state the same of calls and replies.
 abbrev pub KindsReadBack : Type 0
 KindsReadBack = (k : Kind) (piece : List ℕ)
     → (kind_of (kind_text k) ≡ Some k) × (kind_of piece ≡ Some k → piece ≡ kind_text k)

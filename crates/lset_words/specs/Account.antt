@@ -58,8 +58,7 @@ Fits quota content count (Ceiling k) (At x) = IsCeiling content k.0 (Some x.0)
 Fits quota content count (Ceiling k) Nothing = IsCeiling content k.0 None
 Fits quota content count call reply = ⊥
 
--- The content of the set at each moment. `Counts`, below, is the number of successful adds of each thread at each
--- moment.
+-- The keys of the set at each moment. `Counts` is the number of successful adds of each thread at each moment.
 abbrev pub Contents : Type 1
 Contents = ℕ → Content
 

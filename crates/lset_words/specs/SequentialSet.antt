@@ -1,5 +1,5 @@
 -- The sequential set: a set of keys that threads use one after another (Herlihy and Shavit's interface). In addition,
--- each thread has a quota, the number of adds that can succeed.
+-- each thread has a quota, the number of its adds that can succeed.
 use Rattle.std.specs.Prelude.{◌≡◌, ℕ, ◌+◌, ◌==◌, ◌||◌, nat_lt, Bool, false, if◌then◌else◌, List, [], ◌∷◌, replicate, slice_index, slice_set}
 use Rattle.lset_words.specs.declared.Call.{Call}
 use Rattle.lset_words.specs.Words.{Opening}

@@ -68,8 +68,8 @@ link_index node = 4 + 3 * node
 abbrev pub lock_index : ℕ → ℕ
 lock_index node = 5 + 3 * node
 
--- Returns the number of the node that is this slot of this thread. Node 0 is the head, node 1 the tail. The slots of
--- thread 0 follow, then those of thread 1, and so on.
+-- Returns the number of the node that is this slot of this thread. A slot is a node that one successful add of the
+-- thread uses up. Node 0 is the head, node 1 the tail. The slots of thread 0 follow, then those of thread 1, and so on.
 abbrev pub slot_node : ℕ → ℕ → ℕ → ℕ
 slot_node quota thread slot = 2 + thread * quota + slot
 
@@ -104,7 +104,7 @@ WordsApart = (i j : ℕ)
     × (key_index i ≢ link_index j) × (key_index i ≢ lock_index j) × (link_index i ≢ lock_index j)
     × (i ≢ j → (key_index i ≢ key_index j) × (link_index i ≢ link_index j) × (lock_index i ≢ lock_index j))
 
--- States that different slots are different nodes, and that no slot is the head or the tail.
+-- States that different slots (nodes that adds use up) are different nodes, and that no slot is the head or the tail.
 abbrev pub SlotsApart : Type 0
 SlotsApart = (quota t u i j : ℕ) → i < quota → j < quota
     → (1 < slot_node quota t i) × (slot_node quota t i ≡ slot_node quota u j → (t ≡ u) × (i ≡ j))

@@ -17,8 +17,8 @@ pub struct Placed {
     pub reply: Reply,
 }
 
-/// A call's linearization point, the moment at which the call takes effect: counted in events from 1, and whether the
-/// call changes the set then.
+/// When a call takes effect (its linearization point): the moment, counted in events from 1, and whether the call
+/// changes the set at this moment.
 #[derive(Clone, Copy, Debug, PartialEq, Eq)]
 pub struct Point {
     pub moment: u32,

@@ -140,7 +140,8 @@ impl Layout {
         lock_index(i)
     }
 
-    /// Returns the number of the node that is slot `j` of thread `t`. `j` must be below `quota()`, `t` below `threads()`.
+    /// Returns the number of the node that is slot `j` of thread `t`: the node that the thread's successful add number
+    /// `j`, from 0, uses up. `j` must be below `quota()`, `t` below `threads()`.
     pub fn slot(&self, t: u32, j: u32) -> u64
         requires thread { t < self.now.threads }
         requires slot { j < self.now.quota }

@@ -1,4 +1,5 @@
--- The proof outline of the list with a single lock: what a thread knows at each row.
+-- The proof outline of CoarseList, the list with a single lock: what a thread knows at each row of the step table, and
+-- the proof that each step preserves this.
 use Rattle.std.specs.Prelude.{◌≡◌, ◌≢◌, ℕ, suc, ◌+◌, ◌*◌, ◌/◌, ◌%◌, ◌<◌, ◌≤◌, Bool, true, false, Option, Some, None, List, [], ◌∷◌}
 use Rattle.std.specs.Prelude.{slice_index, slice_set, refl}
 use Rattle.std.proofs.Common.{arith, inl, inr, sym, ◌∙◌, ap, subst}
@@ -27,12 +28,13 @@ use Rattle.lset_steps.proofs.Turns.Turn.{passes, changes, answers}
 use Rattle.lset_steps.specs.Rows.{decided_on, goes_to, own_slot}
 use Rattle.lset_coarse.specs.Coarse.{coarse, targets}
 
--- The protocol of CoarseList: while another thread holds the lock, a step changes nothing.
+-- The protocol of CoarseList: as long as another thread holds the lock, a step of thread t changes nothing.
 abbrev pub LeavesHolder : Sizes → ℕ → List ℕ → (ℕ → ℕ) → Action → List ℕ → (ℕ → ℕ) → Option (Key × Bool) → Type 0
 LeavesHolder sz t ws used a ws' used' change = WordStep false sz t ws used a ws' used' change
     × ((u : ℕ) → u ≢ t → slice_index ws 0 ≡ u + 1 → (ws' ≡ ws) × (used' ≡ used))
 
--- The thread that holds the lock sees no change between the two views.
+-- States that all that the holder of the lock relies on is the same in both views: keys, links, the lock, and the
+-- numbers of used slots.
 pub record Same (v w : View) : Type 0 where
   pub keys : w.key ≡ v.key
   pub links : w.link ≡ v.link
@@ -58,7 +60,8 @@ one_lock = record {
   still = λ v q u e. record { keys = refl; links = refl; list_lock = refl; used = refl };
 }
 
--- Thread `me` holds the lock. pred is in the chain, its key is smaller than the call's, and curr comes next.
+-- States that the thread holds the lock (`me` is its number plus 1), that pred is in the chain and has a smaller key
+-- than the call's, and that curr is the next node.
 pub record Walking (v : View) (me key pred curr : ℕ) : Type 0 where
   pub mine : v.list_lock ≡ me
   pub at : InChain v pred
@@ -68,7 +71,7 @@ pub record Walking (v : View) (me key pred curr : ℕ) : Type 0 where
 abbrev Window : View → ℕ → Local → Type 0
 Window v t l = Walking v (t + 1) (target l.call) l.pred l.curr
 
--- The outline, with one line for each row.
+-- The proof outline: for each row of the step table, what thread t knows before the step of this row.
 pub data At (q t : ℕ) (vs : ℕ → View) (first now : ℕ) (v : View) (done : Bool) (l : Local) : Type 0 where
   at0 : l.pc ≡ 0 → At q t vs first now v done l
   at1 : l.pc ≡ 1 → done ≡ false → At q t vs first now v done l
@@ -85,7 +88,7 @@ pub data At (q t : ℕ) (vs : ℕ → View) (first now : ℕ) (v : View) (done :
   at10 : l.pc ≡ 10 → v.list_lock ≡ t + 1 → (r : Reply) → l.reply ≡ Some r → Due done q vs first now t l.call r
       → At q t vs first now v done l
 
--- After a step of another thread, the outline still holds.
+-- What the thread knows is still true after a step of another thread.
 segment_same : (v w : View) → w.link ≡ v.link → (i j : ℕ) (ns : List ℕ) → Segment v i ns j → Segment w i ns j
 segment_same v w e i j [] x = x
 segment_same v w e i j (a ∷ ns) x = (x.0, x.1, segment_same v w e (w.link i / 2) j ns (rw e x.2))
@@ -145,7 +148,6 @@ module _ (sz : Sizes) (t : ℕ) (vs : ℕ → View) (first now : ℕ) (ws : List
   own_is : own_slot l ≡ own_of sz.quota t used
   own_is = rw (th.registers.thread, th.registers.quota, th.counts) refl
 
-  -- While t holds the lock, no other thread changes anything.
   alone : {a : Action} {ws' : List ℕ} {used' : ℕ → ℕ} {change : Option (Key × Bool)} → slice_index ws 0 ≡ t + 1
       → WordStep false sz t ws used a ws' used' change → LeavesHolder sz t ws used a ws' used' change
   alone mine c = (c, λ u d e. absurd (d (omega arith)))
@@ -163,12 +165,12 @@ module _ (sz : Sizes) (t : ℕ) (vs : ℕ → View) (first now : ℕ) (ws : List
   curr_published : Window V t l → V.published l.curr
   curr_published w = in_chain_published V M.ordered l.curr (curr_at w)
 
-  -- The walk continues from a node of the chain whose key is smaller than the call's.
+  -- The walk can continue from every node of the chain with a smaller key than the call's.
   walks : (a : ℕ) → slice_index ws 0 ≡ t + 1 → InChain V a → node_key ws a < target l.call
       → Walking V (t + 1) (target l.call) a (node_link ws a / 2)
   walks a mine i lt = record { mine = mine; at = i; follows = even_next a i; below = lt }
 
-  -- Writing to the thread's own slot preserves the outline.
+  -- What the thread knows is still true after it has written to its own slot.
   window_on : (w : View) → Quiet V w → w.list_lock ≡ slice_index ws 0 → Window V t l → Window w t l
   window_on w quiet lock x =
       let pred = in_chain_published V M.ordered l.pred x.at in

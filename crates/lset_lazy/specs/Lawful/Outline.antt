@@ -1,4 +1,5 @@
--- The proof outline of the lazy list: what a thread knows at each row.
+-- The proof outline of LazyList: what a thread knows at each row of the step table, and the proof that each step
+-- preserves this.
 use Rattle.std.specs.Prelude.{◌≡◌, ◌≢◌, ℕ, suc, ◌+◌, ◌*◌, ◌/◌, ◌%◌, ◌<◌, ◌≤◌, Bool, true, false, Option, Some, None, List, slice_set, refl}
 use Rattle.std.proofs.Common.{arith, inl, inr, sym, ◌∙◌, ap}
 use Rattle.lset_words.proofs.Numbers.{same_or_not, below_or_not, if_below, if_not_below, if_same, if_other}
@@ -30,11 +31,12 @@ use Rattle.lset_steps.proofs.Turns.{Turn, Follows, Outcome, node_locks, locks_no
 use Rattle.lset_steps.proofs.Turns.Turn.{passes, changes, answers}
 use Rattle.lset_lazy.specs.Lazy.{lazy, targets, next_action, at_key, gives_up, at_pred, at_curr, released, fed_by, effect_of}
 
--- What a thread knows at the rows at which it has locked both nodes.
+-- What a thread knows after it has locked pred and curr and has seen that pred leads to curr.
 abbrev Window : View → ℕ → Local → Type 0
 Window v t l = Between v t (target l.call) l.pred l.curr
 
--- The outline, with one line for each row, and one for all rows of a contains or a ceiling.
+-- The proof outline: for each row of the step table, what thread t knows before the step of this row. The rows of
+-- `contains` and `ceiling` share the last line.
 pub data At (q t : ℕ) (vs : ℕ → View) (first now : ℕ) (v : View) (done : Bool) (l : Local) : Type 0 where
   at0 : l.pc ≡ 0 → At q t vs first now v done l
   at1 : l.pc ≡ 1 → done ≡ false → At q t vs first now v done l
@@ -60,7 +62,7 @@ pub data At (q t : ℕ) (vs : ℕ → View) (first now : ℕ) (v : View) (done :
   at14 : l.pc ≡ 14 → v.lock l.pred ≡ t + 1 → Outcome done q vs first now t l.call l.reply → At q t vs first now v done l
   at_read : Reading vs first now done l → At q t vs first now v done l
 
--- After a step of another thread, the outline still holds.
+-- What the thread knows is still true after a step of another thread.
 module _ (q t : ℕ) (vs : ℕ → View) (first now : ℕ) (v w : View) (done : Bool) (l : Local) (r : Rely v w q t) where
   s : Leaves v w t
   s = leaves_of r
@@ -88,7 +90,6 @@ module _ (q t : ℕ) (vs : ℕ → View) (first now : ℕ) (v w : View) (done : 
   stays (at14 e p o) = at14 e (s.locks l.pred p) (outcome_on done q vs first now t l.call l.reply o)
   stays (at_read a) = at_read (reading_on a)
 
--- A contains and a ceiling use the rows that take no lock.
 pub has_read_rows : HasReadRows lazy
 has_read_rows = record {
   begins = λ call l. refl;
@@ -99,7 +100,7 @@ has_read_rows = record {
   tells = λ l seen. in_each_read_row (λ n. effect_of (record l { pc = n }) seen ≡ None) refl refl refl refl refl refl l.pc;
 }
 
--- ---- Proof that each row preserves the outline
+-- ---- Proof that each row preserves what the thread knows (its proof outline)
 module _ (sz : Sizes) (t : ℕ) (vs : ℕ → View) (first now : ℕ) (ws : List ℕ) (used : ℕ → ℕ) (done : Bool) (l : Local)
     (h : Here true sz vs now ws used) (th : Thread At sz t vs first now ws used done l) (tn : t < sz.threads) where
   abbrev Goal : Type 0
@@ -283,7 +284,6 @@ module _ (sz : Sizes) (t : ℕ) (vs : ℕ → View) (first now : ℕ) (ws : List
       reads_on lazy (node_locks true) At sz t vs first now ws used done l h th has_read_rows (λ l' b. at_read b)
       (λ l' b. at0 b) a
 
--- The outline includes what a contains or a ceiling knows.
 pub shows_reading : ShowsReading At
 shows_reading q t vs first now v done l row (at_read a) = a
 shows_reading q t vs first now v done l row at = grind arith

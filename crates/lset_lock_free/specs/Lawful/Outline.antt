@@ -1,4 +1,5 @@
--- The proof outline of the list without locks: what a thread knows at each row.
+-- The proof outline of LockFreeList: what a thread knows at each row of the step table, and the proof that each step
+-- preserves this.
 use Rattle.std.specs.Prelude.{◌≡◌, ◌≢◌, ℕ, suc, ◌+◌, ◌-◌, ◌*◌, ◌/◌, ◌%◌, ◌<◌, ◌≤◌, ◌⊎◌, Bool, true, false, Some, None, List, []}
 use Rattle.std.specs.Prelude.{slice_set, refl, ◌==◌, nat_lt}
 use Rattle.std.proofs.Common.{arith, inl, inr, sym, ◌∙◌, ap, subst}
@@ -35,8 +36,8 @@ use Rattle.lset_steps.proofs.Turns.{Turn, due_of, Follows, no_locks}
 use Rattle.lset_steps.proofs.Turns.Turn.{passes, changes, answers, ends}
 use Rattle.lset_lock_free.specs.LockFree.{lock_free, targets, decision_of, at_key, at_link, again, next_action, fed_by, effect_of}
 
--- At some moment from `first` to `now`, node a was in the chain, b was its next node, P held, and thread t had added
--- `count` keys.
+-- States that at some moment from `first` to `now`, node a was in the chain, b was the next node, P was true, and
+-- thread t had made `count` successful adds.
 pub record Was (vs : ℕ → View) (first now a b t count : ℕ) (P : View → Type 0) : Type 0 where
   pub at : ℕ
   pub from : first ≤ at
@@ -46,21 +47,24 @@ pub record Was (vs : ℕ → View) (first now a b t count : ℕ) (P : View → T
   pub holds : P (vs at)
   pub same_count : (vs at).used t ≡ count
 
--- States that at some moment from `first` to `now`, pred was in the chain with a key below the call's, and curr was its
--- next node. `Open` states that at some such moment curr was in the chain and not marked, and succ was its next node.
+-- States that at some moment from `first` to `now`, pred was in the chain with a smaller key than the call's, and curr
+-- was the next node. `Open` states that at some such moment curr was in the chain without a mark, and succ was the next
+-- node.
 abbrev pub Link : (ℕ → View) → ℕ → ℕ → ℕ → ℕ → ℕ → ℕ → ℕ → Type 0
 Link vs first now key pred curr t count = Was vs first now pred curr t count (λ v. v.key pred < key)
 
 abbrev pub Open : (ℕ → View) → ℕ → ℕ → ℕ → ℕ → ℕ → ℕ → Type 0
 Open vs first now curr succ t count = Was vs first now curr succ t count (λ v. v.link curr % 2 ≡ 0)
 
--- The outline, with one line for each row, and one for all rows of a contains or a ceiling.
+-- The proof outline: for each row of the step table, what thread t knows before the step of this row. The rows of
+-- `contains` and `ceiling` share the last line.
 pub data At (q t : ℕ) (vs : ℕ → View) (first now : ℕ) (v : View) (done : Bool) (l : Local) : Type 0 where
   at0 : l.pc ≡ 0 → At q t vs first now v done l
   at1 : l.pc ≡ 1 → done ≡ false → At q t vs first now v done l
   at2 : l.pc ≡ 2 → done ≡ false → Spot v (target l.call) l.pred l.curr
       → Link vs first now (target l.call) l.pred l.curr t (v.used t) → At q t vs first now v done l
-  -- The case that curr has been the node after pred since the thread's last step, which unlinked the node between them.
+  -- The case that the thread's last step unlinked the node between pred and curr, so that curr is the next node after
+  -- pred now.
   at2_now : l.pc ≡ 2 → done ≡ false → Spot v (target l.call) l.pred l.curr → first ≤ now → InChain v l.pred
       → v.link l.pred / 2 ≡ l.curr → At q t vs first now v done l
   at3 : l.pc ≡ 3 → done ≡ false → Spot v (target l.call) l.pred l.curr → v.published l.succ → v.link l.curr ≡ 2 * l.succ + 1
@@ -83,7 +87,7 @@ pub data At (q t : ℕ) (vs : ℕ → View) (first now : ℕ) (v : View) (done :
       → v.link l.curr ≡ 2 * l.succ + 1 → At q t vs first now v done l
   at_read : Reading vs first now done l → At q t vs first now v done l
 
--- The outline still holds at the next moment.
+-- What a thread knows about the past is still true at the next moment.
 was_on : {vs : ℕ → View} {first now a b t count count' : ℕ} {P : View → Type 0} → count' ≡ count
     → Was vs first now a b t count P → Was vs first (suc now) a b t count' P
 was_on {now = now} e x = record {
@@ -96,7 +100,7 @@ was_on {now = now} e x = record {
   same_count = x.same_count ∙ sym e;
 }
 
--- The current moment is a moment of the call.
+-- What is true now was true at some moment of the call.
 is_now : {vs : ℕ → View} {first now a b t : ℕ} {v : View} (P : View → Type 0) → vs now ≡ v → first ≤ now → InChain v a
     → v.link a / 2 ≡ b → P v → Was vs first now a b t (v.used t) P
 is_now {vs} {first} {now} {a} {b} {t} {v} P e from i next holds = record {
@@ -109,7 +113,7 @@ is_now {vs} {first} {now} {a} {b} {t} {v} P e from i next holds = record {
   same_count = ap (λ x. x.used t) e;
 }
 
--- After a step of another thread, the outline still holds.
+-- What the thread knows is still true after a step of another thread.
 module _ (q t : ℕ) (vs : ℕ → View) (first now : ℕ) (v w : View) (done : Bool) (l : Local) (present : vs now ≡ v)
     (r : Remains v w q t) where
   g : KeepsNodes v w
@@ -142,7 +146,6 @@ module _ (q t : ℕ) (vs : ℕ → View) (first now : ℕ) (v w : View) (done : 
   stays (at10 e d s a m) = at10 e d (spot_kept g s) (removing_kept g s.curr_published a) (marked_on s.curr_published m)
   stays (at_read a) = at_read (reading_on a)
 
--- A contains and a ceiling use the rows that take no lock.
 pub has_read_rows : HasReadRows lock_free
 has_read_rows = record {
   begins = λ call l. refl;
@@ -153,7 +156,7 @@ has_read_rows = record {
   tells = λ l seen. in_each_read_row (λ n. effect_of (record l { pc = n }) seen ≡ None) refl refl refl refl refl refl l.pc;
 }
 
--- ---- Proof that each row preserves the outline
+-- ---- Proof that each row preserves what the thread knows (its proof outline)
 module _ (sz : Sizes) (t : ℕ) (vs : ℕ → View) (first now : ℕ) (ws : List ℕ) (used : ℕ → ℕ) (done : Bool) (l : Local)
     (h : Here true sz vs now ws used) (th : Thread At sz t vs first now ws used done l) (tn : t < sz.threads) where
   abbrev Goal : Type 0
@@ -171,7 +174,6 @@ module _ (sz : Sizes) (t : ℕ) (vs : ℕ → View) (first now : ℕ) (ws : List
   own_is : own_slot l ≡ own_of sz.quota t used
   own_is = rw (th.registers.thread, th.registers.quota, th.counts) refl
 
-  -- A published node that is not marked is in the chain.
   live : (a : ℕ) → V.published a → node_link ws a % 2 ≡ 0 → InChain V a
   live a p e = M.marked a p e
 
@@ -181,12 +183,10 @@ module _ (sz : Sizes) (t : ℕ) (vs : ℕ → View) (first now : ℕ) (ws : List
   next_published : (a : ℕ) → V.published a → V.published (node_link ws a / 2)
   next_published a p = next_of true sz ws used M a p
 
-  -- An exchange that fails changes nothing.
   fails_at : (a old new : ℕ) → a < node_count sz → node_link ws a ≢ old
       → WordStep true sz t ws used (Exchange (link_index a) old new) ws used None
   fails_at a old new inn d = fails (link_index a) old new (omega arith) d (λ k. absurd (not_link a k))
 
-  -- An exchange that succeeds writes its new value.
   writes_at : (a old new : ℕ) → node_link ws a ≡ old → Writes ws (Exchange (link_index a) old new) (link_index a) new
   writes_at a old new e = inr (ap (λ x. Exchange (link_index a) x new) (sym e))
 
@@ -218,7 +218,8 @@ module _ (sz : Sizes) (t : ℕ) (vs : ℕ → View) (first now : ℕ) (ws : List
   abbrev Fitting : Reply → Type 0
   Fitting r = FitsSometime sz.quota (contents_of vs) (counts_of vs) first now t l.call r
 
-  -- The decision is correct at a moment of the call at which the key was known to be present or absent.
+  -- The decision is right, since at some moment of the call the key was in the set if it was found, and not in the set
+  -- if it was not.
   decided_at : (s at : ℕ) → first ≤ at → at ≤ now → (vs at).used t ≡ used t
       → ((s == target l.call) ≡ true → InContent (vs at) (key_of l.call).0)
       → ((s == target l.call) ≡ false → InContent (vs at) (key_of l.call).0 → ⊥)
@@ -245,19 +246,17 @@ module _ (sz : Sizes) (t : ℕ) (vs : ℕ → View) (first now : ℕ) (ws : List
         ]
       ]
 
-  -- A node has the same key now as at the moment at which it was in the chain.
   key_then : (a at : ℕ) → at ≤ now → InChain (vs at) a → node_key ws a ≡ (vs at).key a
   key_then a at upto i =
       let e : (vs now).key a ≡ node_key ws a = ap (λ v. v.key a) h.present in
       sym e ∙ key_stays vs now a at now h.course upto (omega arith)
       (in_chain_published (vs at) (h.course.ordered at upto) a i)
 
-  -- A published node has the same key at all moments.
   end_then : (a at : ℕ) → at ≤ now → (vs at).published a → (vs at).key a ≡ node_key ws a
   end_then a at upto p =
       sym (key_stays vs now a at now h.course upto (omega arith) p) ∙ ap (λ v. v.key a) h.present
 
-  -- If the set has a ceiling's own key, the ceiling replies with this key.
+  -- If the set contains a `ceiling`'s own key, this key is the correct reply.
   own_ceiling : (v : View) (s : ℕ) → s ≡ target l.call → target l.call < tail_word → InContent v (key_of l.call).0
       → FitsIn sz.quota v t (Ceiling (key_of l.call)) (ceiling_at s)
   own_ceiling v s e low c = subst (FitsIn sz.quota v t (Ceiling (key_of l.call)))
@@ -466,7 +465,6 @@ module _ (sz : Sizes) (t : ℕ) (vs : ℕ → View) (first now : ℕ) (ws : List
       reads_on lock_free (no_locks true) At sz t vs first now ws used done l h th has_read_rows (λ l' b. at_read b)
       (λ l' b. at0 b) a
 
--- The outline includes what a contains or a ceiling knows.
 pub shows_reading : ShowsReading At
 shows_reading q t vs first now v done l row (at_read a) = a
 shows_reading q t vs first now v done l row at = grind arith

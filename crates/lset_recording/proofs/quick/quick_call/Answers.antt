@@ -25,7 +25,7 @@ use Rattle.lset_recording.specs.Reading.{kinds, from_calls, line_told, takes_cal
 use Rattle.lset_recording.proofs.LineKinds.{IsMoment, IsLineIn, kinds_known, line_pieces}
 use Rattle.lset_recording.proofs.quick.quick_call.Goals as goal
 
--- The line of a call that has ended.
+-- The call that a line with these values has.
 module _ (n k b e : ℕ) (w : CallWord) (r : Reply) where
   abbrev pub ended_call : StreamCall
   ended_call = record { thread = n; call = with_key w (record { 0 = k }); begun = b; ended = Some (e, r) }
@@ -56,7 +56,7 @@ spelled : (n k b e : ℕ) (w : CallWord) (r : Reply) → ended_line n k b e w r 
 spelled n k b e word.Add r = refl
 spelled n k b e w r = refl
 
--- A call's line has at most 104 bytes.
+-- The line of a call has at most 104 bytes, so the fast path never accepts a line that is too long.
 word_few : (w : CallWord) → length (call_word_text w) ≤ 8
 word_few word.Add = let long : length (codes "add") ≡ 3 = refl in omega (arith, long)
 word_few word.Remove = let long : length (codes "remove") ≡ 6 = refl in omega (arith, long)

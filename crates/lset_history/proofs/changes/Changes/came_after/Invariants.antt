@@ -4,7 +4,8 @@ use Rattle.lset_history.specs.Changes.{moments_of}
 use Rattle.lset_history.proofs.CeilingSearch.{IsFrom, CameUpTo}
 use Rattle.lset_history.proofs.changes.Changes.came_after.Given as goal
 
--- Loop invariant: all keys below the next one have been looked at, and none of them was present.
+-- Loop invariant: none of the keys below the next one that the set has after the last change was in the set at
+-- `moment`.
 abbrev pub invariant-loop-next : goal.invariant-loop-next
 invariant-loop-next l = record {
   from : IsFrom l.key l.next;
