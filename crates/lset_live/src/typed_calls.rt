@@ -81,7 +81,8 @@ impl<M: Running> Seat<M> {
         truth_of(reply)
     }
 
-    /// Returns the smallest key of `set` at or above `key`, or `None` if there is none. This seat must belong to `set`.
+    /// Returns the smallest key of `set` at or above `key`, or `None` if no such key is present. This seat must belong
+    /// to `set`.
     ///
     /// Appends the call with the reply `At` (of the returned key) or `Nothing` to the seat's record, as `LiveSet::ceiling` does.
     /// Can block while another thread holds a lock that the call needs. Does not allocate.

@@ -105,13 +105,13 @@ pub record MayAnswer (m : Table) (b : Begun) (a : Action) (s : TableSeat) : Type
 abbrev pub StandsAfter : Table → Begun → Fed → TableSeat → Type 0
 StandsAfter m b f s = MatchOption f.answer (Holds m b f.local s) (λ r. Answered m b r f.local s)
 
--- States that the step from seat s to s' saw the value n: the call then is where the step table leads, pending or
--- ended.
+-- States that the step from seat s to s' saw the value n, and that the call is then pending or ended as the step table
+-- demands.
 abbrev pub HasTold : Table → Begun → TableSeat → ℕ → TableSeat → Type 0
 HasTold m b s n s' = (l : Local) → Holds m b l s → (f : Fed) → m.feed l n ≡ f → StandsAfter m b f s'
 
--- States that the exchange from seat s to s' saw `old` if it succeeded and another value if it failed: the call then is
--- where the step table leads.
+-- States that the exchange from seat s to s' saw `old` if it succeeded and another value if it failed, and that the
+-- call is then pending or ended as the step table demands.
 abbrev pub HasExchanged : Table → Begun → ℕ → TableSeat → Bool → TableSeat → Type 0
 HasExchanged m b old s true s' = HasTold m b s old s'
 HasExchanged m b old s false s' = (n : ℕ) × (n ≢ old) × HasTold m b s n s'

@@ -1,4 +1,4 @@
--- What is known between two parts of FineList's loop: the row of the step table, and the nodes in the registers.
+-- The state of a call between two parts of FineList's loop: the row of the step table, and the nodes in the registers.
 use Rattle.std.specs.Prelude.{ℕ, Some, None}
 use Rattle.lset_words.specs.declared.Reply.{Reply}
 use Rattle.lset_steps.specs.Rows.{decided_on}

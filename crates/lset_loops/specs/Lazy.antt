@@ -1,5 +1,5 @@
--- What is known between two parts of LazyList's loop for `add` and `remove`: the row of the step table, and the nodes
--- in the registers.
+-- The state of a call between two parts of LazyList's loop for `add` and `remove`: the row of the step table, and the
+-- nodes in the registers.
 use Rattle.std.specs.Prelude.{ℕ, Option, Some, None}
 use Rattle.lset_words.specs.declared.Reply.{Reply}
 use Rattle.lset_steps.specs.Rows.{decided_on}
@@ -38,8 +38,8 @@ GivesBack b f own r s = (j : Rest) × Holds lazy b (row own b.call 13 r f.pred.n
 abbrev pub Leaves : Begun → Found → OwnSlots × Reply → TableSeat → Type 0
 Leaves b f answer s = GivesBack b f answer.0 (Some answer.1) s
 
--- States what is known after the check of the nodes f: they are neighbours if the check returned a node, otherwise the
--- call is about to release them and to start over.
+-- States the outcome of the check of the nodes f: they are neighbours if the check returned a node, otherwise the call
+-- is about to release them and to start over.
 abbrev pub HasValidated : Begun → OwnSlots → Found → Option Node → TableSeat → Type 0
 HasValidated b own f (Some n) s = AreNeighbours b own f n s
 HasValidated b own f None s = GivesBack b f own None s

@@ -1,5 +1,5 @@
--- What is known between two parts of LockFreeList's loop for `add` and `remove`: the row of the step table, and the
--- nodes in the registers.
+-- The state of a call between two parts of LockFreeList's loop for `add` and `remove`: the row of the step table, and
+-- the nodes in the registers.
 use Rattle.std.specs.Prelude.{◌≡◌, ℕ, Option, Some, None}
 use Rattle.lset_words.specs.declared.Reply.{Reply}
 use Rattle.lset_steps.specs.declared.Fed.{Fed}
@@ -26,8 +26,8 @@ StopsAt b own f s = (j : Rest)
 abbrev pub AtHead : Begun → OwnSlots → TableSeat → Type 0
 AtHead b own s = (p : ℕ) × (x : ℕ) × (j : Rest) × Holds lock_free b (row own b.call 1 None p x j) s
 
--- States what is known after an attempt to act: the call has ended with the answer, or is about to start over if there
--- is none.
+-- States the outcome of an attempt to act: the call has ended with the answer, or is about to start over if the attempt
+-- returned None.
 abbrev pub HasTried : Begun → OwnSlots → Option (OwnSlots × Reply) → TableSeat → Type 0
 HasTried b own (Some answer) s = HasAnswered lock_free b answer s
 HasTried b own None s = AtHead b own s

@@ -1,4 +1,5 @@
--- What is known between two parts of OptimisticList's loop: the row of the step table, and the nodes in the registers.
+-- The state of a call between two parts of OptimisticList's loop: the row of the step table, and the nodes in the
+-- registers.
 use Rattle.std.specs.Prelude.{ℕ, Bool, true, false, Option, Some, None}
 use Rattle.lset_words.specs.declared.Reply.{Reply}
 use Rattle.lset_steps.specs.Rows.{decided_on}
@@ -59,14 +60,14 @@ GivesBack b f own r s = (j : Rest) × Holds optimistic b (row own b.call 14 r f.
 abbrev pub Leaves : Begun → Found → OwnSlots × Reply → TableSeat → Type 0
 Leaves b f answer s = GivesBack b f answer.0 (Some answer.1) s
 
--- States what is known after the second walk: it has reached the first of the nodes f, or the call is about to release
--- their locks and to start over.
+-- States the outcome of the second walk: it has reached the first of the nodes f, or the call is about to release their
+-- locks and to start over.
 abbrev pub HasReached : Begun → OwnSlots → Found → Bool → TableSeat → Type 0
 HasReached b own f true s = AtPred b own f s
 HasReached b own f false s = GivesBack b f own None s
 
--- States what is known after the check of the nodes f: they are neighbours, or the call is about to release their locks
--- and to start over.
+-- States the outcome of the check of the nodes f: they are neighbours, or the call is about to release their locks and
+-- to start over.
 abbrev pub HasValidated : Begun → OwnSlots → Found → Bool → TableSeat → Type 0
 HasValidated b own f true s = AreNeighbours b own f s
 HasValidated b own f false s = GivesBack b f own None s

@@ -1,4 +1,4 @@
--- What is known of an interpreted call before and after each of its steps.
+-- The facts about an interpreted call before and after each of its steps.
 use Rattle.std.proofs.Common.{◌≡◌, Some, None, sym, ap, ◌∙◌}
 use Rattle.atomic_table.specs.Seated.{TableId}
 use Rattle.lset_words.specs.declared.Call.{Call}

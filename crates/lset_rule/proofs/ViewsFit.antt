@@ -1,4 +1,4 @@
--- Lemmas about a table of views, of which one is changed or one is added: what is true of each view afterwards, and
+-- Lemmas about changing one view of a table of views, and about adding one: the facts about each view afterwards, and
 -- which view has each thread.
 use Rattle.std.proofs.Common.{◌≡◌, ◌≢◌, ⊎_elim, ℕ, zero, suc, ◌<◌, true, false, List, [], ◌∷◌, ◌++◌, length, set, refl, sym, ap, ◌∙◌, subst}
 use Rattle.std.proofs.lemmas.Bool.{false≢true}

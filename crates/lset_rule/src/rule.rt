@@ -67,7 +67,7 @@ impl Join<View> for JoinSeats {
     ghost spent = { nobody };
 }
 
-/// The views after a seat gives a receipt, or a receipt is copied. The view of the seat stays. The receipt is a view
+/// The views after a seat makes a receipt, or a receipt is copied. The view of the seat stays. The receipt is a view
 /// without threads that has seen the same events.
 pub struct GiveReceipt;
 
