@@ -1,18 +1,18 @@
-//! Reading the requests in the lines of a session.
+//! Reads the request in a line that a client sent.
 ghost use Rattle.std.specs.Prelude.{◌≡◌};
 ghost use Rattle.lset_session.specs.SessionText.{request_of};
 
 use lset_text::{cut, number};
 use lset_words::{Call, Key};
 
-/// A request, as one line of a session.
+/// A request of a client: one line of a session.
 #[derive(Clone, Copy, Debug, PartialEq, Eq)]
 pub enum Request {
     /// `ADD k`, `REMOVE k`, `CONTAINS k` or `CEILING k`.
     Call(Call),
-    /// `QUIT`.
+    /// `QUIT`, which ends the session.
     Quit,
-    /// Any other line.
+    /// Any other line, which is answered with `BAD`.
     Bad,
 }
 
