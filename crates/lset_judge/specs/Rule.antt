@@ -2,9 +2,9 @@
 use Rattle.std.specs.Prelude.{ℕ, zero, suc, ◌+◌, ◌==◌, ◌||◌, min, nat_lt, Bool, true, false, not, if◌then◌else◌, List, [], ◌∷◌}
 use Rattle.std.specs.Prelude.{length, Option, Some, None, is_some}
 
--- An event of a key, at a moment; `true` stands for present. `begins`: a change to this state begins, with its end
--- (after all moments if it stays pending). `ends`: a change to this state ends. `looks`: a read ends, which saw this
--- state and began at this moment. `leaves`: this is the key's final state. `idle`: nothing happens to the key.
+-- An event of a key, at a moment; `true` means present. `begins`: a change to this state begins, with its end (after
+-- all moments if it stays pending). `ends`: a change to this state ends. `looks`: a read ends, which saw this state and
+-- began at this moment. `leaves`: this is the key's final state. `idle`: nothing happens to the key.
 pub data Event : Type 0 where
   begins : Bool → ℕ → Event
   ends : Bool → Event
@@ -106,7 +106,7 @@ abbrev pub entered : Event → Option State → Option State
 entered v None = None
 entered v (Some t) = Some (enters v t)
 
--- Returns the state of a key after the event v, which is at the moment after m. None stands for a rule that has failed.
+-- Returns the state of a key after the event v, which is at the moment after m. None means that the rule has failed.
 abbrev pub stepped : ℕ → Event → Option State → Option State
 stepped m v None = None
 stepped m v (Some s) = entered v (found m v s)

@@ -12,7 +12,7 @@ const LOW: u32 = 65_536;
 /// The end of the last call of each thread that has made one.
 #[derive(Drop)]
 pub(crate) struct Busy {
-    /// The ends of threads below `LOW`, indexed by thread. 0 stands for a thread without calls.
+    /// The ends of threads below `LOW`, indexed by thread. 0 for a thread without calls.
     pub(crate) low: Vec<u64>,
     /// The ends of all other threads that have made a call.
     pub(crate) high: HashMap<u32, u64>,

@@ -1,4 +1,4 @@
-//! Judges a history of which all calls are known, call by call.
+//! Judges a complete history, call by call.
 
 ghost use Rattle.std.specs.Prelude.{◌≡◌, ◌<◌, ◌++◌, ◌∷◌, [], ℕ, IfOk, List, OnOk};
 ghost use Rattle.std.specs.List.Sorted.{IsStrictlyIncreasing};

@@ -31,7 +31,7 @@ pub(crate) enum Kept {
 }
 
 /// The state of a key: whether it is present, since when, its changes, and its kept call. The kept call is a completed
-/// call with which a later call can clash. (64 bytes.)
+/// call that a later call can clash with. (64 bytes.)
 #[derive(Drop)]
 pub(crate) struct KeyState {
     pub(crate) changes: KeyChanges,
