@@ -1,4 +1,4 @@
--- `into_loose` returns the pointer of a full seat. Assumes `Logic`.
+-- Proof of the contract of `into_loose`: it moves the pointer of a full seat into a box. Assumes `Logic`.
 use lib.Ieee.Bits.{is_true, is_false}
 use types.Match.{live}
 use denote.Signature.{type_at}
