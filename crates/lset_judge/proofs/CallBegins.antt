@@ -30,7 +30,7 @@ use Rattle.lset_judge.proofs.StreamSteps.{quiet_before, ends_next, without_next,
 some_and : (P : ℕ × Reply → Type 0) (o : Option (ℕ × Reply)) (e : ℕ × Reply) → o ≡ Some e → P e → IsSomeAnd o P
 some_and P o e s h = subst (λ q. IsSomeAnd q P) (sym s) h
 
--- ---- Lemmas: the pending call with the earliest end ends
+-- ---- Lemmas about the next end of a pending call
 
 pub end_met : (threads : ℕ) (opening : List ℕ) (calls : List CallRecord) (s t : Stream) (moment : ℕ) (p : Pending) (rest : List Pending)
     → moment ≤ behind_all → IsNext moment s.pending p rest → t.pending ≡ rest → t.moment ≡ p.end
@@ -68,7 +68,7 @@ end_met threads opening calls s t moment p rest upto next pending at met is =
           (subst (λ (q : Pending). IsMetBy s.states (key_in q) q.end (event_of q) t.states s.failed t.failed) (sym own) met) is.judged);
     }
 
--- ---- Proof: call x begins
+-- ---- Proof that the judge's state stays correct when call x begins
 
 module _ (threads : ℕ) (opening : List ℕ) (calls : List CallRecord) (s : Stream) (is : IsStreamOf threads opening calls s) (x : CallRecord)
     (may : MayCome s.pending s.moment x) (met : All (λ (p : Pending). x.begun ≤ p.end) s.pending) where

@@ -34,7 +34,7 @@ use Rattle.lset_judge.proofs.PlacedCalls.{below_test}
 use Rattle.lset_judge.proofs.TimelineOfKey.{In, one_of, Act, act, suits, becomes, TakeTurns, Apart, IsAct}
 use Rattle.lset_judge.proofs.TimelineFromOrder.{does, begins_told, stands, ready}
 
--- ---- Lemmas: acts in an order. An act is the effect of a call on the key.
+-- ---- Lemmas about acts in an order. An act is the effect of a call on the key.
 
 abbrev Before : Act → Act → List Act → Type 0
 Before x t [] = ⊥
@@ -93,7 +93,7 @@ after_left left s b x (p ∷ ys) turns pairs (inl e) l n = stays_left left (beco
     (λ a j d. n a (inr j) d (subst (λ (q : Act). q.begun < a.until) e (one_of (Apart p) a ys pairs.0 j).in_time))
 after_left left s b x (p ∷ ys) turns pairs (inr i) l n = after_left left (becomes s p.does) b x ys turns.1 pairs.1 i l (λ a j. n a (inr j))
 
--- ---- Lemmas: the states that calls leave and need
+-- ---- Lemmas about the states of a key that calls leave and need
 
 some_same : (p q : Presence) → Some p ≡ Some q → p ≡ q
 some_same p q e = cc
@@ -140,7 +140,7 @@ ended_by_then since u last x (Some d) e is h =
 before_end : (begun : ℕ) (e : ℕ × Reply) (y : CallRecord) → y.ended ≡ Some e → begun < e.0 → is_before begun (Some y) ≡ true
 before_end begun e y is l = rw is (below_test begun e.0 l)
 
--- ---- Lemmas: the acts that an order of the calls determines
+-- ---- Lemmas about the acts (effects of calls on the key) that an order of the calls determines
 
 module _ (threads : ℕ) (calls : List CallRecord) (history : IsHistory threads calls) (last : ℕ) (upto : latest_moment calls ≤ last) (k : ℕ)
     (there : Presence) (left : Option Presence) (finally : Bool) (leaves : IfSome left (λ (l : Presence). finally ≡ is_there l))
@@ -240,7 +240,7 @@ clash_has_none threads key there left was first second calls history c quota key
     left_as None e = tt
     left_as (Some l) e = ap (has_key key) e ∙ opens_so (is_there l) key
 
--- ---- Lemmas: the tests that the code makes
+-- ---- Lemmas about the tests that the code makes
 
 ends : (a b c : Bool) → a ≡ true → b ≡ true → (not a || (not b || c)) ≡ true → c ≡ true
 ends true true c e f h = h

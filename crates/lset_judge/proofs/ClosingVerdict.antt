@@ -32,7 +32,7 @@ use Rattle.lset_judge.proofs.PlacedCalls.{same_flips}
 use Rattle.lset_judge.proofs.RuleLeads.{at_once, no_state, settled_none}
 use Rattle.lset_judge.proofs.StreamSteps.{same_some, until_end}
 
--- ---- The rule has the same result for the calls that begin by a moment and for all calls, up to this moment
+-- ---- Up to a moment, the rule has the same result for the calls that begin by this moment as for all calls
 
 abbrev EndsLater : CallRecord → Type 0
 EndsLater x = IfSome x.ended (λ (e : ℕ × Reply). x.begun < e.0)
@@ -95,7 +95,7 @@ module _ (last : ℕ) (h : HistoryValue) (told : IsHistory h.opening.threads h.c
       ])
       ∙ fails)
 
--- ---- Lemmas: the final states that are possible for a key
+-- ---- Lemmas about the final states that are possible for a key
 
 module _ (m : ℕ) (w : Bool) where
   one_turn : (n : ℕ) (s : State) (os : List ℕ) → same w s.there ≡ false → options s ≡ os → length os ≤ n
@@ -141,7 +141,7 @@ latest_upto G (x ∷ xs) a =
     upto None h = omega arith
     upto (Some e) h = h
 
--- ---- Proof: the verdict is correct
+-- ---- Proof that the verdict is correct
 
 module _ (threads : ℕ) (opening : List ℕ) (calls : List CallRecord) (s : Stream) (is : IsStreamOf threads opening calls s)
     (met : All (λ (p : Pending). behind_all ≤ p.end) s.pending) where

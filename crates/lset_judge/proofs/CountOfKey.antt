@@ -41,7 +41,7 @@ use Rattle.lset_judge.proofs.TimelineOfKey.{In, one_of, NoTwice, has_head, has_s
 use Rattle.lset_judge.proofs.TimelineOfKey.{Act, act, suits, becomes, TakeTurns, Apart, IsAct}
 use Rattle.lset_judge.proofs.TimelineFromOrder.{does, begins_told, stands, untils_differ, ready}
 
--- ---- Lemmas: a number is removed from a list
+-- ---- Lemmas about removing a number from a list
 
 length_out : (e : ℕ) (xs : List ℕ) → has_key e xs ≡ true → length xs ≡ suc (length (take_out e xs))
 length_out e [] h = absurd (true≢false (sym h))
@@ -68,8 +68,8 @@ empty_or_not : (xs : List ℕ) → (xs ≡ []) ⊎ ((u : ℕ) × (has_key u xs �
 empty_or_not [] = inl refl
 empty_or_not (x ∷ xs) = inr (x, has_head x xs)
 
--- ---- Lemmas: the acts of counted calls. An act is the effect of a call on the key. Between any two counted acts, the
--- key must change back.
+-- ---- Lemmas about acts (effects of calls on the key) of a count's calls: the key must change back between any two of
+-- them.
 
 abbrev Needs : Bool → Kind → Type 0
 Needs b k = (s : Bool) → suits s k → s ≡ not b
@@ -96,7 +96,8 @@ against_so true false e = absurd (true≢false (sym e))
 against_so false true e = absurd (true≢false e)
 against_so false false e = refl
 
--- An act changes the key back (away from b), or does not increase `against`.
+-- An act (the effect of a call on the key) changes the key away from the state b, or does not bring the key closer to
+-- the other state.
 turns_or_not : (b s : Bool) (k : Kind) → suits s k → (k ≡ changes (not b)) ⊎ (against b (becomes s k) ≤ against b s)
 turns_or_not true s (changes true) h = inr (let a = against_so true true refl in omega (arith, a))
 turns_or_not true s (changes false) h = inl refl
@@ -105,8 +106,8 @@ turns_or_not false s (changes false) h = inr (let a = against_so false false ref
 turns_or_not b s (sees w) h = inr (omega arith)
 turns_or_not b s nothing h = inr (omega arith)
 
--- `Earlier`: a counted act begins before act t ends, or the opening counts as an act. `Later`: a counted act ends after
--- act a begins, or the final state counts as an act. The ends of the counted acts are `us`.
+-- `Earlier`: an act of the count begins before act t ends, or the opening counts as an act. `Later`: an act of the
+-- count ends after act a begins, or the final state counts as an act. `us` are the ends of the count's acts.
 abbrev Earlier : Option ℕ → List ℕ → List Act → Act → Type 0
 Earlier o us ys t = ((a : Act) × In a ys × (has_key a.until us ≡ true) × (a.until ≢ t.until) × (a.begun < t.until)) ⊎ (o ≡ None)
 
@@ -226,7 +227,7 @@ module _ (b left : Bool) (c : Option ℕ) where
             omega (arith, e, ih, short))
       ]
 
--- ---- Lemmas: lists
+-- ---- Lemmas about lists
 
 pairs_from : {X : Type 0} (R : X → X → Type 0) (xs : List X) → AllPairs R xs → Pairs R xs
 pairs_from R [] h = tt
@@ -279,7 +280,7 @@ module _ (f : CallRecord → ℕ) where
     no_twice_mapped xs p.1,
   )
 
--- ---- Lemmas: the calls in a count
+-- ---- Lemmas about the calls in a count: calls of a key that are too many for any order
 
 until_is : (last : ℕ) (x : CallRecord) (e : ℕ × Reply) → x.ended ≡ Some e → until last x ≡ e.0
 until_is last x e is = rw is refl
@@ -310,7 +311,7 @@ other_not : (p : Presence) → is_there (other p) ≡ not (is_there p)
 other_not Present = refl
 other_not Absent = refl
 
--- ---- Lemmas: the acts that an order of the calls determines
+-- ---- Lemmas about the acts (effects of calls on the key) that an order of the calls determines
 
 module _ (threads : ℕ) (calls : List CallRecord) (history : IsHistory threads calls) (last : ℕ) (upto : latest_moment calls ≤ last) (k : ℕ)
     (there : Presence) (left : Option Presence) (finally : Bool) (leaves : IfSome left (λ (l : Presence). finally ≡ is_there l))
@@ -477,7 +478,7 @@ count_refutes h keys k there left was since til counted history opens leaves c o
     (subst (λ b. TakeTurns (has_key k keys) b acts) opens r.take_turns) r.pairs r.acts
     (stands h.opening.threads h.calls history last upto k h.opening.quota (opening_set h.opening) order ex.linearizes) was since til counted c
 
--- ---- Lemmas: the tests that the code makes
+-- ---- Lemmas about the tests that the code makes
 
 pub one_more : {X : Type 0} (P : X → Type 0) (xs : List X) (n : ℕ) (e : X) → ((i : ℕ) (d : X) → i < n → P (get_or xs i d)) → n < length xs
     → P (get_or xs n e) → (i : ℕ) (d : X) → i < n + 1 → P (get_or xs i d)

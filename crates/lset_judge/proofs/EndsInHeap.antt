@@ -16,7 +16,7 @@ use Rattle.lset_judge.specs.Rule.{Event, State, not_before, put_in, nearest, tur
 use Rattle.lset_judge.proofs.RuleLeads.{at, later, no_state}
 use Rattle.lset_judge.proofs.RuleLeads.{counts, counts_one, counts_not, at_most_all, all_from_zero, counted_in, length_in, taken_length, nearest_stands}
 
--- ---- Lemmas: lists of moments in increasing order
+-- ---- Lemmas about lists of moments in increasing order
 
 -- States that no moment of the list is before d.
 abbrev NoneBefore : ℕ → List ℕ → Type 0
@@ -72,7 +72,7 @@ same_increasing (x ∷ xs) (y ∷ ys) up high h =
       | inr l ↦ l
     ]
 
--- ---- Lemmas: the ends in a heap
+-- ---- Lemmas about the ends in a heap
 
 increasing : (xs : List (Reverse ℕ)) → IsIncreasing (increasing_of xs)
 increasing [] = tt
@@ -127,7 +127,7 @@ pub none_held : (xs : List (Reverse ℕ)) → length xs ≡ 0 → increasing_of 
 none_held [] e = refl
 none_held (x ∷ xs) e = absurd (omega (arith, e))
 
--- ---- Lemmas: the earliest end
+-- ---- Lemmas about the earliest end
 
 each_from : (d : ℕ) (xs : List ℕ) → NoneBefore d xs → AllByRecursion (λ (e : ℕ). d ≤ e) xs
 each_from d [] h = tt
@@ -160,7 +160,7 @@ first_popped end moment old new (Some e) first all early is =
     let h : Some e ≡ Some end = subst (λ (xs : List ℕ). slice_get xs 0 ≡ Some end) is.0 first in let same : end ≡ e = cc in
     (is.0, subst (λ (n : ℕ). n < moment) same early, subst (λ (n : ℕ). All (λ (o : ℕ). n ≤ o) old) same all)
 
--- ---- Lemmas: one pending change takes effect, in the loop of the code
+-- ---- Lemmas about the loop of the code, in which one pending change takes effect after another
 
 pub put_turned : (m t end : ℕ) (b : Bool) (ps ks rest : List ℕ) → b ≡ false → ps ≡ end ∷ rest → nearest end rest ≡ end
     → turned_if m (at b t ps ks) (options (at b t ps ks)) ≡ Some (at true m rest ks)

@@ -22,7 +22,7 @@ kind x = kind_if x.call x.ended
 abbrev pub until : ℕ → CallRecord → ℕ
 until last x = until_if last x.begun x.ended
 
--- ---- Lemmas: moments
+-- ---- Lemmas about the moments of a history
 
 pub begun_below : (xs : List CallRecord) (n : ℕ) (d : CallRecord) → n < length xs → (get_or xs n d).begun ≤ latest_moment xs
 begun_below [] n d l = absurd (omega arith)
@@ -35,7 +35,7 @@ end_below [] n d e l s = absurd (omega arith)
 end_below (x ∷ xs) zero d e l s = let a : moment_of x.ended ≡ e.0 = ap moment_of s in omega (arith, a)
 end_below (x ∷ xs) (suc n) d e l s = let rest = end_below xs n d e (omega arith) s in omega (arith, rest)
 
--- ---- What an event shows about the calls
+-- ---- The call whose begin or end is the event of a key
 
 pub record Begins (last k m : ℕ) (xs : List CallRecord) (v : Event) : Type 0 where
   pub number : ℕ
@@ -83,7 +83,7 @@ told last k m (x ∷ xs) = elim (cases_Bool ((key_of x.call).0 == k)) [
   ]
 ]
 
--- ---- Lemmas: the end of a call, if it has one
+-- ---- Lemmas about the end of a call, if the call has ended
 
 pub none_or_some : (o : Option (ℕ × Reply)) → (o ≡ None) ⊎ ((e : ℕ × Reply) × (o ≡ Some e))
 none_or_some None = inl refl
@@ -96,7 +96,7 @@ pub for_some : (P : ℕ × Reply → Type 0) (o : Option (ℕ × Reply)) → ((e
 for_some P None h = tt
 for_some P (Some e) h = h e refl
 
--- ---- Lemmas: the event of a call's begin
+-- ---- Lemmas about the event of a call's begin
 
 pub ends_not : (m : ℕ) (o : Option (ℕ × Reply)) → IfSome o (λ (e : ℕ × Reply). e.0 ≢ m) → ends_at m o ≡ false
 ends_not m None h = refl
@@ -159,7 +159,7 @@ begins_at last k (suc n) (x ∷ xs) l pairs own =
     passed_over last k y.begun x xs (λ t. (unequal_test x.begun y.begun (omega (arith, low)), ends_not y.begun x.ended f.begins_alone))
     ∙ begins_at last k n xs (omega arith) (pairs_tail Follows x xs pairs) own
 
--- ---- Lemmas: the event of a call's end
+-- ---- Lemmas about the event of a call's end
 
 no_end : (m : ℕ) (o : Option (ℕ × Reply)) → IfSome o (λ (e : ℕ × Reply). m ≢ e.0) → ends_at m o ≡ false
 no_end m None h = refl

@@ -37,7 +37,7 @@ use Rattle.lset_judge.specs.Judge.{ClashesIn}
 use Rattle.lset_judge.specs.Pending.{IsNext}
 use Rattle.lset_judge.proofs.RuleLeads.{at_once}
 
--- ---- The facts are correct at the opening
+-- ---- The facts about the calls of each key are correct at the opening
 
 pub first_facts : (opening : List ℕ) (k : ℕ) (f : Facts) → f ≡ facts_opened (presence (has_key k opening)) → AreFacts opening [] k f
 first_facts opening k f e = subst (AreFacts opening [] k) (sym e) (record {
@@ -45,7 +45,7 @@ first_facts opening k f e = subst (AreFacts opening [] k) (sym e) (record {
   over = λ there i d low. absurd (omega (arith, low));
 })
 
--- ---- Proof: two calls that the facts show to clash do so
+-- ---- If the facts show that two calls clash, the calls clash
 
 ended_since : (since begun : ℕ) (o : Option (ℕ × Reply)) → until_if behind_all begun o ≤ since → since < behind_all → has_ended since o ≡ true
 ended_since since begun None low bound = absurd (omega (arith, low, bound))
@@ -160,7 +160,7 @@ clash_found opening calls f call facts before moment c s is by_then = λ later a
     (is_clash opening calls k f facts before moment call is e.0 e.1 (by_then e.0 e.1) later after f.was (first_of k f) facts.was
     s.clashing.standing s.clashing.needs s.clashing.order)
 
--- ---- The facts stay correct when a call ends
+-- ---- The facts about the calls of each key stay correct when a call ends
 
 pub ended_facts : (opening : List ℕ) (calls : List CallRecord) (call : StreamCall) (old new : Facts) → AreFacts opening calls (own_key call) old
     → IsEnded call old new → IsOf calls (own_key call) (record_of call) → AreFacts opening calls (own_key call) new
@@ -236,7 +236,7 @@ module _ (threads : ℕ) (opening : List ℕ) (calls : List CallRecord) (s t : S
       → AreKnownBy opening calls s.moment s.states s.failed s.clash → AreKnownBy opening calls t.moment t.states t.failed t.clash
   end_known kept met known = failed_at s.failed t.failed t.clash met kept known
 
--- ---- The facts stay correct when a call begins
+-- ---- The facts about the calls of each key stay correct when a call begins
 
 first_still : (v : Event) (k : ℕ) (f : Facts) → first_of k (begun_by v f) ≡ first_of k f
 first_still (begins w u) k f = refl
@@ -334,7 +334,7 @@ module _ (opening : List ℕ) (calls : List CallRecord) (x : CallRecord) where
         → AreKnownBy opening calls s.moment s.states s.failed s.clash → AreKnownBy opening with_x t.moment t.states t.failed t.clash
     begin_known met kept same known = subst (AreKnownBy opening with_x t.moment t.states t.failed) (sym same) (begin_at s.failed t.failed met kept known)
 
--- ---- The facts after the last call
+-- ---- The clash that the facts show after the last call
 
 pub clash_of_met : (s : Stream) (refusal : Refusal) → IsToldBy s.failed (NotLinearizable refusal) → (clash : Option Clash) → clash ≡ clash_met s.failed s.clash
     → IfSome clash (λ (c : Clash). (opening : List ℕ) → ClashesStream opening refusal None s c)

@@ -25,7 +25,7 @@ use Rattle.lset_judge.proofs.StatesAfter.{left_alike, idle_key}
 use Rattle.lset_judge.proofs.RuleDecides.{explained}
 use Rattle.lset_judge.proofs.TimelineFromOrder.{rule_refutes}
 
--- ---- A key has the same events among all calls and among the calls of some keys
+-- ---- A key has the same events among all calls and among the calls of a part
 
 keys_by : (part : ℕ → ℕ) (i k : ℕ) (b : Bool) → ((j : ℕ) → (j == k) ≡ true → (part j == i) ≡ b) → (xs : List ℕ)
     → has_key k (keys_in part i xs) ≡ (b && has_key k xs)
@@ -44,7 +44,7 @@ module _ (part : ℕ → ℕ) (i k : ℕ) (of_part : part k ≡ i) where
   pub key_in_part : (xs : List ℕ) → has_key k (keys_in part i xs) ≡ has_key k xs
   key_in_part xs = keys_by part i k true goes_there xs
 
--- ---- Lemmas: key k does not belong to part i
+-- ---- Lemmas about a key that does not belong to part i
 module _ (part : ℕ → ℕ) (i k : ℕ) (of_other : part k ≡ i → ⊥) where
   goes_elsewhere : (j : ℕ) → (j == k) ≡ true → (part j == i) ≡ false
   goes_elsewhere j t = unequal_test (part j) i (λ e. of_other (sym (ap part (same_number j k t)) ∙ e))
@@ -60,7 +60,7 @@ module _ (h : HistoryValue) (keys : List ℕ) (part : ℕ → ℕ) (i : ℕ) (to
   abbrev own : List CallRecord
   own = calls_in part i h.calls
 
-  -- ---- Proof: each part is a history
+  -- ---- Proof that each part is a history
 
   pub part_told : IsHistory h.opening.threads own
   part_told = record {
@@ -81,7 +81,7 @@ module _ (h : HistoryValue) (keys : List ℕ) (part : ℕ → ℕ) (i : ℕ) (to
         omega arith;
   }
 
-  -- ---- Lemmas: key k belongs to part i
+  -- ---- Lemmas about a key that belongs to part i
 
   pub key_alike : (last k : ℕ) → part k ≡ i → rule_explains last h keys k ≡ rule_explains last (part_of part i h) (keys_in part i keys) k
   key_alike last k of_part =

@@ -13,7 +13,7 @@ use Rattle.lset_words.proofs.Numbers.{same_number, equal_test}
 use Rattle.lset_judge.specs.declared.rule.KeyState.{KeyState}
 use Rattle.lset_judge.specs.Stream.{States}
 
--- ---- Lemmas: keys are visited one after another
+-- ---- Lemmas about visiting keys one after another
 
 pub any_key : (k : ℕ) (xs : List ℕ) → has_key k xs ≡ list_any (λ x. x == k) xs
 any_key k [] = refl

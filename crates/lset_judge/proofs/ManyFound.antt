@@ -31,7 +31,7 @@ first_of_all x xs = (0, omega arith, refl)
 map_back : {X Y : Type 0} (P : X → Type 0) (f : Y → X) (ys : List Y) → All P (map f ys) → All (λ y. P (f y)) ys
 map_back P f ys all i d low = subst P (get_or-map f ys i d (f d) low) (all i (f d) (let l = length-map ys f in omega (arith, l, low)))
 
--- ---- Lemmas: whether a call ends at a moment
+-- ---- Lemmas about finding whether a call ends at a moment
 
 abbrev pub found : ℕ → Entries → Bool
 found b es = is_some (lookup (nat_eq b) es)
@@ -66,7 +66,7 @@ pub look_told : (b : ℕ) (es : Entries) (r : Bool) → r ≡ found b es
 look_told b es true is = (λ t. absurd (true≢false (sym t)), λ all. absurd (some_ends b es (sym is) all))
 look_told b es false is = (λ t. All-map (λ (p : Pending). p.end ≢ b) pending_at es (none_at b es (sym is)), λ all. refl)
 
--- ---- Lemmas: none of the calls ends when another begins or ends
+-- ---- Lemmas about calls that do not end when another call begins or ends
 
 abbrev Apart : ℕ → Option (ℕ × Reply) → Pending → Type 0
 Apart begun ended p = (p.end ≢ begun) × IfSome ended (λ (e : ℕ × Reply). p.end ≢ e.0)
@@ -87,7 +87,7 @@ apart_told begun end ended ps r is none told = (
   λ all. told.1 (λ i d low. subst (λ (m : ℕ). (get_or ps i d).end ≢ m) (sym is) (apart_end begun ended (get_or ps i d) (all i d low))),
 )
 
--- ---- Lemmas: a thread that has no pending call at a moment
+-- ---- Lemmas about a thread that has no pending call at a moment
 
 abbrev Free : ℕ → ℕ → Pending → Type 0
 Free thread begun p = p.call.thread ≡ thread → p.end ≤ begun
@@ -137,7 +137,7 @@ module _ {S : Type 0} (last : ℕ → ℕ) (thread begun : ℕ) (m : HashMap ℕ
     λ all. refl,
   )
 
--- ---- Lemmas: a call ends
+-- ---- Lemmas about removing a call that ends
 
 -- An end without a call can be removed from the heap.
 pub held_without : (end : ℕ) (ends rest : List ℕ) (es : Entries) → ends ≡ end ∷ rest → found end es ≡ false
@@ -195,7 +195,7 @@ pub known_after : (P : ℕ × StreamCall → Type 0) (moment : ℕ) (old new : E
 known_after P moment old new None is all = subst (All P) (sym is.0) all
 known_after P moment old new (Some p) is all = All-tail P (p.end, p.call) new (All-permutation P old ((p.end, p.call) ∷ new) is.1 all)
 
--- ---- Lemmas: a call is inserted
+-- ---- Lemmas about inserting a call
 
 abbrev Puts : Entries → Entries → ℕ → StreamCall → Option StreamCall → Type 0
 Puts old now end call before = MatchOption before (IsPermutation ((end, call) ∷ old) now) (λ (c : StreamCall). now ≡ set_value (nat_eq end) old call)

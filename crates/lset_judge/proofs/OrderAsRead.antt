@@ -29,7 +29,7 @@ use Rattle.lset_judge.specs.Verdict.{is_plain}
 use Rattle.lset_judge.proofs.EventLemmas.{if_some, for_some, none_or_some}
 use Rattle.lset_judge.specs.Reading.{call_as, reply_as, call_if, end_as, read_as}
 
--- ---- The next call of a history may come next for the judge
+-- ---- The judge accepts the next call of a history
 
 -- A call that has ended did not end at the begin or the end of a later call.
 apart_of : (y x : CallRecord) → IsBefore x → IfSome y.ended (λ (d : ℕ × Reply). d.0 ≢ x.begun) → (o : Option (ℕ × Reply)) → y.ended ≡ o
@@ -133,7 +133,7 @@ read_plain x = of x.call x.ended
     of c None = tt
     of c (Some e) = plain_as c e.1
 
--- ---- Each call, as the judge reads it, may come when its turn is
+-- ---- The judge accepts each call of a history, as it reads the call, in the order of their begins
 
 pub next_may : (threads : ℕ) (opening : List ℕ) (xs : List CallRecord) (i : ℕ) (d : CallRecord) (s : Stream) (x : CallRecord) → IsHistory threads xs
     → i < length xs → x ≡ read_as (get_or xs i d) → IsStreamOf threads opening (map read_as (take i xs)) s
@@ -161,7 +161,7 @@ pub next_thread : (threads i : ℕ) (d x : CallRecord) (xs : List CallRecord) �
 next_thread threads i d x xs history low so =
     let a = (history.each i d low).of_a_thread in let e = ap (λ (y : CallRecord). y.thread) so in omega (arith, a, e)
 
--- ---- Lemmas: a single call
+-- ---- Lemmas about a single call
 
 -- ---- If no order explains the calls as the judge reads them, no order explains the calls themselves
 

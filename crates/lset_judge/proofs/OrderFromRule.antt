@@ -56,7 +56,7 @@ module _ (threads : ℕ) (calls : List CallRecord) (history : IsHistory threads 
     pub replies : All (λ (p : Placed). IfSome (x_ p.call).ended (λ (e : ℕ × Reply). e.1 ≡ p.reply)) o
     pub ended : (n : ℕ) (e : ℕ × Reply) → n < length calls → (x_ n).ended ≡ Some e → e.0 ≤ m → IsPlaced n o
 
-  -- ---- Lemmas: one more call is appended to the order
+  -- ---- Lemmas about appending one more call to the order that the proof builds
   pub place : (m : ℕ) (o : List Placed) (n : ℕ) (r : Reply) → Built m o → n < length calls → (x_ n).begun ≤ m → (IsPlaced n o → ⊥)
       → reply_to quota (set o) (x_ n).thread (x_ n).call ≡ r → IfSome (x_ n).ended (λ (e : ℕ × Reply). e.1 ≡ r)
       → Built m (o ++ put n r ∷ [])
@@ -86,7 +86,7 @@ module _ (threads : ℕ) (calls : List CallRecord) (history : IsHistory threads 
   set_put : (o : List Placed) (n : ℕ) (r : Reply) → set (o ++ put n r ∷ []) ≡ after_call (set o) (x_ n).thread (x_ n).call r
   set_put o n r = ap (set_left start) (map_push (answered calls) o (put n r)) ∙ left_push start (map (answered calls) o) (answered calls (put n r))
 
-  -- ---- The invariant that relates the rule's state of a key to the order so far
+  -- ---- The invariant: the state that the judge's rule has for a key, and the order that the proof has built so far
   pub record OpenList (w : Bool) (k m : ℕ) (xs : List ℕ) (o : List Placed) : Type 0 where
     pub open_call : (u : ℕ) → has_key u xs ≡ true → (n : ℕ) × (n < length calls) × (key n ≡ k) × (kind (x_ n) ≡ changes w)
         × (until last (x_ n) ≡ u) × ((x_ n).begun ≤ m) × (IsPlaced n o → ⊥)
@@ -135,7 +135,7 @@ module _ (threads : ℕ) (calls : List CallRecord) (history : IsHistory threads 
     now = l.now;
   }
 
-  -- ---- Lemmas: a read is appended to the order
+  -- ---- Lemmas about appending a read to the order that the proof builds
   pub record Moved (k m : ℕ) (s : State) (o : List Placed) : Type 0 where
     pub order : List Placed
     pub built : Built m order
@@ -174,7 +174,7 @@ module _ (threads : ℕ) (calls : List CallRecord) (history : IsHistory threads 
         ))
   ]
 
-  -- ---- Proof: all reads of a key that saw its current state can be appended to the order
+  -- ---- All reads of a key that saw its current state can be appended to the order that the proof builds
   sweepable : (k m n : ℕ) (s : State) (o : List Placed)
       → ((w : Bool) × (key n ≡ k) × (kind (x_ n) ≡ sees w) × ((x_ n).begun ≤ m) × (IsPlaced n o → ⊥) × (same w s.there ≡ true))
       ⊎ ((w : Bool) → key n ≡ k → kind (x_ n) ≡ sees w → (x_ n).begun ≤ m → (IsPlaced n o → ⊥) → same w s.there ≡ false)
@@ -228,7 +228,7 @@ module _ (threads : ℕ) (calls : List CallRecord) (history : IsHistory threads 
         )
       ]
 
-  -- ---- Lemmas: a change takes effect and is appended to the order
+  -- ---- Lemmas about a change that takes effect and is appended to the order that the proof builds
   list_taken : (w : Bool) (k m u : ℕ) (xs : List ℕ) (o : List Placed) (n : ℕ) (r : Reply) → n < length calls → until last (x_ n) ≡ u
       → OpenList w k m xs o → OpenList w k m (take_out u xs) (o ++ put n r ∷ [])
   list_taken w k m u xs o n r low at_end l = record {
@@ -358,7 +358,7 @@ module _ (threads : ℕ) (calls : List CallRecord) (history : IsHistory threads 
     ]
   ]
 
-  -- ---- All keys at moment m: the event v k of key k at the next moment, and its state was k before that event
+  -- ---- All keys at moment m. Each key k has the state `was k` now and the event `v k` at the next moment
   module _ (m : ℕ) (v : ℕ → Event) (was : ℕ → State) (live : (k : ℕ) → is_some (stepped m (v k) (Some (was k))) ≡ true) where
     -- States that from state s of key k, the rule finds the same state for the next event as from the state at moment
     -- m.
@@ -444,7 +444,7 @@ module _ (threads : ℕ) (calls : List CallRecord) (history : IsHistory threads 
               (a.0, a.1, f, sym a.2 ∙ finds_itself k a.0 f, a.3);
         }
 
-  -- ---- Lemmas: a single event
+  -- ---- Lemmas about a single event
   abbrev ev : ℕ → ℕ → Event
   ev k m = event_at last k calls m
 
@@ -566,7 +566,7 @@ module _ (threads : ℕ) (calls : List CallRecord) (history : IsHistory threads 
           ]
       by nothing is = plain_kind (x_ n).call e.1 (plain n e low ended) (subst (λ q. kind_if (x_ n).call q ≡ nothing) ended is)
 
-  -- ---- Proof for all moments
+  -- ---- Proof for all moments, by induction
   built_past : (m : ℕ) (o : List Placed) → Built m o
       → ((n : ℕ) (e : ℕ × Reply) → n < length calls → (x_ n).ended ≡ Some e → e.0 ≡ suc m → IsPlaced n o) → Built (suc m) o
   built_past m o b new = record {

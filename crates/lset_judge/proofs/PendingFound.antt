@@ -15,7 +15,7 @@ all_left P xs ys all = subst (All P) (take_at xs ys (length xs) refl) (All-take 
 pub all_right : {X : Type 0} (P : X → Type 0) (xs ys : List X) → All P (xs ++ ys) → All P ys
 all_right P xs ys all = subst (All P) (drop_at xs ys (length xs) refl) (All-drop P (length xs) (xs ++ ys) all)
 
--- ---- Lemmas: a call ends
+-- ---- Lemmas about removing a call that ends
 
 pub few_next : (few many : List Pending) (i moment end first : ℕ) (p : Pending) (rest : List Pending) → i < length few
     → p ≡ get_or few i p → rest ≡ swap_remove few i p → p.end ≡ end → end < moment → All (λ (q : Pending). end ≤ q.end) few
@@ -37,7 +37,7 @@ many_next few many rest moment near first p is next far = let early = next.early
   smallest = All-append (λ (q : Pending). p.end ≤ q.end) few many (λ i d inside. let l = far i d inside in omega (arith, l, is, early)) next.smallest;
 }
 
--- ---- Lemmas: a call is inserted
+-- ---- Lemmas about inserting a call
 
 pub few_with : (few now many : List Pending) (p : Pending) → now ≡ few ++ p ∷ [] → IsPermutation (p ∷ (few ++ many)) (now ++ many)
 few_with few now many p is = subst (λ (ps : List Pending). IsPermutation (p ∷ (few ++ many)) (ps ++ many)) (sym is)
@@ -56,7 +56,7 @@ many_with_if few many now all p (Ok u) is more = λ apart. subst (λ (ps : List 
     (many_with few many now p (more (all_right (λ (q : Pending). q.end ≢ p.end) few many (subst (All (λ (q : Pending). q.end ≢ p.end)) (sym is) apart))))
 many_with_if few many now all p (Err e) is more = tt
 
--- ---- A property of the calls in the vector extends to all pending calls
+-- ---- If all calls in the vector and all in the hash table have a property, all pending calls have it
 
 pub told_of_few : {F : Type 0} (P Q : Pending → Type 0) (few others all : List Pending) (fault : Option F) → few ++ others ≡ all → is_some fault ≡ true
     → MatchOption fault (All P few × All Q few) (λ (f : F). All P few → All Q few → ⊥)

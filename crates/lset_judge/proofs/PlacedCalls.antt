@@ -18,7 +18,7 @@ use Rattle.lset_judge.specs.Verdict.{is_plain}
 use Rattle.lset_judge.proofs.RuleLeads.{counts_not, counts_most, at_most_all}
 use Rattle.lset_judge.proofs.TimelineOfKey.{has_split}
 
--- ---- Lemmas: lists of calls with replies
+-- ---- Lemmas about lists of calls with replies
 
 pub legal_push : (quota : ℕ) (s : SetState) (xs : List Answered) (a : Answered) → IsLegal quota s xs
     → reply_to quota (set_left s xs) a.thread a.call ≡ a.reply → IsLegal quota s (xs ++ a ∷ [])
@@ -62,7 +62,7 @@ placed_split n [] p (inr q) = absurd q
 placed_split n (x ∷ ps) p (inl e) = inl (inl e)
 placed_split n (x ∷ ps) p (inr q) = elim (placed_split n ps p q) [ inl r ↦ inl (inr r) | inr e ↦ inr e ]
 
--- ---- Lemmas: replies
+-- ---- Lemmas about the replies of the sequential set
 
 pub change_replies : (quota thread : ℕ) (s : SetState) (c : Call) (o : Option (ℕ × Reply)) (w : Bool) → kind_if c o ≡ changes w
     → has_key (key_of c).0 s.keys ≡ not w → (w ≡ true → count_of s thread < quota)
@@ -96,7 +96,7 @@ look_replies quota thread s (IsIn k) True true p d h = rw h refl
 look_replies quota thread s (IsIn k) False false p d h = rw h refl
 look_replies quota thread s c r w p d h = absurd (cc)
 
--- ---- Lemmas: the order so far
+-- ---- Lemmas about the order that the proof has built so far
 
 pub open_sees_not : (c : Call) (w : Bool) → open_kind c ≡ sees w → ⊥
 open_sees_not (Add k) w e = cc

@@ -72,7 +72,7 @@ added_push : (t : ℕ) (xs : List Answered) (a : Answered) → added t (xs ++ a 
 added_push t [] a = omega arith
 added_push t (x ∷ xs) a = let rest = added_push t xs a in omega (arith, rest)
 
--- ---- Distinct calls weigh at most as much as all calls
+-- ---- The sum of a number over distinct calls is at most its sum over all calls
 
 abbrev tally : (CallRecord → ℕ) → List CallRecord → List Placed → ℕ
 tally f calls [] = 0
@@ -100,7 +100,7 @@ tally_most f none (p ∷ ps) calls known once =
     let all = sum_by-set f calls p.call no_call no_call low in
     omega (arith, none, rest, same, all)
 
--- ---- Lemmas: the `add`s of a thread
+-- ---- Lemmas about the `add`s of a thread
 
 abbrev of_thread : ℕ → CallRecord → ℕ
 of_thread t x = cond (may_add x.call x.ended && x.thread == t) 1 0

@@ -9,7 +9,7 @@ use Rattle.lset_words.proofs.Numbers.{same_number, below_or_not, if_below, if_no
 use Rattle.lset_judge.specs.Rule.{not_before, put_in, take_out, nearest, Event, State, settled, begins, ends, looks, leaves, same, changes_to, options, fits}
 use Rattle.lset_judge.specs.Rule.{entering, enters, turned_by, turned_if, open_changes, opened}
 
--- ---- Lemmas: how many moments of a list are d or later, if one is inserted or removed
+-- ---- Lemmas about how many moments of a list are d or later when one moment is inserted or removed
 
 abbrev pub counts : ℕ → ℕ → ℕ
 counts d x = if nat_lt x d then 0 else 1
@@ -121,7 +121,7 @@ fewer ss gs h = let a = h 0 in let b = all_from_zero ss in let c = all_from_zero
 less_taken : (e : ℕ) (ss gs : List ℕ) → has_key e ss ≡ true → NoFewer ss gs → NoFewer (take_out e ss) gs
 less_taken e ss gs h f d = let t = taken d e ss h in let a = f d in omega (arith, t, a)
 
--- ---- Lemmas: the timeline lets a change take effect
+-- ---- Lemmas about a change that takes effect in a timeline (which says when each change takes effect)
 pub timeline_turns : (b c : Bool) (m gt st e : ℕ) (gp gk sp sk : List ℕ) → Leads m (at b gt gp gk) (at c st sp sk)
     → has_key e (options (at c st sp sk)) ≡ true → Leads m (at b gt gp gk) (turned_by m e (at c st sp sk))
 timeline_turns b true m gt st e gp gk sp sk l h =
@@ -187,8 +187,8 @@ rule_turns false m t (x ∷ xs) gk s l f =
     lists false = l.lists false
 rule_turns b m t gp gk s l f = absurd (omega (arith, f))
 
--- If the key is present in only one of the two states, the timeline has fewer pending changes left that would change
--- the rule's key.
+-- If the key is present in the rule's state and absent in the timeline's, or the reverse, the timeline has fewer
+-- pending changes left that would change the key in the rule's state.
 apart : (b c : Bool) (m gt st : ℕ) (gp gk sp sk : List ℕ) → Leads m (at b gt gp gk) (at c st sp sk) → (b ≡ c → ⊥)
     → IsFurther (at b gt gp gk) (at c st sp sk)
 apart true false m gt st gp gk sp sk l n = let y = l.balance in let f = fewer sp gp (l.lists true) in omega (arith, y, f)
@@ -252,7 +252,7 @@ settles (suc n) m v g s l h low = elim (cases_Bool (fits (suc m) v g)) [
       record { state = rest.state; is = later n m v g e ∙ ap (settled n m v) t.is ∙ rest.is; leads = rest.leads })
 ]
 
--- ---- Lemmas: a single event
+-- ---- Lemmas about a single event
 more : (w : Bool) (v : Event) (ss gs : List ℕ) → NoFewer ss gs → NoFewer (entering w v ss) (entering w v gs)
 more w (begins u end) ss gs h = elim (cases_Bool (same w u)) [
   | inl t ↦ rw t (λ d. let a = h d in let b = counted_in d end ss in let c = counted_in d end gs in omega (arith, a, b, c))

@@ -15,7 +15,7 @@ idle_step m None = refl
 idle_step m (Some s) = ap (entered idle) (at_once (open_changes s) m idle s refl)
 
 module _ (ev : ℕ → Event) (b : Bool) where
-  -- ---- Lemmas: moments without an event
+  -- ---- Lemmas about moments without an event
   pub quiet_until : (d m n : ℕ) → m + d ≡ n → ((j : ℕ) → m < j → j ≤ n → ev j ≡ idle) → state_after ev b n ≡ state_after ev b m
   quiet_until zero m n e q = let f : n ≡ m = omega arith in ap (state_after ev b) f
   quiet_until (suc d) m zero e q = absurd (omega (arith, e))
@@ -49,7 +49,7 @@ pub left_alike : (ev other : ℕ → Event) (b left : Bool) (last : ℕ) → ((j
     → may_leave ev b left last ≡ may_leave other b left last
 left_alike ev other b left last same = ap (λ (o : Option State). is_some (stepped last (leaves left) o)) (same_after ev other b last same)
 
--- ---- Lemmas: the calls of key k, and a moment T that is not before any begin or end
+-- ---- Lemmas about the calls of a key and a moment after which no call begins or ends
 
 module _ (calls : List CallRecord) (T : ℕ) (behind : latest_moment calls ≤ T) (k : ℕ) (opens : Bool) where
   abbrev event : ℕ → Event

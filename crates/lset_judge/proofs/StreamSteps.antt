@@ -27,7 +27,7 @@ use Rattle.lset_judge.proofs.StatesAfter.{idle_step, quiet_until, stays_failed}
 use Rattle.lset_judge.proofs.RuleLeads.{no_state}
 use Rattle.lset_judge.proofs.EventLemmas.{Told, of_nothing, of_begin, of_end, told, ends_there, if_some, for_some, none_or_some, ends_not, one_before, passed_over}
 
--- ---- Lemmas: the ends of calls
+-- ---- Lemmas about the ends of calls
 
 pub same_some : (o : Option (ℕ × Reply)) (a b : ℕ × Reply) → o ≡ Some a → o ≡ Some b → a ≡ b
 same_some o a b p q = cc
@@ -35,7 +35,7 @@ same_some o a b p q = cc
 pub until_end : (last begun : ℕ) (o : Option (ℕ × Reply)) (e : ℕ × Reply) → o ≡ Some e → until_if last begun o ≡ e.0
 until_end last begun o e s = ap (until_if last begun) s
 
--- ---- Lemmas: one more call
+-- ---- Lemmas about adding one more call
 
 pub event_before : (last k j : ℕ) (xs : List CallRecord) (x : CallRecord) → j < x.begun → IfSome x.ended (λ (e : ℕ × Reply). x.begun < e.0)
     → event_at last k (xs ++ x ∷ []) j ≡ event_at last k xs j
@@ -58,7 +58,7 @@ event_begun last k [] x a = elim (cases_Bool ((key_of x.call).0 == k)) [
 event_begun last k (y ∷ ys) x a =
     passed_over last k x.begun y (ys ++ x ∷ []) (λ t. (unequal_test y.begun x.begun a.0.0, ends_not x.begun y.ended a.0.1)) ∙ event_begun last k ys x a.1
 
--- ---- Lemmas: the rule is applied to the event of a moment
+-- ---- Lemmas about applying the judge's rule to the event of a moment
 
 module _ (opening : List ℕ) (calls : List CallRecord) where
   abbrev event : ℕ → ℕ → Event
@@ -115,7 +115,7 @@ module _ (opening : List ℕ) (calls : List CallRecord) where
     goes_to j e before after was failed met so = subst (λ (i : ℕ). IsJudgedTo opening calls i after failed) (sym e)
         (goes before after was failed (subst (λ (i : ℕ). IsMetBy before key i v after was failed) e met) so)
 
--- ---- Lemmas: the ends of pending calls after the list of these calls was reordered or extended
+-- ---- Lemmas about the ends of pending calls when their list is reordered or extended
 
 abbrev same : Pending → Pending → Bool
 same p q = p.end == q.end
@@ -139,7 +139,7 @@ first_or_later x xs y (suc k, low, is) = inr (k, omega (arith, low), is)
 pub later_too : {X : Type 0} (x : X) (xs : List X) (y : X) → Contains xs y → Contains (x ∷ xs) y
 later_too x xs y (k, low, is) = (suc k, omega (arith, low), is)
 
--- ---- Lemmas: the pending calls after moment m
+-- ---- Lemmas about the pending calls after moment m
 
 module _ (threads : ℕ) (calls : List CallRecord) (history : IsHistory threads calls) (before : All IsBefore calls) (m : ℕ)
     (begun : All (λ (x : CallRecord). x.begun ≤ m) calls) (pending : List Pending) (are : ArePending calls m pending) where
@@ -236,7 +236,7 @@ module _ (threads : ℕ) (calls : List CallRecord) (history : IsHistory threads 
       all_apart : AllPairs (λ (p q : Pending). p.end ≢ q.end) (next ∷ rest)
       all_apart = ends_moved pending (next ∷ rest) is are.apart
 
-      -- After the next end, the pending calls are the others.
+      -- When the pending call with the earliest end has ended, the other calls are still pending.
       pub without_next : ArePending calls next.end rest
       without_next = record {
         known = rest_of (λ (p : Pending). (n : ℕ) × (n < length calls) × (p ≡ pending_of (call_numbered calls n))) are.known;

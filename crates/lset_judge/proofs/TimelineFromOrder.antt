@@ -82,7 +82,7 @@ open_change (Remove k) True w e = e
 open_change (IsIn k) True w e = absurd (cc)
 open_change c r w e = absurd (cc)
 
--- ---- Lemmas: two calls of a history
+-- ---- Lemmas about two calls of a history
 
 module _ (threads : ℕ) (calls : List CallRecord) (history : IsHistory threads calls) (last : ℕ) (upto : latest_moment calls ≤ last) where
   abbrev x_ : ℕ → CallRecord
@@ -161,7 +161,7 @@ module _ (threads : ℕ) (calls : List CallRecord) (history : IsHistory threads 
         ])
   ]
 
-  -- ---- Lemmas: a single key, and an order that linearizes the history
+  -- ---- Lemmas about a single key and an order that linearizes the history
   module _ (k : ℕ) where
     abbrev ev : ℕ → Event
     ev m = event_at last k calls m
@@ -169,7 +169,7 @@ module _ (threads : ℕ) (calls : List CallRecord) (history : IsHistory threads 
     abbrev act_of : Placed → Act
     act_of p = act (x_ p.call).begun (until last (x_ p.call)) (does k (x_ p.call).call p.reply)
 
-    -- ---- Lemmas: the events of the key
+    -- ---- Lemmas about the events of the key
     pub begins_told : (v : Event) (m : ℕ) (w : Bool) (u : ℕ) → v ≡ begins w u → Told last k m calls v
         → (b : Begins last k m calls v) × (kind (x_ b.number) ≡ changes w) × (until last (x_ b.number) ≡ u)
     begins_told v m w u e (of_nothing f) = absurd (let g : begins w u ≡ idle = sym e ∙ f in cc)

@@ -14,7 +14,7 @@ use Rattle.lset_judge.specs.Rule.{put_in, take_out, turned_by, open_changes, ope
 use Rattle.lset_judge.specs.Events.{Kind, changes, sees, nothing}
 use Rattle.lset_judge.proofs.RuleLeads.{counts_one, at, Leads, leads_at_first, leads_past, settles, timeline_turns}
 
--- ---- Lemmas: lists
+-- ---- Lemmas about lists
 
 abbrev pub In : {A : Type 0} → A → List A → Type 0
 In a [] = ⊥
@@ -38,7 +38,7 @@ has_tail u x xs h = elim (cases_Bool (x == u)) [ inl e ↦ rw e refl | inr e ↦
 pub has_split : (u x : ℕ) (xs : List ℕ) → has_key u (x ∷ xs) ≡ true → (x ≡ u) ⊎ (has_key u xs ≡ true)
 has_split u x xs h = elim (cases_Bool (x == u)) [ inl e ↦ inl (same_number x u e) | inr e ↦ inr (rw e at h) ]
 
--- ---- Lemmas: a list into which a moment is inserted, or from which one is removed
+-- ---- Lemmas about inserting a moment into a list, and removing one
 pub has_put : (u e : ℕ) (xs : List ℕ) → has_key u (put_in e xs) ≡ has_key u (e ∷ xs)
 has_put u e [] = refl
 has_put u e (x ∷ xs) = elim (cases_Bool (nat_lt e x)) [
@@ -111,7 +111,7 @@ all_late d (x ∷ xs) h =
     let rest = all_late d xs (λ u i. h u (has_tail u x xs i)) in
     omega (arith, o, rest)
 
--- ---- The acts of the calls of one key, in an order
+-- ---- The acts (effects of calls) on one key, in an order
 
 pub record Act : Type 0 where
   pub begun : ℕ
@@ -182,7 +182,7 @@ module _ (ev : ℕ → Event) (last : ℕ) (left : Bool) (are : AreEvents ev) wh
     pub looks_to_come : (j : ℕ) (w : Bool) (i : ℕ) → ev j ≡ looks w i → m < j → j ≤ last
         → In (act i j (sees w)) ys ⊎ ((i ≤ m) × ((s.there ≡ w) ⊎ (i ≤ s.turned)))
 
-  -- ---- Lemmas: the next act of the order takes effect
+  -- ---- Lemmas about the next act of the order, which takes effect
   not_first : (p a : Act) (ys : List Act) → In a (p ∷ ys) → (p ≡ a → ⊥) → In a ys
   not_first p a ys (inl e) n = absurd (n e)
   not_first p a ys (inr i) n = i
@@ -276,7 +276,7 @@ module _ (ev : ℕ → Event) (last : ℕ) (left : Bool) (are : AreEvents ev) wh
       lists false true to r = lists_taken true m ps p ys r.pairs.0 (r.lists true)
       lists false false to r = lists_kept false m ks p ys (λ e. true≢false (changes_apart true false (sym to ∙ e))) (r.lists false)
 
-  -- ---- Lemmas: no act begins before a later moment
+  -- ---- Lemmas about an event before which all acts that began have taken effect
   abbrev Waits : ℕ → List Act → Type 0
   Waits m [] = Unit {0}
   Waits m (p ∷ ys) = m < p.begun
@@ -384,7 +384,7 @@ module _ (ev : ℕ → Event) (last : ℕ) (left : Bool) (are : AreEvents ev) wh
       is_not t i l = grind (arith, nat_tests)
   event_fits m v s ys e low waits r = refl
 
-  -- ---- The timeline compared with the rule: all acts that begin by a moment have taken effect
+  -- ---- The timeline (which says when each change takes effect) compared with the judge's rule
   place : (m : ℕ) (p : Act) (ys : List Act) (g s : State) → p.begun ≤ m → Leads m g s → Ready m s (p ∷ ys) → (k : Kind) → p.does ≡ k
       → (t : State) × Leads m g t × Ready m t ys
   place m p ys g s begun l r (changes w) d =

@@ -83,7 +83,8 @@ impl KeyChanges {
         }
     }
 
-    /// Returns whether each pending `add` that has not taken effect ends later than at the moment after `before`.
+    /// Returns whether each pending `add` of the key that has not taken effect ends later than at the moment after
+    /// `before`.
     pub(crate) fn no_put_is_due(&self, before: u64) -> bool
         ensures { result ≡ (not_before (suc (suc before)) (puts_in self.now) == length (puts_in self.now)) }
     {
@@ -94,7 +95,8 @@ impl KeyChanges {
         }
     }
 
-    /// Returns whether each pending `remove` that has not taken effect ends later than at the moment after `before`.
+    /// Returns whether each pending `remove` of the key that has not taken effect ends later than at the moment after
+    /// `before`.
     pub(crate) fn no_take_is_due(&self, before: u64) -> bool
         ensures { result ≡ (not_before (suc (suc before)) (takes_in self.now) == length (takes_in self.now)) }
     {

@@ -41,7 +41,7 @@ module _ (m : ℕ) (ch : Option Change) (a : Option Reply) where
   abbrev on : ℕ → TracedCall → TracedCall
   on t x = if is_under_way t x then traced_on m ch a x else x
 
-  -- ---- Lemmas: a step of another thread does not change thread u's calls
+  -- ---- A step of another thread does not change the calls of thread u
   step_other : (t u : ℕ) → t ≢ u → (xs : List TracedCall) → of_thread u (map record_of (map (on t) xs)) ≡ of_thread u
       (map record_of xs)
   step_other t u ne [] = refl
@@ -57,7 +57,7 @@ module _ (m : ℕ) (ch : Option Change) (a : Option Reply) where
           (of_thread u (map record_of (map (on t) xs)))) not
           ∙ (ih ∙ sym (ap (λ b. cond b (record_of x ∷ of_thread u (map record_of xs)) (of_thread u (map record_of xs))) not))
 
-  -- ---- Lemmas: a step of thread u changes its pending call or completes it
+  -- ---- A step of thread u changes its pending call, or completes the call
   abbrev ends : CallRecord → CallRecord
   ends x = if is_none x.ended then record x { ended = ended_by m a } else x
 

@@ -31,7 +31,7 @@ use Rattle.lset_live.specs.Explained.{HasMadeAtMost}
 use Rattle.lset_live.specs.Seats.{SeatValue, SetValue}
 use Rattle.lset_words.specs.Records.{thread_of}
 
--- ---- Lemmas: a call that has ended
+-- ---- Lemmas about a call that has ended
 ended_call : (a : Option Reply) (o : Option PendingCall) (l : Local) (n : ℕ) (ds cs : List OwnCall) (x : OwnCall) → Tied o l
     → l.pc ≢ 0 → under_after a o ≡ None → ds ++ ending a o n ≡ cs ++ x ∷ [] → l.call ≡ x.call
 ended_call a None l n ds cs x ti busy idle is = absurd (busy ti)

@@ -311,7 +311,7 @@ module _ (q : ℕ) (s : SetState) (H : List CallRecord) (P : List Placed) (L : L
     pub all_replies : AllByRecursion (λ (p : Placed). answered H p ≡ said (rec_of p)) F
     all_replies = replies
 
--- ---- Lemmas: the position of a call in the order
+-- ---- Lemmas about the position of a call in the order
 abbrev tail_of : List CallRecord → List CallRecord
 tail_of [] = []
 tail_of (x ∷ xs) = xs
@@ -437,7 +437,7 @@ ended_records : (n v : ℕ) (ds : List OwnCall) → AllByRecursion (EndsBefore n
 ended_records n v [] a = tt
 ended_records n v (d ∷ ds) a = (a.0, ended_records n v ds a.1)
 
--- ---- Proof: the order keeps the seat's record
+-- ---- Proof that the order keeps the order of the calls in a seat's record
 module _ (q : ℕ) (s : SetState) (H : List CallRecord) (P : List Placed) (L : Linearizes q s H P)
     (turns : (i j : ℕ) → i < j → j < length H → (call_numbered H i).thread ≡ (call_numbered H j).thread → Precedes (call_numbered H i) (call_numbered H j)) (D : ℕ → List OwnCall) where
   keeps_items : (r : Past) → Apart r → InOrder r → ((u : ℕ) → IsIn u r → of_thread u H ≡ map (ended_record u) (D u)) →

@@ -95,7 +95,7 @@ pub made_explained : (T : Table) (law : Lawful T) → RunsAreLinearizable T → 
     → SeenIsLinearizable T w.shape w.seen (record_of w.past)
 made_explained T law linear c v r w m = explained T law w m.stands m.idle linear
 
--- ---- Lemmas: the number of a call in the history
+-- ---- Lemmas about the number of a call in the history
 abbrev head_of : CallRecord → List CallRecord → CallRecord
 head_of d [] = d
 head_of d (x ∷ xs) = x
@@ -154,7 +154,7 @@ module _ (T : Table) (law : Lawful T) (c : Call) (v : View) (r : Reply) (w : Vie
     })) m.before.1;
   }
 
--- ---- Proof: what a call does to the view of its seat implies the contract of the call
+-- ---- Proof of the contract of a call from what the call does to the view of its seat
 abbrev pub seat_at : TableSeat → SeatValue
 seat_at s = record {
   set = record { table = s.table_id; shape = s.me.0.shape };

@@ -137,7 +137,7 @@ module _ (m : Table) (b : Begun) where
   leads_had word thread s0 n s' lk zero seat g =
       leads_then word thread s0 s0 n s' lk zero (itself lk.held s0 lk.holds) seat g
 
--- ---- Lemmas: the first step of a call
+-- ---- Lemmas about the first step of a call
 begun_is : (m : Table) → Lawful m → (b : Begun) (own : OwnSlots) (l : Local) → own ≡ slots_of l → m.begin b.call l ≡ first m b own
 begun_is m law b own l same = (law.begins b.call l).alike ∙ ap (λ s. m.begin b.call (resting s)) (sym same)
 
@@ -189,7 +189,8 @@ first_tried m law b own s n s' c same may seat starts again ne =
 pub moved : {m : Table} {b : Begun} {l l' : Local} {s : TableSeat} → Holds m b l s → l ≡ l' → Holds m b l' s
 moved h same = record { words = h.words; used = h.used; seat = h.seat; mid = h.mid; stands = h.stands; local = h.local ∙ same }
 
--- `moved`, if the node in the register curr (in `to_pred`: pred) is the one in a variable of the loop.
+-- Replaces the number of the current node in the registers (in `to_pred`: of the previous node) by an equal number that
+-- the loop has in a variable.
 pub to_curr : {m : Table} {b : Begun} {d : Call} {own : OwnSlots} {pc p x x' : ℕ} {r : Option Reply} {j : Rest} {s : TableSeat}
     → x' ≡ x → Holds m b (row own d pc r p x j) s → Holds m b (row own d pc r p x' j) s
 to_curr {d = d} {own = own} {pc = pc} {p = p} {r = r} {j = j} is h = moved h (ap (λ i. row own d pc r p i j) (sym is))
@@ -222,7 +223,7 @@ stores {m = m} {b = b} {s = s} {word = word} {more = more} h is all =
 abbrev pub no_rest : Rest
 no_rest = record { succ = 0; node = 0; pkey = 0; ckey = 0 }
 
--- ---- Lemmas: a whole call that began from seat s
+-- ---- Lemmas about a whole call that began from seat s
 module _ (c : Call) (b : Begun) (s : TableSeat) (began : b ≡ begun_at c s) where
   pub may_begin : {m : Table} {z : TableId} {k : Opening} {own : OwnSlots} → MayCall m z k own s → MayBegin m b own s
   may_begin may = rw began record {

@@ -59,7 +59,7 @@ fn act<P: Pause>(
 /// Makes a whole call on a CoarseList: takes the list's lock, walks to the key, acts there, and releases the lock. This
 /// is Herlihy and Shavit's coarse-grained list.
 ///
-/// Returns `None` if one of its loops has made `N::MOST` rounds. The call is then still pending.
+/// Returns `None` if a loop of the call has made `N::MOST` rounds. The call is then still pending.
 pub fn coarse_within<P: Pause, N: Rounds>(
     table: &Words<CoarseList>,
     place: &mut TableSeat,

@@ -62,7 +62,7 @@ fn act<P: Pause>(
 /// Makes a whole call on a FineList: walks to the key, locking each node before it releases the previous one, acts
 /// there, and releases both locks. This is Herlihy and Shavit's fine-grained list.
 ///
-/// Returns `None` if one of its loops has made `N::MOST` rounds. The call is then still pending.
+/// Returns `None` if a loop of the call has made `N::MOST` rounds. The call is then still pending.
 pub fn fine_within<P: Pause, N: Rounds>(
     table: &Words<FineList>,
     place: &mut TableSeat,

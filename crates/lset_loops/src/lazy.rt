@@ -89,7 +89,7 @@ fn act<P: Pause>(
 /// that they are still neighbours in the list. If they are, acts and releases them; otherwise releases them and starts
 /// over. This is Herlihy and Shavit's lazy list, after Heller and others.
 ///
-/// Returns `None` if one of its loops has made `N::MOST` rounds. The call is then still pending.
+/// Returns `None` if a loop of the call has made `N::MOST` rounds. The call is then still pending.
 pub fn lazy_change_within<P: Pause, N: Rounds>(
     table: &Words<LazyList>,
     place: &mut TableSeat,

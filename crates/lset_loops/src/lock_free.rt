@@ -87,7 +87,7 @@ fn attempt<P: Pause>(
 /// and a `remove` marks the node and attempts once to unlink it. Starts over if a link has changed since the walk. This
 /// is Herlihy and Shavit's lock-free list.
 ///
-/// Returns `None` if one of its loops has made `N::MOST` rounds. The call is then still pending.
+/// Returns `None` if a loop of the call has made `N::MOST` rounds. The call is then still pending.
 pub fn lock_free_change_within<P: Pause, N: Rounds>(
     table: &Words<LockFreeList>,
     place: &mut TableSeat,

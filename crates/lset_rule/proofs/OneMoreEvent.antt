@@ -77,7 +77,7 @@ done_agree f g t (suc k) h = ap (λ e. done_next (suc k) e t (under_at g t k) (d
     ∙ (ap (λ u. done_next (suc k) (f k) t u (done_at g t k)) (under_agree f g t k (λ j l. h j (omega arith)))
     ∙ ap (λ d. done_next (suc k) (f k) t (under_at f t k) d) (done_agree f g t k (λ j l. h j (omega arith))))
 
--- ---- Lemmas: the state of thread t after event k of a run
+-- ---- Lemmas about the state of a thread after one more event of a run
 module _ (T : Table) (op : Opening) (es : ℕ → Event) (k t : ℕ) where
   at_begin : (c : Call) → es k ≡ Begin t c → t < length (state_at T op es k).locals
       → here_at T op es t (suc k) ≡ begins T (here_at T op es t k) c (suc k)
@@ -191,7 +191,7 @@ module _ (T : Table) (law : Lawful T) (op : Opening) (es : ℕ → Event) (last 
       (omega arith))
   tied t (suc k) th l = tied_by t k th (omega arith) (es k) refl (tied t k th (omega arith))
 
--- ---- Lemmas: events of a list that is extended
+-- ---- Lemmas about a list of events to which events are appended
 event_before : (es : List Event) (e : Event) (j : ℕ) → j < length es → event_at (es ++ e ∷ []) j ≡ event_at es j
 event_before [] e j h = absurd (omega arith)
 event_before (x ∷ es) e zero h = refl

@@ -38,7 +38,7 @@ GatheredBefore n (Fresh t) = Unit {0}
 GatheredBefore n (Called' p r c) = GatheredBefore n r
 GatheredBefore n (Gathered' p r q g) = GatheredBefore n r × Before n g
 
--- States that each own call of a record began after all calls of the records that were gathered before it.
+-- States that each own call of a record began after all calls of the records that were gathered before this call.
 abbrev pub InOrder : Past → Type 0
 InOrder (Fresh t) = Unit {0}
 InOrder (Called' p r c) = InOrder r × GatheredBefore c.begun r

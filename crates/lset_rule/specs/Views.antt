@@ -42,7 +42,7 @@ pub record Stands (m : Table) (v : View) : Type 0 where
   pub of_thread : root v.past ≡ v.thread
   pub apart : Apart v.past
   pub named : (u : ℕ) → IsIn u v.past → HasThread v u
-  -- Each own call began after all calls of the records that were gathered before it.
+  -- Each call of the seat itself began after all calls of the records that were gathered before this call.
   pub ordered : InOrder v.past
   -- All calls in the record have ended, and ended before the pending call began.
   pub ended : Before (length v.seen + 1) v.past

@@ -32,7 +32,7 @@ use Rattle.lset_text.specs.Texts.{text_from}
 use Rattle.lset_schedule.specs.ScheduleReading.{EventLines, BodyValue, no_lines, Item, opens, event, opening_kind, kinds_after}
 use Rattle.lset_schedule.specs.ScheduleReading.{with_item, with_line, grammar, texts}
 
--- ---- Lemmas: a text with one more line
+-- ---- Lemmas about a text with one more line
 
 room_for_key : {L : Type 0} (b c : Bool) (s t : BodyValue L)
     → cond b (cond c (Ok s) (Err Opening)) (Err TooMany) ≡ Ok t → (b ≡ true) × (c ≡ true) × (s ≡ t)
@@ -73,7 +73,7 @@ module _ {L : Type 0} (text : EventLines L) (v : Version) (title : List ℕ) (pi
   abbrev text_lines : BodyValue L → List (List ℕ)
   text_lines s = header_lines title s.header ++ body_lines s
 
-  -- ---- Lemmas: the patterns of the next line
+  -- ---- Lemmas about the patterns that the next line can have
 
   events_known : AllByRecursion (Knows v item_pieces IsItem) (map (kind_as event) text.kinds)
   events_known = knows_as event v pieces item_pieces (λ l. refl) Good IsItem (λ l good. good) text.kinds known
@@ -105,7 +105,7 @@ module _ {L : Type 0} (text : EventLines L) (v : Version) (title : List ℕ) (pi
   none_above Two (l ∷ ls) ps k is =
       absurd (no_key (first_of v Event text.kinds ps) k (sym (first_as event v Event text.kinds ps) ∙ is))
 
-  -- ---- Lemmas: a single line
+  -- ---- Lemmas about a single line
 
   -- States that reading the line x changes the content from s to t, that t can be written, and that its text is the
   -- text of s and x.
@@ -171,7 +171,7 @@ module _ {L : Type 0} (text : EventLines L) (v : Version) (title : List ℕ) (pi
         line_found_lacks v Event item_pieces IsItem kinds x i.0 known i.1,
       )
 
-  -- ---- Proof: a text that was written can be read
+  -- ---- Proof that a text that was written can be read
 
   event_step : (s : BodyValue L) (l : L) → Good l → sum_by text.count s.lines + text.count l ≤ MOST_EVENTS
       → with_line text v s (line_text l) ≡ Ok (record s { lines = s.lines ++ l ∷ [] })

@@ -20,7 +20,7 @@ use Rattle.lset_text.specs.declared.causes.Cause.{Cause}
 use Rattle.lset_text.specs.declared.causes.Cause.TheVariants.{Event, Number, Memory}
 use Rattle.lset_schedule.specs.ScheduleReading.{EventLines, BodyValue, Item, opens, event, kinds_after, with_item, with_line}
 
--- ---- Lemmas: lines before the first event line, in version 2
+-- ---- Lemmas about the lines before the first event line, in version 2
 
 number_told : {L : Type 0} (o : Option ℕ) → (let word : Option (Unit {0}) = Some tt in
     made {Y = Item L} (λ t. opens t.1.0) (or_fail Number (both word (both o word)))) ≡ made opens (or_fail Number o)
@@ -43,7 +43,7 @@ not_due text One ls line not = first_as event One Event text.kinds (cut_at 32 li
 not_due text Two [] line not = absurd (not refl refl)
 not_due text Two (l ∷ ls) line not = first_as event Two Event text.kinds (cut_at 32 line)
 
--- ---- Proof: no check of a line returns `Memory`
+-- ---- No check of a line returns `Memory`
 
 either_fails : {A : Type 0} (b : Bool) (r s : Result A Cause) → (r ≡ Err Memory → ⊥) → (s ≡ Err Memory → ⊥)
     → cond b r s ≡ Err Memory → ⊥

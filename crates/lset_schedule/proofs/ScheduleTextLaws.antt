@@ -30,7 +30,7 @@ use Rattle.lset_schedule.specs.ScheduleReading.{begin_kind, events, schedules, p
 use Rattle.lset_text.proofs.TextLaws.{version_again}
 use Rattle.lset_schedule.proofs.BodyLaws.{body_found, body_again}
 
--- ---- Lemmas: the patterns of event lines
+-- ---- Lemmas about the patterns of event lines
 
 begun : (v : Version) (n : ℕ) (w : CallWord) (k : Key) → n < 2 ^ 32 → k.0 < 2 ^ 32 → HasWord v w
     → (spell begin_kind.0 (tt, (n, (w, (k.0, tt)))) ≡ pieces_of (Begin n (with_key w k))) × IsLine v (Begin n (with_key w k))
@@ -85,7 +85,7 @@ reads_text p is =
     let parts : List (List ℕ) = header_lines (title v) (header_in p) ++ rest in
     ap plan_of again.0 ∙ ap (λ w. plan_in w parts) (version_again schedules refl v (header_in p) rest) ∙ rw again.1 refl
 
--- ---- Proof: the contract of a reader follows
+-- ---- Proof of the contract of a function that reads a schedule
 
 is_memory : (c : Cause) → (c ≢ Memory → ⊥) → c ≡ Memory
 is_memory Memory h = refl

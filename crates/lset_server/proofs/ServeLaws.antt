@@ -18,7 +18,7 @@ use Rattle.lset_server.specs.Serving.{followed, HasGathered}
 use Rattle.lset_server.specs.Workers.{HasWorked, HaveWorked}
 use Rattle.lset_server.proofs.BalanceKept.{weigh-append}
 
--- ---- Lemmas: a single worker
+-- ---- Lemmas about a single worker thread
 
 pub worked_more : (s s1 s2 : SeatValue) (v v' : Tally) (n m k number : ℕ) → HasWorked s s1 v n m
     → v' ≡ tally v.parts v.sent (v.received ++ number ∷ []) → s2.held ≡ s1.held
@@ -33,7 +33,7 @@ worked_more s s1 s2 v v' n m k number b e same (more, recorded, count) = record 
   held = same ∙ b.held;
 }
 
--- ---- Lemmas: the sender of connections
+-- ---- Lemmas about the thread that sends connections to the workers
 
 length-numbers : (n : ℕ) → length (numbers_below n) ≡ n
 length-numbers zero = refl
@@ -47,7 +47,7 @@ part_more v u u' n m e f more =
     let parts : (v.parts - n) - 1 ≡ v.parts - m = omega (arith, more) in
     f ∙ ap (λ (x : Tally). tally (x.parts - 1) x.sent x.received) e ∙ ap (λ p. tally p v.sent v.received) parts
 
--- ---- Lemmas: starting and joining the workers
+-- ---- Lemmas about starting and joining the workers
 
 followed_more : (rs : List Record) (css : List (List CallMade)) (r : Record) (cs : List CallMade) → length css ≡ length rs
     → followed (rs ++ r ∷ []) (css ++ cs ∷ []) ≡ followed rs css ++ with_calls r cs ∷ []
@@ -130,7 +130,7 @@ bound_next' s d most n n' total h e small =
     let full : s + MOST_LINES * (most * (n' + 1)) ≤ total = subst (λ x. s + MOST_LINES * (most * x) ≤ total) e h in
     omega (arith, full, small)
 
--- ---- Lemmas: the whole server
+-- ---- Lemmas about the whole server
 
 pub as_many : {H T : Type 0} (seat_of : H → T) (hs : List H) (ss : List T) → map seat_of hs ≡ ss → length hs ≡ length ss
 as_many seat_of hs ss e = sym (length-map hs seat_of) ∙ ap (λ l. length l) e

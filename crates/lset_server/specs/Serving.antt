@@ -13,8 +13,8 @@ followed [] more = []
 followed (r ∷ rs) [] = r ∷ rs
 followed (r ∷ rs) (cs ∷ more) = with_calls r cs ∷ followed rs more
 
--- Some legal order of exactly the calls in these records and `calls` more keeps the order of the records and leaves
--- these keys. The calls that follow a record were made by the record's own thread.
+-- Some legal order has exactly the calls in these records and `calls` more. It keeps the order of each record, and
+-- leaves these keys. The calls that follow a record were made by the record's own thread.
 pub record IsServed (k : Opening) (records : List Record) (calls : ℕ) (keys : List ℕ) : Type 0 where
   pub added : List (List CallMade)
   pub each : length added ≡ length records

@@ -26,7 +26,7 @@ use Rattle.lset_session.specs.Sessions.{Wrote, text_end, IsSession}
 use Rattle.lset_session.specs.SessionSoFar.{WroteSoFar, IsLast, Told, Heard, IsTalk, pending_of, counted, ending}
 use Rattle.lset_session.specs.declared.sessions.Talk.{Talk}
 
--- ---- Lemmas: a text to which bytes are appended
+-- ---- Lemmas about a text to which bytes are appended
 
 -- If q has no newline, it is part of the first line of q and the bytes after it.
 cut_more : (q x : List ℕ) (xs : List (List ℕ)) (more : List ℕ) → cut_at 10 more ≡ x ∷ xs → Lacks 10 q
@@ -70,7 +70,7 @@ turns_rest left p lacks short =
     let one = slice_split_none (λ b. eqb b 10) p lacks in
     rw (append-nil p, one, few) refl
 
--- ---- Lemmas: the turn of a line
+-- ---- Lemmas about the turn of a line: the line's request, or the reason why the session ends
 
 pub turns_quit : (left : ℕ) (e : Exchange) (q : Request) (later : List Turn) → turn_of e ≡ line q → q ≡ request.Quit
     → turns_after left q later ≡ turn_of e ∷ []
@@ -101,7 +101,7 @@ counted_is (made c) q h = absurd cc
 counted_is e (request.Call d) h = absurd cc
 counted_is e q h = refl
 
--- ---- Lemmas: the bytes that the session has processed
+-- ---- Lemmas about the bytes that the session has processed
 
 -- At the end of a session, the last line was written, or the reason is WriteFault.
 told_last : (left left' : ℕ) (bytes p' : List ℕ) (talk : List Exchange) (why : EndReason) (whole : Bool) → IsLast why
@@ -211,7 +211,7 @@ module _ (t : Talk) (talk : IsTalk t) (left' : ℕ) (p' : List ℕ) (r r' : Reco
     count = one_count;
   }
 
--- ---- Lemmas: one line is processed after another
+-- ---- Lemmas about processing one line after another
 
 end_append : (ts us : List Turn) → end_of ts ≡ why.End → end_of (ts ++ us) ≡ end_of us
 end_append [] us h = refl
@@ -277,7 +277,7 @@ heard_then l l' l'' p p' p'' cs o r r' r'' w w' w'' n n' n'' h k = record {
     calls = ap (λ (l : List CallMade). length l) (flat_map-append call_of h.talk k.talk)
         ∙ length-append (calls_in h.talk) (calls_in k.talk)
 
--- ---- Lemmas: the bytes of a single read
+-- ---- Lemmas about processing the bytes of a single read
 
 -- The session has processed i bytes of a read, and processes one more.
 pub heard_byte : (l l' l'' : ℕ) (p p' p'' xs : List ℕ) (i : ℕ) (o : Option EndReason) (r r' r'' : Record) (w w' w'' : Option (List ℕ))
@@ -312,7 +312,7 @@ heard_rest l l' p p' xs i end r r' w w' n n' h = record {
     regrouped more = ap (λ t. (p ++ t) ++ more) (sym (take-append-drop i xs))
         ∙ ap (λ t. t ++ more) (sym (append_assoc p (take i xs) (drop i xs))) ∙ append_assoc (p ++ take i xs) (drop i xs) more
 
--- ---- Lemmas: the end of the input
+-- ---- Lemmas about the end of the input
 
 -- If the input ends and no line has ended the session, its last bytes cause no turn.
 pub spoken_rest : (end : EndReason) (bytes : List ℕ) (t : Talk) (r r' : Record) (s s' w w' : Option (List ℕ)) → IsTalk t

@@ -18,7 +18,7 @@ use Rattle.lset_words.proofs.RecordLaws.{with_calls-append}
 use Rattle.lset_live.proofs.Receipts.{starts_on}
 use Rattle.lset_live.proofs.GatheredRecords.{gather_more}
 
--- ---- Lemmas: one more call of a program
+-- ---- Lemmas about one more call of a program
 
 made-append : (cs : List Call) (ys : List Reply) (c : Call) (a : Reply) → length cs ≡ length ys
     → made (cs ++ c ∷ []) (ys ++ a ∷ []) ≡ made cs ys ++ record { call = c; reply = a } ∷ []
@@ -48,7 +48,7 @@ pub call_at : (r r1 r2 : Record) (cs : List Call) (ys ys' : List Reply) (i : ℕ
 call_at r r1 r2 cs ys ys' i d a lt each more before now =
     call_more r r1 r2 cs ys ys' i (get_or cs i d) a lt (get_or_default cs i d (get_or cs i d) lt) each more before now
 
--- ---- Lemmas: one more thread is joined
+-- ---- Lemmas about joining one more thread
 
 worked-append : (rs : List Record) (ps : List (List Call)) (ys : List (List Reply)) (r : Record) (p : List Call) (y : List Reply)
     → length ps ≡ length rs → length ys ≡ length rs
@@ -154,7 +154,7 @@ pub run_of : (set : SetValue) (seats seats' : List SeatValue) (programs programs
 run_of set seats seats' programs programs' last replies e f h =
     subst (λ l. HaveRun set seats' l last replies) f (subst (λ l. HaveRun set l programs last replies) e h)
 
--- ---- Lemmas: causes of an error other than `Programs`
+-- ---- Lemmas about the causes of an error other than `Programs`
 
 pub memory_refuses : (F : Type 0) → F → (Memory ≡ Programs → ¬ F) × (¬ F → Memory ≡ Programs)
 memory_refuses F f = ((λ e. absurd cc), λ n. absurd (n f))
