@@ -137,7 +137,7 @@ module _ (threads : ℕ) (opening : List ℕ) (calls : List CallRecord) (s : Str
   long : length more ≡ length calls + 1
   long = length-append calls (x ∷ [])
 
-  -- A pending call does not end at the end of the call that begins.
+  -- No earlier call that is pending ends at the moment at which the new call ends.
   ends_apart : (k : ℕ) (d : Pending) → k < length s.pending → (get_or s.pending k d).end ≢ (pending_of x).end
   ends_apart k d low z = elim (none_or_some x.ended) [
     | inr e ↦ (
@@ -166,7 +166,7 @@ module _ (threads : ℕ) (opening : List ℕ) (calls : List CallRecord) (s : Str
     | inl none ↦ (let v : (pending_of x).end ≡ behind_all + x.begun = ap (until_if behind_all x.begun) none in omega (arith, v))
   ]
 
-  -- No pending call ends at the end of the call that begins.
+  -- No pending call ends at the moment at which the new call ends.
   pub begins_apart : All (λ (p : Pending). p.end ≢ (pending_of x).end) s.pending
   begins_apart k d low = ends_apart k d low
 

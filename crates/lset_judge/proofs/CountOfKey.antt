@@ -124,7 +124,7 @@ record Due (b left : Bool) (o c : Option ℕ) (us zs : List ℕ) (ys : List Act)
   back : (a : Act) → In a ys → a.does ≡ changes (not b) → Earlier o us ys a → Later c us ys a → has_key a.until zs ≡ true
 
 module _ (b left : Bool) (c : Option ℕ) where
-  -- The facts `Due` about the remaining acts, after the first act.
+  -- `Due` is true of the remaining acts after the first act was removed.
   due_on : (o p : Option ℕ) (us zs : List ℕ) (a : Act) (ys : List Act) → (p ≡ None → (has_key a.until us ≡ true) ⊎ (o ≡ None))
       → AllByRecursion (Apart a) ys → Due b left o c us zs (a ∷ ys) → Due b left p c (take_out a.until us) (take_out a.until zs) ys
   due_on o p us zs a ys from apart d = record {

@@ -27,7 +27,7 @@ use Rattle.lset_judge.proofs.EventLemmas.{kind, until, begun_below, end_below, B
 use Rattle.lset_history.proofs.Keys.{has_with, has_with_other, has_without, has_without_other}
 use Rattle.lset_judge.proofs.TimelineOfKey.{In, Act, act, suits, becomes, TakeTurns, Apart, IsAct, AreEvents, Lists, Ready, succeeds, one_of}
 
--- ---- The effect of a call with its reply on a key
+-- ---- The effect that a call with its reply has on a key
 
 abbrev pub does : ℕ → Call → Reply → Kind
 does k c r = if (key_of c).0 == k then kind_of c r else nothing

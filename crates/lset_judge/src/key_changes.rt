@@ -39,9 +39,9 @@ pub(crate) enum Held {
 /// not taken effect. A change without an end counts as ending after all moments.
 #[derive(Drop)]
 pub(crate) struct KeyChanges {
-    /// A moment by which all `add`s of the key that have begun and can take effect end.
+    /// A moment by which every `add` of the key ends that has begun and returned true or is pending.
     pub(crate) puts_until: u64,
-    /// A moment by which all `remove`s of the key that have begun and can take effect end.
+    /// A moment by which every `remove` of the key ends that has begun and returned true or is pending.
     pub(crate) takes_until: u64,
     held: Held,
 }
@@ -61,7 +61,7 @@ impl KeyChanges {
         }
     }
 
-    /// Returns whether the key has no pending `add` that has not taken effect yet.
+    /// Returns whether all pending `add`s of the key have taken effect.
     pub(crate) fn has_no_put(&self) -> bool
         ensures { result ≡ (length (puts_in self.now) == 0) }
     {
@@ -72,7 +72,7 @@ impl KeyChanges {
         }
     }
 
-    /// Returns whether the key has no pending `remove` that has not taken effect yet.
+    /// Returns whether all pending `remove`s of the key have taken effect.
     pub(crate) fn has_no_take(&self) -> bool
         ensures { result ≡ (length (takes_in self.now) == 0) }
     {

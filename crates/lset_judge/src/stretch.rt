@@ -15,9 +15,9 @@ pub(crate) struct Stretch {
     from: u64,
     /// The changes in the stretch have ended by this moment.
     upto: u64,
-    /// A call before the changes that saw the key in the state `was`.
+    /// A call that saw the key in the state `was`, and comes before the changes.
     pub(crate) first: Option<StreamCall>,
-    /// A call after the changes that saw the key in the other state.
+    /// A call that saw the key in the other state, and comes after the changes.
     pub(crate) last: Option<StreamCall>,
     /// The start of the stretch. `None` if the key had the state `was` at the opening, which counts as a call.
     pub(crate) since: Option<u64>,
@@ -253,7 +253,7 @@ impl Pass {
     }
 }
 
-/// Returns the smallest stretch whose changes leave the key in one state, or the best one so far.
+/// Returns the smallest stretch whose changes leave the key in the state `was`, or `best` if that one is smaller.
 fn smaller_stretch(
     alloc: Global,
     calls: &[StreamCall],

@@ -10,7 +10,7 @@ use Rattle.lset_rule.proofs.RecordsOfRuns as dated
 use Rattle.lset_words.specs.Records.{HasOwnCalls, Names, NamesGathered, thread_of, own_calls, calls_by, placed_by}
 use Rattle.lset_live.specs.Dated.{call_of, record_of}
 
--- Returns a completed call of thread u as a position of an order.
+-- Returns a completed call of thread u as an element of an order.
 abbrev pub said_by : ℕ → OwnCall → Answered
 said_by u c = placed_by u (call_of c)
 

@@ -63,8 +63,8 @@ abbrev pub reply_of : Bool → Reply
 reply_of true = True
 reply_of false = False
 
--- Returns the record after the records of the list are gathered into the given record, one after another. Without a
--- given record, the first of the list is it.
+-- Returns the record after the records of the list are gathered into the given record, one after another. If no record
+-- is given, the first of the list takes its place.
 abbrev pub gather_onto : Option Record → List Record → Option Record
 gather_onto r [] = r
 gather_onto None (g ∷ gs) = gather_onto (Some g) gs

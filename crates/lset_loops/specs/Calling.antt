@@ -148,7 +148,7 @@ done t PutIn l = goes_to t.adds None l
 done t TakeOut l = goes_to t.removes None l
 done t (Answer r) l = goes_to t.leaves (Some r) l
 
--- States that the step table, too, makes decision d for call c if the walk has stopped at the key `word`.
+-- States that the step table also makes decision d for call c when the walk has stopped at the key `word`.
 abbrev pub Decides : Call → OwnSlots → ℕ → Decision → Type 0
 Decides c own word d = (t : Targets) (l : Local) → l.call ≡ c → l.used ≡ own.used → l.quota ≡ own.quota →
     decided_on t word l ≡ done t d l

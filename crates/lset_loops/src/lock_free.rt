@@ -83,9 +83,9 @@ fn attempt<P: Pause>(
     }
 }
 
-/// Makes a whole `add` or `remove` on a LockFreeList. Walks to the key. Then an `add` links in the thread's next slot,
-/// and a `remove` marks the node and attempts once to unlink it. Starts over if a link has changed since the walk. This
-/// is Herlihy and Shavit's lock-free list.
+/// Makes a whole `add` or `remove` on a LockFreeList. Walks to the key. Then an `add` links in the thread's next slot
+/// (an unused node), and a `remove` marks the node and attempts once to unlink it. Starts over if a link has changed
+/// since the walk. This is Herlihy and Shavit's lock-free list.
 ///
 /// Returns `None` if a loop of the call has made `N::MOST` rounds. The call is then still pending.
 pub fn lock_free_change_within<P: Pause, N: Rounds>(

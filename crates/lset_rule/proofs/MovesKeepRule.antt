@@ -1,4 +1,5 @@
--- Proof: a step of a call, and the begin of a call, preserve the rule.
+-- Proof: a step of a call, and the begin of a call, preserve the rule (the invariant of the shared words and all
+-- seats).
 use Rattle.std.proofs.Common.{◌≡◌, ◌≢◌, inl, inr, ℕ, ◌+◌, ◌<◌, ◌≤◌, false, List, [], ◌∷◌, ◌++◌, length, set, slice_index}
 use Rattle.std.proofs.Common.{slice_set, Option, Some, None, refl, sym, ap, ◌∙◌, subst, arith, append-nil, append_assoc, length-append}
 use mathlib.Core.Option.{some}
@@ -155,7 +156,8 @@ module _ (m : Table) where
       pub is_at : IsAt m v.shape h.log v.thread v.local
       is_at = (record { run = h.ran; thread = small; open_call = busy }, local_stood)
 
-      -- The call of view v makes the step of its current row, and the rule still holds.
+      -- The call of view v makes the step of its current row. The rule (the invariant of the shared words and all
+      -- seats) still holds.
       pub steps : let a = m.next v.local in
           let n = slice_index s.words (word_named a) in
           let w = gone_view m h.log (found a n) v in
@@ -218,8 +220,8 @@ module _ (m : Table) where
 abbrev pub M : Type 0
 M = Me (Unit {0}) View
 
--- An access that the step table demands at the current row of a seat's call preserves the rule, whether it is a load, a
--- store or an exchange.
+-- An access that the step table demands at the current row of a seat's call preserves the rule (the invariant of the
+-- shared words and all seats), whether it is a load, a store or an exchange.
 pub goes_on : (m : Table) (law : Lawful m) (slots id : ℕ) (me : M) (k : Opening) (a : Action) → a ≡ m.next me.0.local →
     me.0.shape ≡ k → IsOpen me.0
     → Allows (Holds m k) slots id me (word_named a) (left a) (λ n me'. Goes m me.0 (found a n) me'.0 × (me'.1 ≡ me.1))
@@ -234,7 +236,8 @@ goes_on m law slots id me k a acts shape is_open = let v : View = me.0 in
       (r.0, refl),
     ))
 
--- The access that the step table demands at the first row of a call preserves the rule. The call begins with it.
+-- The access that the step table demands at the first row of a call preserves the rule (the invariant of the shared
+-- words and all seats). The call begins with this access.
 pub goes_first : (m : Table) (law : Lawful m) (slots id : ℕ) (me : M) (k : Opening) (c : Call) → target c < tail_word →
     (a : Action) → a ≡ m.next (m.begin c me.0.local) → me.0.shape ≡ k → IsIdle me.0
     → Allows (Holds m k) slots id me (word_named a) (left a) (λ n me'. Starts m c me.0 (found a n) me'.0 × (me'.1 ≡ me.1))

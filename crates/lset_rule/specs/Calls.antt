@@ -51,8 +51,8 @@ Starts m c v n w = (log : List Event) × (on : StartsWith log v.seen) × Sees m 
     × (let b = begun_view m log c v in w ≡ gone_view m b.seen n b) × Stands m w
     × (let b = begun_view m log c v in seen_next m (end_of m v.shape b.seen) v.thread ≡ n)
 
--- `Goes` and `Starts` in the form that the kit's accesses require. The last part states that the seat holds the same
--- cells of the kit's table as before (none).
+-- `Goes` and `Starts` in the form that accesses of the shared words (`atomic_table`) require. The last part states that
+-- the seat holds the same cells of the table as before (none).
 abbrev pub onward : Table → Step (Unit {0}) → Me (Unit {0}) View → ℕ → Me (Unit {0}) View → Type 0
 onward m st me n me' = Goes m me.0 n me'.0 × (me'.1 ≡ me.1)
 

@@ -20,7 +20,7 @@ TableSeat = Seat (Unit {0}) View
 abbrev pub IsOf : TableId → Opening → TableSeat → Type 0
 IsOf z k s = (s.table_id ≡ z) × (s.me.0.shape ≡ k) × (z.words ≡ word_count (sizes k))
 
--- States that s and s' are the same seat, at two moments: its view can differ.
+-- States that s and s' are the same seat at two moments. Its view can differ.
 abbrev pub IsSeat : TableSeat → TableSeat → Type 0
 IsSeat s s' = (s'.table_id ≡ s.table_id) × (s'.id ≡ s.id) × (s'.me.1 ≡ s.me.1)
 

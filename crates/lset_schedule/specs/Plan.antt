@@ -26,7 +26,7 @@ pub record Plan : Type 0 where
   pub opening : List ℕ
   pub lines : List Line
 
--- Returns the schedule of this version, with these parts of its text.
+-- Returns a schedule with this version, header, opening keys and lines.
 abbrev pub planned : Version → Header → List ℕ → List Line → Plan
 planned v h keys lines = record {
   version = v;
@@ -98,7 +98,7 @@ HasCallOfLine version (Go thread steps) = Unit {0}
 abbrev pub HasCallsOfVersion : Plan → Type 0
 HasCallsOfVersion p = AllByRecursion (HasCallOfLine p.version) p.lines
 
--- States that a schedule can be written in its version: the version has its calls, and opening keys if it has any.
--- `IsSchedule` implies this (see proofs/VersionLaws.antt).
+-- States that a schedule can be written in its version: the version has all calls of the schedule, and has opening keys
+-- if the schedule has any. `IsSchedule` implies this (see proofs/VersionLaws.antt).
 abbrev pub HasWordsOfVersion : Plan → Type 0
 HasWordsOfVersion p = HasOpening p.version p.opening × HasCallsOfVersion p

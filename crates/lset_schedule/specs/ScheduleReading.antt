@@ -28,7 +28,7 @@ use Rattle.lset_schedule.specs.Plan.{Plan, planned, IsSchedule, title, schedule_
 
 -- ---- Reading the lines after the header: opening keys, then event lines
 
--- The patterns of the event lines of a kind of text, and the number of events that a line counts as.
+-- A kind of text with event lines: the patterns of these lines, and the number of events that each line counts as.
 pub record EventLines (L : Type 0) : Type 0 where
   pub kinds : List (LineKind L)
   pub count : L → ℕ
@@ -114,7 +114,8 @@ SchedulesReadBack = (p : Plan) (bytes : List ℕ)
     → (IsSchedule p → reading (schedule_text p) ≡ Ok p)
     × (reading bytes ≡ Ok p → IsSchedule p × (bytes ≡ schedule_text p))
 
--- States that a function returned the result `read` (seen through `view` if it is a value), or failed to allocate.
+-- States that a function returned the result `read`, or failed to allocate. `view` maps a value of the function to the
+-- value in `read`.
 abbrev pub Gives : {X Y : Type 0} → (X → Y) → Result X LineFault → Result Y LineFault → Type 0
 Gives view (Ok x) read = read ≡ Ok (view x)
 Gives view (Err e) read = e.cause ≢ Memory → read ≡ Err e

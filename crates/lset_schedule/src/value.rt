@@ -51,7 +51,7 @@ pub struct Schedule {
 }
 
 impl Schedule {
-    /// Returns the schedule of this version, with these parts of its text.
+    /// Returns a schedule with this version, header, opening keys and lines.
     pub(crate) fn of_header(
         version: Version,
         header: Header,
