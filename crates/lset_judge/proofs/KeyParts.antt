@@ -25,7 +25,7 @@ use Rattle.lset_judge.proofs.StatesAfter.{left_alike, idle_key}
 use Rattle.lset_judge.proofs.RuleDecides.{explained}
 use Rattle.lset_judge.proofs.TimelineFromOrder.{rule_refutes}
 
--- ---- A key has the same events among all calls and among the calls of a part
+-- ---- A key has the same events in the calls of its part as in all calls
 
 keys_by : (part : ℕ → ℕ) (i k : ℕ) (b : Bool) → ((j : ℕ) → (j == k) ≡ true → (part j == i) ≡ b) → (xs : List ℕ)
     → has_key k (keys_in part i xs) ≡ (b && has_key k xs)

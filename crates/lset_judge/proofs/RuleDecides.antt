@@ -72,7 +72,7 @@ added_push : (t : ℕ) (xs : List Answered) (a : Answered) → added t (xs ++ a 
 added_push t [] a = omega arith
 added_push t (x ∷ xs) a = let rest = added_push t xs a in omega (arith, rest)
 
--- ---- The sum of a number over distinct calls is at most its sum over all calls
+-- ---- If each call has a weight, distinct calls weigh at most as much as all calls
 
 abbrev tally : (CallRecord → ℕ) → List CallRecord → List Placed → ℕ
 tally f calls [] = 0

@@ -99,8 +99,8 @@ once b = if b then 1 else 0
 abbrev pub at : Bool → ℕ → List ℕ → List ℕ → State
 at b t ps ks = record { there = b; turned = t; puts = ps; takes = ks }
 
--- States that the timeline (state s) has fewer pending changes left that would change the rule's key (state g) than the
--- rule has.
+-- States that the timeline (state s) has fewer pending changes left than the rule (state g), of the kind that would
+-- change the key in the rule's state.
 abbrev pub IsFurther : State → State → Type 0
 IsFurther g s = length (changes_to (not g.there) s) < length (options g)
 

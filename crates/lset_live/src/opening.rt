@@ -85,10 +85,10 @@ pub fn open<M: Machine>(
     }
 }
 
-/// Opens a set that contains `keys`, with `seats` seats (1 to `MOST_THREADS`) and a quota of `quota` (0 to
-/// `MOST_QUOTA`): the number of keys that each seat can add. The keys must be in strictly increasing order, at most
-/// `MOST_OPENING`. They use no quota and are nobody's adds, and each seat can remove them. The final keys of a closed
-/// set can open another set, of any list. (The lists in the literature open empty.)
+/// Opens a set that contains `keys`, with `seats` seats (1 to `MOST_THREADS`) that can add `quota` keys each (0 to
+/// `MOST_QUOTA`). `keys` must be in strictly increasing order, at most `MOST_OPENING`. They count against no quota, no
+/// thread has added them, and each seat can remove them. The final keys of a closed set can open another set, of any
+/// list. (The lists in the literature open empty.)
 ///
 /// Returns `OpenFault::Seats` if `seats` is out of range, else `OpenFault::Quota` if `quota` is, else
 /// `OpenFault::Opening` if `keys` has too many keys or a key is not above the key before it. Returns

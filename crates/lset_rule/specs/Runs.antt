@@ -34,7 +34,7 @@ under_after (Some r) u = None
 under_after None None = None
 under_after None (Some u) = Some (record u { steps = u.steps + 1 })
 
--- Returns a list of the call that event n ends, or the empty list if the event ends no call.
+-- Returns the call that event n ends, as a list. The list is empty if the event ends no call.
 abbrev pub ending : Option Reply → Option PendingCall → ℕ → List OwnCall
 ending (Some r) (Some u) n = own u r n ∷ []
 ending (Some r) None n = []

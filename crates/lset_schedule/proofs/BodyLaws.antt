@@ -227,7 +227,7 @@ module _ {L : Type 0} (text : EventLines L) (v : Version) (title : List ℕ) (pi
       (λ s u x has e. (line_adds s u x has e).0) (λ s u e. ok_is s u e) bytes t is in
       (found.2, found.0)
 
-  -- The text of a content within the limits can be read.
+  -- If a content is within the limits, its text can be read.
   pub body_again : (t : BodyValue L) → Lacks 10 title → HasText text v Good t
       → (cut_at 10 (text_of (text_lines t)) ≡ header_lines title t.header ++ (body_lines t ++ [] ∷ []))
       × (text_from (texts text v title) (header_lines title t.header ++ (body_lines t ++ [] ∷ [])) ≡ Ok t)

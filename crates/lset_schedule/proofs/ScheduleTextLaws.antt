@@ -91,7 +91,7 @@ is_memory : (c : Cause) → (c ≢ Memory → ⊥) → c ≡ Memory
 is_memory Memory h = refl
 is_memory c h = absurd (h (λ e. cc))
 
--- A reader that can read the text returns its content, or fails to allocate.
+-- If a text can be read, the reader returns its content or fails to allocate.
 pub gives_ok : {X Y : Type 0} (view : X → Y) (r : Result X LineFault) (y : Y) → Gives view r (Ok y)
     → MatchResult r (λ x. view x ≡ y) (λ e. e.cause ≡ Memory)
 gives_ok view (Ok x) y gives = sym (ok_is y (view x) gives)

@@ -135,7 +135,8 @@ bound_next' s d most n n' total h e small =
 pub as_many : {H T : Type 0} (seat_of : H → T) (hs : List H) (ss : List T) → map seat_of hs ≡ ss → length hs ≡ length ss
 as_many seat_of hs ss e = sym (length-map hs seat_of) ∙ ap (λ l. length l) e
 
--- After all workers were joined, the sender's pass has all parts again. It has the numbers of all connections as sent.
+-- After all workers were joined, the sender's pass has all parts again. Its tally has the numbers of all connections as
+-- sent.
 pub whole_again : (n many : ℕ) (v u x y : Tally) (received : List ℕ) (k : ℕ) → v ≡ tally PARTS [] [] → n ≤ MOST_THREADS →
     u ≡ tally (v.parts - n) v.sent v.received
     → x ≡ tally u.parts (u.sent ++ numbers_below many) u.received → k ≡ n →

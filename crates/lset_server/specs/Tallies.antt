@@ -13,7 +13,7 @@ use Rattle.lset_server.specs.declared.channel.Tally.{Tally}
 abbrev pub tally : ℕ → List ℕ → List ℕ → Tally
 tally parts sent received = record { parts = parts; sent = sent; received = received }
 
--- Returns a list of the number of a message's connection. The message Close has no connection.
+-- Returns the number of the connection in a message, as a list. The list is empty for the message Close.
 abbrev pub number_of : {S : Type 0} → Message S → List ℕ
 number_of (message.Connection c) = c.number ∷ []
 number_of message.Close = []
