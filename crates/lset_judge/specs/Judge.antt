@@ -24,8 +24,8 @@ abbrev pub left_by : List ℕ → ℕ → Option ℕ → Option Presence
 left_by keys key (Some moment) = None
 left_by keys key None = Some (presence (has_key key keys))
 
--- States that two calls of a key clash: no order has both. A call can also clash with the key's state at the opening,
--- or with its final state.
+-- States that two calls of a key clash: they rule out every order. A call can also clash with the key's state at the
+-- opening, or with its final state.
 abbrev pub ClashesIn : List ℕ → List CallRecord → ℕ → Option Presence → Clash → Type 0
 ClashesIn opening calls key left c =
     IsClash calls key (presence (has_key key opening)) left c.was (record_if c.first) (record_if c.second)
