@@ -6,15 +6,15 @@ ghost use Rattle.lset_judge.specs.Pending.{last_end};
 use std::alloc::{AllocError, Global};
 use std::collections::HashMap;
 
-/// Ends of threads below this number are in a vector, all others in a hash table.
+/// The last ends of threads below this number are in a vector, those of all other threads in a hash table.
 const LOW: u32 = 65_536;
 
 /// The end of the last call of each thread that has made one.
 #[derive(Drop)]
 pub(crate) struct Busy {
-    /// The ends of threads below `LOW`, indexed by thread. 0 for a thread without calls.
+    /// The end of the last call of each thread below `LOW`, indexed by thread. 0 for a thread without calls.
     pub(crate) low: Vec<u64>,
-    /// The ends of all other threads that have made a call.
+    /// The end of the last call of every other thread that has made a call.
     pub(crate) high: HashMap<u32, u64>,
 }
 

@@ -39,9 +39,10 @@ pub(crate) enum Held {
 /// not taken effect. A change without an end counts as ending after all moments.
 #[derive(Drop)]
 pub(crate) struct KeyChanges {
-    /// A moment by which every `add` of the key ends that has begun and returned true or is pending.
+    /// The latest end of the `add`s of the key that have begun, and are pending or returned true. 0 without such calls.
     pub(crate) puts_until: u64,
-    /// A moment by which every `remove` of the key ends that has begun and returned true or is pending.
+    /// The latest end of the `remove`s of the key that have begun, and are pending or returned true. 0 without such
+    /// calls.
     pub(crate) takes_until: u64,
     held: Held,
 }

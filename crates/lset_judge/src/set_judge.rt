@@ -1,4 +1,4 @@
-//! The judge of a recording that comes call by call. A refusal has its reason.
+//! The judge of a recording whose calls come one after another. It returns a reason if no order explains the calls.
 
 ghost use Rattle.std.specs.Prelude.{◌≡◌, ◌<◌, ◌++◌, ◌∷◌, ◌≢◌, [], ℕ, IfErr, IfOk, IfSome, List, OnOk};
 ghost use Rattle.std.specs.List.Sorted.{IsStrictlyIncreasing};

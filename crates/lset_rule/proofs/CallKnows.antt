@@ -68,7 +68,7 @@ by_answer m c v b log l (Some r) mid on st =
       stands = st;
     }
 
--- Any step: if the view w is the one after a step of the pending call, the caller knows `Comes`.
+-- After any step of a pending call, the caller knows `Comes`: the call is still pending, or has ended with a reply.
 pub comes : (m : Table) (c : Call) (v b : View) (log : List Event) (n : ℕ) (w : View) (f : Fed) → IsMid c v b →
     StartsWith log b.seen → w ≡ gone_view m log n b → Stands m w → f ≡ m.feed b.local n → Comes m c v f w
 comes m c v b log n w f mid on is st fed = let f' : Fed = m.feed b.local n in let w' : View = gone_view m log n b in

@@ -29,8 +29,8 @@ use lset_text::{Cause, Header, LineFault, Version, cut, is_above, number, read_h
 use lset_words::MOST_OPENING;
 use std::alloc::Global;
 
-/// A line with events of a text with opening keys and events: a schedule or a draft. Each of the two has its own type
-/// of lines.
+/// An event line of a schedule or a draft. Both are texts with opening keys and then event lines, and each has its own
+/// type of event lines.
 pub trait EventLine: Copy {
     /// The patterns of event lines, and the number of events that a line counts as.
     ghost lines: { EventLines Self };

@@ -11,8 +11,9 @@ use std::alloc::Global;
 use std::collections::LinkedList;
 use std::sync::Wait;
 
-/// The number of parts into which the knowledge of the whole channel can be split: one for each worker and one for the
-/// sender. A server has at most as many workers as a set has threads.
+/// The number of parts that the passes of a channel have together: one for each worker and one for the sender. A pass
+/// (a right to use the channel) with all parts knows the whole channel. A server has at most as many workers as a set
+/// has threads.
 pub(crate) const PARTS: u64 = MOST_THREADS as u64 + 1;
 
 /// An accepted connection with its number. Connections are numbered from 0, in the order in which they are accepted.
@@ -29,8 +30,8 @@ pub(crate) enum Message<S> {
     Close,
 }
 
-/// The connections that were sent and received with one pass (a right to use the channel), and how many parts of the
-/// knowledge of the whole channel the pass has. Exists in contracts only.
+/// The tally of one pass (a right to use the channel): the connections that were sent and received with the pass, and
+/// the number of its parts. A pass with all parts knows the whole channel. Exists in contracts only.
 pub(crate) struct Tally {
     pub parts: u64,
     pub sent: LinkedList<u64>,

@@ -139,8 +139,8 @@ fn send_all<R: Wait>(
     close_all(rt, to, pass, workers)
 }
 
-/// Starts the workers, sends them `sessions` connections, and joins them. Returns the pass with all parts of the
-/// knowledge of the channel, and the seat into which all seats were gathered.
+/// Starts the workers, sends them `sessions` connections, and joins them. Returns the pass of the channel, which has
+/// all parts again, and the seat into which all seats were gathered.
 fn serve_in<'s, E, R: Threads + Wait + Clock + Sync, M: Running + Send + Sync>(
     alloc: Global,
     scope: &Scope<'s, E>,

@@ -78,7 +78,6 @@ abbrev pub failed_by : Option EndReason → Bool
 failed_by (Some why.WriteFault) = true
 failed_by other = false
 
--- Returns the reason of a session's end if its last line should be written: `w` if the whole line was written, else
--- WriteFault.
+-- Returns why a session ends that writes a last line: `w` if the whole line was written, else WriteFault.
 abbrev pub ending : Bool → EndReason → Option EndReason
 ending whole w = Some (if whole then w else why.WriteFault)

@@ -94,7 +94,7 @@ fn answer<R: Wait, W: Sink, S: SetCalls>(
     }
 }
 
-/// Writes `text`, the last line of a session. Returns the reason of the end: `why` if the line was written, else
+/// Writes `text`, the last line of a session. Returns why the session ends: `why` if the line was written, else
 /// `WriteFault`.
 fn last_line<W: Sink>(writer: &mut W, text: &[u8], why: EndReason) -> EndReason
     requires works { W.has_failed writer.old ≡ false }

@@ -1,6 +1,6 @@
 ghost use Rattle.std.specs.Prelude.{◌≡◌, Bool, true, false, IsTrue};
 
-/// A test before each call of a program: whether the call is made. A gate cannot access the set.
+/// A gate: decides, before each call of a program, whether the call is made. A gate cannot access the set.
 pub trait Gate {
     /// Whether the gate can return false.
     ghost may_shut: { Self → Bool } = { λ _. true };
