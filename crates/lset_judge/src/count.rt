@@ -13,9 +13,9 @@ use crate::stretch::{Stretch, smallest_stretch};
 use lset_words::{Key, Presence};
 use std::alloc::{AllocError, Global};
 
-/// A count: calls of a key that no order explains, because they are too many. Of any two of the calls, the first leaves
-/// the key in the state `was`, and the second needs the key in the other state. The key must therefore change back
-/// between any two of them. But fewer calls can change it back.
+/// A count: calls of a key that no order explains, because they are too many. Whichever of two of the calls comes
+/// first, it leaves the key in the state `was`, and the other call needs the key in the other state. The key must
+/// therefore change back between any two of them. But fewer calls can change it back.
 #[derive(Debug, Drop)]
 pub struct Count {
     /// The key.

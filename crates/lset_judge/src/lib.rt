@@ -1,11 +1,11 @@
 //! The judge: decides from the begins and ends of recorded calls whether any order explains them.
 //!
 //! Each key of a set has only two states, present and absent. The judge therefore looks at the calls of each key
-//! separately, in one pass over their moments. Its rule: a change (an `add` or `remove` that returned true) takes
-//! effect only when a call that ends needs it. Of the pending changes, the one with the earliest end then takes effect.
-//! If the rule fails for a key, no order explains the calls. If it fails for no key, some order does, in every history
-//! without `ceiling` and `full`. The judge does not search, and does not need to know when calls take effect.
-//! (Linearizability is by Herlihy and Wing; the rule is this project's own.)
+//! separately, in one pass over their moments. Its rule: a change (an `add` or `remove` that returned true or is
+//! pending) takes effect only when a call that ends needs it. Of the pending changes, the one with the earliest end
+//! then takes effect. If the rule fails for a key, no order explains the calls. If it fails for no key, some order
+//! does, in every history without `ceiling` and `full`. The judge does not search, and does not need to know when calls
+//! take effect. (Linearizability is by Herlihy and Wing; the rule is this project's own.)
 #![tactic(auto)]
 
 ghost use Rattle.lset_judge.specs.Locality.{KeysAreApart, QuotasDoNotMatter};

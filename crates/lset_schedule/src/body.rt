@@ -36,7 +36,7 @@ pub trait EventLine: Copy {
     ghost lines: { EventLines Self };
 
     /// Reads an event line of a text of this version, given without its newline. Returns `Event` if the line matches no
-    /// pattern, and `Number` if a number in it is missing or out of range.
+    /// pattern, and `Number` if a field that must be a number is not one, or is out of range.
     fn read(version: Version, line: &[u8]) -> Result<Self, Cause>
         ensures { result ≡ line_in version Cause.Event lines.kinds line.now };
 
