@@ -17,10 +17,11 @@ use lset_words::{Call, Reply};
 /// uses the interpreter (`lset_rule::interpret_within`). A list can also provide its own body under the same contract,
 /// as the five lists do.
 ///
-/// - Precondition `MayCall`: `place` is a seat of the words `table` without a pending call, and `slots` are those of its thread.
-/// - Postcondition `HasCalled`: `place` is still the same seat, the returned slots are those of its thread, and its record has
-///   grown by exactly this call. The call began after everything that the seat had seen, and has ended. After `None`, nothing
-///   is ensured.
+/// - Precondition `MayCall`: `place` is a seat of the words `table` without a pending call, and `slots` are those of its
+///   thread.
+/// - Postcondition `HasCalled`: `place` is still the same seat, the returned slots are those of its thread, and its
+///   record has grown by exactly this call. The call began after everything that the seat had seen, and has ended.
+///   After `None`, nothing is ensured.
 pub trait Bounded: Machine {
     /// Makes a call of any kind, with at most `N::MOST` rounds in each loop. (A `contains` of LazyList and LockFreeList
     /// makes as many rounds as it needs.) `table` has the words, `place` is an idle seat of these words, and `slots`

@@ -272,8 +272,8 @@ impl<M: Machine> LiveSet<M> {
         })
     }
 
-    /// Closes the set and returns its final keys, in increasing order. `seat` must hold all seats. Fails only if an allocation
-    /// fails.
+    /// Closes the set and returns its final keys, in increasing order. `seat` must hold all seats. Fails only if an
+    /// allocation fails.
     pub fn keys_left(self, seat: Seat<M>) -> Result<Vec<u32>, AllocError>
         requires seat { seat.set ≡ self }
         requires all { seat.held ≡ self.shape.threads }

@@ -16,8 +16,8 @@ pub enum Request {
     Bad,
 }
 
-/// Reads the request in a line, given without its newline: `ADD`, `REMOVE`, `CONTAINS` or `CEILING`, one space, and a key from 0
-/// to 4,294,967,295 in decimal without leading zeros; or `QUIT`. Any other line is `Bad`.
+/// Reads the request in a line, given without its newline: `ADD`, `REMOVE`, `CONTAINS` or `CEILING`, one space, and a
+/// key from 0 to 4,294,967,295 in decimal without leading zeros; or `QUIT`. Any other line is `Bad`.
 #[tactic(auto, unfolding(crate::specs::SessionText::request_of))]
 pub fn read_request(line: &[u8]) -> Request
     ensures { result ≡ request_of line.now }

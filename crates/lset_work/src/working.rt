@@ -79,10 +79,11 @@ fn run_all<R: Threads + Wait + Sync, M: Running + Send + Sync, G: Gate + Sync>(
 
 /// Makes the calls of each program on its seat. All programs run at the same time, each on its own thread.
 ///
-/// Before each call, `gate` decides whether the program continues. At the end, the seats are gathered and the set is closed.
-/// Some legal order (Herlihy and Wing) has exactly the calls in the seats' records and those of the programs with their
-/// replies, keeps the order of each seat's calls, and leaves the final keys. A program has at most 4,294,967,295 calls.
-/// Blocks until all threads have ended. A thread can block for locks of the set, and for as long as the gate does.
+/// Before each call, `gate` decides whether the program continues. At the end, the seats are gathered and the set is
+/// closed. Some legal order (Herlihy and Wing) has exactly the calls in the seats' records and those of the programs
+/// with their replies, keeps the order of each seat's calls, and leaves the final keys. A program has at most
+/// 4,294,967,295 calls. Blocks until all threads have ended. A thread can block for locks of the set, and for as long
+/// as the gate does.
 ///
 /// # Errors
 ///
