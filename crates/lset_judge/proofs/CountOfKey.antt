@@ -200,7 +200,7 @@ module _ (b left : Bool) (c : Option ℕ) where
         ])
       ]
 
-  -- If nothing has counted yet, one more act is possible.
+  -- If neither the opening nor an earlier act counts, the number of counted acts can be greater by one.
   count_from : (s : Bool) (o : Option ℕ) (us zs : List ℕ) (ys : List Act) → TakeTurns left s ys → Pairs Apart ys → Due b left o c us zs ys
       → length us + also c ≤ suc (length zs)
   count_from s o (u ∷ us) zs [] turns pairs d = absurd (d.stand u (has_head u us)).1

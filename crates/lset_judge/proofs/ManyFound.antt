@@ -108,7 +108,7 @@ module _ (last : ℕ → ℕ) (thread begun : ℕ) (es : Entries) (known : All (
   free_other other only ne = free_by (λ i d inside own is.
       absurd (ne (ap (λ (x : StreamCall). x.thread) (sym (only i d inside (sym is))) ∙ own)))
 
--- If a call that ends later is found at the thread's last end, the thread is not free.
+-- If a call that ends later is found at the thread's last end, the thread has a pending call.
 not_free : (thread begun end : ℕ) (other : StreamCall) (es : Entries) → Contains es (end, other) → other.thread ≡ thread → begun < end
     → All (Free thread begun) (map pending_at es) → ⊥
 not_free thread begun end other es has own later free =

@@ -29,7 +29,8 @@ abbrev pub is_plain : Call → Reply → Bool
 is_plain (Ceiling k) r = false
 is_plain c r = is_truth r
 
--- Returns whether a call that does this to its key is an `add` that returned true or is pending.
+-- Returns whether a call of this kind is an `add` that returned true or is pending. The kind says what a call can do to
+-- its key.
 abbrev pub puts_in : Kind → Bool
 puts_in (changes w) = w
 puts_in (sees w) = false

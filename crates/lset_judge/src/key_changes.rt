@@ -10,8 +10,8 @@ use crate::stream::BEHIND_ALL;
 use lset_words::Presence;
 use std::alloc::{AllocError, Global};
 
-/// The changes of a key in heaps: the ends of pending `add`s and `remove`s that have not taken effect, and the numbers
-/// of changes.
+/// The changes of a key in heaps: the ends of pending `add`s and `remove`s that have not taken effect, and how many
+/// changes are pending.
 #[derive(Drop)]
 pub(crate) struct ManyChanges {
     puts: Ends,

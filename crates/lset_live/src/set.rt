@@ -338,8 +338,8 @@ impl<M: OpenContains> LiveSet<M> {
 }
 
 impl<M: RunningReads> LiveSet<M> {
-    /// Returns whether `key` is in the set, without blocking or allocating. `seat` must belong to this set, and its
-    /// record has the call with the reply `True` or `False`.
+    /// Returns whether `key` is in the set, without blocking or allocating. `seat` must belong to this set. The call is
+    /// appended to its record with the reply `True` or `False`.
     ///
     /// The call is wait-free: whatever other threads do, it makes at most `bound` steps, each of them a load
     /// (`lset_steps::OpenReads`).

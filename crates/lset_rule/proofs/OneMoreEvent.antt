@@ -275,7 +275,7 @@ run_of_first T k es rest r = record {
       )) (r.enabled j (omega arith));
 }
 
--- The state at the end of a run has the properties that the law of the machine states of each state.
+-- At the end of a run, the state has the properties that the list's law states of each state in a run.
 module _ (T : Table) (law : Lawful T) (k : Opening) (es : List Event) (r : IsRunOf T k es) where
   pub end_laws : StateLaws T.marks (sizes k) (end_of T k es)
   end_laws = law.states k (length es) (length es) (event_at es) r (omega arith)

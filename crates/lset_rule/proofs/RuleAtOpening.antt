@@ -141,7 +141,7 @@ spare_all k =
     let e : k.threads - 1 ≡ k.threads - 1 - 0 = omega arith in
     ap (λ n. record (opener k) { others = asides_from k 0 n }) e
 
--- What the fields of a new seat say: it is idle, its view is correct, and it has one thread.
+-- A new seat is idle, its view is correct, and it has one thread.
 pub new_seat : (m : Table) (k : Opening) (t : ℕ) (me : T.Me (Unit {0}) View) → Opens k → t < k.threads → me ≡ (fresh k t, []) →
     (slots : OwnSlots) → slots ≡ slots_of (idle k.quota t)
     → IsIdle me.0 × Stands m me.0 × (slots ≡ slots_of me.0.local) × (1 ≡ length me.0.others + 1) × (me.1 ≡ [])

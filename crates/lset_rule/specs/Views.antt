@@ -17,8 +17,8 @@ HasAside (o ∷ os) t = (t ≡ o.thread) ⊎ HasAside os t
 abbrev pub HasThread : View → ℕ → Type 0
 HasThread v t = (t ≡ v.thread) ⊎ HasAside v.others t
 
--- States of the spare threads of a view that each is idle, occurs once, is not t, and has completed exactly the calls
--- that the record r has of it. `ends` is the state of each thread.
+-- States that each spare thread of a view is idle, occurs once, is not t, and has completed exactly the calls that the
+-- record r has of it. `ends` is the state of each thread.
 abbrev pub AreIdle : (ℕ → Here) → ℕ → Past → List SpareThread → Type 0
 AreIdle ends t r [] = Unit {0}
 AreIdle ends t r (o ∷ os) = (o.thread ≢ t) × (ends o.thread ≡ here o.local None (calls_of o.thread r))
@@ -38,7 +38,8 @@ pub record Stands (m : Table) (v : View) : Type 0 where
   -- Each spare thread is idle, and has the registers that the view says.
   pub others : AreIdle (at_end m v.shape v.seen) v.thread v.past v.others
   pub in_range : (t : ℕ) → HasThread v t → t < v.shape.threads
-  -- The record belongs to the own thread, and has at most one record of each other thread, all of the view.
+  -- The record belongs to the own thread. It has at most one record of each other thread, and these are threads of the
+  -- view.
   pub of_thread : root v.past ≡ v.thread
   pub apart : Apart v.past
   pub named : (u : ℕ) → IsIn u v.past → HasThread v u

@@ -8,8 +8,8 @@ use Rattle.rand_core.specs.Stream.{Stream}
 use Rattle.lset_words.specs.declared.Call.{Call}
 use Rattle.lset_schedule.specs.Draws.{drawn_call, drawn_calls}
 
--- Returns the calls drawn and the `left` calls that follow from the random numbers s, with the random numbers after all
--- of them.
+-- Returns the calls drawn so far and the next `left` calls that the random numbers s select, with the random numbers
+-- after them.
 abbrev pub with_others : ℕ → ℕ → List Call → Stream → List Call × Stream
 with_others keys left drawn s = (drawn ++ (drawn_calls keys left s).0, (drawn_calls keys left s).1)
 

@@ -119,7 +119,7 @@ pub fn read_schedule(alloc: Global, bytes: &[u8]) -> Result<Schedule, ScheduleFa
         → MatchResult result (λ s. view s ≡ p) (λ e. e.cause ≡ Cause.Memory) }
     // The result is that of the definition `reading`, unless an allocation fails.
     ensures exact { Gives view result (reading bytes.now) }
-    // The error `Memory` has a line after the header. Neither this line nor a line above it has another error.
+    // The error `Memory` names a line after the header. Neither this line nor a line above it has another error.
     ensures memory { IfErr result (λ e. e.cause ≡ Cause.Memory → IsGoodLine bytes.now e.line) }
 {
     schedule(alloc, bytes)

@@ -94,7 +94,7 @@ impl<S> Lesson<Message<S>, Tally> for Receiving {
     ghost fact = { λ v items. ⊤ };
 }
 
-/// The lemma of a pass that has all parts: the connections sent are those received and those in the queue.
+/// The lemma about a pass that has all parts: the connections sent are those received and those in the queue.
 pub(crate) struct Balanced;
 
 impl<S> Lesson<Message<S>, Tally> for Balanced {
