@@ -56,7 +56,7 @@ impl<O: Sink> Buffer<O> {
         whole
     }
 
-    /// Copies a prefix of `text` into the buffer, as long as fits. Returns the length of the prefix.
+    /// Copies as much of `text` into the buffer as fits, and returns the number of bytes copied.
     fn put(&mut self, text: &[u8]) -> usize
         ensures bound { result ≤ length text.now }
         ensures some { self.old.len ≢ ROOM → 0 < length text.now → 0 < result }
@@ -68,8 +68,8 @@ impl<O: Sink> Buffer<O> {
         count
     }
 
-    /// Copies a prefix of `text` into the buffer, as long as fits. Returns the length of the prefix. If the buffer is
-    /// full, writes its answers first. Returns `None` if that write fails.
+    /// Copies as much of `text` into the buffer as fits, and returns the number of bytes copied. If the buffer is full,
+    /// writes its answers first. Returns `None` if that write fails.
     fn write(&mut self, text: &[u8]) -> Option<usize>
         ensures { IfSome result (λ n. (n ≤ length text.now) × (0 < length text.now → 0 < n)) }
     {
