@@ -1,7 +1,8 @@
-//! Exports the functions of `ffi_sets` to C.
+//! The functions of `ffi_sets` for C: sets of keys that threads share, used through handles (`CSeat`). A handle is
+//! empty, or owns a seat (the right to call as one thread), a receipt, or a closed set.
 //!
-//! Each function calls the function of `ffi_sets` with the same clauses. The parameter `alloc` has size zero, so C
-//! passes nothing for it.
+//! Each function calls the function of `ffi_sets` with the same contract. The parameter `alloc` has size zero: C passes
+//! no argument for it.
 #![tactic(auto)]
 
 ghost use Rattle.lset_words.specs.declared.Call.TheVariants.{Add, Remove, Contains, Ceiling};
@@ -16,7 +17,7 @@ use std::alloc::Global;
 
 /// Opens a set of the list `kind` (0 coarse, 1 fine, 2 optimistic, 3 lazy, 4 lock-free) with 1 to 64 `seats`, a `quota`
 /// of 0 to 16,384, and at most 1,048,576 `keys` in strictly increasing order. Stores a seat in `out`, which must be
-/// empty; all other seats can be split off that seat. No other open set may have the same `number`, because
+/// empty. All other seats can be split off this seat. No other open set may have the same `number`, because
 /// `listset_gather` uses it to compare the sets of two seats.
 ///
 /// Returns `DONE`. On an error, changes nothing and returns `IS_SEAT` if `out` is not empty, `BAD_KIND`, `BAD_SEATS`,
@@ -130,8 +131,8 @@ pub extern "C" fn listset_after(alloc: Global, seat: &mut CSeat, given: &mut CSe
     ffi_sets::take_receipt(alloc, seat, given)
 }
 
-/// Returns how many of its set's seats `seat` contains, including itself, and writes the number of all seats of the set
-/// to `all`. Both are 0 if `seat` is empty, a receipt or a closed set. Does not block or allocate.
+/// Returns how many seats of its set `seat` contains, itself included. Writes the number of all seats of the set to
+/// `all`. Both are 0 if `seat` is empty, a receipt or a closed set. Does not block or allocate.
 #[unsafe(no_mangle)]
 pub extern "C" fn listset_seats_within(alloc: Global, seat: &mut CSeat, all: &mut u32) -> u64 {
     ffi_sets::count_seats(alloc, seat, all)
@@ -149,7 +150,7 @@ pub extern "C" fn listset_gather(alloc: Global, into: &mut CSeat, from: &mut CSe
     ffi_sets::gather_seats(alloc, into, from)
 }
 
-/// Closes the set. `seat` must contain all of the set's seats; afterwards it is a closed set with the final keys.
+/// Closes the set. `seat` must contain all seats of the set. Afterwards it is a closed set with the final keys.
 ///
 /// Returns `DONE`. On an error, changes nothing and returns `NO_SEAT` if `seat` is empty, a receipt or a closed set,
 /// `SEATS_OUT` if it lacks some of the seats, or `OUT_OF_MEMORY` if an allocation failed. Does not block.

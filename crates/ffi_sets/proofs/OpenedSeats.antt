@@ -1,4 +1,4 @@
--- The seats of a newly opened set.
+-- The seats of a set that was just opened.
 use Rattle.std.proofs.Common.{◌≡◌, ℕ, List, [], ◌∷◌, ◌++◌, Option, Some, None, IfSome, map, option_to_list, refl, sym, subst}
 use Rattle.std.specs.List.{AllByRecursion, range_with_len}
 use Rattle.std.proofs.lemmas.List.Elements.{All-from_recursion}
@@ -8,7 +8,6 @@ use Rattle.ffi_sets.specs.Facts.{AreOf}
 abbrev IsOf : SetValue → SeatValue → Type 0
 IsOf set s = (s.set ≡ set) × (s.held ≡ 1)
 
--- A fact of all seats is a fact of the first ones and of the rest.
 parts : (set : SetValue) (xs ys : List SeatValue) → AllByRecursion (IsOf set) (xs ++ ys)
     → AllByRecursion (IsOf set) xs × AllByRecursion (IsOf set) ys
 parts set [] ys all = (tt, all)

@@ -1,4 +1,4 @@
--- What a call from C does: how it changes the value of its seat, and which number it returns.
+-- The effect of a call from C: how it changes the value of its seat, and which number it returns.
 use Rattle.std.specs.Prelude.{◌≡◌, ℕ, Bool, true, false, Option, Some, None}
 use Rattle.lset_words.specs.declared.Call.{Call}
 use Rattle.lset_words.specs.declared.Reply.{Reply}
@@ -13,15 +13,15 @@ use Rattle.lset_live.specs.Explained.{HasAnswered, HasMadeAtMost}
 use Rattle.ffi_sets.specs.declared.held.Held.{Held}
 use Rattle.ffi_sets.specs.Sets.{table_in, set_in, seat_in, spare_in, keys_in, number_in, receipt_in, SameSet}
 
--- The effect of the call c from a seat: it was made and replied r, or it gave up and the seat is lost, or the seat had
--- been lost before.
+-- The effect of call c on a seat of a set: the call was made and replied r, or it gave up and the seat is lost, or the
+-- seat had already been lost.
 abbrev pub HasCalledOf : Table → SetValue → Option SeatValue → Call → Option Reply → Option SeatValue → Type 0
 HasCalledOf T set (Some old) c (Some r) (Some new) = HasAnswered T set old c r new
 HasCalledOf T set (Some old) c None None = Unit {0}
 HasCalledOf T set None c None None = Unit {0}
 HasCalledOf T set old c r new = ⊥
 
--- The number of a reply; 255 if there is none
+-- Returns the number that C functions return for a reply, and 255 for no reply.
 abbrev pub code_of : Option Reply → ℕ
 code_of (Some reply.False) = 0
 code_of (Some reply.True) = 1
@@ -34,15 +34,15 @@ abbrev pub CallsIn : Option Table → Option SetValue → Option SeatValue → C
 CallsIn (Some T) (Some set) old c r new = HasCalledOf T set old c r new
 CallsIn T set old c r new = r ≡ None
 
--- The call c from a value that C keeps. The list, the set, the number, and the seats that can be split off do not
--- change. No call is made from a receipt or a closed set.
+-- The effect of call c on the value of a seat of C. The list, the set, its number, and the seats that can be split off
+-- do not change. A receipt or a closed set makes no call.
 pub record HasCalledHeld (h : Held) (c : Call) (r : Option Reply) (h' : Held) : Type 0 where
   pub same : SameSet h h'
   pub spare : spare_in h' ≡ spare_in h
   pub keys : keys_in h' ≡ keys_in h
   pub called : CallsIn (table_in h) (set_in h) (seat_in h) c r (seat_in h')
 
--- A contains from a seat was made in at most most_reads steps of its thread.
+-- States that the last call of a seat of a set, a `contains`, has made at most `most_reads` steps.
 abbrev pub HasReadOf : SetValue → Option SeatValue → Option SeatValue → Type 0
 HasReadOf set (Some old) (Some new) = HasMadeAtMost (most_reads (sizes set.shape)) (thread_of old.past) new.events
 HasReadOf set old new = ⊥
@@ -51,18 +51,19 @@ abbrev pub ReadsIn : Option SetValue → Option SeatValue → Option SeatValue �
 ReadsIn (Some set) old new = HasReadOf set old new
 ReadsIn None old new = ⊥
 
--- A contains from the value of a seat of C was made in at most most_reads steps of the seat's thread.
+-- States that the last call of a seat of C, a `contains`, has made at most `most_reads` steps.
 abbrev pub HasReadHeld : Held → Held → Type 0
 HasReadHeld h h' = ReadsIn (set_in h) (seat_in h) (seat_in h')
 
--- The call c from a seat of C returned n. For an empty seat, n is 255 and the seat stays empty.
+-- States that call c from a seat of C returned n. The seat is empty or full (the first argument). An empty seat stays
+-- empty, and n is 255.
 abbrev pub HasMade : Bool → Held → Call → ℕ → Bool → Held → Type 0
 HasMade true h c n true h' = (r : Option Reply) × (n ≡ code_of r) × HasCalledHeld h c r h'
 HasMade false h c n false h' = n ≡ 255
 HasMade full h c n full' h' = ⊥
 
--- The ceiling c from a seat of C returned n. If its reply is At k, k was written to the place a; for any other reply, a
--- is unchanged.
+-- States that the `ceiling` c from a seat of C returned n and changed the key at the pointer from a to a'. If the reply
+-- is At k, a' is k. Otherwise a' is a.
 abbrev pub at_of : Option Reply → ℕ → ℕ
 at_of (Some (reply.At k)) a = k.0
 at_of r a = a
@@ -72,12 +73,12 @@ HasCeiling true h c n a a' true h' = (r : Option Reply) × (n ≡ code_of r) × 
 HasCeiling false h c n a a' false h' = (n ≡ 255) × (a' ≡ a)
 HasCeiling full h c n a a' full' h' = ⊥
 
--- A seat gave a receipt: it is of the seat's set, and of all that the seat has seen.
+-- States that a seat of a set made this receipt: it has the seat's set, and the events that the seat has seen.
 abbrev pub HasNotedOf : Option SeatValue → Option ReceiptValue → Type 0
 HasNotedOf (Some s) (Some given) = given ≡ record { set = s.set; events = s.events }
 HasNotedOf s given = ⊥
 
--- The value h has a seat that gave a receipt, with the number of the seat's set. h is unchanged.
+-- The value h of a seat of C has made the receipt `given`, which has the number of the seat's set. h does not change.
 pub record HasNotedHeld (h given h' : Held) : Type 0 where
   pub same : SameSet h h'
   pub spare : spare_in h' ≡ spare_in h
@@ -89,8 +90,8 @@ abbrev pub HasGiven : Bool → Held → Bool → Held → Bool → Held → Type
 HasGiven true h true given true h' = HasNotedHeld h given h'
 HasGiven full h out given full' h' = ⊥
 
--- A seat accepted a receipt: it has now seen everything that the receipt covers. Its record and the seats that it
--- contains are unchanged.
+-- States that a seat of a set has accepted a receipt: it has now seen everything that the receipt covers. Its record
+-- and the seats that it holds do not change.
 abbrev pub HasHeededOf : Option SeatValue → Option ReceiptValue → Option SeatValue → Type 0
 HasHeededOf (Some old) (Some given) (Some new) = (new.set ≡ old.set) × (new.past ≡ old.past) × (new.held ≡ old.held)
     × StartsWith new.events old.events × StartsWith new.events given.events

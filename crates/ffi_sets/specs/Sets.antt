@@ -1,4 +1,5 @@
--- The parts of a seat's value: its list, its set and the set's number, and its seats, its receipt or its keys.
+-- The parts of the value of a seat of C: its list, its set, the number of the set, and its seats, its receipt or its
+-- keys.
 use Rattle.std.specs.Prelude.{Bool, true, ◌≡◌, ◌+◌, ℕ, List, [], Option, Some, None, length}
 use Rattle.std.specs.Arc.{arc_value}
 use Rattle.lset_steps.specs.Steps.{Table}
@@ -20,7 +21,7 @@ table_in (Lazy o) = Some lazy
 table_in (LockFree o) = Some lock_free
 table_in h = None
 
--- The receipt, if the value is a receipt
+-- Returns the receipt if the value is a receipt, else None.
 abbrev pub receipt_in : Held → Option ReceiptValue
 receipt_in (CoarseReceipt o) = Some o.receipt
 receipt_in (FineReceipt o) = Some o.receipt
@@ -29,7 +30,7 @@ receipt_in (LazyReceipt o) = Some o.receipt
 receipt_in (LockFreeReceipt o) = Some o.receipt
 receipt_in h = None
 
--- The set of the seat or of the receipt, and the set's number
+-- Returns the set of a seat or a receipt, else None. `number_in` returns the number that the caller gave the set.
 abbrev pub set_in : Held → Option SetValue
 set_in (Coarse o) = Some (arc_value o.set)
 set_in (Fine o) = Some (arc_value o.set)
@@ -56,7 +57,7 @@ number_in (LazyReceipt o) = Some o.number
 number_in (LockFreeReceipt o) = Some o.number
 number_in h = None
 
--- The seat that makes calls, and the seats that can be split off it
+-- Returns the seat that makes the calls, else None. `spare_in` returns the seats that can be split off it.
 abbrev pub seat_in : Held → Option SeatValue
 seat_in (Coarse o) = o.seat
 seat_in (Fine o) = o.seat
@@ -77,22 +78,23 @@ abbrev pub keys_in : Held → Option (List ℕ)
 keys_in (Closed keys) = Some keys.items
 keys_in h = None
 
--- Two values have the same list, set and number.
+-- Two values of seats of C have the same list, set and number.
 pub record SameSet (h h' : Held) : Type 0 where
   pub table : table_in h' ≡ table_in h
   pub set : set_in h' ≡ set_in h
   pub number : number_in h' ≡ number_in h
 
--- Seats and receipts with the same number belong to the same set. The caller ensures this if several sets are open.
+-- States that two values with the same number have the same set. A caller ensures this if each open set has its own
+-- number.
 abbrev pub Gathers : Held → Held → Type 0
 Gathers h h' = number_in h ≡ number_in h' → set_in h ≡ set_in h'
 
--- `Gathers` of two seats of C, if both are full
+-- States `Gathers` of the values of two seats of C, if both are full.
 abbrev pub GathersAt : Bool → Held → Bool → Held → Type 0
 GathersAt true h true h' = Gathers h h'
 GathersAt into h from h' = Unit {0}
 
--- The seat, with the seats that can be split off it, holds ALL SEATS of the set.
+-- States that a seat, with the seats that can be split off it, holds all seats of the set.
 abbrev pub IsWhole : SetValue → Option SeatValue → List SeatValue → Type 0
 IsWhole set (Some seat) spare = seat.held + length spare ≡ set.shape.threads
 IsWhole set None spare = ⊥

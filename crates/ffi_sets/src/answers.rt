@@ -1,4 +1,4 @@
-//! Makes calls from seats of C, and converts the results to numbers.
+//! Makes calls for C, and converts replies and errors to the numbers that C functions return.
 ghost use Rattle.std.specs.Prelude.{◌≡◌, true, false};
 ghost use Rattle.ffi_sets.specs.Calls.{HasMade, code_of};
 
@@ -25,7 +25,7 @@ pub fn reply_code(reply: Option<Reply>) -> u8
     }
 }
 
-/// Converts an error of `lset_live::open_with` to a number.
+/// Converts an error of `lset_live::open_with` to the number that C functions return.
 pub fn fault_code(fault: OpenFault) -> u8 {
     match fault {
         OpenFault::Seats => BAD_SEATS,
@@ -36,7 +36,7 @@ pub fn fault_code(fault: OpenFault) -> u8 {
 }
 
 /// Makes a call from `seat` and returns its reply as a number. Returns 255 if `seat` is empty, a receipt or a closed
-/// set, or if the call gives up, which loses the seat.
+/// set, or if the call gives up after 2^64 - 1 rounds of a loop. A call that gives up loses the seat.
 pub fn call_from_seat(alloc: Global, seat: &mut CSeat, call: Call) -> u8
     ensures { HasMade seat.old.full seat.old.held call result seat.new.full seat.new.held }
 {

@@ -15,23 +15,23 @@ pub const BAD_KEYS: u8 = 12;
 /// An allocation failed.
 pub const OUT_OF_MEMORY: u8 = 13;
 
-/// There is no list with this number.
+/// No list has this number.
 pub const BAD_KIND: u8 = 14;
 
-/// A seat that must be empty is not.
+/// A `CSeat` that must be empty is not.
 pub const IS_SEAT: u8 = 15;
 
-/// The seat has not gathered all other seats of its set.
+/// The seat has not gathered all seats of its set.
 pub const SEATS_OUT: u8 = 16;
 
 /// No seat can be split off this seat.
 pub const NO_MORE: u8 = 17;
 
-/// The arguments are not two seats, or a seat and a receipt, with the same list and number.
+/// The arguments are not two seats, or a seat and a receipt, that have the same list and number.
 pub const NO_GATHER: u8 = 18;
 
-/// On this list, a `contains` can block.
+/// A `contains` on this list can block.
 pub const MAY_BLOCK: u8 = 254;
 
-/// The seat is empty, a receipt or a closed set.
+/// The `CSeat` is empty, a receipt or a closed set, and no seat.
 pub const NO_SEAT: u8 = 255;

@@ -1,4 +1,4 @@
-//! Functions on a `Held`. Each matches on the list of the value.
+//! Functions on a `Held` (what a seat of C owns), for any of the five lists.
 ghost use Rattle.lset_words.specs.declared.Call.TheVariants.{Contains};
 ghost use Rattle.std.specs.Prelude.{◌≤◌, Some, IfNone, IfSome, IfOk, IfErr};
 ghost use Rattle.ffi_sets.specs.Sets.{Gathers};
@@ -12,7 +12,7 @@ use lset_words::{Call, Key, Reply};
 use std::alloc::Global;
 
 /// Opens a set of the list `kind`: 0 coarse, 1 fine, 2 optimistic, 3 lazy, 4 lock-free. Returns `None` for any other
-/// number. Allocates.
+/// number. Returns an error if the other arguments are out of range or an allocation fails. Allocates.
 pub fn open_held(
     alloc: Global,
     kind: u8,
@@ -31,8 +31,8 @@ pub fn open_held(
     }))
 }
 
-/// Makes a call from the seat in `held`. Returns `None` if `held` has no seat, or if the call gives up, which loses the
-/// seat.
+/// Makes a call from the seat in `held`. Returns `None` if `held` has no seat, or if the call gives up after 2^64 - 1
+/// rounds of a loop. A call that gives up loses the seat.
 pub fn call_held(held: &mut Held, call: Call) -> Option<Reply>
     ensures { HasCalledHeld held.old call result held.new }
 {
@@ -62,7 +62,7 @@ pub fn read_held(held: &mut Held, key: Key) -> Result<Reply, u8>
     reply.ok_or(NO_SEAT)
 }
 
-/// Returns a receipt of everything that the seat in `held` has seen; `None` if `held` has no seat.
+/// Returns a receipt of everything that the seat in `held` has seen, or `None` if `held` has no seat.
 pub fn receipt_held(held: &mut Held) -> Option<Held>
     ensures { IfSome result (λ given. HasNotedHeld held.old given held.new) }
 {
@@ -76,8 +76,8 @@ pub fn receipt_held(held: &mut Held) -> Option<Held>
     })
 }
 
-/// Hands the receipt `given` to the seat in `into`. Returns `None` on success, and `given` if these are not a seat and
-/// a receipt of one list and number.
+/// Passes the receipt `given` to the seat in `into`. Returns `None` on success. Otherwise changes nothing and returns
+/// `given`: the two are not a seat and a receipt with the same list and number.
 pub fn heed_held(into: &mut Held, given: Held) -> Option<Held>
     requires { Gathers into.old given }
     ensures { IfNone result (HasHeededHeld into.old given into.new) }
@@ -94,7 +94,7 @@ pub fn heed_held(into: &mut Held, given: Held) -> Option<Held>
     })
 }
 
-/// Returns how many of its set's seats `held` contains, and how many seats the set has. Both are 0 if `held` has no
+/// Returns how many seats of its set `held` contains, and how many seats the set has. Returns 0 and 0 if `held` has no
 /// seat.
 pub fn counts_held(held: &Held) -> (u64, u32) {
     match held {
@@ -107,7 +107,7 @@ pub fn counts_held(held: &Held) -> (u64, u32) {
     }
 }
 
-/// Returns `true` if a seat can be split off the seat in `held`.
+/// Returns whether a seat can be split off the seat in `held`.
 pub fn has_spare(held: &Held) -> bool {
     match held {
         Held::Coarse(of) => !of.spare.is_empty(),
@@ -119,8 +119,8 @@ pub fn has_spare(held: &Held) -> bool {
     }
 }
 
-/// Splits a seat off the seat in `held`. Returns the error `NO_MORE` if no seat can be split off, `OUT_OF_MEMORY` if the set
-/// cannot have another owner.
+/// Splits a seat off the seat in `held`. Returns the error `NO_MORE` if no seat can be split off, or `OUT_OF_MEMORY` if
+/// the set has too many owners for another one.
 pub fn split_held(held: &mut Held, alloc: Global) -> Result<Held, u8> {
     Ok(match held {
         Held::Coarse(of) => Held::Coarse(of.split(alloc)?),
@@ -132,8 +132,8 @@ pub fn split_held(held: &mut Held, alloc: Global) -> Result<Held, u8> {
     })
 }
 
-/// Merges the seat in `from` into the seat in `into`. Returns `None` on success, and `from` if these are not two seats
-/// of one list and number.
+/// Merges the seat in `from` into the seat in `into`. Returns `None` on success. Otherwise changes nothing and returns
+/// `from`: the two are not seats with the same list and number.
 pub fn gather_held(alloc: Global, into: &mut Held, from: Held) -> Option<Held>
     requires { Gathers into.old from }
 {
@@ -149,8 +149,9 @@ pub fn gather_held(alloc: Global, into: &mut Held, from: Held) -> Option<Held>
     })
 }
 
-/// Closes the set in `held` and returns its final keys. On an error, returns `held` and a number: `NO_SEAT` if `held`
-/// has no seat, `SEATS_OUT` if it lacks some of the set's seats, `OUT_OF_MEMORY` if an allocation failed.
+/// Closes the set in `held` and returns its final keys. On an error, returns `held`, unchanged, and the number of the
+/// error: `NO_SEAT` if `held` has no seat, `SEATS_OUT` if it does not have all seats of the set, `OUT_OF_MEMORY` if an
+/// allocation failed.
 pub fn close_held(alloc: Global, held: Held) -> Result<Vec<u32>, (Held, u8)> {
     match held {
         Held::Coarse(of) => match of.close(alloc) {
@@ -177,7 +178,7 @@ pub fn close_held(alloc: Global, held: Held) -> Result<Vec<u32>, (Held, u8)> {
     }
 }
 
-/// Copies `keys` to the front of `room` if they fit. Returns the number of keys.
+/// Copies `keys` to the first places of `room` if they fit. Returns the number of keys in any case.
 fn put_keys(keys: &[u32], room: &mut [u32]) -> usize {
     let count = keys.len();
     if count <= room.len() {
@@ -186,8 +187,8 @@ fn put_keys(keys: &[u32], room: &mut [u32]) -> usize {
     count
 }
 
-/// Copies the keys of the closed set in `held` to the front of `room`, if they fit. Returns the number of keys, or
-/// `usize::MAX` if `held` is not a closed set.
+/// Copies the keys of the closed set in `held` to the first places of `room` if they fit. Returns the number of keys in
+/// any case, or `usize::MAX` if `held` is not a closed set.
 pub fn keys_held(held: &Held, room: &mut [u32]) -> usize {
     match held {
         Held::Closed(keys) => put_keys(keys, room),

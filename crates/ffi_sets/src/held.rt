@@ -1,4 +1,4 @@
-//! Defines the value of a seat of C: a seat of a set, a receipt, or the keys of a closed set.
+//! The value that a seat of C owns: a seat of a set, a receipt, or the keys of a closed set.
 ghost use Rattle.std.specs.Prelude.{◌≡◌, IfSome};
 ghost use Rattle.std.specs.Arc.{arc_value};
 ghost use Rattle.ffi_sets.specs.Facts.{AreOf, seat_of_prop, spare_of_prop};
@@ -13,8 +13,8 @@ use lset_steps::Machine;
 use std::alloc::Global;
 use std::sync::Arc;
 
-/// A seat of a set, with the set, the set's number, and the seats that can be split off. `seat` is `None` once a call
-/// has given up.
+/// A seat of a set (the right to call as one thread), with the set, the number that the caller gave the set, and the
+/// seats that can be split off. `seat` is `None` after a call has given up.
 #[derive(Drop)]
 pub struct SeatOfSet<M: Bounded> {
     pub set: Arc<LiveSet<M>, Global>,
@@ -25,15 +25,15 @@ pub struct SeatOfSet<M: Bounded> {
     ghost spare_of: { AreOf (arc_value set) spare.items } by { spare_of_prop spare.items (arc_value set) },
 }
 
-/// A receipt for a set, with the set's number.
+/// A receipt of the events that a seat has seen, with the number that the caller gave the set.
 #[derive(Drop)]
 pub struct ReceiptOfSet<M: Machine> {
     pub number: u64,
     pub receipt: Receipt<M>,
 }
 
-/// The value of a full seat of C: a seat of a set of one of the five lists, a receipt of such a set, or the keys of a closed set.
-/// The box contains `Nothing` while a function has taken the value out.
+/// The value of a full seat of C: a seat of a set of one of the five lists, a receipt of such a set, or the keys of a
+/// closed set. The value is `Nothing` only while a function works with the real one.
 #[derive(Drop)]
 pub enum Held {
     Coarse(SeatOfSet<CoarseList>),

@@ -1,4 +1,4 @@
-//! Functions on a seat of a set, for any list.
+//! Functions on a seat of a set, for any list `M`.
 ghost use Rattle.std.specs.Prelude.{◌≡◌, ◌↔◌, ◌+◌, ◌≤◌, [], Some, IfNone, IfSome, IsTrue, length, vec_capacity};
 ghost use Rattle.std.specs.Arc.{arc_value};
 ghost use Rattle.lset_words.specs.declared.Call.TheVariants.{Contains};
@@ -17,7 +17,7 @@ use std::alloc::Global;
 use std::mem::replace;
 use std::sync::Arc;
 
-/// Opens a set and returns one of its seats, from which all others can be split off.
+/// Opens a set and returns one of its seats. All others can be split off this seat.
 pub fn open_of<M: Bounded>(
     alloc: Global,
     seats: u32,
@@ -38,7 +38,7 @@ pub fn open_of<M: Bounded>(
     })
 }
 
-/// Gathers all seats in `spare` into `seat` and returns `seat`.
+/// Merges all seats in `spare` into `seat`, and returns it. All must belong to `set`.
 fn gathered<M: Bounded>(set: &LiveSet<M>, seat: Seat<M>, spare: Vec<Seat<M>>) -> Seat<M>
     requires seat { seat.set ≡ set.now }
     requires spare { AreOf set.now spare.items }
@@ -52,7 +52,7 @@ fn gathered<M: Bounded>(set: &LiveSet<M>, seat: Seat<M>, spare: Vec<Seat<M>>) ->
     into
 }
 
-/// Closes the set and returns its final keys in `room`. `seat` and `spare` must be all of the set's seats.
+/// Closes the set and returns its final keys in `room`. `seat` and `spare` must be all seats of the set.
 fn keys_left<M: Bounded>(
     set: LiveSet<M>,
     seat: Seat<M>,
@@ -69,8 +69,8 @@ fn keys_left<M: Bounded>(
 }
 
 impl<M: Bounded> SeatOfSet<M> {
-    /// Makes a call from this seat. Returns `None` if the seat was already lost, or if the call gives up, which loses
-    /// the seat.
+    /// Makes a call from this seat. Returns `None` if the seat was already lost, or if the call gives up after 2^64 - 1
+    /// rounds of a loop. A call that gives up loses the seat.
     pub fn call(&mut self, call: Call) -> Option<Reply>
         ensures set { arc_value self.new.set ≡ arc_value self.old.set }
         ensures number { self.new.number ≡ self.old.number }
@@ -85,8 +85,8 @@ impl<M: Bounded> SeatOfSet<M> {
         Some(reply)
     }
 
-    /// Splits a seat off this one. Returns the error `NO_MORE` if none remains, `OUT_OF_MEMORY` if the set cannot have
-    /// another owner.
+    /// Splits a seat off this one. Returns the error `NO_MORE` if no seat can be split off, or `OUT_OF_MEMORY` if the
+    /// set has too many owners for another one.
     pub fn split(&mut self, alloc: Global) -> Result<SeatOfSet<M>, u8> {
         if self.spare.is_empty() {
             return Err(NO_MORE);
@@ -106,8 +106,8 @@ impl<M: Bounded> SeatOfSet<M> {
         })
     }
 
-    /// Merges `from`, with all seats that can be split off it, into this seat. Returns `None` on success, and `from` if the
-    /// numbers of the two differ or one of them was lost.
+    /// Merges `from`, and all seats that can be split off it, into this seat. Returns `None` on success. Otherwise
+    /// changes nothing and returns `from`: the numbers differ, or one of the two seats was lost.
     pub fn gather(&mut self, alloc: Global, from: SeatOfSet<M>) -> Option<SeatOfSet<M>>
         requires { self.old.number ≡ from.number → arc_value self.old.set ≡ arc_value from.set }
     {
@@ -130,7 +130,7 @@ impl<M: Bounded> SeatOfSet<M> {
         None
     }
 
-    /// Returns a receipt of everything that this seat has seen; `None` if the seat was lost.
+    /// Returns a receipt of everything that this seat has seen, or `None` if the seat was lost.
     pub fn receipt(&mut self) -> Option<ReceiptOfSet<M>>
         ensures set { arc_value self.new.set ≡ arc_value self.old.set }
         ensures number { self.new.number ≡ self.old.number }
@@ -147,8 +147,8 @@ impl<M: Bounded> SeatOfSet<M> {
         })
     }
 
-    /// Hands a receipt to this seat, which has then seen all that the receipt covers. Returns `None` on success, and
-    /// `given` if its number is another one or the seat was lost.
+    /// Passes a receipt to this seat, which has then seen everything that the receipt covers. Returns `None` on
+    /// success. Otherwise changes nothing and returns `given`: the numbers differ, or the seat was lost.
     pub fn after(&mut self, given: ReceiptOfSet<M>) -> Option<ReceiptOfSet<M>>
         requires { self.old.number ≡ given.number → arc_value self.old.set ≡ given.receipt.set }
         ensures set { arc_value self.new.set ≡ arc_value self.old.set }
@@ -168,7 +168,8 @@ impl<M: Bounded> SeatOfSet<M> {
         None
     }
 
-    /// Returns how many seats this one contains, including itself, and how many the set has.
+    /// Returns how many seats of the set this one contains, and how many the set has. A seat contains itself, the seats
+    /// that it gathered, and those that can be split off it.
     pub fn counts(&self) -> (u64, u32) {
         let spare = self.spare.len() as u64;
         let held = match &self.seat {
@@ -178,7 +179,7 @@ impl<M: Bounded> SeatOfSet<M> {
         (spare.saturating_add(held), self.set.seats())
     }
 
-    /// Returns `true` if this seat contains all seats of the set.
+    /// Returns whether this seat contains all seats of the set.
     fn has_all(&self) -> bool
         ensures { IsTrue result ↔ IsWhole (arc_value self.now.set) self.now.seat self.now.spare.items }
     {
@@ -192,8 +193,8 @@ impl<M: Bounded> SeatOfSet<M> {
     }
 
     /// Closes the set and returns its final keys. On an error, returns this seat and the number of the error:
-    /// `SEATS_OUT` if other seats have not been gathered; `OUT_OF_MEMORY` if the space for the set's maximum number of
-    /// keys cannot be allocated, or if the set has another owner, which no run reaches.
+    /// `SEATS_OUT` if other seats were not gathered, `OUT_OF_MEMORY` if the space for the set's maximum number of keys
+    /// cannot be allocated. (`OUT_OF_MEMORY` is also returned if the set has another owner, which no run reaches.)
     pub fn close(self, alloc: Global) -> Result<Vec<u32>, (SeatOfSet<M>, u8)> {
         if !self.has_all() {
             return Err((self, SEATS_OUT));
@@ -225,8 +226,8 @@ impl<M: Bounded> SeatOfSet<M> {
 }
 
 impl<M: OpenContains> SeatOfSet<M> {
-    /// Makes a `contains` from this seat without blocking, in at most `most_reads` steps. Returns `None` if the seat
-    /// was lost before.
+    /// Makes a `contains` of `key` from this seat without blocking, in at most `most_reads` steps. Returns `None` if
+    /// the seat was lost before.
     pub fn contains_now(&mut self, key: Key) -> Option<Reply>
         ensures set { arc_value self.new.set ≡ arc_value self.old.set }
         ensures number { self.new.number ≡ self.old.number }

@@ -1,10 +1,11 @@
-//! Provides running sets as functions on seats that C keeps. The crate `ffi_c` exports the functions.
+//! Running sets for C: functions on seats that C keeps. The crate `ffi_c` exports them.
 //!
-//! A seat of C (`CSeat`) is empty, or owns a seat of a set, a receipt, or the keys of a closed set. Each function
-//! accepts all arguments that its types allow, except that seats and receipts with the same list and number must belong
-//! to the same set. `codes` has the numbers of errors. A call from a seat gives up after 2^64 - 1 rounds of a loop
-//! (`lset_live::Bounded`), since a C function has no handle that would allow it to wait forever. The seat is then lost,
-//! and each later call from it returns 255.
+//! A seat of C (`CSeat`) is a handle: it is empty, or owns a seat of a set (the right to call as one thread), a
+//! receipt, or the keys of a closed set. Each function accepts all arguments that its types allow, with one exception:
+//! seats and receipts with the same list and number must belong to the same set. `codes` has the numbers of errors.
+//!
+//! A call from a seat gives up after 2^64 - 1 rounds of a loop (`lset_live::Bounded`), since a C function has no
+//! runtime with which it could wait forever. The seat is then lost, and each later call from it returns 255.
 #![tactic(auto)]
 
 mod answers;
@@ -40,7 +41,7 @@ use std::mem::replace;
 
 /// Opens a set of the list `kind` (0 coarse, 1 fine, 2 optimistic, 3 lazy, 4 lock-free) with 1 to 64 `seats`, a `quota`
 /// of 0 to 16,384, and at most 1,048,576 `keys` in strictly increasing order. Stores a seat in `out`, which must be
-/// empty; all other seats can be split off that seat. No other open set may have the same `number`, because
+/// empty. All other seats can be split off this seat. No other open set may have the same `number`, because
 /// `gather_seats` uses it to compare the sets of two seats.
 ///
 /// Returns `DONE`. On an error, changes nothing and returns `IS_SEAT` if `out` is not empty, `BAD_KIND`, `BAD_SEATS`,
@@ -82,7 +83,7 @@ pub fn split_seat(alloc: Global, seat: &mut CSeat, out: &mut CSeat) -> u8 {
         put(seat, held);
         return NO_MORE;
     }
-    // Allocate the box first, so that no seat is lost if the allocation fails.
+    // The box is allocated first. Otherwise a seat would be lost if the allocation failed.
     let Ok(mut made) = Box::new(alloc, Held::Nothing) else {
         put(seat, held);
         return OUT_OF_MEMORY;
@@ -222,8 +223,8 @@ pub fn take_receipt(alloc: Global, seat: &mut CSeat, given: &mut CSeat) -> u8
     NO_GATHER
 }
 
-/// Returns how many of its set's seats `seat` contains, including itself, and writes the number of all seats of the set
-/// to `all`. Both are 0 if `seat` is empty, a receipt or a closed set. Does not block or allocate.
+/// Returns how many seats of its set `seat` contains, itself included. Writes the number of all seats of the set to
+/// `all`. Both are 0 if `seat` is empty, a receipt or a closed set. Does not block or allocate.
 pub fn count_seats(alloc: Global, seat: &mut CSeat, all: &mut u32) -> u64 {
     let (within, of_set) = match take(alloc, seat) {
         Some(held) => {
@@ -262,7 +263,7 @@ pub fn gather_seats(alloc: Global, into: &mut CSeat, from: &mut CSeat) -> u8
     NO_GATHER
 }
 
-/// Closes the set. `seat` must contain all of the set's seats; afterwards it is a closed set with the final keys.
+/// Closes the set. `seat` must contain all seats of the set. Afterwards it is a closed set with the final keys.
 ///
 /// Returns `DONE`. On an error, changes nothing and returns `NO_SEAT` if `seat` is empty, a receipt or a closed set,
 /// `SEATS_OUT` if it lacks some of the seats, or `OUT_OF_MEMORY` if an allocation failed. Does not block.

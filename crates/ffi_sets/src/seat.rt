@@ -1,4 +1,4 @@
-//! A seat as C keeps it: a pointer to a box.
+//! A seat of C: a handle that owns a box, or is empty.
 ghost use Rattle.std.specs.Prelude.{◌≡◌, true, false, MatchOption};
 ghost use Rattle.ffi_sets.specs.Owned.{seat_owns};
 ghost use Rattle.ffi_sets.specs.declared.held.Held.{Held};
@@ -10,7 +10,7 @@ use std::alloc::Global;
 use std::marker::Model;
 use std::mem::replace;
 
-/// A seat as C keeps it. A full seat owns a box with the value `held`. Only an empty seat may be dropped.
+/// A seat as C keeps it: a handle. A full seat owns a box with the value `held`. Only an empty seat may be dropped.
 #[derive(Drop)]
 #[repr(C)]
 pub struct CSeat {
@@ -24,7 +24,7 @@ impl Model for CSeat {
 }
 
 impl CSeat {
-    /// Creates an empty seat.
+    /// Returns an empty seat.
     pub fn none() -> CSeat
         ensures { result.full ≡ false }
     {
@@ -34,7 +34,7 @@ impl CSeat {
         }
     }
 
-    /// Creates a full seat that owns this box.
+    /// Returns a full seat that owns this box.
     fn of_loose(held: Loose<Held, Global>) -> CSeat
         ensures { (result.full ≡ true) × (result.held ≡ held.value) }
     {
@@ -45,7 +45,7 @@ impl CSeat {
         }
     }
 
-    /// Returns the box of a full seat, `None` if the seat is empty.
+    /// Returns the box of a full seat, or `None` if the seat is empty.
     fn into_loose(self, alloc: Global) -> Option<Loose<Held, Global>>
         ensures { MatchOption result (self.full ≡ false) (λ l. (self.full ≡ true) × (l.value ≡ self.held)) }
     {

@@ -34,7 +34,7 @@ use Rattle.lset_judge.proofs.PlacedCalls.{below_test}
 use Rattle.lset_judge.proofs.TimelineOfKey.{In, one_of, Act, act, suits, becomes, TakeTurns, Apart, IsAct}
 use Rattle.lset_judge.proofs.TimelineFromOrder.{does, begins_told, stands, ready}
 
--- ---- Lemmas about acts in order
+-- ---- Lemmas about acts in an order. An act is the effect of a call on the key.
 
 abbrev Before : Act → Act → List Act → Type 0
 Before x t [] = ⊥
@@ -52,7 +52,6 @@ early x t [] pairs b = absurd b
 early x t (p ∷ ys) pairs (inl h) = subst (λ (q : Act). q.begun < t.until) h.0 (one_of (Apart p) t ys pairs.0 h.1).in_time
 early x t (p ∷ ys) pairs (inr b) = early x t ys pairs.1 b
 
--- If no act changes the key to the other state, the key stays in its state.
 goes_on : (s b : Bool) (k : Kind) → s ≡ b → (k ≡ changes (not b) → ⊥) → becomes s k ≡ b
 goes_on s true (changes true) e n = refl
 goes_on s false (changes false) e n = refl
@@ -61,7 +60,7 @@ goes_on s false (changes true) e n = absurd (n refl)
 goes_on s b (sees w) e n = e
 goes_on s b nothing e n = e
 
--- If no act that begins before act `t` ends changes the key to the other state, act `t` finds the key in its state.
+-- If no act that begins before the end of act t changes the key from b to the other state, act t finds the state b.
 stays : (left s b : Bool) (t : Act) (ys : List Act) → s ≡ b → TakeTurns left s ys → Pairs Apart ys → In t ys
     → ((a : Act) → In a ys → a.does ≡ changes (not b) → a.begun < t.until → ⊥) → suits b t.does
 stays left s b t [] e turns pairs i n = absurd i
@@ -69,7 +68,7 @@ stays left s b t (p ∷ ys) e turns pairs (inl q) n = subst (λ (a : Act). suits
 stays left s b t (p ∷ ys) e turns pairs (inr i) n = stays left (becomes s p.does) b t ys
     (goes_on s b p.does e (λ d. n p (inl refl) d (one_of (Apart p) t ys pairs.0 i).in_time)) turns.1 pairs.1 i (λ a j. n a (inr j))
 
--- If no act changes the key to the other state, the key has its state at the end.
+-- If no act changes the key from b to the other state, the final state is b.
 stays_left : (left s b : Bool) (ys : List Act) → s ≡ b → TakeTurns left s ys → ((a : Act) → In a ys → a.does ≡ changes (not b) → ⊥) → b ≡ left
 stays_left left s b [] e turns n = sym e ∙ turns
 stays_left left s b (p ∷ ys) e turns n = stays_left left (becomes s p.does) b ys (goes_on s b p.does e (n p (inl refl))) turns.1 (λ a j. n a (inr j))
@@ -77,8 +76,7 @@ stays_left left s b (p ∷ ys) e turns n = stays_left left (becomes s p.does) b 
 abbrev pub Leaves : Bool → Kind → Type 0
 Leaves b k = (s : Bool) → suits s k → becomes s k ≡ b
 
--- If act `x` leaves the key in a state, and no act that can come between `x` and `t` changes it to the other state, act
--- `t` finds the key in this state.
+-- If act x leaves the key in the state b, and no act that can be between x and t changes it, act t finds the state b.
 after : (left s b : Bool) (x t : Act) (ys : List Act) → TakeTurns left s ys → Pairs Apart ys → Before x t ys → Leaves b x.does
     → ((a : Act) → In a ys → a.does ≡ changes (not b) → x.begun < a.until → a.begun < t.until → ⊥) → suits b t.does
 after left s b x t [] turns pairs i l n = absurd i
@@ -95,7 +93,7 @@ after_left left s b x (p ∷ ys) turns pairs (inl e) l n = stays_left left (beco
     (λ a j d. n a (inr j) d (subst (λ (q : Act). q.begun < a.until) e (one_of (Apart p) a ys pairs.0 j).in_time))
 after_left left s b x (p ∷ ys) turns pairs (inr i) l n = after_left left (becomes s p.does) b x ys turns.1 pairs.1 i l (λ a j. n a (inr j))
 
--- ---- Lemmas about the states that calls leave and need
+-- ---- Lemmas about the states of a key that calls leave and need
 
 some_same : (p q : Presence) → Some p ≡ Some q → p ≡ q
 some_same p q e = cc
@@ -142,7 +140,7 @@ ended_by_then since u last x (Some d) e is h =
 before_end : (begun : ℕ) (e : ℕ × Reply) (y : CallRecord) → y.ended ≡ Some e → begun < e.0 → is_before begun (Some y) ≡ true
 before_end begun e y is l = rw is (below_test begun e.0 l)
 
--- ---- Lemmas about the acts that an order of the calls determines
+-- ---- Lemmas about the acts (effects of calls on the key) that an order of the calls determines
 
 module _ (threads : ℕ) (calls : List CallRecord) (history : IsHistory threads calls) (last : ℕ) (upto : latest_moment calls ≤ last) (k : ℕ)
     (there : Presence) (left : Option Presence) (finally : Bool) (leaves : IfSome left (λ (l : Presence). finally ≡ is_there l))
@@ -165,7 +163,7 @@ module _ (threads : ℕ) (calls : List CallRecord) (history : IsHistory threads 
   positive : (a : Act) → In a ys → 0 < a.until
   positive a i = let l = (is_act a i).ends_later in omega (arith, l)
 
-  -- If no call can change the key to the other state in this time, no act does.
+  -- If no call can change the key to the other state after `since` and before the second call, no act does.
   none : (p : Presence) (since : ℕ) (second : Option CallRecord) → NothingTurns calls k (other p) since second
       → (a : Act) → In a ys → a.does ≡ changes (not (is_there p)) → since < a.until → is_before a.begun second ≡ true → ⊥
   none p since second n a i d s b =
@@ -217,7 +215,7 @@ module _ (threads : ℕ) (calls : List CallRecord) (history : IsHistory threads 
         ]
       ]
 
--- A clash rules out every order of a history with its quota and with these final keys.
+-- If two calls of a history clash, no order explains the history with its quota and leaves these final keys.
 pub clash_refutes : (h : HistoryValue) (keys : List ℕ) (k : ℕ) (there : Presence) (left : Option Presence) (was : Presence) (first second : Option CallRecord)
     → IsHistory h.opening.threads h.calls → has_key k h.opening.keys ≡ is_there there → IfSome left (λ (l : Presence). has_key k keys ≡ is_there l)
     → IsClash h.calls k there left was first second → IsUnexplained h keys
@@ -231,7 +229,7 @@ clash_refutes h keys k there left was first second history opens leaves c order 
     (subst (λ b. TakeTurns (has_key k keys) b acts) opens r.take_turns) r.pairs r.acts
     (stands h.opening.threads h.calls history last upto k h.opening.quota (opening_set h.opening) order ex.linearizes) was first second c
 
--- A clash rules out every order of the calls of its key alone, with any quota.
+-- If two calls of a key clash, no order explains the calls of this key, with any quota.
 pub clash_has_none : (threads key : ℕ) (there : Presence) (left : Option Presence) (was : Presence) (first second : Option CallRecord) (calls : List CallRecord)
     → IsHistory threads calls → IsClash calls key there left was first second → HaveNone threads key there left calls
 clash_has_none threads key there left was first second calls history c quota keys leaves =
@@ -242,7 +240,7 @@ clash_has_none threads key there left was first second calls history c quota key
     left_as None e = tt
     left_as (Some l) e = ap (has_key key) e ∙ opens_so (is_there l) key
 
--- ---- Lemmas about the tests in the code
+-- ---- Lemmas about the tests that the code makes
 
 ends : (a b c : Bool) → a ≡ true → b ≡ true → (not a || (not b || c)) ≡ true → c ≡ true
 ends true true c e f h = h

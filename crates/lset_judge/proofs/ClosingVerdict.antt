@@ -1,4 +1,4 @@
--- The verdict on a stream after all events of its calls.
+-- The verdict after all events of the recorded calls.
 use Rattle.std.proofs.Common.{◌≡◌, ◌≢◌, ℕ, ◌-◌, ◌<◌, ◌≤◌, Bool, false, List, [], ◌∷◌, sym, ap, ◌∙◌, arith, inl, inr, zero, suc, true, refl, subst, length, get_or}
 use Rattle.std.specs.Prelude.{◌==◌, ◌&&◌, nat_le, None, IfSome, ◌||◌, Option, Some, is_some, MatchOption, All}
 use Rattle.std.specs.List.{AllByRecursion}
@@ -32,7 +32,7 @@ use Rattle.lset_judge.proofs.PlacedCalls.{same_flips}
 use Rattle.lset_judge.proofs.RuleLeads.{at_once, no_state, settled_none}
 use Rattle.lset_judge.proofs.StreamSteps.{same_some, until_end}
 
--- ---- The rule decides about the calls of a key that begin by a moment as it does about all its calls
+-- ---- Up to a moment, the rule has the same result for the calls that begin by this moment as for all calls
 
 abbrev EndsLater : CallRecord → Type 0
 EndsLater x = IfSome x.ended (λ (e : ℕ × Reply). x.begun < e.0)
@@ -40,7 +40,7 @@ EndsLater x = IfSome x.ended (λ (e : ℕ × Reply). x.begun < e.0)
 abbrev is_by : ℕ → ℕ → CallRecord → Bool
 is_by k M x = (key_of x.call).0 == k && nat_le x.begun M
 
--- Up to a moment, the calls that begin by this moment have all events of the key.
+-- Up to moment M, the calls that begin by M have all events of the key.
 event_by : (last k M m : ℕ) (xs : List CallRecord) → m ≤ M → AllByRecursion EndsLater xs → event_at last k (calls_by k M xs) m ≡ event_at last k xs m
 event_by last k M m xs low later = event_filter last k m (is_by k M) xs (silent xs later)
   where
@@ -95,7 +95,7 @@ module _ (last : ℕ) (h : HistoryValue) (told : IsHistory h.opening.threads h.c
       ])
       ∙ fails)
 
--- ---- Lemmas about the final states that a key can have
+-- ---- Lemmas about the final states that are possible for a key
 
 module _ (m : ℕ) (w : Bool) where
   one_turn : (n : ℕ) (s : State) (os : List ℕ) → same w s.there ≡ false → options s ≡ os → length os ≤ n

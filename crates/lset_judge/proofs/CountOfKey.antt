@@ -68,12 +68,13 @@ empty_or_not : (xs : List ℕ) → (xs ≡ []) ⊎ ((u : ℕ) × (has_key u xs �
 empty_or_not [] = inl refl
 empty_or_not (x ∷ xs) = inr (x, has_head x xs)
 
--- ---- Lemmas about acts of counted calls: between any two of them, the key must change back
+-- ---- Lemmas about acts (effects of calls on the key) of a count's calls: the key must change back between any two of
+-- them.
 
 abbrev Needs : Bool → Kind → Type 0
 Needs b k = (s : Bool) → suits s k → s ≡ not b
 
--- Returns 1 if the key is in the other state, else 0.
+-- Returns 1 if the key is not in the state b, else 0.
 abbrev against : Bool → Bool → ℕ
 against b s = if same b s then 0 else 1
 
@@ -95,7 +96,8 @@ against_so true false e = absurd (true≢false (sym e))
 against_so false true e = absurd (true≢false e)
 against_so false false e = refl
 
--- An act either changes the key back, or does not bring it closer to the other state.
+-- An act (the effect of a call on the key) changes the key away from the state b, or does not bring the key closer to
+-- the other state.
 turns_or_not : (b s : Bool) (k : Kind) → suits s k → (k ≡ changes (not b)) ⊎ (against b (becomes s k) ≤ against b s)
 turns_or_not true s (changes true) h = inr (let a = against_so true true refl in omega (arith, a))
 turns_or_not true s (changes false) h = inl refl
@@ -104,8 +106,8 @@ turns_or_not false s (changes false) h = inr (let a = against_so false false ref
 turns_or_not b s (sees w) h = inr (omega arith)
 turns_or_not b s nothing h = inr (omega arith)
 
--- `Earlier` states that a counted act begins before this act ends, or that the key had the state at the opening.
--- `Later` states that a counted act ends after this act begins, or that the final state is the other state.
+-- `Earlier`: an act of the count begins before act t ends, or the opening counts as an act. `Later`: an act of the
+-- count ends after act a begins, or the final state counts as an act. `us` are the ends of the count's acts.
 abbrev Earlier : Option ℕ → List ℕ → List Act → Act → Type 0
 Earlier o us ys t = ((a : Act) × In a ys × (has_key a.until us ≡ true) × (a.until ≢ t.until) × (a.begun < t.until)) ⊎ (o ≡ None)
 
@@ -118,11 +120,11 @@ record Due (b left : Bool) (o c : Option ℕ) (us zs : List ℕ) (ys : List Act)
   closes : c ≡ None → left ≡ not b
   leave : (a : Act) → In a ys → has_key a.until us ≡ true → Later c us ys a → Leaves b a.does
   need : (t : Act) → In t ys → has_key t.until us ≡ true → Earlier o us ys t → Needs b t.does
-  -- Each change back between two counted acts is in `zs`.
+  -- Each change back between two counted acts is one of `zs`.
   back : (a : Act) → In a ys → a.does ≡ changes (not b) → Earlier o us ys a → Later c us ys a → has_key a.until zs ≡ true
 
 module _ (b left : Bool) (c : Option ℕ) where
-  -- These facts still hold after one act.
+  -- `Due` is true of the remaining acts after the first act was removed.
   due_on : (o p : Option ℕ) (us zs : List ℕ) (a : Act) (ys : List Act) → (p ≡ None → (has_key a.until us ≡ true) ⊎ (o ≡ None))
       → AllByRecursion (Apart a) ys → Due b left o c us zs (a ∷ ys) → Due b left p c (take_out a.until us) (take_out a.until zs) ys
   due_on o p us zs a ys from apart d = record {
@@ -151,7 +153,7 @@ module _ (b left : Bool) (c : Option ℕ) where
         | inr q ↦ inr q
       ]
 
-  -- Either a counted act comes later, or none does.
+  -- After act a, another counted act (or the final state) follows, or a was the last.
   later_or_last : (p : Option ℕ) (us vs : List ℕ) (a : Act) (ys : List Act) → AllByRecursion (Apart a) ys → Due b left p c (take_out a.until us) vs ys
       → Later c us (a ∷ ys) a ⊎ ((take_out a.until us ≡ []) × (also c ≡ 0))
   later_or_last p us vs a ys apart d = by c refl
@@ -164,7 +166,7 @@ module _ (b left : Bool) (c : Option ℕ) where
             inl (inl (i.0, inr i.1, left_in i.0.until a.until us (subst (λ v. has_key v (take_out a.until us) ≡ true) (sym i.2) u.1), r.other, r.in_time)))
       ]
 
-  -- The number of counted acts is bounded if the key had the state at the opening or a counted act came before.
+  -- The number of counted acts is bounded by that of changes back, if the opening or an earlier act counts.
   count_on : (s : Bool) (o : Option ℕ) (us zs : List ℕ) (ys : List Act) → o ≡ None → TakeTurns left s ys → Pairs Apart ys → Due b left o c us zs ys
       → length us + also c ≤ length zs + against b s
   count_on s o (u ∷ us) zs [] none turns pairs d = absurd (d.stand u (has_head u us)).1
@@ -198,7 +200,7 @@ module _ (b left : Bool) (c : Option ℕ) where
         ])
       ]
 
-  -- The number of counted acts is bounded, with one more allowed, if no counted act has come yet.
+  -- If neither the opening nor an earlier act counts, the number of counted acts can be greater by one.
   count_from : (s : Bool) (o : Option ℕ) (us zs : List ℕ) (ys : List Act) → TakeTurns left s ys → Pairs Apart ys → Due b left o c us zs ys
       → length us + also c ≤ suc (length zs)
   count_from s o (u ∷ us) zs [] turns pairs d = absurd (d.stand u (has_head u us)).1
@@ -278,7 +280,7 @@ module _ (f : CallRecord → ℕ) where
     no_twice_mapped xs p.1,
   )
 
--- ---- Lemmas about the calls in a count
+-- ---- Lemmas about the calls in a count: calls of a key that are too many for any order
 
 until_is : (last : ℕ) (x : CallRecord) (e : ℕ × Reply) → x.ended ≡ Some e → until last x ≡ e.0
 until_is last x e is = rw is refl
@@ -309,7 +311,7 @@ other_not : (p : Presence) → is_there (other p) ≡ not (is_there p)
 other_not Present = refl
 other_not Absent = refl
 
--- ---- Lemmas about the acts that an order of the calls determines
+-- ---- Lemmas about the acts (effects of calls on the key) that an order of the calls determines
 
 module _ (threads : ℕ) (calls : List CallRecord) (history : IsHistory threads calls) (last : ℕ) (upto : latest_moment calls ≤ last) (k : ℕ)
     (there : Presence) (left : Option Presence) (finally : Bool) (leaves : IfSome left (λ (l : Presence). finally ≡ is_there l))
@@ -348,7 +350,7 @@ module _ (threads : ℕ) (calls : List CallRecord) (history : IsHistory threads 
       let t : x.begun ≡ y.begun = ap (λ (z : CallRecord). z.begun) s in let l = n.later in omega (arith, t, l))
       (ap (until last) (numbered x p) ∙ q ∙ sym (ap (until last) (numbered y r)))
 
-  -- The act of a counted call.
+  -- The act of a counted call, with the call's begin, end and effect.
   record IsDue (a : Act) : Type 0 where
     x : CallRecord
     counts : In x counted
@@ -392,7 +394,7 @@ module _ (threads : ℕ) (calls : List CallRecord) (history : IsHistory threads 
     ]
   ]
 
-  -- A change back between two counted calls overlaps the stretch.
+  -- A change back between two counted calls is one of those that overlap the time of the count.
   overlaps : (a : Act) → In a ys → a.does ≡ changes (not b) → Earlier since us ys a → Later til us ys a → has_key a.until zs ≡ true
   overlaps a i d e l =
       let t = (one_of (IsAct (λ m. event_at last k calls m) last) a ys acts i).told (not b) d in
@@ -462,7 +464,7 @@ module _ (threads : ℕ) (calls : List CallRecord) (history : IsHistory threads 
           let from = count_from b finally til (is_there there) since us zs ys turns pairs due in
           let f = c.fewer in let zero_more : also since ≡ 0 = ap also e in let m = long in let s = short in omega (arith, from, f, zero_more, m, s)
 
--- A count rules out every order of a history with its quota and with these final keys.
+-- If calls of a history are a count, no order explains the history with its quota and leaves these final keys.
 pub count_refutes : (h : HistoryValue) (keys : List ℕ) (k : ℕ) (there : Presence) (left : Option Presence) (was : Presence) (since til : Option ℕ)
     (counted : List CallRecord) → IsHistory h.opening.threads h.calls → has_key k h.opening.keys ≡ is_there there
     → IfSome left (λ (l : Presence). has_key k keys ≡ is_there l) → IsCountOf h.calls k there left was since til counted → IsUnexplained h keys
@@ -476,9 +478,8 @@ count_refutes h keys k there left was since til counted history opens leaves c o
     (subst (λ b. TakeTurns (has_key k keys) b acts) opens r.take_turns) r.pairs r.acts
     (stands h.opening.threads h.calls history last upto k h.opening.quota (opening_set h.opening) order ex.linearizes) was since til counted c
 
--- ---- Lemmas about the tests in the code
+-- ---- Lemmas about the tests that the code makes
 
--- If the items before an index and the item at it have the property, so do the items up to and including it.
 pub one_more : {X : Type 0} (P : X → Type 0) (xs : List X) (n : ℕ) (e : X) → ((i : ℕ) (d : X) → i < n → P (get_or xs i d)) → n < length xs
     → P (get_or xs n e) → (i : ℕ) (d : X) → i < n + 1 → P (get_or xs i d)
 one_more P xs n e before long here i d l = elim (below_or_not i n) [
@@ -486,7 +487,6 @@ one_more P xs n e before long here i d l = elim (below_or_not i n) [
   | inr high ↦ (let at : i ≡ n = omega arith in rw (at, get_or_default xs n d e long) here)
 ]
 
--- The part of a list after its first item has all other items.
 rest_is : {X : Type 0} (x : X) (xs : List X) → take (length (x ∷ xs) - 1) xs ≡ xs
 rest_is x xs = grind (arith, common_steps)
 
@@ -495,7 +495,6 @@ pub pairs_of_parts : {X : Type 0} (R : X → X → Type 0) (xs : List X) (d : X)
 pairs_of_parts R [] d l a p = absurd (omega arith)
 pairs_of_parts R (x ∷ xs) d l a p = AllPairs-cons R x xs (subst (All (R x)) (rest_is x xs) a) (subst (AllPairs R) (rest_is x xs) p)
 
--- Calls of a stream, read as calls of a history.
 pub pairs_as_records : (R : CallRecord → CallRecord → Type 0) (xs : List StreamCall) → AllPairs (λ (x y : StreamCall). R (record_of x) (record_of y)) xs
     → AllPairs R (records xs)
 pairs_as_records R xs p = pairs_std R (records xs) (pairs_map record_of R xs (pairs_from (λ (x y : StreamCall). R (record_of x) (record_of y)) xs p))
@@ -507,7 +506,7 @@ filter_as_records p (x ∷ xs) = let r = filter_as_records p xs in elim (cases_B
   | inr f ↦ rw f r
 ]
 
--- If the code's test passes, the calls are a count.
+-- If all tests of the code succeed, the calls are a count.
 pub is_count_if : (calls : List StreamCall) (there : Presence) (left : Option Presence) (c : Count) (counted : List StreamCall) → counted ≡ c.calls.items
     → c.backs.items ≡ filter (λ (x : StreamCall). turns_in c.key.0 (other c.was) c.since c.until (record_of x)) calls
     → All (λ (x : StreamCall). IsOf (records calls) c.key.0 (record_of x)) counted
@@ -534,7 +533,7 @@ is_count_if calls there left c counted listed backs known begin until opens clos
       backs = same;
     }
 
--- A count rules out every order of the calls of its key.
+-- If calls of a key are a count, no order explains the key's calls, with any quota.
 pub count_has_none : (threads key : ℕ) (there : Presence) (left : Option Presence) (was : Presence) (since til : Option ℕ) (counted calls : List CallRecord)
     → IsHistory threads calls → IsCountOf calls key there left was since til counted → HaveNone threads key there left calls
 count_has_none threads key there left was since til counted calls history c quota keys leaves =

@@ -1,4 +1,4 @@
--- The ends of pending changes. The code keeps them in a heap; contracts see them in increasing order.
+-- The ends of pending changes. The code keeps them in a heap. Contracts have them in increasing order.
 use Rattle.std.proofs.Common.{◌≡◌, ℕ, suc, ◌+◌, ◌-◌, ◌<◌, ◌≤◌, List, [], ◌∷◌, Bool, true, false, inl, inr, refl, sym, ap, ◌∙◌, arith, subst, length}
 use Rattle.std.specs.Prelude.{◌==◌, nat_lt, slice_index_or, slice_get, if◌then◌else◌, Option, Some, None, All, MatchOption}
 use Rattle.std.specs.BinaryHeap.{IsUpperBound}
@@ -16,9 +16,9 @@ use Rattle.lset_judge.specs.Rule.{Event, State, not_before, put_in, nearest, tur
 use Rattle.lset_judge.proofs.RuleLeads.{at, later, no_state}
 use Rattle.lset_judge.proofs.RuleLeads.{counts, counts_one, counts_not, at_most_all, all_from_zero, counted_in, length_in, taken_length, nearest_stands}
 
--- ---- Lemmas about increasing moments
+-- ---- Lemmas about lists of moments in increasing order
 
--- States that no moment of the list is before `d`.
+-- States that no moment of the list is before d.
 abbrev NoneBefore : ℕ → List ℕ → Type 0
 NoneBefore d xs = not_before d xs ≡ length xs
 
@@ -55,7 +55,7 @@ increasing_with e (x ∷ xs) up = elim (cases_Bool (nat_lt e x)) [
       rw f (let here : NoneBefore x (put_in e xs) = omega (arith, o, n, s, all) in (here, increasing_with e xs up.1)))
 ]
 
--- If two increasing lists have equally many moments before each moment, they are equal.
+-- Two increasing lists are equal if, for each d, they have the same number of moments from d on.
 same_increasing : (xs ys : List ℕ) → IsIncreasing xs → IsIncreasing ys → ((d : ℕ) → not_before d xs ≡ not_before d ys) → xs ≡ ys
 same_increasing [] [] up high h = refl
 same_increasing [] (y ∷ ys) up high h = let a = h 0 in let b = all_from_zero (y ∷ ys) in absurd (omega (arith, a, b))
@@ -72,7 +72,7 @@ same_increasing (x ∷ xs) (y ∷ ys) up high h =
       | inr l ↦ l
     ]
 
--- ---- Lemmas about ends in a heap
+-- ---- Lemmas about the ends in a heap
 
 increasing : (xs : List (Reverse ℕ)) → IsIncreasing (increasing_of xs)
 increasing [] = tt
@@ -86,7 +86,7 @@ pub same_length : (xs : List (Reverse ℕ)) → length (increasing_of xs) ≡ le
 same_length [] = refl
 same_length (x ∷ xs) = length_in x.0 (increasing_of xs) ∙ ap suc (same_length xs)
 
--- A heap with the same items in another order is seen as the same list.
+-- The list of a heap's ends does not depend on the order in which the heap stores them.
 pub reordered : (xs ys : List (Reverse ℕ)) → IsPermutation xs ys → increasing_of ys ≡ increasing_of xs
 reordered xs ys p = same_increasing (increasing_of ys) (increasing_of xs) (increasing ys) (increasing xs)
     (λ d. counted d ys ∙ sum_by-IsPermutation (λ (x : Reverse ℕ). counts d x.0) xs ys p ∙ sym (counted d xs))
@@ -110,7 +110,7 @@ popped x old new p top =
       first_nearest x.0 (increasing_of new) none,
     )
 
--- The top of the heap decides whether any end is before a moment.
+-- The top of the heap decides whether all ends are later than the moment after m.
 pub due_told : (m e : ℕ) (x : Reverse ℕ) (xs : List (Reverse ℕ)) → 0 < length xs → x ≡ slice_index_or xs 0 x → IsUpperBound later_first x xs → e ≡ x.0 - 1
     → nat_lt m e ≡ (not_before (suc (suc m)) (increasing_of xs) == length (increasing_of xs))
 due_told m e x [] low is top less = absurd (omega (arith, low))
@@ -160,7 +160,7 @@ first_popped end moment old new (Some e) first all early is =
     let h : Some e ≡ Some end = subst (λ (xs : List ℕ). slice_get xs 0 ≡ Some end) is.0 first in let same : end ≡ e = cc in
     (is.0, subst (λ (n : ℕ). n < moment) same early, subst (λ (n : ℕ). All (λ (o : ℕ). n ≤ o) old) same all)
 
--- ---- Lemmas about changes and about the loop in the code
+-- ---- Lemmas about the loop of the code, in which one pending change takes effect after another
 
 pub put_turned : (m t end : ℕ) (b : Bool) (ps ks rest : List ℕ) → b ≡ false → ps ≡ end ∷ rest → nearest end rest ≡ end
     → turned_if m (at b t ps ks) (options (at b t ps ks)) ≡ Some (at true m rest ks)
@@ -172,7 +172,6 @@ pub take_turned : (m t end : ℕ) (b : Bool) (ps ks rest : List ℕ) → b ≡ t
 take_turned m t end false ps ks rest e is near = absurd (true≢false (sym e))
 take_turned m t end true ps ks rest e is near = rw is (rw near (rw (equal_test end end refl) refl))
 
--- If no change can take effect, the loop stops.
 pub none_turned : (m t : ℕ) (b w : Bool) (ps ks : List ℕ) → b ≡ w → (if w then ks else ps) ≡ [] → turned_if m (at b t ps ks) (options (at b t ps ks)) ≡ None
 none_turned m t true false ps ks e is = absurd (true≢false e)
 none_turned m t false true ps ks e is = absurd (true≢false (sym e))
@@ -194,7 +193,7 @@ one_fewer m true t ps (x ∷ xs) g e =
     omega (arith, l, n)
 one_fewer m b t ps ks g e = no_state g e _
 
--- If the state does not fit the event, the loop makes one change and tries again.
+-- If the state is not right for the event, the rule lets one change take effect and continues from the new state.
 pub settles_on : (m : ℕ) (v : Event) (s g : State) → fits (suc m) v s ≡ false → turned_if m s (options s) ≡ Some g
     → settled (open_changes s) m v (Some s) ≡ settled (open_changes g) m v (Some g)
 settles_on m v s g f e =

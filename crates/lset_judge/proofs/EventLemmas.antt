@@ -1,4 +1,4 @@
--- The events of a key, and the calls that cause them.
+-- The events of a key, and the calls whose begins and ends they are.
 use Rattle.std.proofs.Common.{◌≡◌, ◌≢◌, ◌⊎◌, ℕ, zero, suc, ◌<◌, ◌≤◌, List, [], ◌∷◌, Bool, true, false, inl, inr, refl, sym, ap, ◌∙◌, arith}
 use Rattle.std.proofs.Common.{subst, length, get_or}
 use Rattle.std.specs.Prelude.{◌==◌, if◌then◌else◌, Option, Some, None, AllPairs, IfSome, filter}
@@ -22,7 +22,7 @@ kind x = kind_if x.call x.ended
 abbrev pub until : ℕ → CallRecord → ℕ
 until last x = until_if last x.begun x.ended
 
--- ---- Lemmas about moments
+-- ---- Lemmas about the moments of a history
 
 pub begun_below : (xs : List CallRecord) (n : ℕ) (d : CallRecord) → n < length xs → (get_or xs n d).begun ≤ latest_moment xs
 begun_below [] n d l = absurd (omega arith)
@@ -35,7 +35,7 @@ end_below [] n d e l s = absurd (omega arith)
 end_below (x ∷ xs) zero d e l s = let a : moment_of x.ended ≡ e.0 = ap moment_of s in omega (arith, a)
 end_below (x ∷ xs) (suc n) d e l s = let rest = end_below xs n d e (omega arith) s in omega (arith, rest)
 
--- ---- What an event says about the calls
+-- ---- The call whose begin or end is the event of a key
 
 pub record Begins (last k m : ℕ) (xs : List CallRecord) (v : Event) : Type 0 where
   pub number : ℕ
@@ -83,7 +83,7 @@ told last k m (x ∷ xs) = elim (cases_Bool ((key_of x.call).0 == k)) [
   ]
 ]
 
--- ---- Lemmas about a call's end, if it has one
+-- ---- Lemmas about the end of a call, if the call has ended
 
 pub none_or_some : (o : Option (ℕ × Reply)) → (o ≡ None) ⊎ ((e : ℕ × Reply) × (o ≡ Some e))
 none_or_some None = inl refl
@@ -96,7 +96,7 @@ pub for_some : (P : ℕ × Reply → Type 0) (o : Option (ℕ × Reply)) → ((e
 for_some P None h = tt
 for_some P (Some e) h = h e refl
 
--- ---- Lemmas about the event at which a call begins
+-- ---- Lemmas about the event of a call's begin
 
 pub ends_not : (m : ℕ) (o : Option (ℕ × Reply)) → IfSome o (λ (e : ℕ × Reply). e.0 ≢ m) → ends_at m o ≡ false
 ends_not m None h = refl
@@ -106,14 +106,13 @@ pub opens_so : (there : Bool) (k : ℕ) → has_key k (if there then k ∷ [] el
 opens_so true k = rw (equal_test k k refl) refl
 opens_so false k = refl
 
--- States that a call causes no event of key `k` at this moment.
+-- States that a call neither begins nor ends at moment m, or is not of key k.
 abbrev pub IsSilent : ℕ → ℕ → CallRecord → Type 0
 IsSilent k m x = ((key_of x.call).0 == k) ≡ true → ((x.begun == m) ≡ false) × (ends_at m x.ended ≡ false)
 
 pub passed_over : (last k m : ℕ) (x : CallRecord) (xs : List CallRecord) → IsSilent k m x → event_at last k (x ∷ xs) m ≡ event_at last k xs m
 passed_over last k m x xs s = elim (cases_Bool ((key_of x.call).0 == k)) [ inl t ↦ (let n = s t in rw (t, n.0, n.1) refl) | inr f ↦ rw f refl ]
 
--- Two lists of calls with the same events still have the same events with one more call before them.
 pub one_before : (last k m : ℕ) (x : CallRecord) (xs ys : List CallRecord) → event_at last k xs m ≡ event_at last k ys m
     → event_at last k (x ∷ xs) m ≡ event_at last k (x ∷ ys) m
 one_before last k m x xs ys e =
@@ -125,7 +124,7 @@ pub event_none : (last k m : ℕ) (xs : List CallRecord) → AllByRecursion (IsS
 event_none last k m [] a = refl
 event_none last k m (x ∷ xs) a = passed_over last k m x xs a.0 ∙ event_none last k m xs a.1
 
--- If a test selects calls, and the other calls cause no event, the selected calls have the same events as all calls.
+-- The calls that satisfy a test have the same event at moment m as all calls, if the other calls cause no event then.
 pub event_filter : (last k m : ℕ) (test : CallRecord → Bool) (xs : List CallRecord)
     → AllByRecursion (λ (x : CallRecord). test x ≡ false → IsSilent k m x) xs → event_at last k (filter test xs) m ≡ event_at last k xs m
 event_filter last k m test [] a = refl
@@ -141,7 +140,6 @@ latest_filter test [] = omega arith
 latest_filter test (x ∷ xs) =
     let rest = latest_filter test xs in elim (cases_Bool (test x)) [ inl t ↦ rw t (omega (arith, rest)) | inr t ↦ rw t (omega (arith, rest)) ]
 
--- There is no event after the last moment.
 pub event_idle : (k m last : ℕ) (xs : List CallRecord) → latest_moment xs < m → event_at last k xs m ≡ idle
 event_idle k m last xs late = event_none last k m xs (recursion_from_All (IsSilent k m) xs (λ i d low own. (
   unequal_test (get_or xs i d).begun m (λ e. let b = begun_below xs i d low in omega (arith, b, e, late)),
@@ -161,7 +159,7 @@ begins_at last k (suc n) (x ∷ xs) l pairs own =
     passed_over last k y.begun x xs (λ t. (unequal_test x.begun y.begun (omega (arith, low)), ends_not y.begun x.ended f.begins_alone))
     ∙ begins_at last k n xs (omega arith) (pairs_tail Follows x xs pairs) own
 
--- ---- Lemmas about the event at which a call ends
+-- ---- Lemmas about the event of a call's end
 
 no_end : (m : ℕ) (o : Option (ℕ × Reply)) → IfSome o (λ (e : ℕ × Reply). m ≢ e.0) → ends_at m o ≡ false
 no_end m None h = refl

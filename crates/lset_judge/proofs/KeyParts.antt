@@ -1,5 +1,5 @@
--- Proof: the rule decides about a key in its part as it does in the whole history. So some order explains the history
--- if and only if some order explains each part.
+-- Proof of locality: the judge's rule has the same result for a key in its part and in the whole history. Therefore
+-- some order explains the history if and only if some order explains each part.
 use Rattle.std.proofs.Common.{◌≡◌, ℕ, true, false, List, sym, ap, ◌∙◌, ◌<◌, ◌≤◌, Bool, refl, arith, inl, inr}
 use Rattle.std.specs.Prelude.{◌==◌, ◌&&◌, cond, not, IfSome}
 use Rattle.std.specs.List.Sorted.{IsStrictlyIncreasing}
@@ -25,9 +25,8 @@ use Rattle.lset_judge.proofs.StatesAfter.{left_alike, idle_key}
 use Rattle.lset_judge.proofs.RuleDecides.{explained}
 use Rattle.lset_judge.proofs.TimelineFromOrder.{rule_refutes}
 
--- ---- The events of a key, among the calls of some keys and among all calls
+-- ---- A key has the same events in the calls of its part as in all calls
 
--- A key is among the keys of a part if it is among all keys and belongs to the part.
 keys_by : (part : ℕ → ℕ) (i k : ℕ) (b : Bool) → ((j : ℕ) → (j == k) ≡ true → (part j == i) ≡ b) → (xs : List ℕ)
     → has_key k (keys_in part i xs) ≡ (b && has_key k xs)
 keys_by part i k b same xs = any_key k (keys_in part i xs) ∙ any-filter_same (λ j. j == k) (λ j. part j == i) b same xs
@@ -45,7 +44,7 @@ module _ (part : ℕ → ℕ) (i k : ℕ) (of_part : part k ≡ i) where
   pub key_in_part : (xs : List ℕ) → has_key k (keys_in part i xs) ≡ has_key k xs
   key_in_part xs = keys_by part i k true goes_there xs
 
--- Lemmas about a key of another part.
+-- ---- Lemmas about a key that does not belong to part i
 module _ (part : ℕ → ℕ) (i k : ℕ) (of_other : part k ≡ i → ⊥) where
   goes_elsewhere : (j : ℕ) → (j == k) ≡ true → (part j == i) ≡ false
   goes_elsewhere j t = unequal_test (part j) i (λ e. of_other (sym (ap part (same_number j k t)) ∙ e))
@@ -82,7 +81,7 @@ module _ (h : HistoryValue) (keys : List ℕ) (part : ℕ → ℕ) (i : ℕ) (to
         omega arith;
   }
 
-  -- ---- Lemmas about a key of this part
+  -- ---- Lemmas about a key that belongs to part i
 
   pub key_alike : (last k : ℕ) → part k ≡ i → rule_explains last h keys k ≡ rule_explains last (part_of part i h) (keys_in part i keys) k
   key_alike last k of_part =
@@ -91,7 +90,6 @@ module _ (h : HistoryValue) (keys : List ℕ) (part : ℕ → ℕ) (i : ℕ) (to
       ∙ ap (λ (b : Bool). may_leave ev b (has_key k keys) last) (sym (key_in_part part i k of_part h.opening.keys))
       ∙ ap (λ (b : Bool). may_leave ev (has_key k (keys_in part i h.opening.keys)) b last) (sym (key_in_part part i k of_part keys))
 
-  -- A key of another part does not affect this part.
   no_key_passes : (last k : ℕ) → (part k ≡ i → ⊥) → rule_explains last (part_of part i h) (keys_in part i keys) k ≡ true
   no_key_passes last k other =
       ap (λ (b : Bool). may_leave (event_at last k own) b (has_key k (keys_in part i keys)) last) (no_key part i k other h.opening.keys)

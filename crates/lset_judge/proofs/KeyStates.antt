@@ -1,4 +1,4 @@
--- The states of the keys after an event of one key.
+-- The judge's states of all keys after an event of one key.
 use Rattle.std.proofs.Common.{◌≡◌, ℕ, ◌+◌, ◌<◌, List, [], ◌∷◌, true, false, inl, inr, refl, sym, ap, ◌∙◌, subst, length, get_or, take, Bool}
 use Rattle.std.specs.Prelude.{◌==◌, ◌||◌, Option, Some, None, is_some}
 use Rattle.std.specs.List.{list_any}
@@ -26,7 +26,6 @@ pub has_more : (k : ℕ) (xs : List ℕ) (i : ℕ) → i < length xs → has_key
 has_more k xs i low = any_key k (take (i + 1) xs) ∙ list_any_more (λ x. x == k) xs i 0 low
     ∙ sym (ap (λ b. b || (get_or xs i 0 == k)) (any_key k (take i xs)))
 
--- If P holds of the keys before an index and of the key at it, P holds of the keys up to and including it.
 pub each_more : (P : ℕ → Type 0) (xs : List ℕ) (i : ℕ) → i < length xs → ((k : ℕ) → has_key k (take i xs) ≡ true → P k) → P (get_or xs i 0)
     → (k : ℕ) → has_key k (take (i + 1) xs) ≡ true → P k
 each_more P xs i low before here k has = elim (cases_Bool (has_key k (take i xs))) [
@@ -37,7 +36,7 @@ each_more P xs i low before here k has = elim (cases_Bool (has_key k (take i xs)
   ]
 ]
 
--- The states with one more opening key.
+-- The states after one more opening key was stored.
 pub seen_more : {A : Type 0} (see : Option KeyState → A) (opens : Bool → A) (m n : States) (keys : List ℕ) (i : ℕ) (w : KeyState) → i < length keys
     → see (Some w) ≡ opens true → UpdatesBy nat_eq (nat_eq (get_or keys i 0)) m n (Some w) → ((k : ℕ) → see (get nat_eq m k) ≡ opens (has_key k (take i keys)))
     → (k : ℕ) → see (get nat_eq n k) ≡ opens (has_key k (take (i + 1) keys))

@@ -1,4 +1,4 @@
--- Looking up pending calls by a moment or by a thread, if the calls are many and are stored by their ends.
+-- Finding a pending call by its end or by its thread, among many calls that are stored by their ends.
 use Rattle.std.proofs.Common.{◌≡◌, ◌≢◌, ℕ, ◌<◌, ◌≤◌, Bool, true, false, List, [], ◌∷◌, refl, sym, ap, ◌∙◌, arith, subst, inl, inr, length, get_or, map, cond}
 use Rattle.std.specs.Prelude.{◌==◌, nat_lt, if◌then◌else◌, All, Contains, Option, Some, None, IfSome, MatchOption, is_some, not}
 use Rattle.std.specs.Bool.{nat_eq}
@@ -31,7 +31,7 @@ first_of_all x xs = (0, omega arith, refl)
 map_back : {X Y : Type 0} (P : X → Type 0) (f : Y → X) (ys : List Y) → All P (map f ys) → All (λ y. P (f y)) ys
 map_back P f ys all i d low = subst P (get_or-map f ys i d (f d) low) (all i (f d) (let l = length-map ys f in omega (arith, l, low)))
 
--- ---- Lemmas about whether a call ends at a moment
+-- ---- Lemmas about finding whether a call ends at a moment
 
 abbrev pub found : ℕ → Entries → Bool
 found b es = is_some (lookup (nat_eq b) es)
@@ -66,7 +66,7 @@ pub look_told : (b : ℕ) (es : Entries) (r : Bool) → r ≡ found b es
 look_told b es true is = (λ t. absurd (true≢false (sym t)), λ all. absurd (some_ends b es (sym is) all))
 look_told b es false is = (λ t. All-map (λ (p : Pending). p.end ≢ b) pending_at es (none_at b es (sym is)), λ all. refl)
 
--- ---- Lemmas about calls that share no moment: none ends when another begins or ends
+-- ---- Lemmas about calls that do not end when another call begins or ends
 
 abbrev Apart : ℕ → Option (ℕ × Reply) → Pending → Type 0
 Apart begun ended p = (p.end ≢ begun) × IfSome ended (λ (e : ℕ × Reply). p.end ≢ e.0)
@@ -108,7 +108,7 @@ module _ (last : ℕ → ℕ) (thread begun : ℕ) (es : Entries) (known : All (
   free_other other only ne = free_by (λ i d inside own is.
       absurd (ne (ap (λ (x : StreamCall). x.thread) (sym (only i d inside (sym is))) ∙ own)))
 
--- The call found at the thread's last end belongs to the thread and ends after the moment.
+-- If a call that ends later is found at the thread's last end, the thread has a pending call.
 not_free : (thread begun end : ℕ) (other : StreamCall) (es : Entries) → Contains es (end, other) → other.thread ≡ thread → begun < end
     → All (Free thread begun) (map pending_at es) → ⊥
 not_free thread begun end other es has own later free =
@@ -118,7 +118,7 @@ not_free thread begun end other es has own later free =
 module _ {S : Type 0} (last : ℕ → ℕ) (thread begun : ℕ) (m : HashMap ℕ StreamCall S)
     (known : All (λ (e : ℕ × StreamCall). last e.1.thread ≡ e.0) m.entries) (unique : IsUnique nat_eq m)
     (end : ℕ) (other : StreamCall) (at : last thread ≡ end) (is : get nat_eq m end ≡ Some other) (later : begun < end) where
-  -- Each end belongs to only one call.
+  -- At most one call has this end.
   only_at : (i : ℕ) (d : ℕ × StreamCall) → i < length m.entries → (get_or m.entries i d).0 ≡ end → (get_or m.entries i d).1 ≡ other
   only_at i d low e =
       let here = hash_map_get_place nat_eq_equiv m i (get_or m.entries i d).0 (get_or m.entries i d).1 unique (slice_get-get_or m.entries i d low) in
@@ -137,9 +137,9 @@ module _ {S : Type 0} (last : ℕ → ℕ) (thread begun : ℕ) (m : HashMap ℕ
     λ all. refl,
   )
 
--- ---- Lemmas about ending a call
+-- ---- Lemmas about removing a call that ends
 
--- An end without a call can be removed.
+-- An end without a call can be removed from the heap.
 pub held_without : (end : ℕ) (ends rest : List ℕ) (es : Entries) → ends ≡ end ∷ rest → found end es ≡ false
     → All (λ (e : ℕ × StreamCall). Contains ends e.0) es → All (λ (e : ℕ × StreamCall). Contains rest e.0) es
 held_without end ends rest es is none held i d low =
@@ -173,7 +173,6 @@ pub held_after : (end : ℕ) (call : StreamCall) (ends : List ℕ) (es now : Ent
 held_after end call ends es now p held = All-tail (λ (e : ℕ × StreamCall). Contains ends e.0) (end, call) now
     (All-permutation (λ (e : ℕ × StreamCall). Contains ends e.0) es ((end, call) ∷ now) p held)
 
--- If P holds of each end in the heap, it holds of the end of each call.
 pub each_end : (P : ℕ → Type 0) (ends : List ℕ) (es : Entries) → All (λ (e : ℕ × StreamCall). Contains ends e.0) es → All P ends
     → All (λ (e : ℕ × StreamCall). P e.0) es
 each_end P ends es held all i d low = All-contains P ends (get_or es i d).0 all (held i d low)
@@ -244,7 +243,7 @@ pub many_with : (old now : Entries) (p : Pending) (before : Option StreamCall) �
 many_with old now p None e is apart = IsPermutation-map pending_at ((p.end, p.call) ∷ old) now is
 many_with old now p (Some c) e is apart = absurd (some_ends p.end old (sym (ap is_some e)) apart)
 
--- The last ends of the threads are correct after a call is inserted.
+-- The last end of each thread is right after call p was inserted.
 module _ (es : Entries) (last more : ℕ → ℕ) (p : Pending)
     (free : All (λ (q : Pending). q.call.thread ≢ p.call.thread) (map pending_at es))
     (known : All (λ (e : ℕ × StreamCall). last e.1.thread ≡ e.0) es)
@@ -258,7 +257,6 @@ module _ (es : Entries) (last more : ℕ → ℕ) (p : Pending)
   pub known_own : more p.call.thread ≡ p.end
   known_own = up p.call.thread ∙ ap (λ (b : Bool). cond b p.end (last p.call.thread)) (equal_test p.call.thread p.call.thread refl)
 
--- If no last end of a thread has changed, the last ends are still correct.
 pub known_same : (es : Entries) (last more : ℕ → ℕ) → ((t : ℕ) → more t ≡ last t) → All (λ (e : ℕ × StreamCall). last e.1.thread ≡ e.0) es
     → All (λ (e : ℕ × StreamCall). more e.1.thread ≡ e.0) es
 known_same es last more same known i d low = same (get_or es i d).1.thread ∙ known i d low

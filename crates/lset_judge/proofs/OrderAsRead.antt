@@ -1,4 +1,5 @@
--- Proof: if an order explains the calls, it also explains the calls as read, with their replies as read.
+-- Proof: an order that explains the calls also explains the calls as the judge reads them, with the replies that it
+-- reads.
 use Rattle.std.proofs.Common.{◌≡◌, ◌≢◌, ℕ, ◌<◌, ◌≤◌, true, List, [], ◌∷◌, ◌++◌, refl, sym, arith, subst, length, get_or, ap, ◌∙◌, map, take, drop}
 use Rattle.std.proofs.Common.{◌+◌, inl, inr, ◌⊎◌, Bool, false}
 use Rattle.std.specs.Prelude.{Option, Some, None, IfSome, IsSomeAnd, ◌==◌, nat_lt, if◌then◌else◌, All, Contains as Has}
@@ -28,9 +29,9 @@ use Rattle.lset_judge.specs.Verdict.{is_plain}
 use Rattle.lset_judge.proofs.EventLemmas.{if_some, for_some, none_or_some}
 use Rattle.lset_judge.specs.Reading.{call_as, reply_as, call_if, end_as, read_as}
 
--- ---- The next call of a history can come next in a stream of the earlier calls
+-- ---- The judge accepts the next call of a history
 
--- An earlier call, if it has ended, did not end at a moment at which this call begins or ends.
+-- A call that has ended did not end at the begin or the end of a later call.
 apart_of : (y x : CallRecord) → IsBefore x → IfSome y.ended (λ (d : ℕ × Reply). d.0 ≢ x.begun) → (o : Option (ℕ × Reply)) → y.ended ≡ o
     → (until_if behind_all y.begun o ≢ x.begun)
 apart_of y x before alone None is q = let b = before.0 in omega (arith, b, q)
@@ -45,7 +46,6 @@ free_of : (y x : CallRecord) → (o : Option (ℕ × Reply)) → y.ended ≡ o �
 free_of y x None is h = absurd (subst (λ o. IsSomeAnd o (λ (e : ℕ × Reply). e.0 < x.begun)) is h)
 free_of y x (Some d) is h = let l : d.0 < x.begun = subst (λ o. IsSomeAnd o (λ (e : ℕ × Reply). e.0 < x.begun)) is h in omega (arith, l)
 
--- If a call can follow each earlier call and begins after the stream's moment, it can come next.
 pub comes : (calls : List CallRecord) (moment : ℕ) (pending : List Pending) (x : CallRecord) → ArePending calls moment pending → moment < x.begun
     → IfSome x.ended (λ (e : ℕ × Reply). x.begun < e.0) → IsBefore x → IfSome x.ended (λ (e : ℕ × Reply). is_plain x.call e.1 ≡ true)
     → ((n : ℕ) → n < length calls → Follows (call_numbered calls n) x) → MayCome pending moment x
@@ -72,7 +72,7 @@ may_come threads opening calls s x is history begins before plain =
     let may = may_follow_at threads calls [] x history in
     comes calls s.moment s.pending x is.pending begins may.call.ends_later before plain (λ n low. may.follows n no_call low)
 
--- ---- The calls of a history, as read, are a plain history
+-- ---- The calls of a history, as the judge reads them, are calls that the judge decides
 
 end_if : (P : ℕ → Type 0) (c : Call) (o : Option (ℕ × Reply)) → IfSome o (λ (e : ℕ × Reply). P e.0) → IfSome (end_as c o) (λ (e : ℕ × Reply). P e.0)
 end_if P c None h = tt
@@ -115,12 +115,10 @@ read_history threads calls history =
           (read_follows (get_or calls i no_call) (get_or calls j no_call) (history.pairs i j no_call low under)));
     }
 
--- The first calls of a plain history are a plain history.
 pub history_upto : (threads n : ℕ) (calls : List CallRecord) → IsHistory threads calls → IsHistory threads (take n calls)
 history_upto threads n calls history =
     history_front threads (take n calls) (drop n calls) (subst (IsHistory threads) (sym (take-append-drop n calls)) history)
 
--- A call that is read as a plain call is plain.
 plain_as : (c : Call) (r : Reply) → is_plain (call_as c r) (reply_as c r) ≡ true
 plain_as (Add k) Full = refl
 plain_as (Remove k) Full = refl
@@ -135,7 +133,7 @@ read_plain x = of x.call x.ended
     of c None = tt
     of c (Some e) = plain_as c e.1
 
--- ---- Each call, as read, can come in its turn
+-- ---- The judge accepts each call of a history, as it reads the call, in the order of their begins
 
 pub next_may : (threads : ℕ) (opening : List ℕ) (xs : List CallRecord) (i : ℕ) (d : CallRecord) (s : Stream) (x : CallRecord) → IsHistory threads xs
     → i < length xs → x ≡ read_as (get_or xs i d) → IsStreamOf threads opening (map read_as (take i xs)) s
@@ -165,7 +163,7 @@ next_thread threads i d x xs history low so =
 
 -- ---- Lemmas about a single call
 
--- ---- If no order explains the calls as read, none explains the calls themselves
+-- ---- If no order explains the calls as the judge reads them, no order explains the calls themselves
 
 ceiling_found : (k : ℕ) (x : Key) (keys : List ℕ) → ceiling_in k keys ≡ At x → has_key x.0 keys ≡ true
 ceiling_found k x [] e = absurd (let f : Nothing ≡ At x = e in cc)
@@ -199,7 +197,8 @@ ceiling_other k (y ∷ ys) e = elim (cases_Bool (nat_lt y k)) [
 abbrev Fits : ℕ → SetState → ℕ → Call → Reply → Type 0
 Fits quota s t c r = (reply_to quota s t (call_as c r) ≡ reply_as c r) × (after_call s t (call_as c r) (reply_as c r) ≡ after_call s t c r)
 
--- The set's replies to the calls as read.
+-- If the set returns r to call c, it returns the reply that the judge reads to the call that the judge reads. The set
+-- is the same afterwards.
 add_fits : (quota : ℕ) (s : SetState) (t : ℕ) (k : Key) (b c : Bool) → has_key k.0 s.keys ≡ b → (count_of s t == quota) ≡ c
     → Fits quota s t (Add k) (reply_to quota s t (Add k))
 add_fits quota s t k true c h f = rw h (rw h refl, refl)
@@ -364,7 +363,7 @@ read_explains o cs order keys e = record {
   increasing = e.increasing;
 }
 
--- ---- Plain calls are read unchanged
+-- ---- A call that the judge decides is read unchanged
 
 plain_call : (c : Call) (r : Reply) → is_plain c r ≡ true → (call_as c r ≡ c) × (reply_as c r ≡ r)
 plain_call (Add k) True e = (refl, refl)

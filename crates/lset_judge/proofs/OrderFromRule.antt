@@ -1,4 +1,5 @@
--- Proof: if the rule succeeds for each key, some order explains the calls. The proof places the calls one by one.
+-- Proof: if the judge's rule succeeds for each key, some order explains the calls. The proof puts the calls into an
+-- order one by one.
 use Rattle.std.proofs.Common.{◌≡◌, ◌≢◌, ℕ, zero, suc, ◌<◌, ◌≤◌, ◌⊎◌, List, [], ◌∷◌, ◌++◌, Bool, true, false, inl, inr, refl, sym, ap, ◌∙◌, arith}
 use Rattle.std.proofs.Common.{subst, length, get_or, map}
 use Rattle.std.specs.Prelude.{◌==◌, not, nat_lt, Option, Some, None, is_some, All, AllPairs, Contains, IfSome, IsSomeAnd}
@@ -55,7 +56,7 @@ module _ (threads : ℕ) (calls : List CallRecord) (history : IsHistory threads 
     pub replies : All (λ (p : Placed). IfSome (x_ p.call).ended (λ (e : ℕ × Reply). e.1 ≡ p.reply)) o
     pub ended : (n : ℕ) (e : ℕ × Reply) → n < length calls → (x_ n).ended ≡ Some e → e.0 ≤ m → IsPlaced n o
 
-  -- ---- Lemmas about placing a call
+  -- ---- Lemmas about appending one more call to the order that the proof builds
   pub place : (m : ℕ) (o : List Placed) (n : ℕ) (r : Reply) → Built m o → n < length calls → (x_ n).begun ≤ m → (IsPlaced n o → ⊥)
       → reply_to quota (set o) (x_ n).thread (x_ n).call ≡ r → IfSome (x_ n).ended (λ (e : ℕ × Reply). e.1 ≡ r)
       → Built m (o ++ put n r ∷ [])
@@ -85,7 +86,7 @@ module _ (threads : ℕ) (calls : List CallRecord) (history : IsHistory threads 
   set_put : (o : List Placed) (n : ℕ) (r : Reply) → set (o ++ put n r ∷ []) ≡ after_call (set o) (x_ n).thread (x_ n).call r
   set_put o n r = ap (set_left start) (map_push (answered calls) o (put n r)) ∙ left_push start (map (answered calls) o) (answered calls (put n r))
 
-  -- ---- How the rule's state of a key relates to the order so far
+  -- ---- The invariant: the state that the judge's rule has for a key, and the order that the proof has built so far
   pub record OpenList (w : Bool) (k m : ℕ) (xs : List ℕ) (o : List Placed) : Type 0 where
     pub open_call : (u : ℕ) → has_key u xs ≡ true → (n : ℕ) × (n < length calls) × (key n ≡ k) × (kind (x_ n) ≡ changes w)
         × (until last (x_ n) ≡ u) × ((x_ n).begun ≤ m) × (IsPlaced n o → ⊥)
@@ -134,7 +135,7 @@ module _ (threads : ℕ) (calls : List CallRecord) (history : IsHistory threads 
     now = l.now;
   }
 
-  -- ---- Lemmas about placing a read
+  -- ---- Lemmas about appending a read to the order that the proof builds
   pub record Moved (k m : ℕ) (s : State) (o : List Placed) : Type 0 where
     pub order : List Placed
     pub built : Built m order
@@ -173,7 +174,7 @@ module _ (threads : ℕ) (calls : List CallRecord) (history : IsHistory threads 
         ))
   ]
 
-  -- ---- Proof that all reads of a key that its state fits can be placed
+  -- ---- All reads of a key that saw its current state can be appended to the order that the proof builds
   sweepable : (k m n : ℕ) (s : State) (o : List Placed)
       → ((w : Bool) × (key n ≡ k) × (kind (x_ n) ≡ sees w) × ((x_ n).begun ≤ m) × (IsPlaced n o → ⊥) × (same w s.there ≡ true))
       ⊎ ((w : Bool) → key n ≡ k → kind (x_ n) ≡ sees w → (x_ n).begun ≤ m → (IsPlaced n o → ⊥) → same w s.there ≡ false)
@@ -227,7 +228,7 @@ module _ (threads : ℕ) (calls : List CallRecord) (history : IsHistory threads 
         )
       ]
 
-  -- ---- Lemmas about a change that takes effect
+  -- ---- Lemmas about a change that takes effect and is appended to the order that the proof builds
   list_taken : (w : Bool) (k m u : ℕ) (xs : List ℕ) (o : List Placed) (n : ℕ) (r : Reply) → n < length calls → until last (x_ n) ≡ u
       → OpenList w k m xs o → OpenList w k m (take_out u xs) (o ++ put n r ∷ [])
   list_taken w k m u xs o n r low at_end l = record {
@@ -300,7 +301,8 @@ module _ (threads : ℕ) (calls : List CallRecord) (history : IsHistory threads 
       lists false false n low is at_end l =
           list_put false k m ks o n True (λ _ f. let g : changes true ≡ changes false = sym is ∙ f in cc) (l.lists false)
 
-  -- The rule has settled a key for an event, and the order has the calls that took effect.
+  -- The rule has let changes of key k take effect until its state is right for the event v. The order has these
+  -- changes.
   pub record Settled (k m : ℕ) (v : Event) (t : State) (o : List Placed) : Type 0 where
     pub moved : Moved k m t o
     pub finds : fits (suc m) v t ≡ true
@@ -328,7 +330,7 @@ module _ (threads : ℕ) (calls : List CallRecord) (history : IsHistory threads 
   none_at_zero : (m : ℕ) (v : Event) (g : State) → fits (suc m) v g ≡ false → settled 0 m v (Some g) ≡ None
   none_at_zero m v g f = rw f refl
 
-  -- The rule changes a key after all reads that its state fits have been placed.
+  -- One change of the rule: first all reads that saw the key's state are appended to the order, then the change.
   turn_now : (k m : ℕ) (g t : State) (o : List Placed) → turned_if m g (options g) ≡ Some t → Built m o → Link k m g o → Moved k m t o
   turn_now k m g t o is built l = by (options g) refl is
     where
@@ -356,9 +358,10 @@ module _ (threads : ℕ) (calls : List CallRecord) (history : IsHistory threads 
     ]
   ]
 
-  -- ---- Each key at a moment: its next event, and its state before that event
+  -- ---- All keys at moment m. Each key k has the state `was k` now and the event `v k` at the next moment
   module _ (m : ℕ) (v : ℕ → Event) (was : ℕ → State) (live : (k : ℕ) → is_some (stepped m (v k) (Some (was k))) ≡ true) where
-    -- States that the rule finds a state that fits the event.
+    -- States that from state s of key k, the rule finds the same state for the next event as from the state at moment
+    -- m.
     abbrev Lives : ℕ → State → Type 0
     Lives k s = found m (v k) s ≡ found m (v k) (was k)
 
@@ -410,7 +413,6 @@ module _ (threads : ℕ) (calls : List CallRecord) (history : IsHistory threads 
           ],
         )
 
-    -- A key without calls fits every event.
     calm_at_all : (k : ℕ) (o : List Placed) (s : State) → Link k m s o → Lives k s → ((n : ℕ) → n < length calls → key n ≡ k → Calm k o s)
         → fits (suc m) (v k) s ≡ true
     calm_at_all k o s l lives calm = true_from_ne_false (fits (suc m) (v k) s) (λ f. by (options s) refl f)
@@ -442,7 +444,7 @@ module _ (threads : ℕ) (calls : List CallRecord) (history : IsHistory threads 
               (a.0, a.1, f, sym a.2 ∙ finds_itself k a.0 f, a.3);
         }
 
-  -- ---- Lemmas about one event
+  -- ---- Lemmas about a single event
   abbrev ev : ℕ → ℕ → Event
   ev k m = event_at last k calls m
 
@@ -527,7 +529,7 @@ module _ (threads : ℕ) (calls : List CallRecord) (history : IsHistory threads 
       lists true = list_past true k m v s.puts o e built (l.lists true)
       lists false = list_past false k m v s.takes o e built (l.lists false)
 
-  -- If the state of its key fits the event, a call that ends at the next moment is placed.
+  -- A call that ends at the next moment is in the order if the state of its key is right for that event.
   ended_placed : (k m : ℕ) (s : State) (o : List Placed) → Link k m s o → fits (suc m) (ev k (suc m)) s ≡ true
       → Swept (length calls) k m s o → (n : ℕ) (e : ℕ × Reply) → n < length calls → key n ≡ k → (x_ n).ended ≡ Some e → e.0 ≡ suc m
       → (IsPlaced n o → ⊥) → ⊥
@@ -564,7 +566,7 @@ module _ (threads : ℕ) (calls : List CallRecord) (history : IsHistory threads 
           ]
       by nothing is = plain_kind (x_ n).call e.1 (plain n e low ended) (subst (λ q. kind_if (x_ n).call q ≡ nothing) ended is)
 
-  -- ---- Proof for all moments
+  -- ---- Proof for all moments, by induction
   built_past : (m : ℕ) (o : List Placed) → Built m o
       → ((n : ℕ) (e : ℕ × Reply) → n < length calls → (x_ n).ended ≡ Some e → e.0 ≡ suc m → IsPlaced n o) → Built (suc m) o
   built_past m o b new = record {
@@ -651,7 +653,7 @@ module _ (threads : ℕ) (calls : List CallRecord) (history : IsHistory threads 
         let all = meet last (λ k. leaves (left k)) was live first.0 first.1 (λ k. (first.2 k).1) in
         (all.order, all.built, λ k. let a = all.each k in a.1.there ∙ same_is (left k) a.0.there a.2)
 
-  -- If each ended call is placed, the order linearizes the history.
+  -- ---- The order linearizes the history if it has each completed call
   contains_placed : (n : ℕ) (r : Reply) (ps : List Placed) → All (λ (p : Placed). p.call ≡ n → p.reply ≡ r) ps → IsPlaced n ps
       → Contains ps (put n r)
   contains_placed n r [] h i = absurd i

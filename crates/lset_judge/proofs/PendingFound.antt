@@ -1,4 +1,4 @@
--- The pending calls as the code stores them: a few in a vector, the others in a table.
+-- The pending calls as the code stores them: a few in a vector, the others in a hash table.
 use Rattle.std.proofs.Common.{◌≡◌, ◌≢◌, ℕ, ◌<◌, ◌≤◌, true, List, [], ◌∷◌, ◌++◌, refl, sym, arith, subst, length, get_or, append_assoc}
 use Rattle.std.specs.Prelude.{min, All, Option, Some, None, Result, Ok, Err, OnOk, MatchOption, is_some, swap_remove}
 use Rattle.std.specs.List.Sorted.{IsPermutation}
@@ -15,7 +15,7 @@ all_left P xs ys all = subst (All P) (take_at xs ys (length xs) refl) (All-take 
 pub all_right : {X : Type 0} (P : X → Type 0) (xs ys : List X) → All P (xs ++ ys) → All P ys
 all_right P xs ys all = subst (All P) (drop_at xs ys (length xs) refl) (All-drop P (length xs) (xs ++ ys) all)
 
--- ---- Lemmas about ending a call
+-- ---- Lemmas about removing a call that ends
 
 pub few_next : (few many : List Pending) (i moment end first : ℕ) (p : Pending) (rest : List Pending) → i < length few
     → p ≡ get_or few i p → rest ≡ swap_remove few i p → p.end ≡ end → end < moment → All (λ (q : Pending). end ≤ q.end) few
@@ -56,7 +56,7 @@ many_with_if few many now all p (Ok u) is more = λ apart. subst (λ (ps : List 
     (many_with few many now p (more (all_right (λ (q : Pending). q.end ≢ p.end) few many (subst (All (λ (q : Pending). q.end ≢ p.end)) (sym is) apart))))
 many_with_if few many now all p (Err e) is more = tt
 
--- ---- A property of the calls in the vector extends to all calls
+-- ---- If all calls in the vector and all in the hash table have a property, all pending calls have it
 
 pub told_of_few : {F : Type 0} (P Q : Pending → Type 0) (few others all : List Pending) (fault : Option F) → few ++ others ≡ all → is_some fault ≡ true
     → MatchOption fault (All P few × All Q few) (λ (f : F). All P few → All Q few → ⊥)

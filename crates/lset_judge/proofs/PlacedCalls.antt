@@ -1,4 +1,4 @@
--- The calls placed so far, and the reply of the next call to be placed.
+-- The order of the calls so far, and the reply of the call that is appended to it next.
 use Rattle.std.proofs.Common.{◌≡◌, ℕ, zero, suc, ◌<◌, ◌⊎◌, List, [], ◌∷◌, ◌++◌, Bool, true, false, inl, inr, refl, sym, arith}
 use Rattle.std.proofs.Common.{subst, length, get_or}
 use Rattle.std.specs.Prelude.{◌==◌, ◌||◌, not, nat_lt, Option, Some, None, All, IfSome}
@@ -30,7 +30,7 @@ pub left_push : (s : SetState) (xs : List Answered) (a : Answered)
 left_push s [] a = refl
 left_push s (x ∷ xs) a = left_push (after_call s x.thread x.call x.reply) xs a
 
--- States that a call is placed.
+-- States that the call with number n is in the order.
 abbrev pub IsPlaced : ℕ → List Placed → Type 0
 IsPlaced n [] = ⊥
 IsPlaced n (p ∷ ps) = (p.call ≡ n) ⊎ IsPlaced n ps
@@ -62,7 +62,7 @@ placed_split n [] p (inr q) = absurd q
 placed_split n (x ∷ ps) p (inl e) = inl (inl e)
 placed_split n (x ∷ ps) p (inr q) = elim (placed_split n ps p q) [ inl r ↦ inl (inr r) | inr e ↦ inr e ]
 
--- ---- Lemmas about replies
+-- ---- Lemmas about the replies of the sequential set
 
 pub change_replies : (quota thread : ℕ) (s : SetState) (c : Call) (o : Option (ℕ × Reply)) (w : Bool) → kind_if c o ≡ changes w
     → has_key (key_of c).0 s.keys ≡ not w → (w ≡ true → count_of s thread < quota)
@@ -96,7 +96,7 @@ look_replies quota thread s (IsIn k) True true p d h = rw h refl
 look_replies quota thread s (IsIn k) False false p d h = rw h refl
 look_replies quota thread s c r w p d h = absurd (cc)
 
--- ---- Lemmas about the order built so far
+-- ---- Lemmas about the order that the proof has built so far
 
 pub open_sees_not : (c : Call) (w : Bool) → open_kind c ≡ sees w → ⊥
 open_sees_not (Add k) w e = cc

@@ -1,4 +1,4 @@
--- Proof: some order explains a history if and only if the rule succeeds for each key.
+-- Proof: some order explains a history that the judge decides if and only if the rule succeeds for each key.
 use Rattle.std.proofs.Common.{◌≡◌, ◌≢◌, ℕ, ◌+◌, List, [], ◌∷◌, ◌++◌, true, inl, inr, refl, sym, ap, ◌∙◌, arith, subst, get_or, map, Bool}
 use Rattle.std.specs.Prelude.{◌==◌, ◌&&◌, if◌then◌else◌, Option, Some, None, All, AllPairs, IfSome, set, sum_by, cond, Contains, length, ◌<◌, ◌≤◌, false}
 use Rattle.std.specs.List.Sorted.{IsStrictlyIncreasing}
@@ -31,9 +31,9 @@ use Rattle.lset_judge.specs.Rule.{may_leave}
 use Rattle.lset_judge.proofs.TimelineFromOrder.{rule_refutes}
 use Rattle.lset_judge.proofs.OrderFromRule.{order_found, linearizes}
 
--- ---- If a thread's quota covers all its `add`s, and one of them is not placed, some of the quota is left
+-- ---- If a thread's quota covers all its `add`s, the quota is not used up before the last of them is in the order
 
--- Returns by how much a call increases its thread's count.
+-- Returns how many keys a call adds for its thread: 1 or 0. `own` says whether it is a call of this thread.
 
 abbrev adds : Bool → Call → Reply → ℕ
 adds own (Add j) True = if own then 1 else 0
@@ -72,7 +72,7 @@ added_push : (t : ℕ) (xs : List Answered) (a : Answered) → added t (xs ++ a 
 added_push t [] a = omega arith
 added_push t (x ∷ xs) a = let rest = added_push t xs a in omega (arith, rest)
 
--- ---- Distinct calls count for at most as much as all calls
+-- ---- If each call has a weight, distinct calls weigh at most as much as all calls
 
 abbrev tally : (CallRecord → ℕ) → List CallRecord → List Placed → ℕ
 tally f calls [] = 0
@@ -105,7 +105,6 @@ tally_most f none (p ∷ ps) calls known once =
 abbrev of_thread : ℕ → CallRecord → ℕ
 of_thread t x = cond (may_add x.call x.ended && x.thread == t) 1 0
 
--- An `add` that added its key or is pending counts once.
 adds_once : (t : ℕ) (c : Call) (o : Option (ℕ × Reply)) → kind_if c o ≡ changes true
     → (adds (t == t) c True ≡ 1) × IfSome o (λ (e : ℕ × Reply). e.1 ≡ True)
 adds_once t (Add k) None d = (rw (equal_test t t refl) refl, tt)
@@ -184,7 +183,7 @@ within xs ys h k c = has_from k ys (sym (h k) ∙ has_true k xs c)
 same_keys : (xs ys : List ℕ) → IncreasesFrom 0 xs → IncreasesFrom 0 ys → ((k : ℕ) → has_key k xs ≡ has_key k ys) → xs ≡ ys
 same_keys xs ys r s h = same_increasing 0 0 xs ys r s (within xs ys h) (within ys xs (λ k. sym (h k)))
 
--- The judge decides: if the rule succeeds for each key, some order explains the history and leaves these keys.
+-- If the rule succeeds for each key, some order explains a history that the judge decides, and leaves these keys.
 pub explained_so : (last : ℕ) (h : HistoryValue) (left : ℕ → Bool) → latest_moment h.calls ≤ last → IsHistory h.opening.threads h.calls
     → IsStrictlyIncreasing h.opening.keys → IsJudged h
     → ((k : ℕ) → may_leave (event_at last k h.calls) (has_key k h.opening.keys) (left k) last ≡ true)
@@ -209,7 +208,7 @@ explained last h keys upto history opens judged increasing each =
     let so = explained_so last h (λ k. has_key k keys) upto history opens judged each in
     subst (IsExplained h) (same_keys so.0 keys so.2 (increases_from_increasing keys increasing) so.3) so.1
 
--- If the rule fails for a key, no order explains the history.
+-- If the rule fails for a key, no order explains the history and leaves these keys.
 pub unexplained : (last : ℕ) (h : HistoryValue) (keys : List ℕ) → latest_moment h.calls ≤ last → IsHistory h.opening.threads h.calls → (k : ℕ)
     → rule_explains last h keys k ≡ false → IsUnexplained h keys
 unexplained last h keys upto history k fails order e = true≢false (sym (rule_refutes last h keys order upto history e k) ∙ fails)

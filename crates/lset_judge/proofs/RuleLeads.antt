@@ -1,5 +1,5 @@
--- Proof: the rule is never behind a correct timeline. It has at least as many pending changes, and they do not end
--- earlier.
+-- Proof: the judge's rule does at least as well as any correct timeline, which says when the changes of a key take
+-- effect. The rule has at least as many pending changes left, and their ends are at least as late.
 use Rattle.std.proofs.Common.{◌≡◌, ℕ, suc, ◌+◌, ◌<◌, ◌≤◌, List, [], ◌∷◌, true, inl, inr, refl, arith, length, zero, sym, ap, ◌⊎◌, Bool, false, ◌∙◌, subst}
 use Rattle.std.specs.Prelude.{◌==◌, nat_lt, if◌then◌else◌, Option, Some, None, is_some, not}
 use Rattle.std.proofs.lemmas.Bool.{cases_Bool, true≢false, not-true, not-false, or_cases, or_parts}
@@ -9,9 +9,8 @@ use Rattle.lset_words.proofs.Numbers.{same_number, below_or_not, if_below, if_no
 use Rattle.lset_judge.specs.Rule.{not_before, put_in, take_out, nearest, Event, State, settled, begins, ends, looks, leaves, same, changes_to, options, fits}
 use Rattle.lset_judge.specs.Rule.{entering, enters, turned_by, turned_if, open_changes, opened}
 
--- ---- How many moments of a list are at or after a given moment, if one moment is removed
+-- ---- Lemmas about how many moments of a list are d or later when one moment is inserted or removed
 
--- Returns 1 if the moment x is at or after d, else 0.
 abbrev pub counts : ℕ → ℕ → ℕ
 counts d x = if nat_lt x d then 0 else 1
 
@@ -35,7 +34,6 @@ pub at_most_all : (d : ℕ) (xs : List ℕ) → not_before d xs ≤ length xs
 at_most_all d [] = omega arith
 at_most_all d (x ∷ xs) = let e = counts_most d x in let rest = at_most_all d xs in omega (arith, e, rest)
 
--- Inserting the moment e adds `counts d e` to the number of late moments.
 pub counted_in : (d e : ℕ) (xs : List ℕ) → not_before d (put_in e xs) ≡ counts d e + not_before d xs
 counted_in d e [] = refl
 counted_in d e (x ∷ xs) = elim (cases_Bool (nat_lt e x)) [
@@ -48,7 +46,6 @@ length_in e xs =
     let a = counted_in 0 e xs in let b = all_from_zero (put_in e xs) in let c = all_from_zero xs in let o = counts_one 0 e (omega arith) in
     omega (arith, a, b, c, o)
 
--- Removing the moment e subtracts `counts d e` from the number of late moments.
 pub taken : (d e : ℕ) (xs : List ℕ) → has_key e xs ≡ true → not_before d xs ≡ not_before d (take_out e xs) + counts d e
 taken d e [] h = grind arith
 taken d e (x ∷ xs) h = elim (cases_Bool (x == e)) [
@@ -61,7 +58,6 @@ taken_length e xs h =
     let a = taken 0 e xs h in let b = all_from_zero xs in let c = all_from_zero (take_out e xs) in
     let o = counts_one 0 e (omega arith) in omega (arith, a, b, c, o)
 
--- The earliest moment of a list is in the list.
 pub nearest_stands : (x : ℕ) (xs : List ℕ) → has_key (nearest x xs) (x ∷ xs) ≡ true
 nearest_stands x [] = grind (arith, nat_tests)
 nearest_stands x (y ∷ ys) = let rest = nearest_stands y ys in grind (arith, nat_tests)
@@ -72,8 +68,7 @@ none_nearer d x (y ∷ ys) l =
     let o = counts_one d x (omega (arith, l)) in
     let rest = none_nearer d y ys (omega (arith, l)) in omega (arith, o, rest)
 
--- If a longer list has at least as many late moments as another list, it still does after its earliest moment is
--- removed.
+-- The list keeps at least as many late moments as a shorter list when its earliest moment is removed.
 pub still_no_fewer : (ss : List ℕ) (x : ℕ) (xs : List ℕ) → ((d : ℕ) → not_before d ss ≤ not_before d (x ∷ xs))
     → length ss < length (x ∷ xs) → (d : ℕ) → not_before d ss ≤ not_before d (take_out (nearest x xs) (x ∷ xs))
 still_no_fewer ss x xs less longer d =
@@ -85,7 +80,7 @@ still_no_fewer ss x xs less longer d =
           omega (arith, t, o, all, most, longer))
     ]
 
--- ---- Once the rule has failed, it stays failed
+-- ---- A rule that has failed stays failed
 
 pub settled_none : (n m : ℕ) (v : Event) → settled n m v None ≡ None
 settled_none zero m v = refl
@@ -104,14 +99,16 @@ once b = if b then 1 else 0
 abbrev pub at : Bool → ℕ → List ℕ → List ℕ → State
 at b t ps ks = record { there = b; turned = t; puts = ps; takes = ks }
 
--- States that the timeline has fewer pending changes of the kind that can change the rule's key.
+-- States that the timeline (state s) has fewer pending changes left than the rule (state g), of the kind that would
+-- change the key in the rule's state.
 abbrev pub IsFurther : State → State → Type 0
 IsFurther g s = length (changes_to (not g.there) s) < length (options g)
 
 abbrev NoFewer : List ℕ → List ℕ → Type 0
 NoFewer ss gs = (d : ℕ) → not_before d ss ≤ not_before d gs
 
--- The rule's state, and the state of a correct timeline, after the event of the same moment.
+-- The rule's state g of a key does at least as well as the state s of a correct timeline, after the event at moment m:
+-- it has at least as many pending changes left, with ends that are at least as late.
 pub record Leads (m : ℕ) (g s : State) : Type 0 where
   pub lists : (w : Bool) → NoFewer (changes_to w s) (changes_to w g)
   pub balance : length g.puts + once g.there + length s.takes ≡ length s.puts + once s.there + length g.takes
@@ -124,7 +121,7 @@ fewer ss gs h = let a = h 0 in let b = all_from_zero ss in let c = all_from_zero
 less_taken : (e : ℕ) (ss gs : List ℕ) → has_key e ss ≡ true → NoFewer ss gs → NoFewer (take_out e ss) gs
 less_taken e ss gs h f d = let t = taken d e ss h in let a = f d in omega (arith, t, a)
 
--- ---- Lemmas about a change that the timeline makes
+-- ---- Lemmas about a change that takes effect in a timeline (which says when each change takes effect)
 pub timeline_turns : (b c : Bool) (m gt st e : ℕ) (gp gk sp sk : List ℕ) → Leads m (at b gt gp gk) (at c st sp sk)
     → has_key e (options (at c st sp sk)) ≡ true → Leads m (at b gt gp gk) (turned_by m e (at c st sp sk))
 timeline_turns b true m gt st e gp gk sp sk l h =
@@ -158,7 +155,7 @@ timeline_turns b false m gt st e gp gk sp sk l h =
     further true y = let f = fewer sp gp (l.lists true) in omega (arith, y, f)
     further false y = let t = taken_length e sp h in let f = fewer sp gp (l.lists true) in omega (arith, t, f)
 
--- The state after the rule has made a change. It still leads the timeline.
+-- The state after the rule has let a change take effect. It still does at least as well as the timeline.
 pub record Turns (m : ℕ) (g s : State) : Type 0 where
   pub state : State
   pub is : turned_if m g (options g) ≡ Some state
@@ -190,7 +187,8 @@ rule_turns false m t (x ∷ xs) gk s l f =
     lists false = l.lists false
 rule_turns b m t gp gk s l f = absurd (omega (arith, f))
 
--- If the rule and the timeline differ in whether the key is present, the timeline is further than the rule.
+-- If the key is present in the rule's state and absent in the timeline's, or the reverse, the timeline has fewer
+-- pending changes left that would change the key in the rule's state.
 apart : (b c : Bool) (m gt st : ℕ) (gp gk sp sk : List ℕ) → Leads m (at b gt gp gk) (at c st sp sk) → (b ≡ c → ⊥)
     → IsFurther (at b gt gp gk) (at c st sp sk)
 apart true false m gt st gp gk sp sk l n = let y = l.balance in let f = fewer sp gp (l.lists true) in omega (arith, y, f)
@@ -228,7 +226,7 @@ asked m (looks w since) g s l t f =
     ]
 asked m v g s l t f = absurd (true≢false f)
 
--- The state in which the rule settles for an event. It still leads the timeline.
+-- The state that the rule finds for an event. It still does at least as well as the timeline.
 pub record Settles (n m : ℕ) (v : Event) (g s : State) : Type 0 where
   pub state : State
   pub is : settled n m v (Some g) ≡ Some state
@@ -254,7 +252,7 @@ settles (suc n) m v g s l h low = elim (cases_Bool (fits (suc m) v g)) [
       record { state = rest.state; is = later n m v g e ∙ ap (settled n m v) t.is ∙ rest.is; leads = rest.leads })
 ]
 
--- ---- Lemmas about one event
+-- ---- Lemmas about a single event
 more : (w : Bool) (v : Event) (ss gs : List ℕ) → NoFewer ss gs → NoFewer (entering w v ss) (entering w v gs)
 more w (begins u end) ss gs h = elim (cases_Bool (same w u)) [
   | inl t ↦ rw t (λ d. let a = h d in let b = counted_in d end ss in let c = counted_in d end gs in omega (arith, a, b, c))
@@ -262,7 +260,7 @@ more w (begins u end) ss gs h = elim (cases_Bool (same w u)) [
 ]
 more w v ss gs h = h
 
--- A change that begins is added to the pending changes of the rule and of the timeline.
+-- A change that begins is pending for the rule and for the timeline.
 alike : (w : Bool) (v : Event) (ss gs : List ℕ) → length (entering w v gs) + length ss ≡ length (entering w v ss) + length gs
 alike w (begins u end) ss gs = elim (cases_Bool (same w u)) [
   | inl t ↦ rw t (let a = length_in end ss in let b = length_in end gs in omega (arith, a, b))

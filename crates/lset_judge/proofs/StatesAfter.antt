@@ -1,5 +1,5 @@
--- The state of a key after each moment. The rule applied step by step agrees with the rule applied to all events at
--- once.
+-- The state of a key after each moment. Applying the judge's rule step by step has the same result as applying it to
+-- all events at once.
 use Rattle.std.proofs.Common.{◌≡◌, ℕ, zero, suc, ◌+◌, ◌-◌, ◌<◌, ◌≤◌, Bool, List, true, false, refl, sym, ap, ◌∙◌, arith, inl, inr}
 use Rattle.std.specs.Prelude.{Option, Some, None, is_some}
 use Rattle.lset_words.specs.declared.history.CallRecord.{CallRecord}
@@ -23,7 +23,6 @@ module _ (ev : ℕ → Event) (b : Bool) where
       ap (λ (v : Event). stepped n v (state_after ev b n)) (q (suc n) (omega (arith, e)) (omega arith)) ∙ idle_step n (state_after ev b n)
       ∙ quiet_until d m n (omega (arith, e)) (λ j l h. q j l (omega (arith, h)))
 
-  -- Once the rule has failed, it stays failed.
   pub stays_failed : (d m n : ℕ) → n ≡ m + d → state_after ev b m ≡ None → state_after ev b n ≡ None
   stays_failed zero m n e none = let f : n ≡ m = omega (arith, e) in ap (state_after ev b) f ∙ none
   stays_failed (suc d) m zero e none = absurd (omega (arith, e))
@@ -35,7 +34,6 @@ same_after ev other b (suc m) same =
     ap (λ (v : Event). stepped m v (state_after ev b m)) (same (suc m) (omega arith))
     ∙ ap (stepped m (other (suc m))) (same_after ev other b m (λ j l. same j (omega (arith, l))))
 
--- A key without events keeps its state.
 pub idle_key : (ev : ℕ → Event) (was left : Bool) (last : ℕ) → ((m : ℕ) → 0 < m → ev m ≡ idle) → may_leave ev was left last ≡ same left was
 idle_key ev was left last quiet =
     ap (λ (o : Option State). is_some (stepped last (leaves left) o)) (quiet_until ev was last 0 last (omega arith) (λ j l h. quiet j l)) ∙ as_was left was
@@ -46,18 +44,17 @@ idle_key ev was left last quiet =
     as_was false true = refl
     as_was false false = refl
 
--- If two keys have the same events, they have the same states.
+-- Two keys with the same events have the same states.
 pub left_alike : (ev other : ℕ → Event) (b left : Bool) (last : ℕ) → ((j : ℕ) → j ≤ last → ev j ≡ other j)
     → may_leave ev b left last ≡ may_leave other b left last
 left_alike ev other b left last same = ap (λ (o : Option State). is_some (stepped last (leaves left) o)) (same_after ev other b last same)
 
--- ---- Lemmas about the calls of a key and a moment after all of them
+-- ---- Lemmas about the calls of a key and a moment after which no call begins or ends
 
 module _ (calls : List CallRecord) (T : ℕ) (behind : latest_moment calls ≤ T) (k : ℕ) (opens : Bool) where
   abbrev event : ℕ → Event
   event = event_at T k calls
 
-  -- After the last moment of the calls, the state of the key does not change.
   pub stays_after : (G : ℕ) → latest_moment calls ≤ G → G ≤ T → state_after event opens T ≡ state_after event opens G
   stays_after G low high = quiet_until event opens (T - G) G T (omega (arith, high)) (λ j l m. event_idle k j T calls (omega (arith, low, l)))
 

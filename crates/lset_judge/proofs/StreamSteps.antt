@@ -1,4 +1,5 @@
--- The events of a stream's calls: up to the next pending end, at this end, and when the next call begins.
+-- The events of the recorded calls between two begins: those up to the next end of a pending call, at this end, and at
+-- the begin of the next call.
 use Rattle.std.proofs.Common.{◌≡◌, ◌≢◌, ℕ, suc, ◌+◌, ◌-◌, ◌<◌, ◌≤◌, List, [], ◌∷◌, ◌++◌, refl, sym, ap, ◌∙◌, arith, subst}
 use Rattle.std.proofs.Common.{◌⊎◌, Bool, zero, inl, inr, length, get_or}
 use Rattle.std.specs.Prelude.{◌==◌, if◌then◌else◌, Option, Some, None, IfSome, All, AllPairs, Contains}
@@ -34,9 +35,8 @@ same_some o a b p q = cc
 pub until_end : (last begun : ℕ) (o : Option (ℕ × Reply)) (e : ℕ × Reply) → o ≡ Some e → until_if last begun o ≡ e.0
 until_end last begun o e s = ap (until_if last begun) s
 
--- ---- Lemmas about one more call
+-- ---- Lemmas about adding one more call
 
--- Before a call begins, adding it does not change the events.
 pub event_before : (last k j : ℕ) (xs : List CallRecord) (x : CallRecord) → j < x.begun → IfSome x.ended (λ (e : ℕ × Reply). x.begun < e.0)
     → event_at last k (xs ++ x ∷ []) j ≡ event_at last k xs j
 event_before last k j [] x low later = passed_over last k j x [] (λ t. (
@@ -46,7 +46,7 @@ event_before last k j [] x low later = passed_over last k j x [] (λ t. (
 ))
 event_before last k j (y ∷ ys) x low later = one_before last k j y (ys ++ x ∷ []) ys (event_before last k j ys x low later)
 
--- At the moment at which a call begins, there is only this event, and it is an event of the call's key.
+-- The begin of a call is the only event at its moment, and belongs to the key of the call.
 pub event_begun : (last k : ℕ) (xs : List CallRecord) (x : CallRecord)
     → AllByRecursion (λ (y : CallRecord). (y.begun ≢ x.begun) × IfSome y.ended (λ (e : ℕ × Reply). e.0 ≢ x.begun)) xs
     → event_at last k (xs ++ x ∷ []) x.begun
@@ -58,7 +58,7 @@ event_begun last k [] x a = elim (cases_Bool ((key_of x.call).0 == k)) [
 event_begun last k (y ∷ ys) x a =
     passed_over last k x.begun y (ys ++ x ∷ []) (λ t. (unequal_test y.begun x.begun a.0.0, ends_not x.begun y.ended a.0.1)) ∙ event_begun last k ys x a.1
 
--- ---- Lemmas about applying the rule to the event of a moment
+-- ---- Lemmas about applying the judge's rule to the event of a moment
 
 module _ (opening : List ℕ) (calls : List CallRecord) where
   abbrev event : ℕ → ℕ → Event
@@ -72,7 +72,8 @@ module _ (opening : List ℕ) (calls : List CallRecord) where
         ap (λ (u : Event). stepped n u (state_after (event k) (has_key k opening) n)) is
         ∙ ap (stepped n w) (quiet_until (event k) (has_key k opening) (n - m) m n (omega (arith, up)) (λ j l h. quiet j l h k) ∙ so)
 
-    -- a key that has a state after `m` has one after `n`
+    -- If the rule has not failed by moment m and has failed by moment i, and nothing happens from m to n, then i is
+    -- after n.
     not_yet : (k i : ℕ) (s : State) → state_after (event k) (has_key k opening) m ≡ Some s → state_after (event k) (has_key k opening) i ≡ None
         → suc n ≤ i
     not_yet k i s so fails = elim (below_or_not i (suc n)) [
@@ -114,7 +115,7 @@ module _ (opening : List ℕ) (calls : List CallRecord) where
     goes_to j e before after was failed met so = subst (λ (i : ℕ). IsJudgedTo opening calls i after failed) (sym e)
         (goes before after was failed (subst (λ (i : ℕ). IsMetBy before key i v after was failed) e met) so)
 
--- ---- Lemmas about the ends of pending calls, in another order and with one more call
+-- ---- Lemmas about the ends of pending calls when their list is reordered or extended
 
 abbrev same : Pending → Pending → Bool
 same p q = p.end == q.end
@@ -138,21 +139,19 @@ first_or_later x xs y (suc k, low, is) = inr (k, omega (arith, low), is)
 pub later_too : {X : Type 0} (x : X) (xs : List X) (y : X) → Contains xs y → Contains (x ∷ xs) y
 later_too x xs y (k, low, is) = (suc k, omega (arith, low), is)
 
--- ---- Lemmas about the pending calls
+-- ---- Lemmas about the pending calls after moment m
 
 module _ (threads : ℕ) (calls : List CallRecord) (history : IsHistory threads calls) (before : All IsBefore calls) (m : ℕ)
     (begun : All (λ (x : CallRecord). x.begun ≤ m) calls) (pending : List Pending) (are : ArePending calls m pending) where
   abbrev call : ℕ → CallRecord
   call n = get_or calls n no_call
 
-  -- A call that ends after this moment is pending.
   among : (n : ℕ) (e : ℕ × Reply) → n < length calls → (call n).ended ≡ Some e → m < e.0 → Contains pending (pending_of (call n))
   among n e low s later = elim (are.kept n low) [
     | inl over ↦ absurd (let u = over.2 in let same = ap (λ (d : ℕ × Reply). d.0) (same_some (call n).ended e over.0 s over.1) in omega (arith, u, same, later))
     | inr c ↦ c
   ]
 
-  -- Before the next end of a pending call, there is no event.
   pub quiet_before : (j : ℕ) → m < j → All (λ (p : Pending). j < p.end) pending → (k : ℕ) → event_at behind_all k calls j ≡ idle
   quiet_before j low far k = by (event_at behind_all k calls j) (told behind_all k j calls)
     where
@@ -168,7 +167,7 @@ module _ (threads : ℕ) (calls : List CallRecord) (history : IsHistory threads 
           let u : d.end ≡ e.end.0 = until_end behind_all (call e.number).begun (call e.number).ended e.end e.ended in
           omega (arith, f, g, u, a))
 
-  -- A pending call whose end is a moment has ended in the history.
+  -- A pending call whose end is below `behind_all` has this end in the history, too.
   ended_at : (n : ℕ) → n < length calls → (pending_of (call n)).end < behind_all → (e : ℕ × Reply) × ((call n).ended ≡ Some e) × (e.0 ≡ (pending_of (call n)).end)
   ended_at n low early = elim (none_or_some (call n).ended) [
     | inl e ↦ absurd (let u : (pending_of (call n)).end ≡ behind_all + (call n).begun = ap (until_if behind_all (call n).begun) e in omega (arith, u, early))
@@ -191,7 +190,6 @@ module _ (threads : ℕ) (calls : List CallRecord) (history : IsHistory threads 
     end_of : (e : ℕ × Reply) × ((call number).ended ≡ Some e) × (e.0 ≡ (pending_of (call number)).end)
     end_of = let u = ap (λ (p : Pending). p.end) is_next in ended_at number of_number (omega (arith, u, early))
 
-    -- No other pending call has the same end.
     same_place : (c : ℕ) (d : Pending) → c < length pending → (get_or pending c d).end ≡ next.end → get_or pending c d ≡ next
     same_place c d inside e =
         let here : get_or pending c d ≡ get_or pending c no_pending = get_or_default pending c d no_pending inside in
@@ -238,7 +236,7 @@ module _ (threads : ℕ) (calls : List CallRecord) (history : IsHistory threads 
       all_apart : AllPairs (λ (p q : Pending). p.end ≢ q.end) (next ∷ rest)
       all_apart = ends_moved pending (next ∷ rest) is are.apart
 
-      -- Without the next call, the pending calls are those that end after it.
+      -- When the pending call with the earliest end has ended, the other calls are still pending.
       pub without_next : ArePending calls next.end rest
       without_next = record {
         known = rest_of (λ (p : Pending). (n : ℕ) × (n < length calls) × (p ≡ pending_of (call_numbered calls n))) are.known;
@@ -259,7 +257,7 @@ module _ (threads : ℕ) (calls : List CallRecord) (history : IsHistory threads 
             omega (arith, up, differs);
       }
 
--- If a call can come next, it still can after some pending calls have ended.
+-- If a call may come next, it still may after some pending calls have ended.
 pub may_still : (old new : List Pending) (m n : ℕ) (x : CallRecord) → MayCome old m x → All (Contains old) new → n < x.begun → MayCome new n x
 may_still old new m n x may some begins = record {
   begins = begins;

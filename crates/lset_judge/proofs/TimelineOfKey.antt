@@ -1,5 +1,5 @@
--- Proof: if the acts on one key have an order, its events have a correct timeline. An act is the effect of a call on
--- the key.
+-- Proof: if the acts on one key have an order, its events have a correct timeline, which says when each change takes
+-- effect. An act is the effect of a call on the key.
 use Rattle.std.proofs.Common.{◌≡◌, ◌≢◌, ℕ, zero, suc, ◌<◌, ◌≤◌, ◌⊎◌, List, [], ◌∷◌, Bool, true, false, inl, inr, refl, sym, ap, ◌∙◌, arith}
 use Rattle.std.proofs.Common.{subst, length}
 use Rattle.std.specs.Prelude.{◌==◌, ◌||◌, not, nat_lt, Some, is_some}
@@ -38,7 +38,7 @@ has_tail u x xs h = elim (cases_Bool (x == u)) [ inl e ↦ rw e refl | inr e ↦
 pub has_split : (u x : ℕ) (xs : List ℕ) → has_key u (x ∷ xs) ≡ true → (x ≡ u) ⊎ (has_key u xs ≡ true)
 has_split u x xs h = elim (cases_Bool (x == u)) [ inl e ↦ inl (same_number x u e) | inr e ↦ inr (rw e at h) ]
 
--- Lemmas about a list with one more item.
+-- ---- Lemmas about inserting a moment into a list, and removing one
 pub has_put : (u e : ℕ) (xs : List ℕ) → has_key u (put_in e xs) ≡ has_key u (e ∷ xs)
 has_put u e [] = refl
 has_put u e (x ∷ xs) = elim (cases_Bool (nat_lt e x)) [
@@ -111,7 +111,7 @@ all_late d (x ∷ xs) h =
     let rest = all_late d xs (λ u i. h u (has_tail u x xs i)) in
     omega (arith, o, rest)
 
--- ---- The acts of one key's calls, in order
+-- ---- The acts (effects of calls) on one key, in an order
 
 pub record Act : Type 0 where
   pub begun : ℕ
@@ -132,7 +132,7 @@ abbrev pub TakeTurns : Bool → Bool → List Act → Type 0
 TakeTurns left b [] = b ≡ left
 TakeTurns left b (a ∷ ys) = suits b a.does × TakeTurns left (becomes b a.does) ys
 
--- No act ends before an earlier one begins.
+-- Act p comes before act r in the order: r does not end before p begins.
 pub record Apart (p r : Act) : Type 0 where
   pub in_time : p.begun < r.until
   pub other : p.until ≢ r.until
@@ -143,7 +143,7 @@ pub record IsAct (ev : ℕ → Event) (last : ℕ) (a : Act) : Type 0 where
   pub ends_later : a.begun < a.until
   pub told : (w : Bool) → a.does ≡ changes w → ev a.begun ≡ begins w a.until
 
--- The events of a key. Each change begins at one moment, and only the last moment has the final state as its event.
+-- The events of a key: each change begins at one moment only, and no event at a moment is `leaves`.
 pub record AreEvents (ev : ℕ → Event) : Type 0 where
   pub once : (i j : ℕ) (v w : Bool) (u : ℕ) → ev i ≡ begins v u → ev j ≡ begins w u → i ≡ j
   pub not_left : (i : ℕ) (w : Bool) → ev i ≡ leaves w → ⊥
@@ -166,7 +166,7 @@ same_self true b e = e
 same_self false b e = rw e refl
 
 module _ (ev : ℕ → Event) (last : ℕ) (left : Bool) (are : AreEvents ev) where
-  -- The properties of one of the two lists of pending changes.
+  -- The invariant of one of the two lists of pending changes.
   pub record Lists (w : Bool) (m : ℕ) (xs : List ℕ) (ys : List Act) : Type 0 where
     pub from_event : (u : ℕ) → has_key u xs ≡ true → (i : ℕ) × (i ≤ m) × (ev i ≡ begins w u)
     pub needed : (u : ℕ) → has_key u xs ≡ true → u ≤ last → (i : ℕ) × In (act i u (changes w)) ys
@@ -182,7 +182,7 @@ module _ (ev : ℕ → Event) (last : ℕ) (left : Bool) (are : AreEvents ev) wh
     pub looks_to_come : (j : ℕ) (w : Bool) (i : ℕ) → ev j ≡ looks w i → m < j → j ≤ last
         → In (act i j (sees w)) ys ⊎ ((i ≤ m) × ((s.there ≡ w) ⊎ (i ≤ s.turned)))
 
-  -- ---- Lemmas about performing an act
+  -- ---- Lemmas about the next act of the order, which takes effect
   not_first : (p a : Act) (ys : List Act) → In a (p ∷ ys) → (p ≡ a → ⊥) → In a ys
   not_first p a ys (inl e) n = absurd (n e)
   not_first p a ys (inr i) n = i
@@ -276,7 +276,7 @@ module _ (ev : ℕ → Event) (last : ℕ) (left : Bool) (are : AreEvents ev) wh
       lists false true to r = lists_taken true m ps p ys r.pairs.0 (r.lists true)
       lists false false to r = lists_kept false m ks p ys (λ e. true≢false (changes_apart true false (sym to ∙ e))) (r.lists false)
 
-  -- ---- Lemmas about an event after which the next act begins later
+  -- ---- Lemmas about an event at which no act is due: the next act begins later
   abbrev Waits : ℕ → List Act → Type 0
   Waits m [] = Unit {0}
   Waits m (p ∷ ys) = m < p.begun
@@ -359,7 +359,7 @@ module _ (ev : ℕ → Event) (last : ℕ) (left : Bool) (are : AreEvents ev) wh
       lists true = lists_past true m v s s.puts ys e r (r.lists true)
       lists false = lists_past false m v s s.takes ys e r (r.lists false)
 
-  -- The state fits the event.
+  -- The state of the key is right for the event of a change's end.
   none_due : (w : Bool) (m : ℕ) (xs : List ℕ) (ys : List Act) → suc m ≤ last → Waits m ys → AllByRecursion (IsAct ev last) ys → Pairs Apart ys
       → Lists w m xs ys → not_before (suc (suc m)) xs ≡ length xs
   none_due w m xs ys low waits acts pairs l = all_late (suc (suc m)) xs (λ u h. elim (below_or_not u (suc (suc m))) [
@@ -384,7 +384,7 @@ module _ (ev : ℕ → Event) (last : ℕ) (left : Bool) (are : AreEvents ev) wh
       is_not t i l = grind (arith, nat_tests)
   event_fits m v s ys e low waits r = refl
 
-  -- ---- The timeline compared with the rule: all acts that begin by a moment have changed the key
+  -- ---- The timeline (which says when each change takes effect) compared with the judge's rule
   place : (m : ℕ) (p : Act) (ys : List Act) (g s : State) → p.begun ≤ m → Leads m g s → Ready m s (p ∷ ys) → (k : Kind) → p.does ≡ k
       → (t : State) × Leads m g t × Ready m t ys
   place m p ys g s begun l r (changes w) d =
@@ -408,7 +408,7 @@ module _ (ev : ℕ → Event) (last : ℕ) (left : Bool) (are : AreEvents ev) wh
   ]
 
   module _ (b : Bool) (first : List Act) (ready : Ready 0 (opened b) first) where
-    -- The rule succeeds up to each moment, and has changed the key no more often than necessary.
+    -- The judge's rule succeeds up to each moment, and has at least as many pending changes left as the timeline.
     goes_on : (m : ℕ) → m ≤ last → (g s : State) × (ys : List Act) × (state_after ev b m ≡ Some g) × Leads m g s × Ready m s ys
     goes_on zero low = (opened b, opened b, first, refl, leads_at_first b, ready)
     goes_on (suc m) low =
@@ -427,7 +427,7 @@ module _ (ev : ℕ → Event) (last : ℕ) (left : Bool) (are : AreEvents ev) wh
     none_left s [] r w = r.take_turns
     none_left s (p ∷ ys) r w = absurd (let low = r.acts.0.inside in omega (arith, low, w))
 
-    -- If there is a correct timeline, the rule succeeds.
+    -- If a key has a correct timeline, the judge's rule succeeds for this key.
     pub succeeds : may_leave ev b left last ≡ true
     succeeds =
         let was = goes_on last (omega arith) in let now = place_now last was.0 was.2 was.1 was.4 was.5 in

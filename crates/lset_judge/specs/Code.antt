@@ -1,4 +1,4 @@
--- Converts the code's key state and event to the state and event of the rule.
+-- The judge's state of a key and its events, as the definitions in Rule.antt have them.
 use Rattle.std.specs.Prelude.{◌≡◌, ℕ, Bool, true, false, List, [], ◌∷◌}
 use Rattle.lset_words.specs.Effects.{is_there}
 use Rattle.lset_judge.specs.declared.key_changes.Held.{Held}
@@ -9,8 +9,8 @@ use Rattle.lset_judge.specs.declared.event.Event.{Event as MomentEvent}
 use Rattle.lset_judge.specs.declared.event.Event.TheVariants.{Begins, Ends, Looks, Idle}
 use Rattle.lset_judge.specs.Rule.{State, Event, begins, ends, looks, idle}
 
--- Returns the ends of the pending changes that have not taken effect and add the key. `takes_held` returns those that
--- remove it. `until` is the end of a change that is stored without a heap.
+-- Returns the ends of the key's pending `add`s that have not taken effect; `takes_held` those of `remove`s. `until` is
+-- the end of a change that is stored without a heap.
 abbrev pub puts_held : ℕ → Held → List ℕ
 puts_held until Nothing = []
 puts_held until Put = until ∷ []
@@ -36,7 +36,7 @@ is_many Put = false
 is_many Take = false
 is_many (Many many) = true
 
--- States that two values have the same pending changes, and the same moments by which all changes end.
+-- States that two values have the same pending changes, and the same moments by which all changes have ended.
 pub record AreSame (old new : KeyChanges) : Type 0 where
   pub puts : puts_in new ≡ puts_in old
   pub takes : takes_in new ≡ takes_in old

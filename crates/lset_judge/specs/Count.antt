@@ -1,4 +1,5 @@
--- Counts: calls of a key between which the key would have to change back more often than it can.
+-- Counts: calls of a key that are too many for any order, because the key would have to change back more often than it
+-- can.
 use Rattle.std.specs.Prelude.{◌≡◌, ℕ, ◌+◌, ◌-◌, ◌<◌, ◌≤◌, ◌==◌, ◌⊎◌, ◌&&◌, not, nat_lt, Bool, true, List, length, filter, Option, Some, None, All, AllPairs, IfSome}
 use Rattle.lset_words.specs.declared.Reply.{Reply}
 use Rattle.lset_words.specs.declared.history.CallRecord.{CallRecord}
@@ -14,9 +15,9 @@ use Rattle.lset_judge.specs.Events.{kind_if}
 use Rattle.lset_judge.specs.Rest.{has_ended, turns_to}
 use Rattle.lset_judge.specs.Clash.{records, other, leaves_if, needs_if, IsOf}
 
--- The stretch of time of a count. It begins at the moment `since`. If `since` is None, it begins before all calls: the
--- key then has the state `was` at the opening, which counts like a call. It ends at the moment `until`. If `until` is
--- None, it ends after all calls: the final state is then the other state, which counts like a call.
+-- A count has a start `since` and an end `until`. If `since` is None, the opening counts as a first call: the key then
+-- has the state `was`. If `until` is None, the final keys count as a last call: the key then has the other state.
+-- `also` returns how many calls that adds.
 abbrev pub also : Option ℕ → ℕ
 also None = 1
 also (Some moment) = 0
@@ -29,28 +30,29 @@ abbrev pub LeftOtherwise : Option Presence → Presence → Option ℕ → Type 
 LeftOtherwise left was None = left ≡ Some (other was)
 LeftOtherwise left was (Some until) = Unit {0}
 
--- States that the call begins in the stretch. If the stretch begins before all calls, states that the call needs the
--- other state.
+-- States that a call begins at the count's start or later. If the opening counts as a call, states that the call needs
+-- the other state.
 abbrev pub BeginsIn : Presence → Option ℕ → CallRecord → Type 0
 BeginsIn was None x = needs_if x.call x.ended ≡ Some (other was)
 BeginsIn was (Some since) x = since ≤ x.begun
 
--- States that the call has ended in the stretch. If the stretch ends after all calls, states that the call leaves the
+-- States that a call has ended by the count's end. If the final keys count as a call, states that the call leaves the
 -- key in the state `was`.
 abbrev pub EndsIn : Presence → Option ℕ → CallRecord → Type 0
 EndsIn was None x = leaves_if x.call x.ended ≡ Some was
 EndsIn was (Some until) x = has_ended until x.ended ≡ true
 
--- The key must change back between two calls, because the call that comes first leaves the key in the state `was` and
--- the call that comes second needs the other state.
+-- The key must change back between the calls x and y: whichever is first leaves the key in the state `was`, and the
+-- second needs the other state.
 pub record NeedTurn (was : Presence) (x y : CallRecord) : Type 0 where
   pub later : x.begun < y.begun
   pub leaves : leaves_if x.call x.ended ≡ Some was
   pub needs : needs_if y.call y.ended ≡ Some (other was)
   pub either : Precedes x y ⊎ ((leaves_if y.call y.ended ≡ Some was) × (needs_if x.call x.ended ≡ Some (other was)))
 
--- Returns whether the call begins before the end of the stretch. `turns_in` tests whether a call can change the key to
--- the state `there` in the stretch: it returned true or is pending, and overlaps the stretch.
+-- Returns whether a call that begins at `begun` begins before the count's end. `turns_in` returns whether a call can
+-- change the key to the state `there` between the count's start and end: it returned true or is pending, and overlaps
+-- this time.
 abbrev pub begins_by : ℕ → Option ℕ → Bool
 begins_by begun None = true
 begins_by begun (Some until) = nat_lt begun until
@@ -66,13 +68,13 @@ turns_in key there since until x =
 abbrev pub turning_in : ℕ → Presence → Option ℕ → Option ℕ → List CallRecord → List CallRecord
 turning_in key there since until calls = filter (turns_in key there since until) calls
 
--- Returns how often the key must change back.
+-- Returns how often the key must change back in a count with this many calls.
 abbrev pub turns_of : ℕ → Option ℕ → Option ℕ → ℕ
 turns_of counted since until = counted + also since + also until - 1
 
--- These calls of a key are a count, in a stretch of time. Between any two of them, the key must change back. If the
--- stretch begins before all calls, it must also do so before the first of them. If the stretch ends after all calls, it
--- must also do so after the last. But the calls that can change it back in the stretch are fewer.
+-- The calls `counted` of a key are a count. The key must change back between any two of them. It must also do so before
+-- the first of them if the opening counts as a call, and after the last if the final keys count as a call. The calls
+-- that can change the key back in this time are fewer.
 pub record IsCountOf (calls : List CallRecord) (key : ℕ) (there : Presence) (left : Option Presence) (was : Presence) (since until : Option ℕ)
     (counted : List CallRecord) : Type 0 where
   pub known : All (IsOf calls key) counted
@@ -83,14 +85,14 @@ pub record IsCountOf (calls : List CallRecord) (key : ℕ) (there : Presence) (l
   pub turns : AllPairs (NeedTurn was) counted
   pub fewer : length (turning_in key (other was) since until calls) < turns_of (length counted) since until
 
--- States that if calls of a history are a count, no order explains the history and leaves these keys, whatever all
--- other calls did.
+-- States that no order explains a history and leaves these keys if calls of the history are a count, whatever all other
+-- calls did.
 abbrev pub CountsExcludeOrders : Type 0
 CountsExcludeOrders = (h : HistoryValue) (keys : List ℕ) (key : ℕ) (there : Presence) (left : Option Presence) (was : Presence)
     (since until : Option ℕ) (counted : List CallRecord) → IsHistory h.opening.threads h.calls → has_key key h.opening.keys ≡ is_there there
     → IfSome left (λ (l : Presence). has_key key keys ≡ is_there l) → IsCountOf h.calls key there left was since until counted → IsUnexplained h keys
 
--- The returned count is a count, and `backs` has all calls that can change the key back in the stretch.
+-- What `find_count` returns is a count, and its `backs` are all calls that can change the key back.
 pub record IsCount (calls : List CallRecord) (there : Presence) (left : Option Presence) (c : Count) : Type 0 where
   pub count : IsCountOf calls c.key.0 there left c.was c.since c.until (records c.calls.items)
   pub backs : records c.backs.items ≡ turning_in c.key.0 (other c.was) c.since c.until calls

@@ -1,4 +1,4 @@
--- The events of one key at the moments of a history.
+-- The events of one key in a history: the begins and ends of its calls, one at each moment.
 use Rattle.std.specs.Prelude.{◌≡◌, ℕ, ◌+◌, ◌==◌, Bool, true, false, if◌then◌else◌, List, [], ◌∷◌, Option, Some, None}
 use Rattle.lset_words.specs.declared.Call.{Call}
 use Rattle.lset_words.specs.declared.Call.TheVariants.{Add, Remove}
@@ -12,8 +12,8 @@ use Rattle.lset_words.specs.Words.{key_of}
 use Rattle.lset_history.specs.History.{HistoryValue}
 use Rattle.lset_judge.specs.Rule.{Event, begins, ends, looks, idle, may_leave}
 
--- The kind of a call: it changes its key to present (`true`) or absent, it sees the key present or absent, or nothing
--- is known about the key.
+-- What a call can do to its key: it changes the key to present (`true`) or absent, it sees the key present or absent,
+-- or it does nothing that matters.
 pub data Kind : Type 0 where
   changes : Bool → Kind
   sees : Bool → Kind
@@ -27,8 +27,8 @@ kind_as Other = nothing
 abbrev pub kind_of : Call → Reply → Kind
 kind_of c r = kind_as (effect_of c r)
 
--- Returns the kind of a pending call. An `add` or a `remove` counts as a change, because it can take effect. A pending
--- read has seen nothing.
+-- Returns what a pending call can do to its key. A pending `add` or `remove` can change it. A pending read has seen
+-- nothing.
 abbrev pub open_kind : Call → Kind
 open_kind (Add k) = changes true
 open_kind (Remove k) = changes false
@@ -38,8 +38,8 @@ abbrev pub kind_if : Call → Option (ℕ × Reply) → Kind
 kind_if c None = open_kind c
 kind_if c (Some e) = kind_of c e.1
 
--- Returns the moment before which a call takes effect: its end. A pending call gets a moment after all moments,
--- different for each begin.
+-- Returns the moment before which a call takes effect, which is its end. A pending call has a moment after all others,
+-- which is different for each begin.
 abbrev pub until_if : ℕ → ℕ → Option (ℕ × Reply) → ℕ
 until_if last begun None = last + begun
 until_if last begun (Some e) = e.0
@@ -58,7 +58,7 @@ end_event (changes w) begun = ends w
 end_event (sees w) begun = looks w begun
 end_event nothing begun = idle
 
--- Returns the event of a key at a moment.
+-- Returns the event of key k at moment m. `last` is the last moment of the history.
 abbrev pub event_at : ℕ → ℕ → List CallRecord → ℕ → Event
 event_at last k [] m = idle
 event_at last k (x ∷ xs) m =
@@ -67,10 +67,10 @@ event_at last k (x ∷ xs) m =
     else (if ends_at m x.ended then end_event (kind_if x.call x.ended) x.begun else event_at last k xs m)
     ) else event_at last k xs m
 
--- Returns whether the rule succeeds for a key of a history and for its final state. `last` is the last moment.
+-- Returns whether the judge's rule succeeds for key k of a history and its final state. `last` is the last moment.
 abbrev pub rule_explains : ℕ → HistoryValue → List ℕ → ℕ → Bool
 rule_explains last h keys k = may_leave (event_at last k h.calls) (has_key k h.opening.keys) (has_key k keys) last
 
--- States that the rule succeeds for each key.
+-- States that the judge's rule succeeds for each key.
 abbrev pub RulePasses : ℕ → HistoryValue → List ℕ → Type 0
 RulePasses last h keys = (k : ℕ) → rule_explains last h keys k ≡ true

@@ -1,4 +1,4 @@
--- The state of the judge, and the meaning of its verdict.
+-- What a `Judge` has judged, and the meaning of its verdict.
 use Rattle.std.specs.Prelude.{ℕ, List, Option, Some, None, IfSome}
 use Rattle.lset_words.specs.declared.effect.Presence.{Presence}
 use Rattle.lset_words.specs.Effects.{presence}
@@ -13,24 +13,25 @@ use Rattle.lset_judge.specs.declared.clash.Clash.{Clash}
 use Rattle.lset_judge.specs.Clash.{record_if, IsClash}
 use Rattle.lset_judge.specs.Facts.{IsStreamKept}
 
--- States that the judge has judged these calls of a set that opens with these keys.
+-- States that judge j has judged these calls, of a set that opened with these keys.
 abbrev pub IsJudgeOf : ℕ → List ℕ → List CallRecord → Judge → Type 0
 IsJudgeOf threads opening calls j = IsStreamKept threads opening calls j.stream
 
--- ---- What a verdict means
+-- ---- The meaning of a verdict
 
--- Returns the final presence of a refusal's key if the refusal is about the final keys.
+-- Returns the final state of a refusal's key if the refusal is about the final keys, else None.
 abbrev pub left_by : List ℕ → ℕ → Option ℕ → Option Presence
 left_by keys key (Some moment) = None
 left_by keys key None = Some (presence (has_key key keys))
 
--- States that two calls of a key clash, or that a call clashes with the opening state or the final state of the key.
+-- States that two calls of a key clash: they rule out every order. A call can also clash with the key's state at the
+-- opening, or with its final state.
 abbrev pub ClashesIn : List ℕ → List CallRecord → ℕ → Option Presence → Clash → Type 0
 ClashesIn opening calls key left c =
     IsClash calls key (presence (has_key key opening)) left c.was (record_if c.first) (record_if c.second)
 
--- States that the verdict is correct. A clash belongs to the refusal's key. It is about the key's final state if the
--- refusal is.
+-- States that a verdict is correct. If it has a clash, this is a clash of the refusal's key, and involves the final
+-- state only if the refusal is about the final keys.
 abbrev pub IsVerdict : ℕ → List ℕ → List CallRecord → List ℕ → Verdict → Type 0
 IsVerdict threads opening calls keys verdict.Linearizable = IsStreamVerdict (stream_history threads opening calls) keys Linearizable
 IsVerdict threads opening calls keys (verdict.NotLinearizable refusal clash) =

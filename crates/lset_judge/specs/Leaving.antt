@@ -1,12 +1,12 @@
--- The final states that a key can have.
+-- The final states that are possible for a key.
 use Rattle.std.specs.Prelude.{ℕ, ◌||◌, Bool, true, false, List, [], ◌∷◌}
 use Rattle.lset_judge.specs.Rule.{State, same, options}
 
--- Returns whether the list is not empty.
 abbrev pub has_any : List ℕ → Bool
 has_any [] = false
 has_any (x ∷ xs) = true
 
--- Returns whether the key can have this final state: it has the state now, or a pending change can take effect.
+-- Returns whether the state `there` is possible as the final state of a key: the key is in this state now, or a pending
+-- change can lead to it.
 abbrev pub may_be_left : Bool → State → Bool
 may_be_left there s = same there s.there || has_any (options s)

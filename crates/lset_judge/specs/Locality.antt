@@ -7,31 +7,31 @@ use Rattle.lset_words.specs.Words.{key_of}
 use Rattle.lset_history.specs.History.{HistoryValue}
 use Rattle.lset_judge.specs.Verdict.{IsExplained, IsJudged}
 
--- Returns the keys of part `i`. `part` maps a key to the number of its part.
+-- Returns the keys that belong to part i. `part` maps each key to the number of its part.
 abbrev pub keys_in : (ℕ → ℕ) → ℕ → List ℕ → List ℕ
 keys_in part i keys = filter (λ (k : ℕ). part k == i) keys
 
--- Returns the calls of the keys in part `i`.
+-- Returns the calls whose keys belong to part i.
 abbrev pub calls_in : (ℕ → ℕ) → ℕ → List CallRecord → List CallRecord
 calls_in part i calls = filter (λ (x : CallRecord). part (key_of x.call).0 == i) calls
 
--- Returns part `i` of a history: its calls and its opening keys.
+-- Returns part i of a history: its calls and its opening keys.
 abbrev pub part_of : (ℕ → ℕ) → ℕ → HistoryValue → HistoryValue
 part_of part i h = record {
   opening = record { threads = h.opening.threads; quota = h.opening.quota; keys = keys_in part i h.opening.keys };
   calls = calls_in part i h.calls;
 }
 
--- Locality: some order explains a judged history with its final keys if and only if, for each part, some order explains
--- the part with its final keys.
+-- Locality: some order explains a history that the judge decides if and only if, for each part, some order explains the
+-- part with its final keys.
 abbrev pub KeysAreApart : Type 0
 KeysAreApart = (h : HistoryValue) (keys : List ℕ) (part : ℕ → ℕ) (parts : ℕ)
     → IsHistory h.opening.threads h.calls → IsStrictlyIncreasing h.opening.keys → IsStrictlyIncreasing keys → IsJudged h
     → ((key : ℕ) → part key < parts)
     → IsExplained h keys ↔ ((i : ℕ) → i < parts → IsExplained (part_of part i h) (keys_in part i keys))
 
--- The quota of a judged history does not matter: if some order explains the history with another quota, some order
--- explains it with its own.
+-- The quota of a history that the judge decides does not matter: if some order explains the history with another quota,
+-- some order explains it with its own.
 abbrev pub QuotasDoNotMatter : Type 0
 QuotasDoNotMatter = (h : HistoryValue) (keys : List ℕ) (quota : ℕ)
     → IsHistory h.opening.threads h.calls → IsStrictlyIncreasing h.opening.keys → IsStrictlyIncreasing keys → IsJudged h

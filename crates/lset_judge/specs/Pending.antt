@@ -1,4 +1,4 @@
--- The pending calls as the code stores them: a few in a vector, the others in a table by their ends.
+-- The pending calls as the judge stores them: a few in a vector, the others in a hash table by their ends.
 use Rattle.std.specs.Prelude.{◌≡◌, ℕ, ◌<◌, nat_lt, if◌then◌else◌, ◌≤◌, List, ◌∷◌, length, Option, Some, None, All, Contains, slice_index_or}
 use Rattle.std.specs.Bool.{nat_eq}
 use Rattle.std.specs.HashMap.{get}
@@ -11,31 +11,29 @@ use Rattle.lset_judge.specs.declared.busy.Busy.{Busy}
 abbrev pub pending_at : ℕ × StreamCall → Pending
 pending_at e = record { end = e.0; call = e.1 }
 
--- `place` is the index of the call with the earliest end.
+-- `place` is the index of the pending call with the earliest end.
 pub record IsFirst (place : ℕ) (few : List Pending) : Type 0 where
   pub inside : 0 < length few → place < length few
   pub smallest : (d : Pending) → All (λ (p : Pending). (slice_index_or few place d).end ≤ p.end) few
 
--- Returns the number, or 0 for None.
 abbrev pub or_zero : Option ℕ → ℕ
 or_zero None = 0
 or_zero (Some n) = n
 
--- Returns the end of a thread's last call, or 0 if the thread has had no call.
+-- Returns the end of the last call of thread t, or 0 for a thread without calls.
 abbrev pub last_end : Busy → ℕ → ℕ
 last_end b t = if nat_lt t 65536 then slice_index_or b.low.items t 0 else or_zero (get nat_eq b.high t)
 
--- Each end in the table is also in the heap, and each call's end is the last end of its thread.
+-- Each call in the hash table has its end in the heap, and its end is the last end of its thread.
 pub record AreHeld (calls : List (ℕ × StreamCall)) (ends : List ℕ) (busy : Busy) : Type 0 where
   pub known : All (λ (e : ℕ × StreamCall). last_end busy e.1.thread ≡ e.0) calls
   pub held : All (λ (e : ℕ × StreamCall). Contains ends e.0) calls
 
--- Returns the end of a call, or `moment` if it has none.
 abbrev pub end_or : ℕ → Option (ℕ × Reply) → ℕ
 end_or moment None = moment
 end_or moment (Some e) = e.0
 
--- `next` is the first call to end, and ends before the moment. `new` has the other calls.
+-- `next` is the pending call with the earliest end, which is before the moment. `new` are the other calls.
 pub record IsNext (moment : ℕ) (old : List Pending) (next : Pending) (new : List Pending) : Type 0 where
   pub early : next.end < moment
   pub is : IsPermutation old (next ∷ new)

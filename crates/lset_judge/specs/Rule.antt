@@ -1,11 +1,10 @@
--- The judge's rule for the calls of one key: the event at each moment, and which pending change takes effect.
+-- The judge's rule for one key: which event is at each moment, and which pending change takes effect.
 use Rattle.std.specs.Prelude.{ℕ, zero, suc, ◌+◌, ◌==◌, ◌||◌, min, nat_lt, Bool, true, false, not, if◌then◌else◌, List, [], ◌∷◌}
 use Rattle.std.specs.Prelude.{length, Option, Some, None, is_some}
 
--- The event of a key at a moment. `true` means present. `begins`: a change to this state begins; the number is the
--- moment at which it ends, or a number after all moments if it stays pending. `ends`: a change to this state ends.
--- `looks`: a read ends, with the state that it saw and the moment at which it began. `leaves`: this is the final state.
--- `idle`: there is no event of the key.
+-- An event of a key, at a moment; `true` means present. `begins`: a change to this state begins, with its end (after
+-- all moments if it stays pending). `ends`: a change to this state ends. `looks`: a read ends, which saw this state and
+-- began at this moment. `leaves`: this is the key's final state. `idle`: nothing happens to the key.
 pub data Event : Type 0 where
   begins : Bool → ℕ → Event
   ends : Bool → Event
@@ -13,15 +12,15 @@ pub data Event : Type 0 where
   leaves : Bool → Event
   idle : Event
 
--- The state of a key: whether it is present, the moment of its last change, and the ends of the pending changes that
--- have not taken effect. `puts` has the ends of changes that add the key, `takes` of those that remove it.
+-- The state of a key under the judge's rule: whether it is present, the moment of its last change, and the ends of its
+-- pending changes that have not taken effect (`puts` for `add`s, `takes` for `remove`s).
 pub record State : Type 0 where
   pub there : Bool
   pub turned : ℕ
   pub puts : List ℕ
   pub takes : List ℕ
 
--- Returns the state before all moments.
+-- Returns the state of a key at the opening. b says whether the key is present.
 abbrev pub opened : Bool → State
 opened b = record { there = b; turned = 0; puts = []; takes = [] }
 
@@ -32,18 +31,18 @@ same false b = not b
 abbrev pub changes_to : Bool → State → List ℕ
 changes_to w s = if w then s.puts else s.takes
 
--- Returns the ends of the changes that can take effect now.
+-- Returns the ends of the pending changes that would change the key now.
 abbrev pub options : State → List ℕ
 options s = changes_to (not s.there) s
 
--- Returns how many of these moments are at or after a given moment.
+-- Returns how many moments of a list are d or later.
 abbrev pub not_before : ℕ → List ℕ → ℕ
 not_before d [] = 0
 not_before d (x ∷ xs) = (if nat_lt x d then 0 else 1) + not_before d xs
 
--- Returns whether the state fits the event of a moment. If a change ends, each change of its kind that ends by now must
--- have taken effect. If a read ends, the key must have the state that was seen, or must have changed since the read
--- began, so that it was in both states. A final state must be the current state.
+-- Returns whether a key in state s is right for the event at moment m. If a change ends, each change of its kind that
+-- ends by now must have taken effect. If a read ends, the key must have the state that the read saw, or must have
+-- changed since the read began. A final state must be the state now.
 abbrev pub fits : ℕ → Event → State → Bool
 fits m (begins w end) s = true
 fits m (ends w) s = not_before (suc m) (changes_to w s) == length (changes_to w s)
@@ -51,12 +50,12 @@ fits m (looks w since) s = same w s.there || not (nat_lt s.turned since)
 fits m (leaves w) s = same w s.there
 fits m idle s = true
 
--- Inserts a moment into increasing moments.
+-- Inserts a moment into a list in increasing order.
 abbrev pub put_in : ℕ → List ℕ → List ℕ
 put_in e [] = e ∷ []
 put_in e (x ∷ xs) = if nat_lt e x then e ∷ x ∷ xs else x ∷ put_in e xs
 
--- Returns the pending changes to a state after an event.
+-- Returns the ends of the pending changes to a state after an event. xs are those before.
 abbrev pub entering : Bool → Event → List ℕ → List ℕ
 entering w (begins v end) xs = if same w v then put_in end xs else xs
 entering w (ends v) xs = xs
@@ -71,7 +70,7 @@ abbrev pub take_out : ℕ → List ℕ → List ℕ
 take_out e [] = []
 take_out e (x ∷ xs) = if x == e then xs else x ∷ take_out e xs
 
--- Returns the state after the change with the end `e` has taken effect, just after the event of the moment `m`.
+-- Returns the state of a key after the pending change with the end `e` has taken effect, just after moment m.
 abbrev pub turned_by : ℕ → ℕ → State → State
 turned_by m e s = record {
   there = not s.there;
@@ -80,8 +79,8 @@ turned_by m e s = record {
   takes = if s.there then take_out e s.takes else s.takes;
 }
 
--- The rule: a change takes effect only when an event needs it. Of the changes that can, the one with the earliest end
--- takes effect. `nearest` returns this end.
+-- The rule: a change takes effect only when an event needs it, and then the pending change with the earliest end.
+-- `nearest` returns this end, and `turned_if` the state after the change.
 abbrev pub nearest : ℕ → List ℕ → ℕ
 nearest x [] = x
 nearest x (y ∷ ys) = min x (nearest y ys)
@@ -90,7 +89,8 @@ abbrev pub turned_if : ℕ → State → List ℕ → Option State
 turned_if m s [] = None
 turned_if m s (x ∷ xs) = Some (turned_by m (nearest x xs) s)
 
--- Lets changes take effect, at most `n`, until the state fits the event, and returns this state. None if no state fits.
+-- Lets up to n pending changes take effect, until the key's state is right for the event. Returns this state, or None
+-- if no state is right.
 abbrev pub settled : ℕ → ℕ → Event → Option State → Option State
 settled n m v None = None
 settled zero m v (Some s) = if fits (suc m) v s then Some s else None
@@ -106,16 +106,16 @@ abbrev pub entered : Event → Option State → Option State
 entered v None = None
 entered v (Some t) = Some (enters v t)
 
--- Returns the state after the event of the moment after `m`, or None if the rule has failed.
+-- Returns the state of a key after the event v, which is at the moment after m. None means that the rule has failed.
 abbrev pub stepped : ℕ → Event → Option State → Option State
 stepped m v None = None
 stepped m v (Some s) = entered v (found m v s)
 
--- Returns the state after a moment, or None if the rule has failed by then.
+-- Returns the state of a key after a moment, or None if the rule has failed by then.
 abbrev pub state_after : (ℕ → Event) → Bool → ℕ → Option State
 state_after ev opening zero = Some (opened opening)
 state_after ev opening (suc m) = stepped m (ev (suc m)) (state_after ev opening m)
 
--- Returns whether the key can have the final state `left` after a moment.
+-- Returns whether the rule succeeds up to the moment `last` and then for the final state `left`.
 abbrev pub may_leave : (ℕ → Event) → Bool → Bool → ℕ → Bool
 may_leave ev opening left last = is_some (stepped last (leaves left) (state_after ev opening last))

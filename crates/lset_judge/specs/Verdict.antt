@@ -1,4 +1,4 @@
--- The verdict on a history with its final keys, and the histories that the judge decides.
+-- The verdict on a history and its final keys, and the histories that the judge decides.
 use Rattle.std.specs.Prelude.{◌≡◌, ℕ, ◌≤◌, ◌==◌, ◌&&◌, nat_le, if◌then◌else◌, Bool, true, false, List, [], ◌∷◌, filter, length}
 use Rattle.std.specs.Prelude.{Option, Some, None, All, IfSome, count_by}
 use Rattle.lset_words.specs.declared.Call.{Call}
@@ -13,26 +13,24 @@ use Rattle.lset_history.specs.History.{HistoryValue, latest_moment}
 use Rattle.lset_judge.specs.Events.{Kind, changes, sees, nothing, kind_if}
 use Rattle.lset_history.specs.Faults.{Explains}
 
--- States that some order explains the calls and leaves the final keys.
 abbrev pub IsExplained : HistoryValue → List ℕ → Type 0
 IsExplained h keys = (order : List Placed) × Explains h order keys
 
--- States that no order explains the calls and leaves the final keys.
 abbrev pub IsUnexplained : HistoryValue → List ℕ → Type 0
 IsUnexplained h keys = (order : List Placed) → Explains h order keys → ⊥
 
--- Returns whether a reply is true or false.
 abbrev pub is_truth : Reply → Bool
 is_truth True = true
 is_truth False = true
 is_truth r = false
 
--- Returns whether a call is not a `ceiling` and its reply is true or false.
+-- Returns whether a completed call is one that the judge decides: it is no `ceiling`, and its reply is true or false.
 abbrev pub is_plain : Call → Reply → Bool
 is_plain (Ceiling k) r = false
 is_plain c r = is_truth r
 
--- Returns whether a call is an `add` that added its key, or a pending `add`.
+-- Returns whether a call of this kind is an `add` that returned true or is pending. The kind says what a call can do to
+-- its key.
 abbrev pub puts_in : Kind → Bool
 puts_in (changes w) = w
 puts_in (sees w) = false
@@ -41,34 +39,33 @@ puts_in nothing = false
 abbrev pub may_add : Call → Option (ℕ × Reply) → Bool
 may_add c ended = puts_in (kind_if c ended)
 
--- Returns how many `add`s of a thread added their keys or are pending.
+-- Returns how many `add`s of a thread returned true or are pending.
 abbrev pub adds_of : ℕ → List CallRecord → ℕ
 adds_of thread calls = count_by (λ (x : CallRecord). may_add x.call x.ended && x.thread == thread) calls
 
--- States that each call that ended returned true or false, and that none of them is a `ceiling`.
+-- States that each completed call returned true or false and is no `ceiling`.
 abbrev pub IsPlain : List CallRecord → Type 0
 IsPlain calls = All (λ (x : CallRecord). IfSome x.ended (λ (e : ℕ × Reply). is_plain x.call e.1 ≡ true)) calls
 
--- The judge decides a history if each call that ended returned true or false, none of them is a `ceiling`, and each
--- thread's quota covers its `add`s that added their keys or are pending.
+-- The judge decides a history if each completed call returned true or false and is no `ceiling`, and each thread's
+-- quota is at least the number of its `add`s that returned true or are pending.
 pub record IsJudged (h : HistoryValue) : Type 0 where
   pub plain : IsPlain h.calls
   pub room : (thread : ℕ) → adds_of thread h.calls ≤ h.opening.quota
 
--- Returns the history with another quota.
 abbrev pub with_quota : ℕ → HistoryValue → HistoryValue
 with_quota quota h = record {
   opening = record { threads = h.opening.threads; quota = quota; keys = h.opening.keys };
   calls = h.calls;
 }
 
--- ---- What a refusal means
+-- ---- The meaning of a refusal
 
 -- Returns the calls of a key that begin by a moment, with their ends and replies.
 abbrev pub calls_by : ℕ → ℕ → List CallRecord → List CallRecord
 calls_by key moment calls = filter (λ (x : CallRecord). (key_of x.call).0 == key && nat_le x.begun moment) calls
 
--- Returns a history of these calls alone, with the opening state of the key.
+-- Returns the history of the calls of a key that begin by a moment. The set opens with the key if the key was present.
 abbrev pub of_key : ℕ → ℕ → HistoryValue → HistoryValue
 of_key key moment h = record {
   opening = record {
@@ -79,14 +76,14 @@ of_key key moment h = record {
   calls = calls_by key moment h.calls;
 }
 
--- States that a refusal is correct. With a moment: with any quota, no order explains the calls of the key that begin by
--- this moment, whatever keys the order leaves. Without a moment: with any quota, no order explains all calls of the key
--- and leaves its final state.
+-- States that a refusal is correct, with any quota. If it has a moment, no order explains the calls of the key that
+-- begin by this moment, whatever keys the order leaves. Otherwise, no order explains all calls of the key and leaves
+-- the key's final state.
 abbrev pub IsRefusedBy : HistoryValue → List ℕ → ℕ → Option ℕ → Type 0
 IsRefusedBy h keys key (Some moment) = (quota : ℕ) (left : List ℕ) → IsUnexplained (of_key key moment (with_quota quota h)) left
 IsRefusedBy h keys key None = (quota : ℕ) (left : List ℕ) → has_key key left ≡ has_key key keys
     → IsUnexplained (of_key key (latest_moment h.calls) (with_quota quota h)) left
 
--- Returns the history of a set without a quota: each thread could add keys in all calls.
+-- Returns the history as if its set had no quota: the quota is the number of calls.
 abbrev pub without_quota : HistoryValue → HistoryValue
 without_quota h = with_quota (length h.calls) h

@@ -6,19 +6,19 @@ ghost use Rattle.lset_judge.specs.Pending.{last_end};
 use std::alloc::{AllocError, Global};
 use std::collections::HashMap;
 
-/// Threads below this number are in a vector, all others in a table.
+/// The last ends of threads below this number are in a vector, those of all other threads in a hash table.
 const LOW: u32 = 65_536;
 
-/// For each thread, the end of its last call.
+/// The end of the last call of each thread that has made one.
 #[derive(Drop)]
 pub(crate) struct Busy {
-    /// The ends of threads below `LOW`, indexed by thread. 0 if a thread has had no call.
+    /// The end of the last call of each thread below `LOW`, indexed by thread. 0 for a thread without calls.
     pub(crate) low: Vec<u64>,
-    /// The ends of the other threads that have had a call.
+    /// The end of the last call of every other thread that has made a call.
     pub(crate) high: HashMap<u32, u64>,
 }
 
-/// Appends zeros until the vector has length `len`.
+/// Appends zeros until the vector has at least length `len`.
 fn lengthen(ends: &mut Vec<u64>, len: usize) -> Result<(), AllocError>
     ensures same { (i : ℕ) → slice_index_or ends.new.items i 0 ≡ slice_index_or ends.old.items i 0 }
     ensures long { OnOk result (len ≤ length ends.new.items) }
@@ -29,7 +29,7 @@ fn lengthen(ends: &mut Vec<u64>, len: usize) -> Result<(), AllocError>
     Ok(())
 }
 
-/// Stores an end at an index.
+/// Stores `end` at index `place`, and lengthens the vector if necessary.
 fn store(ends: &mut Vec<u64>, place: usize, end: u64) -> Result<(), AllocError>
     requires { place < 2 ^ 32 }
     ensures stored { OnOk result ((i : ℕ) → slice_index_or ends.new.items i 0 ≡ (if place == i then end else slice_index_or ends.old.items i 0)) }
@@ -41,7 +41,7 @@ fn store(ends: &mut Vec<u64>, place: usize, end: u64) -> Result<(), AllocError>
 }
 
 impl Busy {
-    /// Returns an empty `Busy`: no thread has had a call. Does not allocate.
+    /// Returns the value for threads that have made no calls. Does not allocate.
     pub(crate) fn new(alloc: Global) -> Busy {
         Busy {
             low: Vec::new(alloc),
@@ -49,7 +49,7 @@ impl Busy {
         }
     }
 
-    /// Returns the end of a thread's last call, or 0 if the thread has had no call.
+    /// Returns the end of a thread's last call, or 0 for a thread without calls.
     pub(crate) fn last_end(&self, thread: u32) -> u64
         ensures { result ≡ last_end self.now thread }
     {
@@ -66,7 +66,7 @@ impl Busy {
         }
     }
 
-    /// Stores the end of a thread's last call.
+    /// Stores the end of a thread's last call. If an allocation fails, nothing changes.
     pub(crate) fn store(&mut self, thread: u32, end: u64) -> Result<(), AllocError>
         ensures stored { OnOk result ((t : ℕ) → last_end self.new t ≡ (if thread == t then end else last_end self.old t)) }
         ensures same { OnErr result ((t : ℕ) → last_end self.new t ≡ last_end self.old t) }

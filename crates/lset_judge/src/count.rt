@@ -1,4 +1,5 @@
-//! Counts: calls of a key between which the key would have to change back more often than it can.
+//! Counts: proofs that no order explains some calls of a key, because the key would have to change back more often than
+//! it can.
 
 ghost use Rattle.std.specs.Prelude.{◌≡◌, ℕ, ◌<◌, All, AllPairs, IfOk, IfSome, IsTrue, length, filter, true};
 ghost use Rattle.lset_words.specs.History.{IsHistory, Precedes};
@@ -12,31 +13,31 @@ use crate::stretch::{Stretch, smallest_stretch};
 use lset_words::{Key, Presence};
 use std::alloc::{AllocError, Global};
 
-/// Calls of a key that no order explains, because there are too many of them. Whichever of two of them comes first
-/// leaves the key in the state `was`, and the other needs the other state. So the key must change back between any two
-/// of them, but fewer calls can change it back.
+/// A count: calls of a key that no order explains, because they are too many. Whichever of two of the calls comes
+/// first, it leaves the key in the state `was`, and the other call needs the key in the other state. The key must
+/// therefore change back between any two of them. But fewer calls can change it back.
 #[derive(Debug, Drop)]
 pub struct Count {
     /// The key.
     pub key: Key,
-    /// The state in which each of the calls except the last leaves the key. Each except the first needs the other
-    /// state.
+    /// The state (present or absent) in which each of the calls but the last leaves the key. Each of them but the first
+    /// needs the other state.
     pub was: Presence,
     /// The calls, sorted by when they began.
     pub calls: Vec<StreamCall>,
-    /// All calls that can change the key back: they returned true or are pending, and overlap the time from `since` to
-    /// `until`.
+    /// All calls that can change the key back between the others: they returned true or are pending, and overlap the
+    /// time from `since` to `until`.
     pub backs: Vec<StreamCall>,
-    /// A moment before which none of the calls begins. `None` if the key had the state `was` at the opening, which
-    /// counts like a call before them.
+    /// No call of the count begins before this moment. `None` if the opening counts as a first call: the key had the
+    /// state `was`.
     pub since: Option<u64>,
-    /// A moment by which all of the calls have ended. `None` if the key's final state is not `was`, which counts like a
-    /// call after them.
+    /// All calls of the count have ended by this moment. `None` if the final keys count as a last call: the key's final
+    /// state is not `was`.
     pub until: Option<u64>,
 }
 
 impl Count {
-    /// Returns how often the key must change back. The number exceeds the number of `backs`.
+    /// Returns how often the key must change back. This is more than the length of `backs`.
     pub fn turns(&self) -> usize
         ensures { result ≡ turns_of (length self.now.calls.items) self.now.since self.now.until }
     {
@@ -44,13 +45,13 @@ impl Count {
     }
 }
 
-/// Lemma: if calls of a history are a count, no order explains the history and leaves these keys. The function does
-/// nothing.
+/// Lemma: if calls of a history are a count, no order explains the history and leaves these keys. Does nothing at run
+/// time.
 pub fn counts_exclude_orders()
     ensures { CountsExcludeOrders }
 {}
 
-/// Returns 1 if the stretch is unbounded on this side, else 0.
+/// Returns 1 if the opening (or the final keys) counts as a call, which `None` means, else 0.
 fn also(bound: Option<u64>) -> usize
     ensures { result ≡ also bound }
 {
@@ -107,7 +108,8 @@ fn has_ended_before(first: StreamCall, second: StreamCall) -> bool
     }
 }
 
-/// Returns whether the key must change back between two calls, whichever comes first.
+/// Returns whether the key must change back between two calls, whichever of them is first: either leaves the key in the
+/// state `was`, and the other needs the other state.
 fn need_turn(first: StreamCall, second: StreamCall, was: Presence) -> bool
     ensures { IsTrue result → NeedTurn was (record_of first) (record_of second) }
 {
@@ -162,7 +164,7 @@ fn all_end(counted: &[StreamCall], was: Presence, until: Option<u64>) -> bool
     counted.iter().all(|call| ends_in(*call, was, until))
 }
 
-/// Returns whether a call can change the key to a state and overlaps the stretch.
+/// Returns whether a call can change the key to the state `there` and overlaps the time from `since` to `until`.
 fn turns_in(
     call: StreamCall,
     key: Key,
@@ -194,7 +196,7 @@ fn ends_from(call: StreamCall, since: Option<u64>) -> bool
     }
 }
 
-/// Returns all calls that can change the key to a state in the stretch.
+/// Returns all calls that can change the key to the state `there` and overlap the time from `since` to `until`.
 fn turning_in(
     alloc: Global,
     calls: &[StreamCall],
@@ -212,7 +214,8 @@ fn turning_in(
         .collect(alloc)
 }
 
-/// Returns whether these calls are a count of the key's calls. `backs` must be all calls that can change the key back.
+/// Returns whether `count` is a count of these calls of its key. Its `backs` must be all calls that can change the key
+/// back. `there` is the state of the key at the opening, `left` its final state, if known.
 fn is_count(calls: &[StreamCall], there: Presence, left: Option<Presence>, count: &Count) -> bool
     requires { count.now.backs.items ≡ filter (λ x. turns_in count.now.key.0 (other count.now.was) count.now.since count.now.until (record_of x)) calls.now }
     ensures { IsTrue result → IsCount (records calls.now) there left count.now }
@@ -237,7 +240,7 @@ fn is_count(calls: &[StreamCall], there: Presence, left: Option<Presence>, count
     need_turns(counted, was) && count.backs.len() < count.turns()
 }
 
-/// Returns the calls of a stretch's count, sorted by when they began.
+/// Returns the calls of the count that a stretch of time makes, in the order of their begins.
 fn counted_in(
     alloc: Global,
     calls: &[StreamCall],
@@ -258,8 +261,7 @@ fn counted_in(
     Ok(counted)
 }
 
-/// Moves the start of the stretch to the moment at which the first of the calls begins, unless the stretch starts
-/// before all calls.
+/// Returns the begin of the first of these calls as the new start of the count, unless the opening counts as a call.
 fn since_first(counted: &[StreamCall], since: Option<u64>) -> Option<u64> {
     match (since, counted.first()) {
         (Some(_), Some(first)) => Some(first.begun),
@@ -267,9 +269,11 @@ fn since_first(counted: &[StreamCall], since: Option<u64>) -> Option<u64> {
     }
 }
 
-/// Returns the smallest count of the calls of a key, if one is found. The calls must be sorted by when they began.
-/// `there` is the key's presence at the opening, `left` its final presence, if known. If a count is returned, no order
-/// explains these calls. The time grows with the square of the number of calls. Fails only if an allocation fails.
+/// Returns the smallest count of the calls of `key` that is found, if any. `calls` must be in the order of their
+/// begins. `there` is the state of the key at the opening, `left` its final state, if known.
+///
+/// If a count is returned, no order explains the calls. The time is quadratic in the number of calls. Fails only if an
+/// allocation fails.
 pub fn find_count(
     alloc: Global,
     calls: &[StreamCall],

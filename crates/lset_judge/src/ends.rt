@@ -1,4 +1,5 @@
-//! A heap of ends. Returns the earliest end in constant time. Insertion and removal take logarithmic time.
+//! A heap of the ends of calls. Returns the earliest end in constant time. Inserting and removing an end needs
+//! logarithmic time.
 
 ghost use Rattle.std.specs.Prelude.{◌≡◌, ◌==◌, ◌<◌, ◌≤◌, ◌∷◌, [], suc, length, slice_get, All, IsTrue, MatchOption, Some, OnOk, OnErr};
 ghost use Rattle.lset_judge.specs.Rule.{nearest, not_before, put_in};
@@ -8,7 +9,7 @@ use std::cmp::Reverse;
 use std::collections::BinaryHeap;
 use std::marker::Model;
 
-/// Ends of calls. Contracts see them in increasing order.
+/// The ends of some calls. In contracts, a list in increasing order.
 #[derive(Drop)]
 pub(crate) struct Ends {
     heap: BinaryHeap<Reverse<u64>>,
@@ -42,7 +43,7 @@ impl Ends {
         self.heap.is_empty()
     }
 
-    /// Returns whether no end is at the moment after `before` or earlier.
+    /// Returns whether all ends are later than the moment after `before`.
     pub(crate) fn none_due(&self, before: u64) -> bool
         ensures { result ≡ (not_before (suc (suc before)) self.now == length self.now) }
     {
@@ -52,7 +53,7 @@ impl Ends {
         }
     }
 
-    /// Returns the earliest end, if any.
+    /// Returns the earliest end, or `None` if the heap is empty.
     fn first(&self) -> Option<u64>
         ensures { MatchOption result (self.now ≡ []) (λ end. (slice_get self.now 0 ≡ Some end) × All (λ other. end ≤ other) self.now) }
     {
@@ -62,7 +63,7 @@ impl Ends {
         }
     }
 
-    /// Returns whether all ends are after a moment.
+    /// Returns whether all ends are later than `moment`.
     pub(crate) fn are_after(&self, moment: u64) -> bool
         ensures { IsTrue result → All (λ end. moment < end) self.now }
     {
@@ -72,7 +73,7 @@ impl Ends {
         }
     }
 
-    /// Adds an end.
+    /// Adds an end. If the allocation fails, nothing changes.
     pub(crate) fn push(&mut self, end: u64) -> Result<(), AllocError>
         ensures more { OnOk result (self.new ≡ put_in end self.old) }
         ensures same { OnErr result (self.new ≡ self.old) }
@@ -81,7 +82,7 @@ impl Ends {
         Ok(())
     }
 
-    /// Removes and returns the earliest end, if any.
+    /// Removes and returns the earliest end, or returns `None` if the heap is empty.
     pub(crate) fn pop(&mut self) -> Option<u64>
         ensures { MatchOption result (self.old ≡ []) (λ end. (self.old ≡ end ∷ self.new) × (nearest end self.new ≡ end)) }
     {
@@ -91,7 +92,7 @@ impl Ends {
         Some(end.0)
     }
 
-    /// Removes and returns the earliest end, if it is before a moment.
+    /// Removes and returns the earliest end if it is before `moment`, else returns `None`.
     pub(crate) fn pop_before(&mut self, moment: u64) -> Option<u64>
         ensures { MatchOption result ((self.new ≡ self.old) × All (λ end. moment ≤ end) self.old)
             (λ end. (self.old ≡ end ∷ self.new) × (end < moment) × All (λ other. end ≤ other) self.old) }

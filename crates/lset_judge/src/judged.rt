@@ -1,4 +1,4 @@
-//! The histories that the judge decides.
+//! The histories that the judge decides exactly.
 
 ghost use Rattle.std.specs.Prelude.{◌≡◌, ◌≤◌, ℕ, IsTrue, ◌↔◌, All, IfSome, true};
 ghost use Rattle.lset_judge.specs.Verdict.{is_plain, may_add, adds_of, IsPlain, IsJudged};
@@ -41,7 +41,7 @@ fn all_plain(calls: &[CallRecord]) -> bool
     calls.iter().all(|call_record| ends_plain(call_record))
 }
 
-/// Returns how many `add`s of a thread added their keys, or are pending and can do so.
+/// Returns how many `add`s of a thread returned true or are pending.
 fn adds_of(calls: &[CallRecord], thread: u32) -> usize
     ensures { result ≡ adds_of thread calls.now }
 {
@@ -51,7 +51,7 @@ fn adds_of(calls: &[CallRecord], thread: u32) -> usize
         .count()
 }
 
-/// Returns whether each thread's quota covers its `add`s that added their keys or are pending.
+/// Returns whether each thread's quota is at least the number of its `add`s that returned true or are pending.
 fn has_room(history: &History) -> bool
     ensures { IsTrue result ↔ ((thread : ℕ) → adds_of thread history.now.calls ≤ history.now.opening.quota) }
 {
@@ -65,17 +65,19 @@ fn has_room(history: &History) -> bool
     true
 }
 
-/// Returns whether each call of a history that ended returned true or false, and none of them is a `ceiling`. The judge
-/// decides such a history if each thread's quota covers its `add`s. Does not allocate.
+/// Returns whether each completed call of a history returned true or false and is no `ceiling`. Does not allocate.
+///
+/// The judge decides such a history if each thread's quota is at least the number of its `add`s.
 pub fn is_plain(history: &History) -> bool
     ensures { IsTrue result ↔ IsPlain history.now.calls }
 {
     all_plain(history.calls())
 }
 
-/// Returns whether the judge decides a history, so that `judge` does not return `Undecided`. Each call that ended must
-/// have returned true or false, none of them may be a `ceiling`, and each thread's quota must cover all its `add`s that
-/// returned true or are pending. Does not allocate.
+/// Returns whether `judge` decides a history, and does not return `Undecided`. Does not allocate.
+///
+/// Each completed call must have returned true or false and be no `ceiling`. Each thread's quota must be at least the
+/// number of its `add`s that returned true or are pending.
 pub fn is_judged(history: &History) -> bool
     ensures { IsTrue result ↔ IsJudged history.now }
 {

@@ -1,4 +1,4 @@
-//! Judges a whole history, call by call.
+//! Judges a complete history, call by call.
 
 ghost use Rattle.std.specs.Prelude.{◌≡◌, ◌<◌, ◌++◌, ◌∷◌, [], ℕ, IfOk, List, OnOk};
 ghost use Rattle.std.specs.List.Sorted.{IsStrictlyIncreasing};
@@ -20,10 +20,11 @@ use std::alloc::{AllocError, Global};
 pub enum Judged {
     /// Some order explains the calls, from the opening keys, and leaves the final keys.
     Linearizable,
-    /// No order explains the calls and leaves the final keys. Contains the reason, and a clash if one was found.
+    /// No order explains the calls and leaves the final keys. Contains the reason, and two calls that clash, if they
+    /// were found.
     NotLinearizable(Refusal, Option<Clash>),
-    /// Not decided: a call that ended is a `ceiling`, or returned neither true nor false, and some order explains the
-    /// calls as the judge reads them.
+    /// Not decided: a completed call is a `ceiling`, or returned neither true nor false. Some order explains the calls
+    /// after each such call was replaced by one that the judge knows.
     Undecided,
 }
 
@@ -47,7 +48,8 @@ fn reply_as(call: Call, reply: Reply) -> Reply
     }
 }
 
-/// Returns the call that the judge gets in place of a call of a history.
+/// Returns the call that the judge reads in place of `call`: a `ceiling`, and an `add` that returned `Full`, become a
+/// `contains`.
 fn read_as(call: &CallRecord) -> StreamCall
     ensures is { record_of result ≡ read_as call.now }
     ensures before { IsBefore (record_of result) }
@@ -68,7 +70,7 @@ fn read_as(call: &CallRecord) -> StreamCall
     }
 }
 
-/// Adds a call that is allowed to come next. Fails only if an allocation fails.
+/// Adds the next call of the history, which must be allowed to come next. Fails only if an allocation fails.
 fn add_next(judge: &mut Judge, call: StreamCall) -> Result<(), AllocError>
     requires { MayCome (pending_in judge.old.stream) (moment_of judge.old.stream) (record_of call) }
     ensures added { OnOk result ((threads : ℕ) (opening : List ℕ) (calls : List RecordedCall) → call.thread < threads
@@ -92,9 +94,10 @@ fn add_next(judge: &mut Judge, call: StreamCall) -> Result<(), AllocError>
 }
 
 /// Decides whether some order linearizes the calls of a history from its opening keys and leaves `keys`, for a set
-/// without a quota. `keys` must be in increasing order. The answer is exact if each call that ended returned true or
-/// false, and none of them is a `ceiling`. For any other history, the answer is `NotLinearizable` only if no order
-/// exists, and `Undecided` otherwise. Fails only if an allocation fails.
+/// without a quota. `keys` must be in increasing order.
+///
+/// The answer is exact if each completed call returned true or false and is no `ceiling`. For any other history, the
+/// answer is `NotLinearizable` only if no order exists, and `Undecided` otherwise. Fails only if an allocation fails.
 pub fn judge(alloc: Global, history: &History, keys: &[u32]) -> Result<Judged, AllocError>
     requires { IsStrictlyIncreasing keys.now }
     ensures { IfOk result (IsJudged history.now keys.now) }

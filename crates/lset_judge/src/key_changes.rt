@@ -1,4 +1,4 @@
-//! The changes of a key that have begun.
+//! The changes of a key that have begun: `add`s and `remove`s that returned true or are pending.
 
 ghost use Rattle.std.specs.Prelude.{◌≡◌, ◌==◌, ◌≤◌, ◌∷◌, [], suc, length, max, true, false, IsTrue, MatchOption, OnOk};
 ghost use Rattle.lset_judge.specs.Code.{puts_in, takes_in, is_many, AreSame};
@@ -10,7 +10,8 @@ use crate::stream::BEHIND_ALL;
 use lset_words::Presence;
 use std::alloc::{AllocError, Global};
 
-/// Changes of a key in heaps: the ends of the pending changes that have not taken effect, and counts of the changes.
+/// The changes of a key in heaps: the ends of pending `add`s and `remove`s that have not taken effect, and how many
+/// changes are pending.
 #[derive(Drop)]
 pub(crate) struct ManyChanges {
     puts: Ends,
@@ -18,34 +19,36 @@ pub(crate) struct ManyChanges {
     counts: Changes,
 }
 
-/// The pending changes of a key that have not taken effect. Heaps are not needed, and nothing is allocated, as long as
-/// `add`s and `remove`s that change the key alternate, each has an end, and each begins after the end of the one
-/// before.
+/// The pending changes of a key that have not taken effect.
+///
+/// A key needs no heaps, and no allocation, as long as its changes do not overlap, `add`s and `remove`s alternate, and
+/// each has an end.
 #[derive(Drop)]
 pub(crate) enum Held {
-    /// None.
+    /// No change is pending that has not taken effect.
     Nothing,
-    /// An `add` alone. It ends at `puts_until`.
+    /// A single pending `add`, which ends at `puts_until`.
     Put,
-    /// A `remove` alone. It ends at `takes_until`.
+    /// A single pending `remove`, which ends at `takes_until`.
     Take,
     /// Any number of changes, in heaps.
     Many(Box<ManyChanges>),
 }
 
-/// The changes of a key that have begun: by which moments they end, and the ends of those that are pending and have not
-/// taken effect. A change without an end counts as one that ends after all moments.
+/// The changes of a key that have begun: a moment by which they end, and the ends of those that are pending and have
+/// not taken effect. A change without an end counts as ending after all moments.
 #[derive(Drop)]
 pub(crate) struct KeyChanges {
-    /// A moment by which each `add` that has begun and can add the key ends.
+    /// The latest end of the `add`s of the key that have begun, and are pending or returned true. 0 without such calls.
     pub(crate) puts_until: u64,
-    /// A moment by which each `remove` that has begun and can remove the key ends.
+    /// The latest end of the `remove`s of the key that have begun, and are pending or returned true. 0 without such
+    /// calls.
     pub(crate) takes_until: u64,
     held: Held,
 }
 
 impl KeyChanges {
-    /// Returns the value of a key without changes. Does not allocate.
+    /// Returns the changes of a key before its first change. Does not allocate.
     pub(crate) fn none() -> KeyChanges
         ensures puts { puts_in result ≡ [] }
         ensures takes { takes_in result ≡ [] }
@@ -59,7 +62,7 @@ impl KeyChanges {
         }
     }
 
-    /// Returns whether no `add` is pending that has not taken effect.
+    /// Returns whether all pending `add`s of the key have taken effect.
     pub(crate) fn has_no_put(&self) -> bool
         ensures { result ≡ (length (puts_in self.now) == 0) }
     {
@@ -70,7 +73,7 @@ impl KeyChanges {
         }
     }
 
-    /// Returns whether no `remove` is pending that has not taken effect.
+    /// Returns whether all pending `remove`s of the key have taken effect.
     pub(crate) fn has_no_take(&self) -> bool
         ensures { result ≡ (length (takes_in self.now) == 0) }
     {
@@ -81,7 +84,8 @@ impl KeyChanges {
         }
     }
 
-    /// Returns whether each pending `add` that has not taken effect ends later than at the moment after `before`.
+    /// Returns whether each pending `add` of the key that has not taken effect ends later than at the moment after
+    /// `before`.
     pub(crate) fn no_put_is_due(&self, before: u64) -> bool
         ensures { result ≡ (not_before (suc (suc before)) (puts_in self.now) == length (puts_in self.now)) }
     {
@@ -92,7 +96,8 @@ impl KeyChanges {
         }
     }
 
-    /// Returns whether each pending `remove` that has not taken effect ends later than at the moment after `before`.
+    /// Returns whether each pending `remove` of the key that has not taken effect ends later than at the moment after
+    /// `before`.
     pub(crate) fn no_take_is_due(&self, before: u64) -> bool
         ensures { result ≡ (not_before (suc (suc before)) (takes_in self.now) == length (takes_in self.now)) }
     {
@@ -140,13 +145,13 @@ impl KeyChanges {
         }
     }
 
-    /// Returns, after the moment `before`, how many of the changes that have an end are pending, and when the last of
-    /// the others ended.
+    /// Returns how many changes with an end are pending after the moment `before`, and when the last of the other
+    /// changes ended.
     pub(crate) fn counts(&self, before: u64) -> Changes {
         if let Held::Many(many) = &self.held {
             return many.counts;
         }
-        // Each change began after the end of the one before it, and ends later.
+        // Without heaps, changes do not overlap: only the one with the latest end can be pending.
         let last = self.puts_until.max(self.takes_until);
         if before < last {
             Changes::one(self.puts_until.min(self.takes_until))
@@ -155,7 +160,7 @@ impl KeyChanges {
         }
     }
 
-    /// Records in the counts that a change ends.
+    /// Counts a change of the key as ended at `moment`.
     pub(crate) fn end(&mut self, moment: u64)
         ensures { AreSame self.old self.new }
     {
@@ -164,9 +169,8 @@ impl KeyChanges {
         }
     }
 
-    /// Returns whether no heap is needed for a change to the state `to` that begins at the moment after `before` and
-    /// ends at `end`: it has an end, each earlier change has ended by `before`, and the last of them, if any, was to
-    /// the other state.
+    /// Returns whether a change to the state `to` needs no heap, if it begins at the moment after `before` and ends at
+    /// `end`: it has an end, each earlier change has ended by `before`, and the last of them was to the other state.
     fn is_alone(&self, to: Presence, before: u64, end: u64) -> bool
         ensures alone { IsTrue result → is_many self.now.held ≡ false }
         ensures puts { IsTrue result → (puts_in self.now ≡ []) × (takes_in self.now ≡ []) }
@@ -183,7 +187,7 @@ impl KeyChanges {
             && end < BEHIND_ALL
     }
 
-    /// Moves the changes into heaps.
+    /// Moves the pending changes into heaps.
     fn spread(&mut self, alloc: Global, before: u64) -> Result<(), AllocError>
         requires { is_many self.old.held ≡ false }
         ensures same { OnOk result (AreSame self.old self.new) }
@@ -206,7 +210,7 @@ impl KeyChanges {
         Ok(())
     }
 
-    /// Adds an `add` to the heaps.
+    /// Adds an `add` that ends at `end` to the heaps.
     fn push_put(&mut self, end: u64) -> Result<(), AllocError>
         requires { is_many self.old.held ≡ true }
         ensures puts { OnOk result (puts_in self.new ≡ put_in end (puts_in self.old)) }
@@ -224,7 +228,7 @@ impl KeyChanges {
         }
     }
 
-    /// Adds a `remove` to the heaps.
+    /// Adds a `remove` that ends at `end` to the heaps.
     fn push_take(&mut self, end: u64) -> Result<(), AllocError>
         requires { is_many self.old.held ≡ true }
         ensures puts { OnOk result (puts_in self.new ≡ puts_in self.old) }
@@ -242,8 +246,8 @@ impl KeyChanges {
         }
     }
 
-    /// Raises the moment by which each `add` ends. Without heaps, this also moves the end of a pending `add`: call this
-    /// only for heaps, or after the rule has failed.
+    /// Raises `puts_until` to at least `end`. Without heaps, this also moves the end of a pending `add`. Call this
+    /// function only if the changes are in heaps, or after the judge has found that no order exists.
     pub(crate) fn raise_puts(&mut self, end: u64)
         ensures puts { is_many self.old.held ≡ true → puts_in self.new ≡ puts_in self.old }
         ensures takes { takes_in self.new ≡ takes_in self.old }
@@ -253,8 +257,8 @@ impl KeyChanges {
         self.puts_until = self.puts_until.max(end);
     }
 
-    /// Raises the moment by which each `remove` ends. Without heaps, this also moves the end of a pending `remove`:
-    /// call this only for heaps, or after the rule has failed.
+    /// Raises `takes_until` to at least `end`. Without heaps, this also moves the end of a pending `remove`. Call this
+    /// function only if the changes are in heaps, or after the judge has found that no order exists.
     pub(crate) fn raise_takes(&mut self, end: u64)
         ensures puts { puts_in self.new ≡ puts_in self.old }
         ensures takes { is_many self.old.held ≡ true → takes_in self.new ≡ takes_in self.old }
@@ -264,8 +268,8 @@ impl KeyChanges {
         self.takes_until = self.takes_until.max(end);
     }
 
-    /// Begins an `add` at the moment after `before`. `end` is its end, or a number after all moments if it stays
-    /// pending.
+    /// Records an `add` that begins at the moment after `before` and ends at `end`. An `add` without an end has an
+    /// `end` after all moments.
     pub(crate) fn begin_put(
         &mut self,
         alloc: Global,
@@ -290,8 +294,8 @@ impl KeyChanges {
         Ok(())
     }
 
-    /// Begins a `remove` at the moment after `before`. `end` is its end, or a number after all moments if it stays
-    /// pending.
+    /// Records a `remove` that begins at the moment after `before` and ends at `end`. A `remove` without an end has an
+    /// `end` after all moments.
     pub(crate) fn begin_take(
         &mut self,
         alloc: Global,

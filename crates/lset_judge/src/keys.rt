@@ -1,4 +1,4 @@
-//! Looking up a key among increasing keys.
+//! Finds a key among keys in increasing order.
 
 ghost use Rattle.std.specs.Prelude.{◌≡◌};
 ghost use Rattle.std.specs.List.Sorted.{IsStrictlyIncreasing};
@@ -7,7 +7,7 @@ ghost use Rattle.lset_words.specs.SequentialSet.{has_key};
 
 use lset_words::Presence;
 
-/// Returns whether a key is among `keys`, which must be in increasing order.
+/// Returns whether `key` is present in `keys`, which must be in increasing order.
 pub(crate) fn presence_in(keys: &[u32], key: u32) -> Presence
     requires { IsStrictlyIncreasing keys.now }
     ensures { result ≡ presence (has_key key keys.now) }

@@ -1,4 +1,4 @@
-//! Many pending calls, stored in a table by their ends. The begin and the end of a call take a few look-ups, and time
+//! Many pending calls, in a hash table by their ends. Adding and removing a call needs a few look-ups, and time
 //! logarithmic in the number of calls.
 
 ghost use Rattle.std.specs.Prelude.{◌≡◌, ◌≢◌, ◌↔◌, ◌<◌, ◌≤◌, ◌∷◌, [], IsTrue, All, Contains, IfSome, MatchOption, OnOk, length};
@@ -12,14 +12,14 @@ use std::alloc::{AllocError, Global};
 use std::collections::HashMap;
 use std::marker::Model;
 
-/// A table of pending calls.
+/// A hash table of pending calls.
 #[derive(Drop)]
 pub(crate) struct ManyCalls {
     /// The calls, indexed by their ends.
     calls: HashMap<u64, StreamCall>,
     /// The ends of the calls.
     ends: Ends,
-    /// The end of each thread's last call.
+    /// The end of the last call of each thread.
     busy: Busy,
 }
 
@@ -35,7 +35,7 @@ impl Model for ManyCalls {
     ghost invariant = { λ c. AreHeld c.calls.entries c.ends c.busy };
 }
 
-/// Returns the moment at which a call ends or, if it has no end, the moment at which it begins.
+/// Returns the moment at which a call ends, or its begin if it has no end.
 pub(crate) fn end_or_begin(call: StreamCall) -> u64
     ensures { result ≡ end_or call.begun call.ended }
 {
@@ -45,7 +45,7 @@ pub(crate) fn end_or_begin(call: StreamCall) -> u64
     }
 }
 
-/// Removes and returns the first call to end, if it ends before a moment.
+/// Removes and returns the call with the earliest end if this end is before `moment`, else returns `None`.
 fn pop_before(calls: &mut HashMap<u64, StreamCall>, ends: &mut Ends, moment: u64) -> Option<Pending>
     requires { All (λ e. Contains ends.old e.0) calls.old.entries }
     ensures held { All (λ e. Contains ends.new e.0) calls.new.entries }
@@ -53,7 +53,7 @@ fn pop_before(calls: &mut HashMap<u64, StreamCall>, ends: &mut Ends, moment: u64
         (λ p. (p.end < moment) × IsPermutation calls.old.entries ((p.end, p.call) ∷ calls.new.entries)
         × All (λ e. p.end ≤ e.0) calls.old.entries) }
 {
-    // An end has no call here if the allocation for its call failed.
+    // If the allocation for a call has failed, its end is in the heap without the call.
     while let Some(end) = ends.pop_before(moment) {
         if let Some(call) = calls.remove(&end) {
             return Some(Pending { end, call });
@@ -86,7 +86,7 @@ impl ManyCalls {
         &self.calls
     }
 
-    /// Returns whether no call ends at a moment.
+    /// Returns whether no call in the table ends at `moment`.
     fn none_ends_at(&self, moment: u64) -> bool
         ensures { IsTrue result ↔ All (λ p. p.end ≢ moment) self.now }
     {
@@ -104,7 +104,7 @@ impl ManyCalls {
         self.none_ends_at(call.begun) && self.none_ends_at(end_or_begin(call))
     }
 
-    /// Returns whether no call of the same thread is pending when `call` begins.
+    /// Returns whether the thread of `call` has no call in the table that is pending when `call` begins.
     pub(crate) fn are_free(&self, call: StreamCall) -> bool
         ensures { IsTrue result ↔ All (λ p. p.call.thread ≡ call.thread → p.end ≤ call.begun) self.now }
     {
@@ -121,7 +121,7 @@ impl ManyCalls {
         }
     }
 
-    /// Removes and returns the first call to end, if it ends before a moment.
+    /// Removes and returns the call with the earliest end if this end is before `moment`, else returns `None`.
     pub(crate) fn next_before(&mut self, moment: u64) -> Option<Pending>
         ensures { MatchOption result ((self.new ≡ self.old) × All (λ p. moment ≤ p.end) self.old)
             (λ next. IsNext moment self.old next self.new) }

@@ -1,9 +1,9 @@
-//! Counts calls that overlap a change of their key, at the moment at which they end. If only few do, the verdict that
-//! some order explains the calls says little.
+//! Counts the calls that overlap a change of their key. If only few calls do, it says little that some order explains
+//! all calls.
 
 use crate::stream::BEHIND_ALL;
 
-/// The changes of a key that have an end: how many of them are pending, and when the last of the others ended.
+/// The changes of a key that have an end: how many are pending, and when the last of the others ended.
 #[derive(Clone, Copy)]
 pub(crate) struct Changes {
     pending: u64,
@@ -11,7 +11,8 @@ pub(crate) struct Changes {
 }
 
 impl Changes {
-    /// Returns one pending change. The last of the others ended at `last_end`, which is 0 if there is none.
+    /// Returns the value for one pending change. The last of the others ended at `last_end`, or 0 if the key has no
+    /// others.
     pub(crate) fn one(last_end: u64) -> Changes {
         Changes {
             pending: 1,
@@ -19,7 +20,7 @@ impl Changes {
         }
     }
 
-    /// Returns changes that have all ended, the last of them at `last_end`, which is 0 if there is none.
+    /// Returns the value for changes that have all ended, the last of them at `last_end`, or 0 if the key has none.
     pub(crate) fn ended(last_end: u64) -> Changes {
         Changes {
             pending: 0,
@@ -27,22 +28,22 @@ impl Changes {
         }
     }
 
-    /// Records that a change begins, which takes effect before `until`. If `until` is `BEHIND_ALL` or greater, the
-    /// change never ends, and is not counted.
+    /// Records that a change begins, which takes effect before `until`. If `until` is at least `BEHIND_ALL`, the change
+    /// has no end and is not counted.
     pub(crate) fn begin(&mut self, until: u64) {
         if until < BEHIND_ALL {
             self.pending = self.pending.saturating_add(1);
         }
     }
 
-    /// Records that a change ends.
+    /// Records that a change ends at `moment`.
     pub(crate) fn end(&mut self, moment: u64) {
         self.pending = self.pending.saturating_sub(1);
         self.last_end = moment;
     }
 
-    /// Returns whether a pending call of the key overlaps a change other than itself. `is_change` is whether the call
-    /// itself is a change that ends.
+    /// Returns whether a pending call of the key overlaps a change other than itself. `is_change` says whether the call
+    /// is a change with an end, `begun` is when it began.
     pub(crate) fn overlap(self, is_change: bool, begun: u64) -> bool {
         self.pending > u64::from(is_change) || begun < self.last_end
     }

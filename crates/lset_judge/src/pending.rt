@@ -1,4 +1,4 @@
-//! The pending calls of a stream.
+//! The pending calls of a recording that is judged call by call.
 
 ghost use Rattle.std.specs.Prelude.{◌≡◌, ◌≢◌, ◌<◌, ◌≤◌, ◌∷◌, ◌++◌, [], ◌^◌, ◌-◌, All, IfSome, MatchOption, OnOk, length, slice_index_or};
 ghost use Rattle.std.specs.List.Sorted.{IsPermutation};
@@ -12,11 +12,11 @@ use std::alloc::{AllocError, Global};
 use std::collections::HashMap;
 use std::marker::Model;
 
-/// The maximum number of pending calls that are searched one by one.
+/// The maximum number of pending calls that are kept in a vector and searched one by one.
 const FEW: usize = 32;
 
-/// Pending calls. A few of them are searched one by one, which is fastest. If there are more, a call takes time
-/// logarithmic in their number.
+/// The pending calls of a recording. Up to `FEW` of them are searched one by one, which is fastest. The others are in a
+/// hash table, and a call needs time logarithmic in their number.
 #[derive(Drop)]
 pub(crate) struct PendingCalls {
     few: Vec<Pending>,
@@ -38,8 +38,8 @@ impl Model for PendingCalls {
     ghost invariant = { λ c. IsFirst c.next c.few.items };
 }
 
-/// Returns why a call cannot begin while these calls are pending, if it cannot: one of them ends when it begins or
-/// ends, or is a pending call of its thread.
+/// Returns why `call` cannot begin while the calls `few` are pending, or `None` if it can. It cannot if one of them
+/// ends at the begin or the end of `call`, or is a pending call of the same thread.
 fn clash(few: &[Pending], call: StreamCall) -> Option<StreamFault>
     ensures { MatchOption result
         (All (λ p. (p.end ≢ call.begun) × IfSome call.ended (λ end. p.end ≢ end.0)) few.now
@@ -64,7 +64,7 @@ fn clash(few: &[Pending], call: StreamCall) -> Option<StreamFault>
     }
 }
 
-/// Returns the index of the call with the earliest end.
+/// Returns the index of the call with the earliest end, or 0 without calls.
 fn nearest_place(few: &[Pending]) -> usize
     ensures { IsFirst result few.now }
 {
@@ -94,7 +94,7 @@ fn next_with(few: &[Pending], next: usize, pending: Pending) -> usize
     }
 }
 
-/// Returns the earliest end, or `u64::MAX` if there are no calls.
+/// Returns the earliest end, or `u64::MAX` without calls.
 fn end_of_few(few: &[Pending], next: usize) -> u64
     requires { IsFirst next few.now }
     ensures smallest { All (λ p. result ≤ p.end) few.now }
@@ -107,7 +107,7 @@ fn end_of_few(few: &[Pending], next: usize) -> u64
     }
 }
 
-/// Whether a call that is pending after a moment overlaps a change of its key.
+/// Returns whether `call`, which is pending after `moment`, overlaps a change of its key.
 fn overlaps(states: &HashMap<u32, KeyState>, moment: u64, call: StreamCall) -> bool {
     match states.get(&call.call.key().0) {
         Some(state) => {
@@ -119,7 +119,7 @@ fn overlaps(states: &HashMap<u32, KeyState>, moment: u64, call: StreamCall) -> b
 }
 
 impl PendingCalls {
-    /// Returns an empty collection. Does not allocate.
+    /// Returns a collection without calls. Does not allocate.
     pub(crate) fn new(alloc: Global) -> PendingCalls
         ensures { result ≡ [] }
     {
@@ -130,8 +130,8 @@ impl PendingCalls {
         }
     }
 
-    /// Returns why a call cannot begin while these calls are pending, if it cannot: one of them ends when it begins or
-    /// ends, or is a pending call of its thread.
+    /// Returns why `call` cannot begin while these calls are pending, or `None` if it can. It cannot if one of them
+    /// ends at the begin or the end of `call`, or is a pending call of the same thread.
     pub(crate) fn clash(&self, call: StreamCall) -> Option<StreamFault>
         ensures { MatchOption result
             (All (λ p. (p.end ≢ call.begun) × IfSome call.ended (λ end. p.end ≢ end.0)) self.now
@@ -154,7 +154,7 @@ impl PendingCalls {
         }
     }
 
-    /// Removes and returns the first call to end, if it ends before a moment.
+    /// Removes and returns the call with the earliest end if this end is before `moment`, else returns `None`.
     pub(crate) fn next_before(&mut self, moment: u64) -> Option<Pending>
         ensures { MatchOption result ((self.new ≡ self.old) × All (λ p. moment ≤ p.end) self.old)
             (λ next. IsNext moment self.old next self.new) }
@@ -171,7 +171,7 @@ impl PendingCalls {
         None
     }
 
-    /// Inserts a call. Its thread and its end must differ from those of each call here.
+    /// Inserts a call. Its thread and its end must differ from those of each pending call.
     pub(crate) fn insert(&mut self, pending: Pending) -> Result<(), AllocError>
         requires { All (λ p. p.call.thread ≢ pending.call.thread) self.old }
         ensures { OnOk result (All (λ p. p.end ≢ pending.end) self.old → IsPermutation (pending ∷ self.old) self.new) }
@@ -185,7 +185,7 @@ impl PendingCalls {
         self.many.insert(pending)
     }
 
-    /// Returns how many of the calls overlap a change of their key, after a moment.
+    /// Returns how many of the pending calls overlap a change of their key, after `moment`.
     pub(crate) fn overlapping(&self, states: &HashMap<u32, KeyState>, moment: u64) -> u64 {
         let mut count: u64 = 0;
         for pending in &self.few {

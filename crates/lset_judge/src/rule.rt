@@ -1,4 +1,4 @@
-//! The state of a key. The rule: which pending change of the key takes effect, and when it must.
+//! The judge's rule for one key: which pending change of the key takes effect, and when it must.
 
 ghost use Rattle.std.specs.Prelude.{◌≡◌, suc, true, IfOk, IfSome, OnOk, Some, None};
 ghost use Rattle.std.specs.Prelude.{if◌then◌else◌};
@@ -17,10 +17,10 @@ use crate::stream::StreamCall;
 use lset_words::Presence;
 use std::alloc::{AllocError, Global};
 
-/// The kind of the kept call, which leaves its key in the state `was`.
+/// The kind of the kept call of a key: a completed call that left the key in the state `was`.
 #[derive(Clone, Copy)]
 pub(crate) enum Kept {
-    /// No call. The key had the state `was` at the opening.
+    /// No call: the key had the state `was` at the opening.
     Opening,
     /// An `add` or a `remove` that returned true.
     Change,
@@ -30,8 +30,8 @@ pub(crate) enum Kept {
     Look,
 }
 
-/// The state of a key: its presence, when it last changed, its changes, and the kept call, with which later calls can
-/// clash. (64 bytes.)
+/// The state of a key: whether it is present, since when, its changes, and its kept call. The kept call is a completed
+/// call that a later call can clash with. (64 bytes.)
 #[derive(Drop)]
 pub(crate) struct KeyState {
     pub(crate) changes: KeyChanges,
@@ -43,13 +43,14 @@ pub(crate) struct KeyState {
     /// The thread of the kept call.
     pub(crate) thread: u32,
     pub(crate) kept: Kept,
-    /// The state in which the kept call leaves the key. Without a kept call, the state at the opening.
+    /// The state (present or absent) in which the kept call left the key. Without a kept call, the state at the
+    /// opening.
     pub(crate) was: Presence,
     there: Presence,
 }
 
 impl KeyState {
-    /// Returns the state of a key without calls. `there` is its presence at first. Does not allocate.
+    /// Returns the state of a key without calls. `there` is its presence at the opening. Does not allocate.
     pub(crate) fn opened(there: Presence) -> KeyState
         ensures state { state_of result ≡ opened (is_there there) }
         ensures facts { facts_of result ≡ facts_opened there }
@@ -66,8 +67,8 @@ impl KeyState {
         }
     }
 
-    /// Returns whether `there` can be the final presence of the key: it is its presence now, or a pending change can
-    /// lead to it.
+    /// Returns whether the key can end in the state `there`: it is in this state now, or a pending change can lead to
+    /// it.
     pub(crate) fn may_be_left(&self, there: Presence) -> bool
         ensures { result ≡ may_be_left (is_there there) (state_of self.now) }
     {
@@ -129,8 +130,8 @@ impl KeyState {
         }
     }
 
-    /// Lets changes take effect, just after the moment `before`, until the state fits the event of the next moment.
-    /// Returns whether it finally does.
+    /// Lets pending changes take effect just after the moment `before`, until the key has the state that `event` (at
+    /// the next moment) needs. Returns whether such a state is reached.
     pub(crate) fn settle(&mut self, before: u64, event: Event) -> bool
         ensures found { found before (event_as event) (state_of self.old) ≡ (if result then Some (state_of self.new) else None) }
         ensures facts { facts_of self.new ≡ facts_of self.old }
@@ -143,7 +144,8 @@ impl KeyState {
         true
     }
 
-    /// Processes the event of the moment after `before`. Returns whether the rule still holds.
+    /// Processes `event`, which is at the moment after `before`. Returns whether the judge's rule has not failed for
+    /// the key.
     pub(crate) fn meet(
         &mut self,
         alloc: Global,
@@ -165,8 +167,8 @@ impl KeyState {
         Ok(true)
     }
 
-    /// Ends a call at the moment after `before`. Returns whether the rule still holds. If it fails, searches for the
-    /// call's clash.
+    /// Processes the end of a call, at the moment after `before`. Returns whether the judge's rule has not failed for
+    /// the key. If it fails, searches for a call that clashes with this one.
     pub(crate) fn meet_end(
         &mut self,
         alloc: Global,

@@ -1,4 +1,4 @@
-//! The judge of a stream of calls. It gives a reason for a refusal.
+//! The judge of a recording whose calls come one after another. It returns a reason if no order explains the calls.
 
 ghost use Rattle.std.specs.Prelude.{◌≡◌, ◌<◌, ◌++◌, ◌∷◌, ◌≢◌, [], ℕ, IfErr, IfOk, IfSome, List, OnOk};
 ghost use Rattle.std.specs.List.Sorted.{IsStrictlyIncreasing};
@@ -14,26 +14,27 @@ use crate::stream::{Refusal, Stream, StreamCall, StreamFault, StreamVerdict};
 use lset_words::Presence;
 use std::alloc::{AllocError, Global};
 
-/// The verdict of a judge.
+/// The verdict of a `Judge`.
 #[derive(Debug, Drop)]
 pub enum Verdict {
     /// Some order explains the calls, from the opening keys, and leaves the final keys.
     Linearizable,
-    /// No order explains the calls and leaves the final keys. Contains the reason, and a clash if one was found.
+    /// No order explains the calls and leaves the final keys. Contains the reason, and two calls that clash, if they
+    /// were found.
     NotLinearizable(Refusal, Option<Clash>),
 }
 
-/// Judges the calls of a set as they come. A judge keeps the state of each key, at most one ended call of each key, the
-/// pending calls, and the ends of threads' last calls. Its memory grows with the number of keys, of threads and of
-/// pending calls, but not with the number of calls.
+/// A judge of the calls of a set, which come one after another in the order of their begins. `close` and
+/// `close_cut_off` return whether some order explains all calls.
 ///
-/// Calls must come in the order of their begins. `close` and `close_cut_off` return whether some order explains them.
+/// A judge keeps the state of each key with at most one completed call, the pending calls, and the end of each thread's
+/// last call. Its memory grows with the numbers of keys, threads and pending calls, but not with the number of calls.
 #[derive(Drop)]
 pub struct Judge {
     stream: Stream,
 }
 
-/// Returns the final presence of the refusal's key, if the refusal is about the final keys.
+/// Returns the final state of the refusal's key if the refusal is about the final keys, else `None`.
 fn left_as(keys: &[u32], refusal: Refusal) -> Option<Presence>
     requires { IsStrictlyIncreasing keys.now }
     ensures { result ≡ left_by keys.now refusal.key.0 refusal.moment }
@@ -44,7 +45,7 @@ fn left_as(keys: &[u32], refusal: Refusal) -> Option<Presence>
     }
 }
 
-/// Returns the clash of a refusal, if one was found.
+/// Returns the two calls that clash in a refusal, if they were found.
 fn clash_for(stream: &Stream, refusal: Refusal, left: Option<Presence>) -> Option<Clash>
     requires { IsToldBy stream.now.failed (NotLinearizable refusal) }
     ensures { IfSome result (λ c. (opening : List ℕ) → ClashesStream opening refusal left stream.now c) }
@@ -56,7 +57,7 @@ fn clash_for(stream: &Stream, refusal: Refusal, left: Option<Presence>) -> Optio
 }
 
 impl Judge {
-    /// Returns a judge without calls, for a set that opens with `opening`, which must be in increasing order.
+    /// Returns a judge without calls, for a set that opens with the keys `opening`, which must be in increasing order.
     pub fn new(alloc: Global, opening: &[u32]) -> Result<Judge, AllocError>
         requires { IsStrictlyIncreasing opening.now }
         ensures opened { IfOk result (λ j. (threads : ℕ) → IsJudgeOf threads opening.now [] j) }
@@ -68,8 +69,8 @@ impl Judge {
 
     /// Adds a call, which must begin after all calls added before.
     ///
-    /// An error other than `Memory` is the reason why the call cannot come next, and changes nothing. After `Memory`,
-    /// the judge can no longer be used.
+    /// An error other than `Memory` is the reason why this call cannot come next. Nothing has changed then. After
+    /// `Memory`, the judge can no longer be used.
     pub fn add(&mut self, call: StreamCall) -> Result<(), StreamFault>
         ensures added { OnOk result ((threads : ℕ) (opening : List ℕ) (calls : List RecordedCall) → call.thread < threads
             → IsJudgeOf threads opening calls self.old → IsJudgeOf threads opening (calls ++ record_of call ∷ []) self.new) }
@@ -81,8 +82,8 @@ impl Judge {
         self.stream.add(call)
     }
 
-    /// Returns how many of the calls overlap another call of the same key that is an `add` or a `remove` and returned
-    /// true. The number is right if some order explains the calls. Otherwise it can be wrong.
+    /// Returns how many calls overlap another call of the same key that is an `add` or a `remove` and returned true.
+    /// The number can be wrong if no order explains the calls.
     pub fn overlapped(&self) -> u64 {
         self.stream.overlapped()
     }
@@ -108,8 +109,8 @@ impl Judge {
         }
     }
 
-    /// Decides whether some order linearizes all calls, from the opening keys, whatever keys it leaves. For a recording
-    /// that was cut off, so that its final keys are unknown. Fails only if an allocation fails.
+    /// Decides whether some order linearizes all calls, from the opening keys, whatever keys it leaves. Use this
+    /// function for a recording that was cut off, since its final keys are unknown. Fails only if an allocation fails.
     pub fn close_cut_off(self) -> Result<Verdict, AllocError>
         ensures { IfOk result (λ verdict. (threads : ℕ) (opening : List ℕ) (calls : List RecordedCall) → IsJudgeOf threads opening calls self
             → IsVerdictCutOff threads opening calls verdict) }

@@ -1,39 +1,39 @@
-//! Searches for a stretch of time in which a key would have to change back more often than it can. No contract mentions
-//! the stretch, since the count that is made from it is checked afterwards.
+//! Searches for a stretch of time in which a key would have to change back more often than it can. The count that a
+//! stretch makes is checked afterwards. No contract mentions stretches.
 
 use crate::clash::{has_ended, other};
 use crate::stream::StreamCall;
 use lset_words::{Effect, Presence};
 use std::alloc::{AllocError, Global};
 
-/// A stretch of time, and the state in which its changes leave the key. A count is made from the calls in a stretch.
+/// A stretch of time. The calls in it make a count: calls of a key that are too many for any order.
 #[derive(Clone, Copy)]
 pub(crate) struct Stretch {
-    /// The state in which the changes leave the key.
+    /// The state (present or absent) in which the changes in the stretch leave the key.
     pub(crate) was: Presence,
-    /// The changes begin no earlier than this moment.
+    /// The changes in the stretch begin at this moment or later.
     from: u64,
-    /// The changes end no later than this moment.
+    /// The changes in the stretch have ended by this moment.
     upto: u64,
-    /// A call before the changes that saw the key in the state `was`.
+    /// A call that saw the key in the state `was`, and comes before the changes.
     pub(crate) first: Option<StreamCall>,
-    /// A call after the changes that saw the key in the other state.
+    /// A call that saw the key in the other state, and comes after the changes.
     pub(crate) last: Option<StreamCall>,
-    /// The begin of the stretch. `None` if the key had the state `was` at the opening.
+    /// The start of the stretch. `None` if the key had the state `was` at the opening, which counts as a call.
     pub(crate) since: Option<u64>,
-    /// The end of the stretch. `None` if the key's final state is the other state.
+    /// The end of the stretch. `None` if the key's final state is the other state, which counts as a call.
     pub(crate) until: Option<u64>,
 }
 
-/// The smallest stretch found so far. The size is the number of its calls plus the number of calls that could change
-/// the key back.
+/// The smallest stretch of time that was found, if any. Its size is the number of its calls, and of the calls that can
+/// change the key back.
 #[derive(Clone, Copy)]
 struct Best {
     found: Option<Stretch>,
     size: usize,
 }
 
-/// A begin or an end of a call that matters to the search.
+/// The begin or the end of a call, as far as the search for stretches needs it.
 #[derive(Clone, Copy)]
 enum Step {
     /// A call that can change the key back begins. The value is when it ends.
@@ -67,7 +67,7 @@ struct Steps {
 }
 
 impl Stretch {
-    /// Returns the stretch that starts at the first change.
+    /// Returns the stretch of time that starts with a change that begins at `from`.
     fn from_change(was: Presence, from: u64) -> Stretch {
         Stretch {
             was,
@@ -80,7 +80,7 @@ impl Stretch {
         }
     }
 
-    /// Returns whether the call is one of the changes in the stretch.
+    /// Returns whether `call` is a change of the key in the stretch.
     pub(crate) fn has(&self, call: StreamCall) -> bool {
         is_change_to(call, self.was) && self.from <= call.begun && has_ended(call, self.upto)
     }
@@ -92,7 +92,8 @@ impl Stretch {
         }
     }
 
-    /// Returns the number of calls in the stretch. The opening state and the final state each count like a call.
+    /// Returns the number of calls in the stretch, if it has this many changes. The state at the opening and the final
+    /// state count as calls.
     fn places(&self, changes: usize) -> usize {
         let before = self.first.is_some() || self.since.is_none();
         let after = self.last.is_some() || self.until.is_none();
@@ -109,7 +110,7 @@ fn is_change_to(call: StreamCall, was: Presence) -> bool {
     }
 }
 
-/// Of the calls that saw a state and had ended by a moment, returns the one that began last.
+/// Returns a call that saw the state `was` and had ended by `moment`: of several such calls, the one that began last.
 fn last_look(calls: &[StreamCall], was: Presence, moment: u64) -> Option<StreamCall> {
     let mut last = None;
     for call in calls {
@@ -123,8 +124,8 @@ fn last_look(calls: &[StreamCall], was: Presence, moment: u64) -> Option<StreamC
 }
 
 impl Best {
-    /// Returns `stretch` if it makes a count and is smaller than this one, otherwise this one. It makes a count if
-    /// fewer calls can change the key back than its calls require.
+    /// Returns `stretch` if it makes a count and is smaller than the best one so far, else the best one. A stretch
+    /// makes a count if fewer calls can change the key back than its calls need.
     fn or(self, stretch: Stretch, changes: usize, backs: usize) -> Best {
         let places = stretch.places(changes);
         let size = places.saturating_add(backs);
@@ -140,7 +141,7 @@ impl Best {
 }
 
 impl Steps {
-    /// Returns the steps that matter to a count whose changes leave the key in the state `was`.
+    /// Returns the begins and ends that matter to a count whose changes leave the key in the state `was`.
     fn of(alloc: Global, calls: &[StreamCall], was: Presence) -> Result<Steps, AllocError> {
         let mut all = Steps {
             steps: Vec::new(alloc),
@@ -184,7 +185,7 @@ impl Steps {
         Ok(())
     }
 
-    /// Returns the smallest stretch with this start, or `best` if that is smaller.
+    /// Returns the smallest stretch that starts like `start`, or `best` if that one is smaller.
     fn pass(&mut self, start: Stretch, left: Option<Presence>, best: Best) -> Best {
         let mut pass = Pass {
             start,
@@ -204,8 +205,8 @@ impl Steps {
     }
 }
 
-/// A walk over the steps, for all stretches with the same start: how many changes have ended, and how many calls that
-/// can change the key back have begun.
+/// A pass over the begins and ends of calls, which finds all stretches with the same start: how many changes have
+/// ended, and how many calls that can change the key back have begun.
 #[derive(Clone, Copy)]
 struct Pass {
     start: Stretch,
@@ -252,7 +253,7 @@ impl Pass {
     }
 }
 
-/// Returns the smallest stretch whose changes leave the key in a state.
+/// Returns the smallest stretch whose changes leave the key in the state `was`, or `best` if that one is smaller.
 fn smaller_stretch(
     alloc: Global,
     calls: &[StreamCall],
@@ -280,7 +281,7 @@ fn smaller_stretch(
     Ok(best)
 }
 
-/// Returns the stretch of the smallest count of the calls of a key, if there is a count.
+/// Returns the stretch of time that makes the smallest count of the calls of a key, or `None` if no stretch makes one.
 pub(crate) fn smallest_stretch(
     alloc: Global,
     calls: &[StreamCall],

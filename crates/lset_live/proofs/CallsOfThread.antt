@@ -1,4 +1,4 @@
--- In the history of a run, the calls of one thread are its completed calls and its pending call.
+-- Proof: in the history of a run, a thread has its completed calls and, after them, its pending call.
 use Rattle.std.proofs.Common.{◌≡◌, ◌≢◌, ⊎_elim, ℕ, zero, suc, ◌<◌, ◌≤◌, ◌==◌, Bool, true, false, cond, List, [], ◌∷◌, ◌++◌, map}
 use Rattle.std.proofs.Common.{Option, Some, None, refl, sym, ap, ◌∙◌, arith, append-nil, if◌then◌else◌}
 use Rattle.std.specs.Prelude.{filter, ◌&&◌, is_none}
@@ -24,7 +24,7 @@ abbrev pub open_records : ℕ → Option PendingCall → List CallRecord
 open_records u None = []
 open_records u (Some o) = record { thread = u; call = o.call; begun = o.begun; ended = None } ∷ []
 
--- Returns the history's records of a thread's completed calls and its pending call.
+-- Returns a thread's completed calls and its pending call as a history has them.
 abbrev pub thread_records : ℕ → List OwnCall → Option PendingCall → List CallRecord
 thread_records u done under_way = map (ended_record u) done ++ open_records u under_way
 
@@ -41,7 +41,7 @@ module _ (m : ℕ) (ch : Option Change) (a : Option Reply) where
   abbrev on : ℕ → TracedCall → TracedCall
   on t x = if is_under_way t x then traced_on m ch a x else x
 
-  -- ---- Lemmas about a step of another thread
+  -- ---- A step of another thread does not change the calls of thread u
   step_other : (t u : ℕ) → t ≢ u → (xs : List TracedCall) → of_thread u (map record_of (map (on t) xs)) ≡ of_thread u
       (map record_of xs)
   step_other t u ne [] = refl
@@ -57,7 +57,7 @@ module _ (m : ℕ) (ch : Option Change) (a : Option Reply) where
           (of_thread u (map record_of (map (on t) xs)))) not
           ∙ (ih ∙ sym (ap (λ b. cond b (record_of x ∷ of_thread u (map record_of xs)) (of_thread u (map record_of xs))) not))
 
-  -- ---- Lemmas about a step of the thread itself
+  -- ---- A step of thread u changes its pending call, or completes the call
   abbrev ends : CallRecord → CallRecord
   ends x = if is_none x.ended then record x { ended = ended_by m a } else x
 
@@ -88,7 +88,7 @@ module _ (m : ℕ) (ch : Option Change) (a : Option Reply) where
   ends_done u [] = refl
   ends_done u (c ∷ cs) = ap (λ l. ended_record u c ∷ l) (ends_done u cs)
 
--- A step of the thread updates its records in the history in the same way as its completed calls and its pending call.
+-- A step of thread u changes its calls in the history in the same way as its lists of completed and pending calls.
 open_step : (m u : ℕ) (ch : Option Change) (a : Option Reply) (done : List OwnCall) (o : Option PendingCall)
     → map (ends m ch a) (thread_records u done o) ≡ thread_records u (done ++ ending a o m) (under_after a o)
 open_step m u ch a done o = map-append (ends m ch a) (map (ended_record u) done) (open_records u o)
@@ -102,7 +102,7 @@ open_step m u ch a done o = map-append (ends m ch a) (map (ended_record u) done)
     last None (Some x) = ap (λ l. map (ended_record u) l ++ open_records u (Some x)) (sym (append-nil done))
     last None None = ap (λ l. map (ended_record u) l ++ []) (sym (append-nil done))
 
--- States that an entry begins a call only if the thread has no pending call.
+-- States that entry e of a log begins a call of thread u only if this thread has no pending call.
 abbrev pub MayBegin : Entry → ℕ → Option PendingCall → Type 0
 MayBegin (began t c) u o = t ≡ u → o ≡ None
 MayBegin (stepped t ch a) u o = Unit {0}
@@ -135,7 +135,6 @@ thread_next m (stepped t ch a) u xs done o may h = ⊎_elim
     ∙ (λ i. thread_records u (if sym no i then done ++ ending a o m else done) (if sym no i then under_after a o else o))))
     (same_or_not t u)
 
--- In the history, the thread's calls are its completed calls and its pending call.
 pub thread_calls : (log : Log) (u last : ℕ) → ((k : ℕ) → k < last → MayBegin (log k) u (under_at log u k)) → (k : ℕ) → k ≤ last
     → of_thread u (history_at log k) ≡ thread_records u (done_at log u k) (under_at log u k)
 thread_calls log u last may zero l = refl

@@ -1,4 +1,5 @@
--- Proof: the words of a closed set satisfy `HasLaws`, because the seat that closed the set held all seats.
+-- Proof: the final keys that `close` returns follow from the events that the closing seat has seen, since this seat
+-- holds all seats.
 use Rattle.std.proofs.Common.{◌≡◌, inl, ℕ, zero, suc, ◌+◌, ◌/◌, ◌<◌, false, List, [], ◌∷◌, map, length, None, refl, sym, ap, ◌∙◌}
 use Rattle.std.proofs.Common.{subst, arith}
 use mathlib.Core.Option.{some, some-injective, some-ne-none}
@@ -34,7 +35,7 @@ use Rattle.lset_live.proofs.OrderKeepsRecord.{calls_by_is}
 use Rattle.lset_live.proofs.PastCalls.{none_in}
 use Rattle.lset_live.proofs.SeenExplained.{own, order, explains, turns, kept}
 
--- The chain and its keys depend only on the key words and the link words.
+-- The nodes that can be reached from the head, and their keys, do not depend on how many slots are used.
 module _ (sz : Sizes) (ws : List ℕ) (used other : ℕ → ℕ) where
   same_segment : (i : ℕ) (ns : List ℕ) (j : ℕ) → Segment (view sz ws used) i ns j → Segment (view sz ws other) i ns j
   same_segment i [] j s = s
@@ -48,7 +49,7 @@ module _ (sz : Sizes) (ws : List ℕ) (used other : ℕ → ℕ) where
   pub same_content : (keys : List ℕ) → IsContent (view sz ws used) keys → IsContent (view sz ws other) keys
   same_content keys c = ((c.0.0, same_segment 0 c.0.0 1 c.0.1, c.0.2 ∙ same_keys c.0.0), c.1)
 
--- The chain is unique.
+-- Only one list of nodes leads from node i to the tail.
 one_segment : (v : ChainView) (i : ℕ) (ns ms : List ℕ) → Segment v i ns 1 → Segment v i ms 1 → ns ≡ ms
 one_segment v i [] [] s t = refl
 one_segment v i [] (m ∷ ms) s t = absurd (t.1 s)
@@ -58,7 +59,7 @@ one_segment v i (n ∷ ns) (m ∷ ms) s t = λ j. (s.0 ∙ sym t.0) j ∷ one_se
 pub one_content : (v : ChainView) (keys others : List ℕ) → IsContent v keys → IsContent v others → keys ≡ others
 one_content v keys others c d = c.0.2 ∙ (ap (keys_in v) (one_segment v 0 c.0.0 d.0.0 c.0.1 d.0.1) ∙ sym d.0.2)
 
--- ---- The seat that has all threads knows the whole run
+-- ---- The seat that has all threads of the set knows the whole run
 module _ (T : Table) (law : Lawful T) (v : View) (st : Stands T v) (idle : v.under ≡ None) (linear : RunsAreLinearizable T)
     (full : length v.others + 1 ≡ v.shape.threads) where
   abbrev k : Opening
@@ -67,7 +68,6 @@ module _ (T : Table) (law : Lawful T) (v : View) (st : Stands T v) (idle : v.und
   abbrev H : List CallRecord
   H = history_of T v.shape v.seen
 
-  -- Each call belongs to a thread of the set.
   of_threads : (ps : List Placed) → AllByRecursion (λ (p : Placed). p.call < length H) ps →
       AllByRecursion (λ (a : Answered). a.thread < k.threads) (map (answered H) ps)
   of_threads [] a = tt
@@ -108,7 +108,7 @@ module _ (T : Table) (law : Lawful T) (v : View) (st : Stands T v) (idle : v.und
     is = refl;
   }
 
--- The facts about a table's words at the moment at which the table is closed.
+-- The facts about the words when the set is closed: they are those after the events that the closing seat has seen.
 module _ (T : Table) (law : Lawful T) (v : View) (st : Stands T v) (sp : v.spent ≡ false) (idle : v.under ≡ None) (k : Opening)
     (shape : v.shape ≡ k)
     (full : length v.others + 1 ≡ k.threads) (id : ℕ) (ws : List ℕ) (xs : List (Unit {0})) (final : Final (Seen (Holds T k) id v) ws xs) where
@@ -121,7 +121,6 @@ module _ (T : Table) (law : Lawful T) (v : View) (st : Stands T v) (sp : v.spent
       IsOneOrderInTime T z v.seen (record_of v.past ∷ []) keys) shape
       (closed_in_time T law v st idle linear (full ∙ sym (ap (λ (z : Opening). z.threads) shape)) ws last)
 
--- The last words of a set satisfy `HasLaws`.
 pub laws_of : (c : LastWords) → IsLast c → HasLaws c
 laws_of c l =
     let s : State = end_of l.machine l.opening l.events in

@@ -1,4 +1,4 @@
--- Lemmas about gathered records.
+-- Lemmas about a record into which a list of records was gathered.
 use Rattle.std.proofs.Common.{◌≡◌, ℕ, inl, inr, ⊎_elim, List, [], ◌∷◌, ◌++◌, Option, Some, None, IfSome, All, refl, subst, sym}
 use Rattle.std.proofs.lemmas.List.Elements.{All-head, All-cons, All-nil}
 use Rattle.lset_words.specs.SequentialSet.{Answered}
@@ -9,14 +9,13 @@ use Rattle.lset_steps.specs.Steps.{Table}
 use Rattle.lset_live.specs.Explained.{NamedIn, IsOneLegalOrder, IsOneOrderInTime}
 use Rattle.lset_words.specs.Words.{Opening}
 
--- Gathering one more record appends it to the list of gathered records.
 pub gather_more : (o : Option Record) (rs : List Record) (q : Record) →
     gather_onto o (rs ++ q ∷ []) ≡ gather_onto (gather_onto o rs) (q ∷ [])
 gather_more o [] q = refl
 gather_more None (p ∷ ps) q = gather_more (Some p) ps q
 gather_more (Some r) (p ∷ ps) q = gather_more (Some (gathered r p)) ps q
 
--- If an order keeps the gathered record, it keeps each of the records that were gathered.
+-- An order that keeps the gathered record also keeps each record that was gathered into it.
 keeps_each : (order : List Answered) (o : Option Record) (rs : List Record) → IfSome (gather_onto o rs) (Keeps order) →
     IfSome o (Keeps order) × All (Keeps order) rs
 keeps_each order o [] k = (k, All-nil (Keeps order))
@@ -31,7 +30,7 @@ unnamed u o [] h n = h
 unnamed u None (q ∷ qs) h n = unnamed u (Some q) qs (λ x. n (inl x)) (λ x. n (inr x))
 unnamed u (Some p) (q ∷ qs) h n = unnamed u (Some (gathered p q)) qs (λ x. ⊎_elim h (λ y. n (inl y)) x) (λ x. n (inr x))
 
--- If an order explains the gathered record, it explains the records that were gathered.
+-- A legal order for the gathered record is also one for the list of records.
 pub gathered_explains : (k : Opening) (r : Record) (rs : List Record) (keys : List ℕ) → Some r ≡ gather_onto None rs →
     IsOneLegalOrder k (r ∷ []) keys → IsOneLegalOrder k rs keys
 gathered_explains k r rs keys e x = record {
@@ -44,7 +43,6 @@ gathered_explains k r rs keys e x = record {
   leaves = x.leaves;
 }
 
--- If an order in time explains the gathered record, it explains the records that were gathered.
 pub gathered_in_time : (T : Table) (k : Opening) (events : List Event) (r : Record) (rs : List Record) (keys : List ℕ) →
     Some r ≡ gather_onto None rs → IsOneOrderInTime T k events (r ∷ []) keys → IsOneOrderInTime T k events rs keys
 unfolding gathered_explains

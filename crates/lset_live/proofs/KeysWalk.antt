@@ -1,4 +1,4 @@
--- The invariant of the walk along the chain of the last words, in `Closed::keys`.
+-- The invariant of the walk of `Closed::keys` along the nodes of a closed set.
 use Rattle.std.proofs.Common.{◌≡◌, ◌≢◌, ℕ, suc, ◌+◌, ◌-◌, ◌/◌, ◌%◌, ◌<◌, ◌≤◌, ◌⊎◌, true, false, inl, inr, refl, ap, ◌∙◌}
 use Rattle.std.proofs.Common.{List, [], ◌∷◌, ◌++◌, length, sym, subst, arith}
 use lib.Dec.{eqb}
@@ -15,7 +15,7 @@ use Rattle.lset_steps.proofs.WalkedTo.{WalkedTo, unmarked_key, walk_starts, walk
 use Rattle.lset_live.specs.Closes.{LastWords, HasLaws, HasKeys, most_keys}
 use Rattle.lset_live.proofs.Closing.{same_content}
 
--- The walk has reached node `curr`, and has collected the keys `items`.
+-- The walk has reached node `curr`. It has collected the keys of the unmarked nodes before this node.
 pub record Walks (c : LastWords) (items : List ℕ) (curr : ℕ) : Type 0 where
   pub laws : HasLaws c
   pub walked : WalkedTo (view c.sizes c.words laws.used) items curr
@@ -57,7 +57,7 @@ pub ends : (c : LastWords) (items : List ℕ) (curr : ℕ) → curr ≡ 1 → Wa
 ends c items curr e w = same_content c.sizes c.words w.laws.used (λ t. 0) items
     (walk_ends (view c.sizes c.words w.laws.used) w.laws.ordered items curr e w.walked)
 
--- The walk is short, since no node occurs twice in a chain.
+-- ---- The walk is short, because no node occurs twice on the way from the head to the tail
 module _ (v : View) (ord : IsOrdered v) where
   abbrev Between : ℕ → ℕ → ℕ → Type 0
   Between low high q = v.published q × (low ≤ v.key q) × (v.key q < high)
@@ -123,7 +123,7 @@ module _ (v : View) (ord : IsOrdered v) where
   unfolding IsDistinct
   one_more a ns out d = (out, d)
 
-  -- The nodes passed so far, the current node and the tail are different nodes of the table.
+  -- The nodes before the current one, the current one and the tail are different nodes of the set.
   few_nodes : (n : ℕ) → ((i : ℕ) → v.published i → i < n) → (ns : List ℕ) (curr : ℕ) → v.published curr → curr ≢ 1
       → Segment v 0 ns curr → length ns + 2 ≤ n
   few_nodes n inside ns curr p c s =
@@ -141,7 +141,6 @@ module _ (v : View) (ord : IsOrdered v) where
       (ord.tail_published, (p, published_all (v.key 0) (v.key curr) ns all))) in
       omega arith
 
--- There are at most as many keys as there are nodes.
 few_keys : (v : View) (ns : List ℕ) → length (chain_keys v ns) ≤ length ns
 few_keys v [] = omega arith
 few_keys v (n ∷ ns) = let i = few_keys v ns in

@@ -1,10 +1,10 @@
--- Lists whose items are moved one by one to another list: from seats to threads, and back.
+-- Lists whose items are moved one by one to another list: seats that are passed to threads, and seats that return from
+-- them.
 use Rattle.std.proofs.Common.{◌≡◌, ℕ, ◌+◌, List, [], ◌∷◌, ◌++◌, map, sum_by, All, refl, sym, ap, ◌∙◌, subst, append_assoc, arith}
 use Rattle.std.proofs.lemmas.List.{map-append}
 use Rattle.std.proofs.lemmas.List.Sums.{sum_by-cons}
 use Rattle.std.proofs.lemmas.List.Elements.{All-head, All-tail, All-append, All-cons, All-nil}
 
--- One item is moved from the remaining items to the moved ones.
 pub moved_more : {H T : Type 0} (f : H → T) (hs hs' : List H) (h : H) (rest rest' all : List T) (x : T) → hs' ≡ hs ++ h ∷ [] →
     f h ≡ x → rest ≡ x ∷ rest'
     → map f hs ++ rest ≡ all → map f hs' ++ rest' ≡ all
@@ -12,23 +12,20 @@ moved_more f hs hs' h rest rest' all x e is step before =
     ap (λ l. map f l ++ rest') e ∙ ap (λ l. l ++ rest') (map-append f hs (h ∷ [])) ∙ append_assoc (map f hs) (f h ∷ []) rest'
     ∙ ap (λ y. map f hs ++ y ∷ rest') is ∙ ap (λ l. map f hs ++ l) (sym step) ∙ before
 
--- If P holds of all remaining items, it holds of the next item and of those after it.
 pub all_rest : {T : Type 0} (rest rest' : List T) (x : T) (P : T → Type 0) → rest ≡ x ∷ rest' → All P rest → P x × All P rest'
 all_rest rest rest' x P e all =
     let both : All P (x ∷ rest') = subst (All P) e all in
     (All-head P x rest' both, All-tail P x rest' both)
 
--- If P holds of all moved items and of the item that is moved next, it holds of all moved items afterwards.
 pub all_more : {H : Type 0} (hs hs' : List H) (h : H) (P : H → Type 0) → hs' ≡ hs ++ h ∷ [] → All P hs → P h → All P hs'
 all_more hs hs' h P e all one = subst (All P) (sym e) (All-append P hs (h ∷ []) all (All-cons P h [] one (All-nil P)))
 
--- If an item's share is moved from the sum over the remaining items to the other sum, the total stays the same.
+-- The sum over both lists does not change if an item is moved from one to the other.
 pub held_next : {H : Type 0} (f : H → ℕ) (rest rest' : List H) (h : H) (a a' k total : ℕ) → rest ≡ h ∷ rest' →
     a + sum_by f rest ≡ total → a' ≡ a + k → k ≡ f h
     → a' + sum_by f rest' ≡ total
 held_next f rest rest' h a a' k total step before e is = omega (arith, before, e, is, ap (sum_by f) step ∙ sum_by-cons f h rest')
 
--- Mapping a function over the items' values is the same as mapping it over the list of values.
 pub starts_map : {H T A : Type 0} (seat_of : H → T) (record_at : T → A) (hs : List H) (ss : List T) → map seat_of hs ≡ ss
     → map (λ h. record_at (seat_of h)) hs ≡ map record_at ss
 starts_map {H = H} {T = T} seat_of record_at hs ss e = one hs ∙ ap (map record_at) e

@@ -1,4 +1,4 @@
--- The seats of a set that has just been opened.
+-- The new seats of a set that was just opened.
 use Rattle.std.proofs.Common.{◌≡◌, ℕ, ◌+◌, List, [], ◌∷◌, ◌++◌, map, length, refl, sym, ◌∙◌, subst, arith, All}
 use Rattle.std.specs.List.{range_with_len}
 use Rattle.std.proofs.lemmas.List.Elements.{All-cons, All-nil}
@@ -11,7 +11,7 @@ use Rattle.lset_live.specs.Dated.{record_of}
 use Rattle.lset_live.specs.Seats.{SeatValue, SetValue, IsOpened, new_seat}
 use Rattle.lset_words.specs.Words.{Opening}
 
--- Returns the value of a seat, as contracts see it.
+-- Returns the seat as contracts see it.
 abbrev pub value_of : Seat (Unit {0}) View → SeatValue
 value_of s = record {
   set = record { table = s.table_id; shape = s.me.0.shape };
@@ -31,7 +31,7 @@ new_value z k t s new i = record {
   events = (new.1 i).0.seen;
 }
 
--- Appends thread t's seat to the list of new seats.
+-- One more new seat is appended: that of thread t.
 pub seats_more : (z : TableId) (k : Opening) (t : ℕ) (s : Seat (Unit {0}) View) (before after : List SeatValue) →
     before ≡ map (new_seat (opened z k)) (range_with_len 0 t) → IsNew z k t s
     → after ≡ before ++ value_of s ∷ [] → after ≡ map (new_seat (opened z k)) (range_with_len 0 (t + 1))
@@ -42,7 +42,6 @@ new_of : (set : SetValue) (ts : List ℕ) → All (λ (s : SeatValue). s.set ≡
 new_of set [] = All-nil (λ (s : SeatValue). s.set ≡ set)
 new_of set (t ∷ ts) = All-cons (λ (s : SeatValue). s.set ≡ set) (new_seat set t) (map (new_seat set) ts) refl (new_of set ts)
 
--- The seats of a set that has just been opened belong to it.
 pub opened_of : (set : SetValue) (opening : Opening) (seats : List SeatValue) → IsOpened set opening seats →
     All (λ (s : SeatValue). s.set ≡ set) seats
 opened_of set opening seats is =

@@ -1,5 +1,5 @@
--- If an order linearizes a history, it has the calls of each idle thread in sequence. Each call comes after all calls
--- that ended before it began.
+-- Proof: an order that linearizes a history has the calls of each idle thread in the order in which the thread made
+-- them. Each call comes after all calls that ended before it began.
 use Rattle.std.proofs.Common.{◌≡◌, ◌≢◌, ◌⊎◌, inl, inr, ⊎_elim, ℕ, zero, suc, ◌+◌, ◌<◌, ◌≤◌, ◌==◌, Bool, true, false, cond, List}
 use Rattle.std.proofs.Common.{[], ◌∷◌, ◌++◌, map, length, get_or, Option, Some, None, refl, sym, ap, ◌∙◌, subst, arith}
 use Rattle.std.proofs.Common.{append-nil, append_assoc}
@@ -36,7 +36,7 @@ pairs_rec R (x ∷ xs) a = (
   pairs_rec R xs (λ i j d l m. a (suc i) (suc j) d (omega arith) (omega arith)),
 )
 
--- Returns the numbers of a thread's calls, counted from n.
+-- Returns the numbers of thread u's calls in a history whose first call has the number n.
 abbrev numbers_of : ℕ → ℕ → List CallRecord → List ℕ
 numbers_of u n [] = []
 numbers_of u n (x ∷ xs) = cond (x.thread == u) (n ∷ numbers_of u (suc n) xs) (numbers_of u (suc n) xs)
@@ -51,7 +51,7 @@ numbers_increase u n m (x ∷ xs) l = by_test (x.thread == u) (numbers_increase 
     by_test true h k = (l, h)
     by_test false h k = k
 
--- Each of these numbers belongs to a call of the thread.
+-- Each number in `numbers_of` is that of a call of thread u.
 numbers_in : (u n j : ℕ) (xs : List CallRecord) → Contains (numbers_of u n xs) j → (k : ℕ) × (j ≡ n + k) × (k < length xs)
     × ((get_or xs k no_call).thread ≡ u)
 numbers_in u n j [] c = absurd (contains-nil j c)
@@ -85,7 +85,7 @@ in_numbers u n (suc k) (x ∷ xs) l h =
     by_test true c = contains-tail n (n + suc k) (numbers_of u (suc n) xs) c
     by_test false c = c
 
--- The calls with these numbers are the calls of the thread.
+-- The calls with the numbers in `numbers_of` are the calls of thread u, in order.
 numbers_map : {Y : Type 0} (g : CallRecord → Y) (u n : ℕ) (xs : List CallRecord) (f : ℕ → CallRecord) →
     ((k : ℕ) → k < length xs → f (n + k) ≡ get_or xs k no_call)
     → map (λ j. g (f j)) (numbers_of u n xs) ≡ map g (of_thread u xs)
@@ -111,7 +111,6 @@ numbers_map g u n (x ∷ xs) f h =
 from_zero : (k : ℕ) → 0 + k ≡ k
 from_zero k = omega arith
 
--- If P holds of all calls of a thread, it holds of the thread's call with this number.
 at_thread : (P : CallRecord → Type 0) (u k : ℕ) (xs : List CallRecord) → AllByRecursion P (of_thread u xs) → k < length xs →
     (get_or xs k no_call).thread ≡ u → P (get_or xs k no_call)
 at_thread P u k [] a l h = absurd (omega arith)
@@ -123,7 +122,7 @@ at_thread P u (suc k) (x ∷ xs) a l h = at_thread P u k xs (by_test (x.thread =
     by_test true a = a.1
     by_test false a = a
 
--- Returns the reply of a completed call.
+-- Returns the reply of a call that has ended.
 abbrev pub reply_in : Option (ℕ × Reply) → Reply
 reply_in None = True
 reply_in (Some e) = e.1
@@ -142,7 +141,7 @@ pub map_said : (u : ℕ) (ds : List OwnCall) → map said (map (ended_record u) 
 map_said u [] = refl
 map_said u (d ∷ ds) = ap (λ l. said_by u d ∷ l) (map_said u ds)
 
--- Returns whether the call at a place belongs to the thread.
+-- Returns whether the call at this position of an order is a call of thread u.
 abbrev of_placed : List CallRecord → ℕ → Placed → Bool
 of_placed H u p = (call_numbered H p.call).thread == u
 
@@ -202,12 +201,11 @@ contains_in [] Q j a c = absurd (contains-nil j c)
 contains_in (x ∷ F) Q j a c = ⊎_elim (λ e. (x, a.0, e)) (λ d. contains_in F Q j a.1 d)
     (contains-cons x.call j (map (λ (r : Placed). r.call) F) c)
 
--- If Q holds of all places, it holds of those that pass a test.
 all_passing : (Q : Placed → Type 0) (b : Placed → Bool) (P : List Placed) → AllByRecursion Q P →
     AllByRecursion (λ p. Q p × (b p ≡ true)) (filter b P)
 all_passing Q b P a = all_both Q (λ p. b p ≡ true) (filter b P) (all_filter Q b P a) (all_left b P)
 
--- An order of a history in which each call of a thread ends before the thread's next call begins.
+-- P is a linearization of the history H. The calls of each thread do not overlap.
 module _ (q : ℕ) (s : SetState) (H : List CallRecord) (P : List Placed) (L : Linearizes q s H P)
     (turns : (i j : ℕ) → i < j → j < length H → (call_numbered H i).thread ≡ (call_numbered H j).thread → Precedes (call_numbered H i) (call_numbered H j)) where
   abbrev rec_of : Placed → CallRecord
@@ -223,7 +221,8 @@ module _ (q : ℕ) (s : SetState) (H : List CallRecord) (P : List Placed) (L : L
       ∙ (sym same ∙ ap (λ (p : Placed). p.call) (sym (get_or_default P i b a l ∙ e))))))
       ne) (cases_order i j)
 
-  -- The facts about each place: its call is a call of the history, and the place is in the order.
+  -- The facts about each position in the order: the number of its call is in the history, and the order has the
+  -- position.
   abbrev There : Placed → Type 0
   There p = (p.call < length H) × Contains P p
 
@@ -248,7 +247,7 @@ module _ (q : ℕ) (s : SetState) (H : List CallRecord) (P : List Placed) (L : L
     ended_at : (j : ℕ) → j < length H → (call_numbered H j).thread ≡ u → IsEnded (call_numbered H j)
     ended_at j l h = at_thread IsEnded u j H ended_all l h
 
-    -- The reply at a place is the reply of its call.
+    -- The reply in the order is the reply that the call returned.
     pub right_reply : (p : Placed) → There p → of_placed H u p ≡ true → answered H p ≡ said (rec_of p)
     right_reply p there t =
         let e = ended_at p.call there.0 (same_number (rec_of p).thread u t) in
@@ -296,7 +295,7 @@ module _ (q : ℕ) (s : SetState) (H : List CallRecord) (P : List Placed) (L : L
     same_list [] = refl
     same_list (x ∷ l) = ap (λ z. x ∷ z) (same_list l)
 
-    -- The calls at the thread's places are the thread's calls, in sequence.
+    -- The calls of thread u in the order are the thread's calls, in the order in which it made them.
     pub records : map rec_of F ≡ map (ended_record u) D
     records = map_calls F ∙ (ap (map (λ j. call_numbered H j)) numbers
         ∙ (numbers_map (λ (x : CallRecord). x) u 0 H (λ j. call_numbered H j) (λ k l. ap (λ j. call_numbered H j) (from_zero k))
@@ -312,7 +311,7 @@ module _ (q : ℕ) (s : SetState) (H : List CallRecord) (P : List Placed) (L : L
     pub all_replies : AllByRecursion (λ (p : Placed). answered H p ≡ said (rec_of p)) F
     all_replies = replies
 
--- ---- Lemmas about the place of a call in the order
+-- ---- Lemmas about the position of a call in the order
 abbrev tail_of : List CallRecord → List CallRecord
 tail_of [] = []
 tail_of (x ∷ xs) = xs
@@ -438,7 +437,7 @@ ended_records : (n v : ℕ) (ds : List OwnCall) → AllByRecursion (EndsBefore n
 ended_records n v [] a = tt
 ended_records n v (d ∷ ds) a = (a.0, ended_records n v ds a.1)
 
--- ---- Proof that the order keeps the record
+-- ---- Proof that the order keeps the order of the calls in a seat's record
 module _ (q : ℕ) (s : SetState) (H : List CallRecord) (P : List Placed) (L : Linearizes q s H P)
     (turns : (i j : ℕ) → i < j → j < length H → (call_numbered H i).thread ≡ (call_numbered H j).thread → Precedes (call_numbered H i) (call_numbered H j)) (D : ℕ → List OwnCall) where
   keeps_items : (r : Past) → Apart r → InOrder r → ((u : ℕ) → IsIn u r → of_thread u H ≡ map (ended_record u) (D u)) →

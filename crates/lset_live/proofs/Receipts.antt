@@ -1,5 +1,5 @@
--- The law of receipts: a completed call stays in the history when the run gets longer. Each order that linearizes the
--- history has this call before the calls that began later.
+-- Proof of the law of receipts. A completed call stays in the history when the run gets longer. Each order that
+-- linearizes the longer history has this call before the calls that began after its end.
 use Rattle.std.proofs.Common.{◌≡◌, ◌⊎◌, ⊎_elim, ℕ, zero, suc, ◌+◌, ◌<◌, ◌≤◌, ◌==◌, Bool, true, false, List, [], ◌∷◌}
 use Rattle.std.proofs.Common.{◌++◌, map, length, get_or, Option, Some, None, refl, sym, ap, ◌∙◌, subst, arith, length-append}
 use Rattle.std.proofs.Common.{append_assoc, if◌then◌else◌}
@@ -25,7 +25,7 @@ use Rattle.lset_rule.specs.Runs.{StartsWith, log_by, history_of}
 use Rattle.lset_rule.proofs.OneMoreEvent.{event_of_first}
 use Rattle.lset_live.specs.Explained.{IsAnswered, StandsBefore}
 
--- ---- A completed call stays completed
+-- ---- A completed call stays in the history when the run gets longer
 module _ (m : ℕ) (y : CallRecord) (d : ℕ × Reply) (ended : y.ended ≡ Some d) where
   stays_before : (z : TracedCall) (xs : List TracedCall) (n : ℕ) → get_elem? (map record_of xs) n ≡ some y →
       get_elem? (map record_of (xs ++ z ∷ [])) n ≡ some y
@@ -173,7 +173,6 @@ module _ (q : ℕ) (s : SetState) (H : List CallRecord) (P : List Placed) (L : L
 pub starts_on : (a b c : List Event) → StartsWith a b → StartsWith b c → StartsWith a c
 starts_on a b c (x, is) (y, so) = (y ++ x, is ∙ (ap (λ l. l ++ x) so ∙ append_assoc c y x))
 
--- The events that a seat has seen after a call begin with the events that it had seen before the call.
 pub answered_on : (T : Table) (k : Opening) (t : ℕ) (c : Call) (r : Reply) (before after : List Event) → IsAnswered T k t c r before after
     → StartsWith after before
 answered_on T k t c r before after a = (

@@ -1,4 +1,4 @@
--- Proof: some order of calls explains the events that a seat has seen, and keeps the seat's record.
+-- Proof: the events that a seat has seen have a linearization that keeps the order of the seat's record.
 use Rattle.std.proofs.Common.{◌≡◌, ⊎_elim, inl, ℕ, suc, ◌+◌, ◌<◌, ◌==◌, Bool, true, false, cond, List, [], ◌∷◌, ◌++◌, map, length}
 use Rattle.std.proofs.Common.{Option, Some, None, refl, sym, ap, ◌∙◌, subst, arith, append-nil, append_assoc}
 use Rattle.std.proofs.lemmas.List.{map-append}
@@ -37,21 +37,18 @@ use Rattle.lset_live.proofs.CallsOfThread.{of_thread, ended_record, thread_recor
 use Rattle.lset_live.proofs.OrderKeepsRecord.{keeps}
 use Rattle.lset_words.specs.Words.{Opening}
 
--- If a thread begins a call, it has no pending call.
 may_begin : (T : Table) (s : State) (e : Event) (u : ℕ) (o : Option PendingCall) → Tied o (local_of s u) → Enabled s e →
     MayBegin (entry_of T s e) u o
 may_begin T s (Begin t c) u None ti en = λ is. refl
 may_begin T s (Begin t c) u (Some x) ti en = λ is. absurd (ti.0 (ap (λ z. (local_of s z).pc) (sym is) ∙ en.1))
 may_begin T s (Go t) u o ti en = tt
 
--- The calls of a thread in a run's history are its completed calls and its pending call.
 calls_of_thread : (T : Table) (law : Lawful T) (k : Opening) (es : List Event) → IsRunOf T k es → (u : ℕ) → u < k.threads
     → of_thread u (history_of T k es) ≡ thread_records u (at_end T k es u).done (at_end T k es u).under
 calls_of_thread T law k es r u low = thread_calls (log_by T k es) u (length es)
     (λ j l. may_begin T (state_at T k (event_at es) j) (event_at es j) u _
     (tied T law k (event_at es) (length es) r u j low (omega arith)) (r.enabled j l)) (length es) (omega arith)
 
--- Each spare thread of a view is idle, and its calls are those of the record.
 aside_idle : (w : ℕ → Here) (t : ℕ) (r : Past) (os : List SpareThread) → AreIdle w t r os → (u : ℕ) → HasAside os u →
     ((w u).under ≡ None) × ((w u).done ≡ calls_of u r)
 aside_idle w t r [] a u h = absurd h
@@ -69,7 +66,7 @@ module _ (T : Table) (law : Lawful T) (v : View) (st : Stands T v) (idle : v.und
       (ap (λ (x : Here). x.under) st.own ∙ idle, ap (λ (x : Here). x.done) st.own))
       (λ x. aside_idle (at_end T v.shape v.seen) v.thread v.past v.others st.others u x) h
 
-  -- In the history, the calls of each thread of the view are those in the view's record.
+  -- In the history of the events seen, each thread of the view has the calls that the view's record has.
   pub own : (u : ℕ) → HasThread v u → of_thread u (history_of T v.shape v.seen) ≡ map (ended_record u) (calls_of u v.past)
   own u h = let a = at_rest u h in calls_of_thread T law v.shape v.seen st.ran u (st.in_range u h)
       ∙ ((λ i. thread_records u (a.1 i) (a.0 i)) ∙ append-nil (map (ended_record u) (calls_of u v.past)))
@@ -81,7 +78,6 @@ module _ (T : Table) (law : Lawful T) (v : View) (st : Stands T v) (idle : v.und
     pub explains : ExplainsRun T v.shape (event_at v.seen) (length v.seen) order
     explains = (linear v.shape (length v.seen) (event_at v.seen) st.ran).1
 
-    -- Calls of the same thread do not overlap.
     pub turns : (i j : ℕ) → i < j → j < length (history_of T v.shape v.seen)
         → (call_numbered (history_of T v.shape v.seen) i).thread ≡ (call_numbered (history_of T v.shape v.seen) j).thread
         → Precedes (call_numbered (history_of T v.shape v.seen) i) (call_numbered (history_of T v.shape v.seen) j)
@@ -99,7 +95,7 @@ pub made_explained : (T : Table) (law : Lawful T) → RunsAreLinearizable T → 
     → SeenIsLinearizable T w.shape w.seen (record_of w.past)
 made_explained T law linear c v r w m = explained T law w m.stands m.idle linear
 
--- ---- Lemmas about where a call is in the history
+-- ---- Lemmas about the number of a call in the history
 abbrev head_of : CallRecord → List CallRecord → CallRecord
 head_of d [] = d
 head_of d (x ∷ xs) = x
@@ -108,7 +104,6 @@ abbrev tail_of : List CallRecord → List CallRecord
 tail_of [] = []
 tail_of (x ∷ xs) = xs
 
--- The last call of a thread has a number in the history.
 last_numbered : (u : ℕ) (H xs : List CallRecord) (y : CallRecord) → of_thread u H ≡ xs ++ y ∷ [] → (n : ℕ)
     × (get_elem? H n ≡ some y)
 last_numbered u [] [] y e = let l = ap length e in absurd (omega arith)
@@ -159,7 +154,7 @@ module _ (T : Table) (law : Lawful T) (c : Call) (v : View) (r : Reply) (w : Vie
     })) m.before.1;
   }
 
--- ---- The contract of a call follows from what the call does to its seat's view
+-- ---- Proof of the contract of a call from what the call does to the view of its seat
 abbrev pub seat_at : TableSeat → SeatValue
 seat_at s = record {
   set = record { table = s.table_id; shape = s.me.0.shape };

@@ -1,4 +1,4 @@
--- Proof: each call of a running set has a reply that the sequential set can return.
+-- Proof: the reply of each call is one that the sequential set can return for this kind of call.
 use Rattle.std.proofs.Common.{◌≡◌, ℕ, ◌==◌, Bool, true, false, List, [], ◌∷◌, ◌++◌, subst, sym}
 use Rattle.std.specs.Prelude.{if◌then◌else◌, nat_lt}
 use Rattle.lset_words.specs.declared.Key.{Key}
@@ -18,7 +18,7 @@ legal_at : (q : ℕ) (s : SetState) (xs : List Answered) (a : Answered) (ys : Li
 legal_at q s [] a ys l = (s, l.0)
 legal_at q s (x ∷ xs) a ys l = legal_at q (after_call s x.thread x.call x.reply) xs a ys l.1
 
--- There is a state in which the sequential set returns the same reply to the call.
+-- In some state, the sequential set returns this reply to this call.
 given : (T : Table) (set : SetValue) (old : SeatValue) (c : Call) (r : Reply) (new : SeatValue) → HasAnswered T set old c r new →
     (z : SetState) × (reply_to set.shape.quota z (thread_of old.past) c ≡ r)
 given T set old c r new h =
@@ -68,7 +68,6 @@ pub ceiling_reply : (T : Table) (set : SetValue) (old : SeatValue) (k : Key) (r 
 ceiling_reply T set old k r new h =
     let l = given T set old (Ceiling k) r new h in of_ceiling k.0 l.0.keys r l.1
 
--- If `HasAnswered` holds of a reply, it holds of an equal reply.
 pub stands_for : (T : Table) (set : SetValue) (old : SeatValue) (c : Call) (r : Reply) (new : SeatValue) →
     HasAnswered T set old c r new → (s : Reply) → s ≡ r → HasAnswered T set old c s new
 stands_for T set old c r new h s e = subst (λ z. HasAnswered T set old c z new) (sym e) h

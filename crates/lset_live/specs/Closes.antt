@@ -1,4 +1,4 @@
--- The words and the keys of a closed set.
+-- The words of a closed set, and the keys that they contain.
 use Rattle.std.specs.Prelude.{◌≡◌, ℕ, ◌+◌, ◌*◌, ◌<◌, ◌≤◌, List, length}
 use Rattle.lset_words.specs.declared.TheConstants.{MOST_WORDS}
 use Rattle.lset_words.specs.Words.{lock_index, tail_word, word_count, Opening, sizes, Sizes}
@@ -9,12 +9,12 @@ use Rattle.lset_steps.specs.Steps.{Table}
 use Rattle.lset_steps.specs.Laws.{Lawful}
 use Rattle.lset_rule.specs.Runs.{end_of, IsRunOf}
 
--- The words of a list after a run.
+-- The words that the threads of a set left, and the sizes of the set.
 pub record LastWords : Type 0 where
   pub sizes : Sizes
   pub words : List ℕ
 
--- The words are those after a run of some list.
+-- States that these words are those at the end of some run of some list.
 pub record IsLast (c : LastWords) : Type 0 where
   pub opening : Opening
   pub of_sizes : sizes opening ≡ c.sizes
@@ -24,15 +24,16 @@ pub record IsLast (c : LastWords) : Type 0 where
   pub run : IsRunOf machine opening events
   pub words : c.words ≡ (end_of machine opening events).words
 
--- [Content] of the words: states that these are the keys of the unmarked nodes of the chain, in increasing order.
+-- [Content] of the words: states that `keys` are the keys of the unmarked nodes that can be reached from the head, in
+-- increasing order.
 abbrev pub HasKeys : LastWords → List ℕ → Type 0
 HasKeys c keys = IsContent (view c.sizes c.words (λ t. 0)) keys
 
--- Returns the maximum number of keys that a set can have: one for each slot, and the opening keys.
+-- Returns the maximum number of keys that a set can have: one for each slot of each thread, and the opening keys.
 abbrev pub most_keys : Sizes → ℕ
 most_keys s = s.threads * s.quota + s.opening
 
--- The facts that the walk along the chain needs.
+-- What a walk along the nodes of a closed set relies on.
 pub record HasLaws (c : LastWords) : Type 0 where
   pub few : length c.words ≤ MOST_WORDS
   pub count : length c.words ≡ word_count c.sizes

@@ -1,4 +1,4 @@
--- Removes the numbers of the calls from a view's record.
+-- Removes the event numbers from the calls in a seat's record. Contracts use records without these numbers.
 use Rattle.lset_rule.specs.declared.view.OwnCall.{OwnCall}
 use Rattle.lset_rule.specs.declared.view.Past.{Past, Fresh, Called', Gathered'}
 use Rattle.lset_words.specs.Records.{CallMade, Record, fresh, called, gathered}

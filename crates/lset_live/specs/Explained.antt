@@ -1,4 +1,4 @@
--- Definitions for the contracts of calls of a running set, and of closing the set.
+-- What the contracts of a running set state of its calls and of closing it.
 use Rattle.std.specs.Prelude.{◌≡◌, ℕ, ◌+◌, ◌<◌, ◌≤◌, ◌⊎◌, List, [], ◌∷◌, ◌++◌, All, Some, length, map}
 use mathlib.Core.Option.{some}
 use lib.ListN.{get_elem?}
@@ -16,8 +16,8 @@ use Rattle.lset_words.specs.Records.{Record, Names, Keeps, called, calls_by, thr
 use Rattle.lset_live.specs.Seats.{SeatValue, SetValue}
 use Rattle.lset_words.specs.Words.{Opening}
 
--- Call c of thread t has ended with reply r. It began after all events seen before, and its last step is the last event
--- seen now.
+-- Call c of thread t has ended with reply r. The thread had seen the events `before` when the call began. It has now
+-- seen the events `after`, which end with the call's last step.
 pub record IsAnswered (T : Table) (k : Opening) (t : ℕ) (c : Call) (r : Reply) (before after : List Event) : Type 0 where
   pub others : List Event
   pub since : List Event
@@ -30,17 +30,18 @@ pub record IsAnswered (T : Table) (k : Opening) (t : ℕ) (c : Call) (r : Reply)
     ended = Some (length after, r);
   })
 
--- The events that a seat has seen are a run of the machine. Some order of the run's calls linearizes their history from
--- the opening set, and keeps the record. The run need not contain the calls of seats that were not gathered.
+-- The events that a seat has seen are a run of the list. Some order of the run's calls linearizes their history from
+-- the opening keys, and keeps the order of the seat's record r. The run can lack calls of seats that were not gathered.
 pub record SeenIsLinearizable (T : Table) (k : Opening) (events : List Event) (r : Record) : Type 0 where
   pub run : IsRunOf T k events
   pub order : List Placed
   pub linearizes : Linearizes k.quota (opening_set k) (history_of T k events) order
   pub keeps : Keeps (map (answered (history_of T k events)) order) r
 
--- A call of the set was made from the seat `old`, returned r, and changed the seat to `new`. The new seat belongs to
--- the set and holds as many seats as before. Its record has grown by exactly this call, which began after everything
--- that the seat had seen. The events that the seat has seen now are a run with a linearization that keeps its record.
+-- Call c was made from the seat `old`, returned r, and changed the seat to `new`. The new seat belongs to the set and
+-- holds as many seats as before. Its record has grown by exactly this call. The call began after everything that the
+-- old seat had seen. The events that the new seat has seen are a run whose calls have a linearization that keeps the
+-- order of its record.
 pub record HasAnswered (T : Table) (set : SetValue) (old : SeatValue) (c : Call) (r : Reply) (new : SeatValue) : Type 0 where
   pub of_set : new.set ≡ set
   pub held : new.held ≡ old.held
@@ -53,14 +54,14 @@ pub record HasAnswered (T : Table) (set : SetValue) (old : SeatValue) (c : Call)
 abbrev pub HasMadeAtMost : ℕ → ℕ → List Event → Type 0
 HasMadeAtMost most t events = steps_since (event_at events) t (length events) ≤ most
 
--- States that some record of the list names the thread.
+-- States that one of the records names thread u.
 abbrev pub NamedIn : ℕ → List Record → Type 0
 NamedIn u [] = ⊥
 NamedIn u (r ∷ rs) = Names u r ⊎ NamedIn u rs
 
--- A legal order of exactly the calls in the records. The order keeps each record, so it keeps the order of each seat's
--- calls and the order of gathering. It leaves these keys. It need not keep real-time order between seats: this is
--- sequential consistency.
+-- A legal order of exactly the calls in the records, which leaves these keys. The order keeps each record: the order of
+-- each seat's calls, and the order of gathering. It need not keep real-time order between seats. In short: the calls
+-- are sequentially consistent.
 pub record IsOneLegalOrder (k : Opening) (records : List Record) (keys : List ℕ) : Type 0 where
   pub order : List Answered
   pub legal : IsLegal k.quota (opening_set k) order
@@ -80,15 +81,16 @@ pub record IsOneOrderInTime (T : Table) (k : Opening) (events : List Event) (rec
   pub one : IsOneLegalOrder k records keys
   pub is : one.order ≡ map (answered (history_of T k events)) placed
 
--- Call a is in the order, and call b comes after it.
+-- The order has call a, and call b after it.
 pub record StandsBefore (order : List Answered) (a b : Answered) : Type 0 where
   pub first : List Answered
   pub between : List Answered
   pub last : List Answered
   pub is : order ≡ first ++ a ∷ (between ++ b ∷ last)
 
--- The law of receipts: states that if call c had ended when a receipt was made, and a seat that has taken the receipt
--- makes call d, then c comes before d in each order that linearizes the events seen by the end of d or later.
+-- The law of receipts. Call c had ended in the events `given` of a receipt. The seat of thread u takes the receipt and
+-- then makes call d. Then c comes before d in each order that linearizes the events up to the end of d or a longer list
+-- of events.
 abbrev pub ReceiptsKeepOrder : Type 0
 ReceiptsKeepOrder = (T : Table) (k : Opening) (t u : ℕ) (c d : Call) (r a : Reply) (old given taken after events : List Event)
     → IsAnswered T k t c r old given → StartsWith taken given → IsAnswered T k u d a taken after → StartsWith events after

@@ -1,4 +1,4 @@
--- The replies that typed results stand for, and the replies that each kind of call can have.
+-- The replies in a seat's record for the typed results of calls, and the replies that each kind of call can have.
 use Rattle.std.specs.Prelude.{Option, Some, None}
 use Rattle.lset_words.specs.declared.Key.{Key}
 use Rattle.lset_words.specs.declared.Reply.{Reply}
@@ -6,13 +6,13 @@ use Rattle.lset_words.specs.declared.Reply.TheVariants as reply
 use Rattle.lset_live.specs.declared.typed_calls.Added.{Added}
 use Rattle.lset_live.specs.declared.typed_calls.Added.TheVariants as added
 
--- Returns the reply that a result of `Seat::add` stands for.
+-- Returns the reply in the seat's record for a result of `Seat::add`.
 abbrev pub reply_of_add : Added → Reply
 reply_of_add added.New = reply.True
 reply_of_add added.Already = reply.False
 reply_of_add added.Full = reply.Full
 
--- Returns the reply that a result of `Seat::ceiling` stands for.
+-- Returns the reply in the seat's record for a result of `Seat::ceiling`.
 abbrev pub reply_of_ceiling : Option Key → Reply
 reply_of_ceiling None = reply.Nothing
 reply_of_ceiling (Some k) = reply.At k

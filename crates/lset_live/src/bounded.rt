@@ -1,4 +1,4 @@
-//! Calls for callers that must not wait: each loop of a call has a bound.
+//! Calls for callers that must not block: the loops of a call make a bounded number of rounds.
 ghost use Rattle.std.specs.Prelude.{IfSome};
 ghost use Rattle.lset_rule.specs.Seats.{HasCalled, MayCall};
 
@@ -11,21 +11,24 @@ use lset_rule::{OwnSlots, Pause, Rounds, TableSeat, Words, interpret_within};
 use lset_steps::Machine;
 use lset_words::{Call, Reply};
 
-/// A machine whose calls run on shared words and whose loops make a bounded number of rounds.
+/// A list whose calls run on shared words, with a bound on the rounds of each loop.
 ///
 /// A list with a step table (`Machine`) can implement this trait without a body: `impl Bounded for MyList {}`. It then
-/// uses the interpreter (`lset_rule::interpret_within`). A list can also provide its own body under the same contract:
-/// the five lists use loops of their own.
+/// uses the interpreter (`lset_rule::interpret_within`). A list can also provide its own body under the same contract,
+/// as the five lists do.
 ///
-/// - Precondition `MayCall`: the place is a seat of the table without a pending call, and the slots are those in its view.
-/// - Postcondition `HasCalled`: the place is still the place of this seat and table, the returned slots are those in its view,
-///   and the record has grown by exactly this call (`Makes`). The call began after everything that the seat had seen, and has
-///   ended. After `None`, there is no postcondition.
+/// - Precondition `MayCall`: `place` is a seat of the words `table` without a pending call, and `slots` are those of its
+///   thread.
+/// - Postcondition `HasCalled`: `place` is still the same seat, the returned slots are those of its thread, and its
+///   record has grown by exactly this call. The call began after everything that the seat had seen, and has ended.
+///   After `None`, nothing is ensured.
 pub trait Bounded: Machine {
-    /// Makes a call of any kind, with at most `N::MOST` rounds in each loop, or returns `None`. (A `contains` of
-    /// LazyList and LockFreeList makes as many rounds as it needs.) `table` has the words, `place` is the seat's place
-    /// among the views of the table, and `slots` are its thread's slots. After `None`, the call is still pending and
-    /// holds its locks, and the place can make no other call.
+    /// Makes a call of any kind, with at most `N::MOST` rounds in each loop. (A `contains` of LazyList and LockFreeList
+    /// makes as many rounds as it needs.) `table` has the words, `place` is an idle seat of these words, and `slots`
+    /// are the slots of its thread. Returns the slots after the call, and the reply.
+    ///
+    /// Returns `None` if a loop has made all its rounds. The call is then still pending and holds its locks, and the
+    /// seat can make no other call.
     fn make_within<P: Pause, N: Rounds>(
         table: &Words<Self>,
         place: &mut TableSeat,

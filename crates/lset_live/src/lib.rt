@@ -1,4 +1,5 @@
-//! Running sets: the words of a list, in a table that threads share, with one seat for each thread.
+//! Running sets: lists whose words threads share. Each thread calls from its own seat (the right to call as one
+//! thread).
 #![tactic(auto)]
 
 mod bounded;

@@ -60,10 +60,11 @@ fn open_on<M: Machine>(
     Ok((set, seats))
 }
 
-/// Opens a set with 1 to `MOST_THREADS` seats, seat `t` for thread `t`, and a quota of 0 to `MOST_QUOTA` for each.
-/// Allocates all memory of the set; only `Closed::keys` allocates later. Returns `OpenFault::Seats` if the number of
-/// seats is outside its limits, else `OpenFault::Quota` if the quota is. Returns `OpenFault::Memory` if an allocation
-/// fails.
+/// Opens an empty set with `seats` seats (1 to `MOST_THREADS`). Seat `t` calls as thread `t`, and can add `quota` keys
+/// (0 to `MOST_QUOTA`). Allocates all memory of the set. Later, only `Closed::keys` allocates.
+///
+/// Returns `OpenFault::Seats` if `seats` is out of range, else `OpenFault::Quota` if `quota` is out of range. Returns
+/// `OpenFault::Memory` if an allocation fails.
 pub fn open<M: Machine>(
     alloc: Global,
     seats: u32,
@@ -84,12 +85,14 @@ pub fn open<M: Machine>(
     }
 }
 
-/// Opens a set that contains 0 to `MOST_OPENING` opening keys, with 1 to `MOST_THREADS` seats and a quota of 0 to
-/// `MOST_QUOTA` for each. The keys must be in strictly increasing order. They use no quota and count as nobody's adds,
-/// and each seat can remove them. The final keys of a closed set can open another set, of any list. (The lists in the
-/// literature open empty.) Returns `OpenFault::Seats` if the number of seats is outside its limits, else
-/// `OpenFault::Quota` if the quota is, else `OpenFault::Opening` if there are too many keys or a key is not above the
-/// key before it. Returns `OpenFault::Memory` if an allocation fails.
+/// Opens a set that contains `keys`, with `seats` seats (1 to `MOST_THREADS`) that can add `quota` keys each (0 to
+/// `MOST_QUOTA`). `keys` must be in strictly increasing order, at most `MOST_OPENING`. They count against no quota, no
+/// thread has added them, and each seat can remove them. The final keys of a closed set can open another set, of any
+/// list. (The lists in the literature open empty.)
+///
+/// Returns `OpenFault::Seats` if `seats` is out of range, else `OpenFault::Quota` if `quota` is, else
+/// `OpenFault::Opening` if `keys` has too many keys or a key is not above the key before it. Returns
+/// `OpenFault::Memory` if an allocation fails.
 pub fn open_with<M: Machine>(
     alloc: Global,
     seats: u32,

@@ -1,4 +1,4 @@
-//! Calls that can wait, made with a table, a seat and a pause; and a `contains` that does not block.
+//! Calls that can block, and a `contains` that never blocks, made on shared words with a seat of them.
 ghost use Rattle.lset_words.specs.declared.Call.TheVariants.{Contains};
 ghost use Rattle.lset_rule.specs.Seats.{HasCalled, MayCall};
 
@@ -13,12 +13,13 @@ use lset_steps::OpenReads;
 use lset_words::{Call, Key, Reply};
 use std::sync::Wait;
 
-/// A machine whose calls run on shared words and can wait.
+/// A list whose calls run on shared words and can block.
 ///
 /// A list that is `Bounded` implements this trait without a body: `impl Running for MyList {}`.
 pub trait Running: Bounded {
-    /// Makes a call of any kind, with as many rounds as it needs. `rt` is the runtime with which it waits. The other
-    /// arguments, the precondition and the postcondition are those of `Bounded::make_within`.
+    /// Makes a call of any kind, with as many rounds as it needs. Blocks with the runtime `rt` while another thread
+    /// holds a lock that the call needs. The other arguments, the precondition and the postcondition are those of
+    /// `Bounded::make_within`.
     fn make_on<R: Wait, P: Pause>(
         rt: &R,
         table: &Words<Self>,
@@ -45,12 +46,12 @@ impl Running for LazyList {}
 
 impl Running for LockFreeList {}
 
-/// A machine whose `contains` does not block on shared words.
+/// A list whose `contains` does not block on shared words.
 ///
 /// A list with bounded reads (`OpenReads`) implements this trait without a body. It then uses the interpreter
 /// (`lset_rule::interpret_read`).
 pub trait OpenContains: Bounded + OpenReads {
-    /// Makes a `contains` in at most `OpenReads::bound` steps. It takes no runtime, so it cannot block.
+    /// Makes a `contains` of `key` in at most `OpenReads::bound` steps. Cannot block: it has no runtime to wait with.
     fn contains_now_on(
         table: &Words<Self>,
         place: &mut TableSeat,
@@ -86,7 +87,7 @@ impl OpenContains for LockFreeList {
     }
 }
 
-/// A machine whose calls can wait on shared words, and whose `contains` does not block.
+/// A list whose calls run on shared words and can block, except its `contains`, which never blocks.
 pub trait RunningReads: Running + OpenReads + OpenContains {}
 
 impl RunningReads for LazyList {}

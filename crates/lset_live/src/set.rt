@@ -1,4 +1,4 @@
-//! A running set and its calls.
+//! A running set: a list whose words threads share, and its calls.
 ghost use Rattle.std.specs.Prelude.{◌≡◌, ◌≢◌, ◌+◌, ◌<◌, ◌≤◌, ℕ, List, [], ◌∷◌, length, vec_capacity, IfOk, IfErr, IfSome};
 ghost use Rattle.lset_words.specs.Words.{word_count, sizes};
 ghost use Rattle.lset_words.specs.declared.Call.TheVariants.{Add, Remove, Contains, Ceiling};
@@ -32,9 +32,9 @@ use std::marker::{Model, PhantomData};
 use std::sync::Wait;
 use thiserror::Error;
 
-/// A running set of the list `M` (Herlihy and Shavit's `Set`, with a quota). Threads share it by `&`, and each thread
-/// calls from a seat of its own. Contracts see the set's table and its opening: the number of threads, the quota and
-/// the opening keys.
+/// A running set of the list `M`: Herlihy and Shavit's `Set`, with a limit on the keys that each thread can add (its
+/// quota). Threads share the set by `&`, and each thread calls from its own seat. In contracts, a set is its table of
+/// words and its opening: the number of threads, the quota and the opening keys.
 #[derive(Drop)]
 pub struct LiveSet<M: Machine> {
     pub(crate) table: Table<(), View, Opened, Follows<M>, Global>,
@@ -55,7 +55,8 @@ impl<M: Machine> Model for LiveSet<M> {
     ghost view = { λ s. record { table = s.table.shared.table_id; shape = s.table.shared.key } };
 }
 
-/// The error of `close` if the seat does not hold all seats. Contains the set and the seat, both unchanged.
+/// The error of `LiveSet::close` if the seat does not hold all seats of the set. Contains the set and the seat, both
+/// unchanged.
 #[derive(Drop, Error)]
 #[error("the seat does not hold all seats of the set")]
 pub struct SeatsOut<M: Machine> {
@@ -73,7 +74,7 @@ impl<M: Machine> fmt::Debug for SeatsOut<M> {
 }
 
 impl<M: Machine> LiveSet<M> {
-    /// Returns the number of seats with which the set was opened.
+    /// Returns the number of seats of the set: `seats` of `open`.
     pub fn seats(&self) -> u32
         ensures seats { result ≡ self.now.shape.threads }
         ensures range { (0 < result) × (result ≤ MOST_THREADS) }
@@ -81,7 +82,7 @@ impl<M: Machine> LiveSet<M> {
         self.threads
     }
 
-    /// Returns the quota of each seat.
+    /// Returns the quota: the number of keys that each thread can add over the life of the set.
     pub fn quota(&self) -> u32
         ensures quota { result ≡ self.now.shape.quota }
         ensures range { result ≤ MOST_QUOTA }
@@ -89,8 +90,7 @@ impl<M: Machine> LiveSet<M> {
         self.quota
     }
 
-    /// Returns the maximum number of keys that the set can have: one for each slot of each thread, and the opening
-    /// keys.
+    /// Returns the maximum number of keys that the set can have: the opening keys, and those that its threads can add.
     pub fn most_keys(&self) -> usize
         ensures { result ≡ most_keys (sizes self.now.shape) }
     {
@@ -99,12 +99,12 @@ impl<M: Machine> LiveSet<M> {
 }
 
 impl<M: Running> LiveSet<M> {
-    /// Makes the call from the seat, which must belong to this set. Calls `pause` after each step of the call except
-    /// the last.
+    /// Makes the call from `seat`, which must belong to this set. Calls `pause` after each step of the call except the
+    /// last. Returns the reply.
     ///
     /// Appends the call with its reply to the seat's record. The call begins after everything that the seat had seen,
-    /// and its last step is the last event that the seat has seen afterwards. There is an order of the calls of these
-    /// events that linearizes their history and keeps the record (Herlihy and Wing). Can block while another thread
+    /// and its last step is the last event that the seat has seen afterwards. The calls in the events that the seat has
+    /// seen have a linearization (Herlihy and Wing) that keeps the order of the record. Can block while another thread
     /// holds a lock that the call needs. Does not allocate.
     pub fn call<R: Wait, P: Pause>(
         &self,
@@ -129,8 +129,9 @@ impl<M: Running> LiveSet<M> {
         reply
     }
 
-    /// Adds the key. Returns `True` if the key was absent and has been added, `False` if it was already present, and
-    /// `Full` if it was absent and the thread has used up its quota. Otherwise like `call` with `Spin`.
+    /// Adds `key`. Returns `True` if the key was absent and has been added, `False` if it was already present, and
+    /// `Full` if it was absent and the thread has used up its quota. `seat` must belong to this set. Can block while
+    /// another thread holds a lock that the call needs. Does not allocate.
     pub fn add<R: Wait>(&self, rt: &R, seat: &mut Seat<M>, key: Key) -> Reply
         requires { seat.old.set ≡ self.now }
         ensures { HasAnswered M.table self.now seat.old (Add key) result seat.new }
@@ -138,7 +139,8 @@ impl<M: Running> LiveSet<M> {
         self.call(rt, seat, Call::Add(key), &Spin::new())
     }
 
-    /// Removes the key. Returns `True` if the key was present, else `False`. Otherwise like `call` with `Spin`.
+    /// Removes `key`. Returns `True` if the key was present, otherwise `False`. `seat` must belong to this set. Can
+    /// block while another thread holds a lock that the call needs. Does not allocate.
     pub fn remove<R: Wait>(&self, rt: &R, seat: &mut Seat<M>, key: Key) -> Reply
         requires { seat.old.set ≡ self.now }
         ensures { HasAnswered M.table self.now seat.old (Remove key) result seat.new }
@@ -146,7 +148,8 @@ impl<M: Running> LiveSet<M> {
         self.call(rt, seat, Call::Remove(key), &Spin::new())
     }
 
-    /// Returns whether the key is present, as `True` or `False`. Otherwise like `call` with `Spin`.
+    /// Returns `True` if `key` is present, otherwise `False`. `seat` must belong to this set. Can block while another
+    /// thread holds a lock that the call needs. Does not allocate.
     pub fn contains<R: Wait>(&self, rt: &R, seat: &mut Seat<M>, key: Key) -> Reply
         requires { seat.old.set ≡ self.now }
         ensures { HasAnswered M.table self.now seat.old (Contains key) result seat.new }
@@ -154,7 +157,8 @@ impl<M: Running> LiveSet<M> {
         self.call(rt, seat, Call::Contains(key), &Spin::new())
     }
 
-    /// Returns `At` with the smallest key at or above `key`, or `Nothing` if there is none. Otherwise like `call` with `Spin`.
+    /// Returns `At` with the smallest key at or above `key`, or `Nothing` if no such key is present. `seat` must belong
+    /// to this set. Can block while another thread holds a lock that the call needs. Does not allocate.
     pub fn ceiling<R: Wait>(&self, rt: &R, seat: &mut Seat<M>, key: Key) -> Reply
         requires { seat.old.set ≡ self.now }
         ensures { HasAnswered M.table self.now seat.old (Ceiling key) result seat.new }
@@ -164,13 +168,13 @@ impl<M: Running> LiveSet<M> {
 }
 
 impl<M: Bounded> LiveSet<M> {
-    /// Makes the call from the seat, which must belong to this set, without a runtime: each loop of the call makes at
-    /// most `N::MOST` rounds. (The walk of a `contains` of LazyList and LockFreeList does not block and makes as many
-    /// rounds as it needs.) Returns the seat and the reply, which satisfy the postcondition of `call`.
+    /// Makes the call from `seat`, which must belong to this set, with at most `N::MOST` rounds in each loop of the
+    /// call. Requires no runtime. The walk of a `contains` of LazyList and LockFreeList does not block and makes as
+    /// many rounds as it needs. Returns the seat and the reply, which satisfy the postcondition of `call`.
     ///
     /// Returns `None` if a loop has made all its rounds, for example while it waits for a lock. The call is then still
-    /// pending and holds its locks. The seat is consumed, so the set can never be closed. With [`Countless`] rounds, no
-    /// run reaches this case.
+    /// pending and holds its locks. The seat is consumed, and the set can never be closed. With [`Countless`] rounds,
+    /// no run reaches this case.
     pub fn call_within<P: Pause, N: Rounds>(
         &self,
         seat: Seat<M>,
@@ -205,8 +209,9 @@ impl<M: Bounded> LiveSet<M> {
 }
 
 impl<M: Machine> LiveSet<M> {
-    /// Merges seat `from` into seat `into`: its record, the seats that it holds, and the events that it has seen. In
-    /// each order that keeps the record of `into`, the gathered calls come before the later calls of `into`.
+    /// Merges the seat `from` into the seat `into`: its record, the seats that it holds, and the events that it has
+    /// seen. Both must belong to this set. In each order that keeps the record of `into`, the gathered calls come
+    /// before the later calls of `into`.
     pub fn gather(&self, into: &mut Seat<M>, from: Seat<M>)
         requires into { into.old.set ≡ self.now }
         requires from { from.set ≡ self.now }
@@ -228,9 +233,10 @@ impl<M: Machine> LiveSet<M> {
         into.held += held;
     }
 
-    /// Closes the set if the seat holds all seats; otherwise returns both unchanged in `SeatsOut`. There is a legal
-    /// order of calls that keeps the seat's record, has no other call, and leaves exactly the final keys. It also
-    /// linearizes the history of the events that the seat has seen.
+    /// Closes the set if `seat` holds all seats of the set. Otherwise returns both unchanged in `SeatsOut`.
+    ///
+    /// Some legal order consists of exactly the calls in the seat's record, keeps the order of the record, and leaves
+    /// the final keys. This order also linearizes the history of the events that the seat has seen.
     pub fn close(self, seat: Seat<M>) -> Result<Closed, SeatsOut<M>>
         requires { seat.set ≡ self }
         ensures all { IfOk result (λ c. seat.held ≡ self.shape.threads) }
@@ -266,8 +272,8 @@ impl<M: Machine> LiveSet<M> {
         })
     }
 
-    /// Closes the set and returns its final keys, in increasing order. `seat` must hold all seats. Fails only if an allocation
-    /// fails.
+    /// Closes the set and returns its final keys, in increasing order. `seat` must hold all seats. Fails only if an
+    /// allocation fails.
     pub fn keys_left(self, seat: Seat<M>) -> Result<Vec<u32>, AllocError>
         requires seat { seat.set ≡ self }
         requires all { seat.held ≡ self.shape.threads }
@@ -310,9 +316,10 @@ impl<M: Machine> LiveSet<M> {
 }
 
 impl<M: OpenContains> LiveSet<M> {
-    /// Returns whether the key is in the set, without blocking or allocating. The call is wait-free: whatever other
-    /// threads do, it makes at most `bound` steps, each of them a load (`lset_steps::OpenReads`). Unlike
-    /// `contains_now`, it does not require that the list is `Running`.
+    /// Returns whether `key` is in the set, without blocking or allocating. `seat` must belong to this set.
+    ///
+    /// The call is wait-free: whatever other threads do, it makes at most `bound` steps, each of them a load
+    /// (`lset_steps::OpenReads`). Unlike `contains_now`, it also exists for a list that is not `Running`.
     pub fn contains_within_bound(&self, seat: &mut Seat<M>, key: Key) -> bool
         requires { seat.old.set ≡ self.now }
         ensures answered { HasAnswered M.table self.now seat.old (Contains key) (reply_of result) seat.new }
@@ -331,9 +338,11 @@ impl<M: OpenContains> LiveSet<M> {
 }
 
 impl<M: RunningReads> LiveSet<M> {
-    /// Returns whether the key is in the set, without blocking or allocating. The call is wait-free: whatever other
-    /// threads do, it makes at most `bound` steps, each of them a load (`lset_steps::OpenReads`). In the seat's record,
-    /// the reply is `True` or `False`.
+    /// Returns whether `key` is in the set, without blocking or allocating. `seat` must belong to this set. The call is
+    /// appended to its record with the reply `True` or `False`.
+    ///
+    /// The call is wait-free: whatever other threads do, it makes at most `bound` steps, each of them a load
+    /// (`lset_steps::OpenReads`).
     pub fn contains_now(&self, seat: &mut Seat<M>, key: Key) -> bool
         requires { seat.old.set ≡ self.now }
         ensures answered { HasAnswered M.table self.now seat.old (Contains key) (reply_of result) seat.new }

@@ -1,4 +1,4 @@
--- The rows of a contains, for tables whose contains has the rows of `lset_steps`.
+-- Rows 20 to 25 of a step table: a `contains` that only reads.
 use Rattle.std.proofs.Common.{◌≡◌, ℕ, ◌+◌, ◌-◌, ◌/◌, ◌%◌, ◌<◌, ◌==◌, Bool, true, false, if◌then◌else◌, None, refl, sym, ap}
 use Rattle.std.proofs.Common.{◌∙◌, subst, arith}
 use Rattle.lset_words.specs.declared.Key.{Key}
@@ -24,7 +24,7 @@ use Rattle.lset_loops.specs.Begun.{Begun}
 use Rattle.lset_loops.specs.Calling.{Holds, first, row}
 use Rattle.lset_loops.proofs.StepsOfCall.{no_rest}
 
--- Returns the thread's state at row pc.
+-- Returns the registers of a `contains` at row pc, with x as its current node.
 abbrev pub reading : Begun → OwnSlots → ℕ → ℕ → Local
 reading b own pc x = row own b.call pc None 0 x no_rest
 
@@ -49,26 +49,22 @@ module _ (m : Table) (laws : HasReading m) (b : Begun) (own : OwnSlots) where
   pub fed_20 : (x n : ℕ) → m.feed (reading b own 20 x) n ≡ continued (reading b own 21 (n / 2))
   fed_20 x n = ((laws.row_20 (reading b own 20 x) refl).1 n).0
 
-  -- If the step at row 21 sees a key smaller than the call's own, the walk continues at row 20.
   pub below : (x n : ℕ) → n < target b.call → m.feed (reading b own 21 x) n ≡ continued (reading b own 20 x)
   below x n lt = ((laws.row_21 (reading b own 21 x) refl).1 n).0 ∙ if_below n (target b.call) lt _ _
 
-  -- If the step at row 21 sees the call's own key, the call continues at row 22, which loads the mark.
   pub same : (x n : ℕ) → n ≡ target b.call → m.feed (reading b own 21 x) n ≡ continued (reading b own 22 x)
   same x n eq = ((laws.row_21 (reading b own 21 x) refl).1 n).0
       ∙ (if_not_below n (target b.call) (omega arith) _ _ ∙ if_same n (target b.call) eq _ _)
 
-  -- If the step at row 21 sees a key greater than the call's own, the call replies False.
   pub above : (x n : ℕ) → target b.call < n → m.feed (reading b own 21 x) n ≡ leaves_with False (reading b own 21 x)
   above x n gt = ((laws.row_21 (reading b own 21 x) refl).1 n).0
       ∙ (if_not_below n (target b.call) (omega arith) _ _ ∙ if_other n (target b.call) (λ e. omega arith) _ _)
 
-  -- The mark determines the reply.
   pub marked : (x n : ℕ) → m.feed (reading b own 22 x) n
       ≡ leaves_with (if n % 2 == 0 then True else False) (reading b own 22 x)
   marked x n = ((laws.row_22 (reading b own 22 x) refl).1 n).0 ∙ leaves_by (n % 2 == 0) (reading b own 22 x)
 
--- A round of the walk, which makes two steps, decreases the number of remaining steps.
+-- Each round of the walk, which makes two steps, decreases the number of steps that the `contains` can still make.
 pub falls : (m : Table) → Lawful m → BoundedReads m → (b : Begun) (k : Key) → b.call ≡ Contains k → (l l' l'' : Local)
     (s s' s'' : TableSeat) (n n' : ℕ) → Holds m b l s → Goes m s.me.0 n s'.me.0 → Holds m b l' s' → Goes m s'.me.0 n' s''.me.0
     → Holds m b l'' s''

@@ -1,4 +1,4 @@
--- Lemmas that follow a pending call from step to step.
+-- Lemmas that follow a pending call from one step to the next.
 use Rattle.std.proofs.Common.{◌≡◌, ◌≢◌, ℕ, ◌+◌, ◌<◌, ◌≤◌, List, ◌∷◌, Option, None, refl, sym, ap, ◌∙◌, subst, arith}
 use Rattle.atomic_table.specs.Seated.{TableId}
 use Rattle.lset_words.specs.declared.Call.{Call}
@@ -25,7 +25,7 @@ use Rattle.lset_loops.specs.Calling.{Holds, MayStep, HasStepped, MayLock, MayAns
 use Rattle.lset_loops.specs.Calling.{HasAnswered, MayStore, Stores}
 
 module _ (m : Table) (b : Begun) where
-  -- The seat of a step belongs to the table.
+  -- The seat of a pending call belongs to the call's shared words.
   pub of_table : (c : Call) (z : TableId) (k : Opening) → IsCall b c z k → (l : Local) (s : TableSeat) → Holds m b l s → IsOf z k s
   of_table c z k is l s h = let P : TableId × Opening → Type 0 = λ q. q.0.words ≡ word_count (sizes q.1) in
       (h.seat.0 ∙ is.1, h.mid.same.1 ∙ is.2, subst P (λ i. (is.1 i, is.2 i)) h.words)
@@ -47,7 +47,8 @@ module _ (m : Table) (b : Begun) where
         local = come.0;
       }
 
-  -- If a step does not end the call, it leads to the next row. This needs no fact about the thread's state.
+  -- A step that does not end the call leads to the row that the step table demands. This needs no fact about the
+  -- thread's registers.
   pub leads : (a : Action) (s : TableSeat) (n : ℕ) (s' : TableSeat) → MayStep m b a s → IsSeat s s' → Goes m s.me.0 n s'.me.0 →
       HasStepped m b s n s'
   leads a s n s' h seat g = record {
@@ -56,7 +57,7 @@ module _ (m : Table) (b : Begun) where
         onward l s n s' seat g (subst (λ x. (m.feed x n).answer ≡ None) same (h.goes_on n)) holds;
   }
 
-  -- A step accesses a word of the table.
+  -- The word that a step accesses is a word of the set.
   pub few_held : Lawful m → (l : Local) (a : Action) (s : TableSeat) → Holds m b l s → a ≡ m.next l → word_named a < MOST_WORDS
   few_held law l a s h acts =
       let o = open_now l s h in
@@ -77,7 +78,7 @@ module _ (m : Table) (b : Begun) where
   pub few_asks : Lawful m → (a : Action) (s : TableSeat) → MayAnswer m b a s → word_named a < MOST_WORDS
   few_asks law a s h = few_held law h.held a s h.holds h.acts
 
-  -- The thread's state is the one in its seat's view.
+  -- The registers of the thread are those in the view of its seat.
   pub itself : (l : Local) (s : TableSeat) → Holds m b l s → Holds m b s.me.0.local s
   itself l s h = record { words = h.words; used = h.used; seat = h.seat; mid = h.mid; stands = h.stands; local = refl }
 
@@ -94,7 +95,7 @@ module _ (m : Table) (b : Begun) where
     local = h.local ∙ same;
   }
 
-  -- A failed attempt to take a lock does not change the state.
+  -- A failed attempt to take a lock does not change the thread's registers.
   pub tried : (word thread : ℕ) (s0 s : TableSeat) (n : ℕ) (s' : TableSeat) → MayLock m b word thread s0 → n ≢ 0 →
       Holds m b s0.me.0.local s
       → IsSeat s s' → Goes m s.me.0 n s'.me.0 → Holds m b s0.me.0.local s'
@@ -103,7 +104,6 @@ module _ (m : Table) (b : Begun) where
       now_holds (m.feed lk.held n).local s0.me.0.local s' (ap (λ (f : Fed). f.local) (lk.again n ne) ∙ sym lk.holds.local)
       (onward lk.held s n s' seat g (ap (λ (f : Fed). f.answer) (lk.again n ne)) at)
 
-  -- After a failed attempt, the next step is another attempt to take the same lock.
   pub still : (word thread : ℕ) (s0 : TableSeat) (n : ℕ) (s' : TableSeat) → MayLock m b word thread s0 → n ≢ 0 → IsSeat s0 s' →
       Goes m s0.me.0 n s'.me.0 → MayLock m b word thread s'
   still word thread s0 n s' lk ne seat g = record {
@@ -121,7 +121,6 @@ module _ (m : Table) (b : Begun) where
       let at = tried word thread s0 s0 n s lk ne (itself lk.held s0 lk.holds) seat g in
       record { leads = λ l h. on.leads l (now_holds s0.me.0.local l s h.local at) }
 
-  -- A successful attempt leads to the next row.
   pub leads_then : (word thread : ℕ) (s0 s : TableSeat) (n : ℕ) (s' : TableSeat) → MayLock m b word thread s0 → n ≡ 0 →
       Holds m b s0.me.0.local s → IsSeat s s' → Goes m s.me.0 n s'.me.0 → HasStepped m b s0 0 s'
   leads_then word thread s0 s n s' lk zero here seat g =
@@ -173,7 +172,8 @@ begins_holding m law b own s n s' c same may seat starts none =
       local = come.0;
     } in subst (λ x. Holds m x f.local s') (sym may.now) here
 
--- The first step was a failed attempt to take a lock.
+-- The first step of a call can be a failed attempt to take a lock: the thread's registers are then those at the call's
+-- begin.
 pub first_tried : (m : Table) → Lawful m → (b : Begun) (own : OwnSlots) (s : TableSeat) (n : ℕ) (s' : TableSeat) (c : Call) → b.call ≡ c →
     MayBegin m b own s
     → IsSeat s s' → Starts m c s.me.0 n s'.me.0 → ((i : ℕ) → i ≢ 0 → m.feed (first m b own) i ≡ continued (first m b own)) → n ≢ 0
@@ -182,13 +182,15 @@ first_tried m law b own s n s' c same may seat starts again ne =
     now_holds m b (m.feed (first m b own) n).local (first m b own) s' (ap (λ (f : Fed). f.local) (again n ne))
     (begins_holding m law b own s n s' c same may seat starts (ap (λ (f : Fed). f.answer) (again n ne)))
 
--- If a thread is in state l, and l' equals l, the thread is in state l'. The proof of a loop has three parts: `leads`
--- states the thread's state after a step, as the table computes it; the branch's test selects the case (if_same,
--- if_other, deed); and `moved` writes the result in the form of a row.
+-- If a thread has the registers l, and l' equals l, the thread has the registers l'.
+--
+-- The proof of a loop has three parts. `leads` states the registers after a step, as the step table computes them. The
+-- test of a branch selects the case (if_same, if_other, deed). `moved` writes the registers in the form `row`.
 pub moved : {m : Table} {b : Begun} {l l' : Local} {s : TableSeat} → Holds m b l s → l ≡ l' → Holds m b l' s
 moved h same = record { words = h.words; used = h.used; seat = h.seat; mid = h.mid; stands = h.stands; local = h.local ∙ same }
 
--- `moved`, for a number that the loop has in a variable.
+-- Replaces the number of the current node in the registers (in `to_pred`: of the previous node) by an equal number that
+-- the loop has in a variable.
 pub to_curr : {m : Table} {b : Begun} {d : Call} {own : OwnSlots} {pc p x x' : ℕ} {r : Option Reply} {j : Rest} {s : TableSeat}
     → x' ≡ x → Holds m b (row own d pc r p x j) s → Holds m b (row own d pc r p x' j) s
 to_curr {d = d} {own = own} {pc = pc} {p = p} {r = r} {j = j} is h = moved h (ap (λ i. row own d pc r p i j) (sym is))
@@ -206,7 +208,6 @@ pub to_slots : {m : Table} {b : Begun} {d : Call} {own own' : OwnSlots} {pc p x 
     → own' ≡ own → Holds m b (row own d pc r p x j) s → Holds m b (row own' d pc r p x j) s
 to_slots {d = d} {pc = pc} {p = p} {x = x} {r = r} {j = j} is h = moved h (ap (λ o. row o d pc r p x j) (sym is))
 
--- If the registers are known, the next step can be made.
 pub step : {m : Table} {b : Begun} {l : Local} {a : Action} {s : TableSeat} → Holds m b l s → a ≡ m.next l
     → ((n : ℕ) → (m.feed l n).answer ≡ None) → MayStep m b a s
 step h acts on = record { held = _; holds = h; acts = acts; goes_on = on }
@@ -222,7 +223,7 @@ stores {m = m} {b = b} {s = s} {word = word} {more = more} h is all =
 abbrev pub no_rest : Rest
 no_rest = record { succ = 0; node = 0; pkey = 0; ckey = 0 }
 
--- ---- Lemmas about a whole call that began at seat s
+-- ---- Lemmas about a whole call that began from seat s
 module _ (c : Call) (b : Begun) (s : TableSeat) (began : b ≡ begun_at c s) where
   pub may_begin : {m : Table} {z : TableId} {k : Opening} {own : OwnSlots} → MayCall m z k own s → MayBegin m b own s
   may_begin may = rw began record {

@@ -1,4 +1,4 @@
--- A pending call as a loop knows it: when it began, and the state of its thread.
+-- What a loop knows of its pending call between two steps.
 use Rattle.std.specs.Prelude.{◌≡◌, ◌≢◌, ℕ, ◌+◌, ◌*◌, List, [], ◌∷◌, Bool, true, false, Option, Some, None, MatchOption}
 use Rattle.lset_words.specs.declared.Call.{Call}
 use Rattle.lset_words.specs.declared.Reply.{Reply}
@@ -20,7 +20,7 @@ use Rattle.lset_rule.specs.Views.{Stands}
 use Rattle.lset_rule.specs.Calls.{IsMid, Makes}
 use Rattle.lset_loops.specs.Begun.{Begun, begun_at}
 
--- Call b of machine m is pending, its thread is in state l, and its seat is now s.
+-- Call b on list m is pending. Its thread has the registers `l`, and its seat is now s.
 pub record Holds (m : Table) (b : Begun) (l : Local) (s : TableSeat) : Type 0 where
   pub words : b.table_id.words ≡ word_count (sizes b.me.0.shape)
   pub used : b.me.0.spent ≡ false
@@ -29,18 +29,18 @@ pub record Holds (m : Table) (b : Begun) (l : Local) (s : TableSeat) : Type 0 wh
   pub stands : Stands m s.me.0
   pub local : s.me.0.local ≡ l
 
--- The table's next step is a, which does not end the call.
+-- Action a is the step that the step table demands next of call b. It does not end the call.
 pub record MayStep (m : Table) (b : Begun) (a : Action) (s : TableSeat) : Type 0 where
   pub held : Local
   pub holds : Holds m b held s
   pub acts : a ≡ m.next held
   pub goes_on : (n : ℕ) → (m.feed held n).answer ≡ None
 
--- States that after a step that saw n, the thread is in the state to which the table leads.
+-- States that the step from seat s to s' saw the value n, and led to the row that the step table demands.
 pub record HasStepped (m : Table) (b : Begun) (s : TableSeat) (n : ℕ) (s' : TableSeat) : Type 0 where
   pub leads : (l : Local) → Holds m b l s → Holds m b (m.feed l n).local s'
 
--- The table's next step is an attempt to take a lock, repeated until the lock is free.
+-- The step table demands that call b attempts to take the lock at `word` until the lock is free.
 pub record MayLock (m : Table) (b : Begun) (word thread : ℕ) (s : TableSeat) : Type 0 where
   pub held : Local
   pub holds : Holds m b held s
@@ -48,17 +48,17 @@ pub record MayLock (m : Table) (b : Begun) (word thread : ℕ) (s : TableSeat) :
   pub again : (n : ℕ) → n ≢ 0 → m.feed held n ≡ continued held
   pub goes_on : (m.feed held 0).answer ≡ None
 
--- Returns the slot that the thread's next successful add links in.
+-- Returns the node (slot) that the thread's next successful add will link in.
 abbrev pub slot : OwnSlots → ℕ
 slot own = slot_node own.quota own.thread own.used
 
--- Returns the thread's state after it stores these values.
+-- Returns the registers after a thread with registers `l` has stored these values, given as (word, value).
 abbrev pub feeds : Table → Local → List (ℕ × ℕ) → Local
 feeds m l [] = l
 feeds m l ((word, value) ∷ more) = feeds m (m.feed l value).local more
 
--- States that the table's next steps, from state l on, are these stores of values to words, and that none of them ends
--- the call.
+-- States that the step table demands these stores, given as (word, value), one after another from registers `l` on.
+-- None of them ends the call.
 abbrev pub Stores : Table → Local → List (ℕ × ℕ) → Type 0
 Stores m l [] = Unit {0}
 Stores m l ((word, value) ∷ more) = (Store word value ≡ m.next l) × ((n : ℕ) → (m.feed l n).answer ≡ None)
@@ -72,56 +72,59 @@ pub record MayStore (m : Table) (b : Begun) (words : List (ℕ × ℕ)) (s : Tab
 pub record HasStored (m : Table) (b : Begun) (stores : List (ℕ × ℕ)) (s s' : TableSeat) : Type 0 where
   pub leads : (l : Local) → Holds m b l s → Holds m b (feeds m l stores) s'
 
--- Returns the stores that fill the thread's next slot and link it to node x.
+-- Returns the stores that write the key `word` and a link to node x into the thread's next slot.
 abbrev pub slot_stores : OwnSlots → ℕ → ℕ → List (ℕ × ℕ)
 slot_stores own word x = (key_index (slot own), word) ∷ (link_index (slot own), 2 * x) ∷ []
 
--- Returns the stores that fill the thread's next slot and link it in between p and x.
+-- Returns the stores that write the key `word` into the thread's next slot and link the slot in between nodes p and x.
 abbrev pub put_stores : OwnSlots → ℕ → ℕ → ℕ → List (ℕ × ℕ)
 put_stores own word p x = (key_index (slot own), word) ∷ (link_index (slot own), 2 * x) ∷ (link_index p, 2 * slot own) ∷ []
 
--- The call is about to begin at seat s, whose thread has these slots.
+-- Call b has not begun yet. Its seat s is idle, and the thread of the seat has the slots `own`.
 pub record MayBegin (m : Table) (b : Begun) (own : OwnSlots) (s : TableSeat) : Type 0 where
   pub now : b ≡ begun_at b.call s
   pub may : MayCall m b.table_id b.me.0.shape own s
 
--- Returns the thread's state after it has begun the call.
+-- Returns the registers of the thread after it has begun call b.
 abbrev pub first : Table → Begun → OwnSlots → Local
 first m b own = m.begin b.call (resting own)
 
--- The call has returned r, and its thread is in state l.
+-- Call b has ended with reply r. Its thread has the registers `l`, and its seat is now s.
 pub record Answered (m : Table) (b : Begun) (r : Reply) (l : Local) (s : TableSeat) : Type 0 where
   pub seat : (s.table_id ≡ b.table_id) × (s.id ≡ b.id) × (s.me.1 ≡ b.me.1)
   pub makes : Makes m b.call b.me.0 r s.me.0
   pub local : s.me.0.local ≡ l
 
--- The table's next step is a, which can end the call.
+-- Action a is the step that the step table demands next of call b. It can end the call.
 pub record MayAnswer (m : Table) (b : Begun) (a : Action) (s : TableSeat) : Type 0 where
   pub held : Local
   pub holds : Holds m b held s
   pub acts : a ≡ m.next held
 
--- States that the call continues after the step, or has ended with its reply.
+-- States that call b is still pending if the step with result f has no reply, and has ended with this reply otherwise.
 abbrev pub StandsAfter : Table → Begun → Fed → TableSeat → Type 0
 StandsAfter m b f s = MatchOption f.answer (Holds m b f.local s) (λ r. Answered m b r f.local s)
 
--- States what holds after a step that saw n.
+-- States that the step from seat s to s' saw the value n, and that the call is then pending or ended as the step table
+-- demands.
 abbrev pub HasTold : Table → Begun → TableSeat → ℕ → TableSeat → Type 0
 HasTold m b s n s' = (l : Local) → Holds m b l s → (f : Fed) → m.feed l n ≡ f → StandsAfter m b f s'
 
--- States what holds after an exchange of `old`, depending on whether it succeeded.
+-- States that the exchange from seat s to s' saw `old` if it succeeded and another value if it failed, and that the
+-- call is then pending or ended as the step table demands.
 abbrev pub HasExchanged : Table → Begun → ℕ → TableSeat → Bool → TableSeat → Type 0
 HasExchanged m b old s true s' = HasTold m b s old s'
 HasExchanged m b old s false s' = (n : ℕ) × (n ≢ old) × HasTold m b s n s'
 
--- The registers that the loops do not keep in variables.
+-- The registers whose values the loops do not need.
 pub record Rest : Type 0 where
   pub succ : ℕ
   pub node : ℕ
   pub pkey : ℕ
   pub ckey : ℕ
 
--- Returns the thread's state at row pc.
+-- Returns the registers of a thread at row pc of the step table: p is the previous node, x the current one, j has the
+-- registers that the loops do not need.
 abbrev pub row : OwnSlots → Call → ℕ → Option Reply → ℕ → ℕ → Rest → Local
 row own c pc r p x j = record {
   thread = own.thread;
@@ -138,21 +141,22 @@ row own c pc r p x j = record {
   ckey = j.ckey;
 }
 
--- Returns the state after a decision: at the table's row that adds, that removes, or that leaves with a reply.
+-- Returns the registers after decision d: at the row that adds, at the row that removes, or at the row that ends the
+-- call with a reply.
 abbrev pub done : Targets → Decision → Local → Local
 done t PutIn l = goes_to t.adds None l
 done t TakeOut l = goes_to t.removes None l
 done t (Answer r) l = goes_to t.leaves (Some r) l
 
--- States that d is the correct decision at a key word.
+-- States that the step table also makes decision d for call c when the walk has stopped at the key `word`.
 abbrev pub Decides : Call → OwnSlots → ℕ → Decision → Type 0
 Decides c own word d = (t : Targets) (l : Local) → l.call ≡ c → l.used ≡ own.used → l.quota ≡ own.quota →
     decided_on t word l ≡ done t d l
 
--- Returns the slots after one more is used.
+-- Returns the slots of a thread after one more slot is used.
 abbrev pub one_more : OwnSlots → OwnSlots
 one_more own = record own { used = own.used + 1 }
 
--- States that the call has ended with these slots and this reply.
+-- States that call b has ended with this pair of slots and reply.
 abbrev pub HasAnswered : Table → Begun → OwnSlots × Reply → TableSeat → Type 0
 HasAnswered m b answer s = (l : Local) × Answered m b answer.1 l s × (answer.0 ≡ slots_of l)

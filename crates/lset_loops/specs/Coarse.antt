@@ -1,4 +1,5 @@
--- The rows of CoarseList at which the parts of its loop begin or end.
+-- The state of a call between two parts of CoarseList's loop: the row of the step table, and the nodes in the
+-- registers.
 use Rattle.std.specs.Prelude.{ℕ, Some, None}
 use Rattle.lset_words.specs.declared.Reply.{Reply}
 use Rattle.lset_steps.specs.Rows.{decided_on}
@@ -9,19 +10,19 @@ use Rattle.lset_loops.specs.declared.decision.Found.{Found}
 use Rattle.lset_loops.specs.Begun.{Begun}
 use Rattle.lset_loops.specs.Calling.{Holds, Rest, row}
 
--- States that the call has taken the lock.
+-- States that the call holds the list's lock and is about to load the head's link.
 abbrev pub AtHead : Begun → OwnSlots → TableSeat → Type 0
 AtHead b own s = (j : Rest) × Holds coarse b (row own b.call 2 None 0 0 j) s
 
--- States that the call is about to load the key of node x, to which p's link led.
+-- States that the call is about to load the key of node x, to which the link of p led.
 abbrev pub AtKey : Begun → OwnSlots → ℕ → ℕ → TableSeat → Type 0
 AtKey b own p x s = (j : Rest) × Holds coarse b (row own b.call 3 None p x j) s
 
--- States that the walk has stopped at the given place.
+-- States that the walk has stopped at the nodes f, and that the call continues at the row that its decision selects.
 abbrev pub StopsAt : Begun → OwnSlots → Found → TableSeat → Type 0
 StopsAt b own f s = (j : Rest) × Holds coarse b (decided_on targets f.word (row own b.call 3 None f.pred.number f.curr.number j))
     s
 
--- States that the call is about to release the lock and then end with these slots and this reply.
+-- States that the call is about to release the list's lock and to end with this pair of slots and reply.
 abbrev pub Leaves : Begun → OwnSlots × Reply → TableSeat → Type 0
 Leaves b answer s = (p : ℕ) × (x : ℕ) × (j : Rest) × Holds coarse b (row answer.0 b.call 10 (Some answer.1) p x j) s

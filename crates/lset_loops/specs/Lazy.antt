@@ -1,4 +1,5 @@
--- The rows of LazyList at which the parts of an add's or remove's loop begin or end.
+-- The state of a call between two parts of LazyList's loop for `add` and `remove`: the row of the step table, and the
+-- nodes in the registers.
 use Rattle.std.specs.Prelude.{ℕ, Option, Some, None}
 use Rattle.lset_words.specs.declared.Reply.{Reply}
 use Rattle.lset_steps.specs.Rows.{decided_on}
@@ -10,32 +11,35 @@ use Rattle.lset_loops.specs.declared.decision.Found.{Found}
 use Rattle.lset_loops.specs.Begun.{Begun}
 use Rattle.lset_loops.specs.Calling.{Holds, Rest, row}
 
--- States that the call is about to load the key of node x, to which p's link led.
+-- States that the call is about to load the key of node x, to which the link of p led.
 abbrev pub AtKey : Begun → OwnSlots → ℕ → ℕ → TableSeat → Type 0
 AtKey b own p x s = (j : Rest) × Holds lazy b (row own b.call 2 None p x j) s
 
--- States that the walk has stopped at the given place, and that the call is about to lock the first node.
+-- States that the walk has stopped at the nodes f, and that the call is about to lock the first of them.
 abbrev pub StopsAt : Begun → OwnSlots → Found → TableSeat → Type 0
 StopsAt b own f s = (j : Rest) × Holds lazy b (row own b.call 4 None f.pred.number f.curr.number (record j { ckey = f.word })) s
 
--- States that the call has locked both nodes, and is about to load the link of the first.
+-- States that the call has locked the nodes f, and is about to load the link of the first.
 abbrev pub HasLocked : Begun → OwnSlots → Found → TableSeat → Type 0
 HasLocked b own f s = (j : Rest) × Holds lazy b (row own b.call 6 None f.pred.number f.curr.number (record j { ckey = f.word })) s
 
--- States that the two nodes are neighbours, and that the second node's link leads to n.
+-- States that the nodes f are locked neighbours, that the link of the second leads to n, and that the call continues at
+-- the row that its decision selects.
 abbrev pub AreNeighbours : Begun → OwnSlots → Found → Node → TableSeat → Type 0
 AreNeighbours b own f n s = (j : Rest)
     × Holds lazy b (decided_on targets f.word
     (row own b.call 7 None f.pred.number f.curr.number (record j { ckey = f.word; succ = n.number }))) s
 
--- States that the call is about to release both locks. It then ends with the reply or, if there is none, starts over.
+-- States that the call is about to release the locks of the nodes f. It then ends with reply r, or starts over if r is
+-- None.
 abbrev pub GivesBack : Begun → Found → OwnSlots → Option Reply → TableSeat → Type 0
 GivesBack b f own r s = (j : Rest) × Holds lazy b (row own b.call 13 r f.pred.number f.curr.number j) s
 
 abbrev pub Leaves : Begun → Found → OwnSlots × Reply → TableSeat → Type 0
 Leaves b f answer s = GivesBack b f answer.0 (Some answer.1) s
 
--- States what holds after the check whether the two nodes are neighbours.
+-- States the outcome of the check of the nodes f: they are neighbours if the check returned a node, otherwise the call
+-- is about to release them and to start over.
 abbrev pub HasValidated : Begun → OwnSlots → Found → Option Node → TableSeat → Type 0
 HasValidated b own f (Some n) s = AreNeighbours b own f n s
 HasValidated b own f None s = GivesBack b f own None s

@@ -1,4 +1,5 @@
--- The rows of OptimisticList at which the parts of its loop begin or end.
+-- The state of a call between two parts of OptimisticList's loop: the row of the step table, and the nodes in the
+-- registers.
 use Rattle.std.specs.Prelude.{ℕ, Bool, true, false, Option, Some, None}
 use Rattle.lset_words.specs.declared.Reply.{Reply}
 use Rattle.lset_steps.specs.Rows.{decided_on}
@@ -11,11 +12,11 @@ use Rattle.lset_loops.specs.Begun.{Begun}
 use Rattle.lset_loops.specs.Calling.{Holds, Rest, row}
 use Rattle.lset_loops.specs.declared.optimistic.Stopped.{Stopped}
 
--- States that the call is about to load the key of node x, to which p's link led. `before` is p's key word.
+-- States that the call is about to load the key of node x, to which the link of p led. `before` is the key of p.
 abbrev pub AtKey : Begun → OwnSlots → ℕ → ℕ → ℕ → TableSeat → Type 0
 AtKey b own p x before s = (j : Rest) × Holds optimistic b (row own b.call 2 None p x (record j { pkey = before })) s
 
--- States that the walk has stopped at the given place, and that the call is about to lock the first node.
+-- States that the walk has stopped at the nodes f, and that the call is about to lock the first of them.
 abbrev pub StopsAt : Begun → OwnSlots → Stopped → TableSeat → Type 0
 StopsAt b own f s = (j : Rest)
     × Holds optimistic b (row own b.call 4 None f.found.pred.number f.found.curr.number (record j {
@@ -23,7 +24,7 @@ StopsAt b own f s = (j : Rest)
       ckey = f.found.word;
     })) s
 
--- States that the call has locked both nodes, and is about to walk again unless the first node is the head.
+-- States that the call has locked the nodes f. It walks again from the head, except if the first of them is the head.
 abbrev pub HasLocked : Begun → OwnSlots → Stopped → TableSeat → Type 0
 HasLocked b own f s = (j : Rest)
     × Holds optimistic b (at_locks (row own b.call 5 None f.found.pred.number f.found.curr.number (record j {
@@ -31,7 +32,7 @@ HasLocked b own f s = (j : Rest)
       ckey = f.found.word;
     }))) s
 
--- States that the call, in its second walk, is about to load the link of node n.
+-- States that the call, in its second walk, is about to load the link of node n. The nodes f are locked.
 abbrev pub AtNode : Begun → OwnSlots → Stopped → Node → TableSeat → Type 0
 AtNode b own f n s = (j : Rest)
     × Holds optimistic b (row own b.call 6 None f.found.pred.number f.found.curr.number (record j {
@@ -40,30 +41,33 @@ AtNode b own f n s = (j : Rest)
       node = n.number;
     })) s
 
--- States that the call is about to load the link of the first node, which the second walk has reached.
+-- States that the second walk has reached the first of the nodes f, and that the call is about to load its link.
 abbrev pub AtPred : Begun → OwnSlots → Found → TableSeat → Type 0
 AtPred b own f s = (j : Rest) × Holds optimistic b
     (row own b.call 8 None f.pred.number f.curr.number (record j { ckey = f.word })) s
 
--- States that the two nodes are neighbours.
+-- States that the nodes f are locked neighbours, and that the call continues at the row that its decision selects.
 abbrev pub AreNeighbours : Begun → OwnSlots → Found → TableSeat → Type 0
 AreNeighbours b own f s = (j : Rest)
     × Holds optimistic b (decided_on targets f.word
     (row own b.call 8 None f.pred.number f.curr.number (record j { ckey = f.word }))) s
 
--- States that the call is about to release both locks. It then ends with the reply or, if there is none, starts over.
+-- States that the call is about to release the locks of the nodes f. It then ends with reply r, or starts over if r is
+-- None.
 abbrev pub GivesBack : Begun → Found → OwnSlots → Option Reply → TableSeat → Type 0
 GivesBack b f own r s = (j : Rest) × Holds optimistic b (row own b.call 14 r f.pred.number f.curr.number j) s
 
 abbrev pub Leaves : Begun → Found → OwnSlots × Reply → TableSeat → Type 0
 Leaves b f answer s = GivesBack b f answer.0 (Some answer.1) s
 
--- States what holds after the second walk, depending on whether it reached the first node.
+-- States the outcome of the second walk: it has reached the first of the nodes f, or the call is about to release their
+-- locks and to start over.
 abbrev pub HasReached : Begun → OwnSlots → Found → Bool → TableSeat → Type 0
 HasReached b own f true s = AtPred b own f s
 HasReached b own f false s = GivesBack b f own None s
 
--- States what holds after the check whether the two nodes are neighbours.
+-- States the outcome of the check of the nodes f: they are neighbours, or the call is about to release their locks and
+-- to start over.
 abbrev pub HasValidated : Begun → OwnSlots → Found → Bool → TableSeat → Type 0
 HasValidated b own f true s = AreNeighbours b own f s
 HasValidated b own f false s = GivesBack b f own None s

@@ -1,4 +1,4 @@
-//! A caller: the thread that makes a pending call, and what it needs for that.
+//! The thread that makes a pending call, and what its loop needs.
 ghost use Rattle.std.specs.Prelude.{◌≡◌, ◌<◌};
 ghost use Rattle.std.proofs.Props.{props};
 ghost use Rattle.lset_words.specs.Words.{tail_word, target};
@@ -12,7 +12,7 @@ use lset_words::Call;
 use std::marker::Model;
 use std::snapshot::Snapshot;
 
-/// A pending call, with its seat as it was when the call began.
+/// A pending call, and a copy of its seat (the right to call as one thread) from when the call began.
 #[derive(Drop)]
 pub(crate) struct Origin {
     call: Call,
@@ -31,8 +31,8 @@ impl Model for Origin {
     ghost view = { λ o. begun_at o.call o.place.value };
 }
 
-/// The thread that makes a call: its list's words, the pause between two steps, its slots, the call, and the key word
-/// of the call's key.
+/// The thread that makes a call: the shared words of its list, the pause between two steps, the thread's slots (nodes
+/// for keys that it adds), the call, and the call's key as a word.
 #[derive(Drop)]
 pub(crate) struct Caller<'a, M: Machine, P: Pause> {
     pub table: &'a Words<M>,
@@ -47,7 +47,7 @@ pub(crate) struct Caller<'a, M: Machine, P: Pause> {
 }
 
 impl<'a, M: Machine, P: Pause> Caller<'a, M, P> {
-    /// Creates the caller of `call` from this seat. The call has not made its first step yet.
+    /// Creates the caller of `call` from the idle seat `place`. The call begins later, with its first step.
     pub fn new(
         table: &'a Words<M>,
         place: &TableSeat,

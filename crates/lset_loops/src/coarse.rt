@@ -32,7 +32,8 @@ fn walk<P: Pause, N: Rounds>(caller: &Caller<CoarseList, P>, place: &mut TableSe
     None
 }
 
-/// Adds the key, removes it, or only replies, at the place where the walk has stopped.
+/// Adds the key, removes it, or only replies, between the two nodes at which the walk has stopped. The list's lock must
+/// be held.
 fn act<P: Pause>(
     caller: &Caller<CoarseList, P>,
     place: &mut TableSeat,
@@ -55,8 +56,10 @@ fn act<P: Pause>(
     }
 }
 
-/// Makes a whole call: takes the lock, walks to the key, acts there, and releases the lock. (Herlihy and Shavit's coarse-grained
-/// list.) Returns `None` if one of its loops has made `N::MOST` rounds.
+/// Makes a whole call on a CoarseList: takes the list's lock, walks to the key, acts there, and releases the lock. This
+/// is Herlihy and Shavit's coarse-grained list.
+///
+/// Returns `None` if a loop of the call has made `N::MOST` rounds. The call is then still pending.
 pub fn coarse_within<P: Pause, N: Rounds>(
     table: &Words<CoarseList>,
     place: &mut TableSeat,

@@ -1,4 +1,4 @@
-//! How a call decides after its walk has stopped.
+//! How a call decides what to do after its walk has stopped.
 ghost use Rattle.std.specs.Prelude.{◌≡◌, ◌<◌};
 ghost use Rattle.lset_loops.specs.Calling.{Decides, HasStored, MayStore, one_more, put_stores, slot, slot_stores};
 
@@ -10,8 +10,8 @@ use lset_steps::Machine;
 use lset_steps::rows::ceiling_at;
 use lset_words::{Call, Reply, slot_node};
 
-/// The place at which a walk has stopped: `curr` is the first node whose key is not smaller than the call's, and `pred`
-/// is the node before it.
+/// The two nodes at which a walk has stopped: `curr` is the first node whose key is not smaller than the call's, and
+/// `pred` is the node before `curr`. `word` is the key of `curr`.
 #[derive(Clone, Copy)]
 pub(crate) struct Found {
     pub pred: Node,
@@ -27,7 +27,7 @@ pub(crate) enum Decision {
     Answer(Reply),
 }
 
-/// Returns what `call` must do at this key word.
+/// Returns what `call` does if `word` is the first key that is not smaller than the call's key.
 pub fn decide(call: Call, word: u64, slots: OwnSlots) -> Decision
     ensures deed { Decides call slots word result }
     ensures room { result ≡ Decision.PutIn → slots.used < slots.quota }
@@ -45,7 +45,7 @@ pub fn decide(call: Call, word: u64, slots: OwnSlots) -> Decision
     }
 }
 
-/// Returns the slots after one more is used.
+/// Returns the slots of a thread after one more slot is used.
 pub(crate) fn one_more(slots: OwnSlots) -> OwnSlots
     requires { slots.used < slots.quota }
     ensures { result ≡ one_more slots }
@@ -57,7 +57,7 @@ pub(crate) fn one_more(slots: OwnSlots) -> OwnSlots
 }
 
 impl<'a, M: Machine, P: Pause> Caller<'a, M, P> {
-    /// Writes the key of the thread's next slot and its link to `next`. Returns the slot's node.
+    /// Writes the call's key and a link to `next` into the thread's next slot (an unused node). Returns this node.
     pub fn fill_slot(&self, place: &mut TableSeat, next: Node) -> Node
         requires { MayStore M.table self.now.origin (slot_stores self.now.slots self.now.key next.number) place.old }
         ensures node { result.number ≡ slot self.now.slots }
@@ -72,7 +72,8 @@ impl<'a, M: Machine, P: Pause> Caller<'a, M, P> {
         node
     }
 
-    /// Fills the thread's next slot and links it in between `pred` and `curr`.
+    /// Writes the call's key into the thread's next slot (an unused node), and links this node in between `pred` and
+    /// `curr`.
     pub fn put_in(&self, place: &mut TableSeat, found: Found)
         requires { MayStore M.table self.now.origin (put_stores self.now.slots self.now.key found.pred.number found.curr.number) place.old }
         ensures { HasStored M.table self.now.origin (put_stores self.now.slots self.now.key found.pred.number found.curr.number) place.old place.new }

@@ -1,4 +1,4 @@
-//! FineList: node locks, taken hand over hand.
+//! FineList: each node has a lock. A walk takes the lock of a node before it releases the lock of the previous node.
 ghost use Rattle.std.specs.Prelude.{IfSome};
 ghost use Rattle.lset_fine.specs.Fine.{fine};
 ghost use Rattle.lset_rule.specs.Seats.{HasCalled, MayCall};
@@ -13,7 +13,8 @@ use lset_rule::{OwnSlots, Pause, Rounds, TableSeat, Words};
 use lset_steps::rows::lock_index;
 use lset_words::{Call, HEAD, Reply};
 
-/// Walks hand over hand from the locked head to the first key that is not smaller than the call's.
+/// Walks from the locked head to the first key that is not smaller than the call's. Locks each node before it releases
+/// the previous one, and returns with both nodes locked.
 fn walk<P: Pause, N: Rounds>(caller: &Caller<FineList, P>, place: &mut TableSeat) -> Option<Found>
     requires { AtHead caller.now.origin caller.now.slots place.old }
     ensures { IfSome result (λ f. StopsAt caller.now.origin caller.now.slots f place.new) }
@@ -58,9 +59,10 @@ fn act<P: Pause>(
     }
 }
 
-/// Makes a whole call: walks to the key, locking each node before it releases the previous one, acts there, and
-/// releases both locks. (Herlihy and Shavit's fine-grained list.) Returns `None` if one of its loops has made `N::MOST`
-/// rounds.
+/// Makes a whole call on a FineList: walks to the key, locking each node before it releases the previous one, acts
+/// there, and releases both locks. This is Herlihy and Shavit's fine-grained list.
+///
+/// Returns `None` if a loop of the call has made `N::MOST` rounds. The call is then still pending.
 pub fn fine_within<P: Pause, N: Rounds>(
     table: &Words<FineList>,
     place: &mut TableSeat,

@@ -1,5 +1,5 @@
-//! LazyList: nodes are marked before they are unlinked. A walk takes no lock. A call locks the two nodes at which its
-//! walk stopped, and then checks them.
+//! LazyList: a node is marked before it is unlinked. A call walks without locks, locks the two nodes at which the walk
+//! has stopped, and checks that they are still neighbours.
 ghost use Rattle.lset_steps.specs.ReadRows.{first_row};
 ghost use Rattle.std.specs.Prelude.{◌≡◌, IfSome};
 ghost use Rattle.lset_lazy.specs.Lazy.{lazy};
@@ -14,7 +14,8 @@ use lset_lazy::LazyList;
 use lset_rule::{OwnSlots, Pause, Rounds, TableSeat, Words};
 use lset_words::{Call, Reply};
 
-/// Walks from the head, whose link led to `first`, to the first key that is not smaller than the call's.
+/// Walks from the head to the first key that is not smaller than the call's. `first` is the node to which the head's
+/// link led.
 #[inline(always)]
 fn walk<P: Pause, N: Rounds>(
     caller: &Caller<LazyList, P>,
@@ -39,8 +40,8 @@ fn walk<P: Pause, N: Rounds>(
     None
 }
 
-/// Checks that `pred` leads to `curr` and that neither is marked. Returns the node after `curr`, or `None` if the check
-/// fails.
+/// Returns the node after `curr` if `pred` leads to `curr` and neither is marked, otherwise `None`. Both must be
+/// locked.
 fn validate<P: Pause>(
     caller: &Caller<LazyList, P>,
     place: &mut TableSeat,
@@ -84,10 +85,11 @@ fn act<P: Pause>(
     }
 }
 
-/// Makes a whole `add` or `remove` on a LazyList: walks to the key without a lock, locks the two nodes there, and
-/// checks that they are still neighbours in the list. If they are, acts and releases them; otherwise releases them and
-/// starts over. (Herlihy and Shavit's lazy list, after Heller and others.) Returns `None` if one of its loops has made
-/// `N::MOST` rounds.
+/// Makes a whole `add` or `remove` on a LazyList. Walks to the key without locks, locks the two nodes there, and checks
+/// that they are still neighbours in the list. If they are, acts and releases them; otherwise releases them and starts
+/// over. This is Herlihy and Shavit's lazy list, after Heller and others.
+///
+/// Returns `None` if a loop of the call has made `N::MOST` rounds. The call is then still pending.
 pub fn lazy_change_within<P: Pause, N: Rounds>(
     table: &Words<LazyList>,
     place: &mut TableSeat,

@@ -1,11 +1,11 @@
-//! The loops of the five lists: their calls on the shared words, as Herlihy and Shavit write them. All calls of each
-//! list are here, except the `ceiling` of LazyList and LockFreeList, which the interpreter makes.
+//! Calls of the five lists on the shared words, as loops that look like those of Herlihy and Shavit. Only the `ceiling`
+//! of LazyList and LockFreeList is missing: the interpreter (`lset_rule::interpret_within`) makes it.
 //!
-//! A loop makes its steps through a `Caller`, which represents the pending call, and calls `decide` after its walk has
-//! stopped. At run time, the loops do not read the list's table. Each step requires that it is the step of the call's
-//! current row, and ensures the row to which it leads. So a loop is proved by computing the table. Each loop makes at
-//! most `N::MOST` rounds, except the loop of a `contains` that only reads, which always ends. The contracts are those
-//! of the interpreter (`lset_rule::interpret_within`, `lset_rule::interpret_read`).
+//! A loop makes its steps through a `Caller`, which is the thread of the pending call, and calls `decide` after its
+//! walk has stopped. Each step requires that the list's step table demands this step at the call's current row, and
+//! ensures the next row. A comment `// row` names the row. At run time, no loop reads the table. A loop makes at most
+//! `N::MOST` rounds. A `contains` that only reads has no such limit and always ends. The contracts are those of the
+//! interpreter.
 #![tactic(auto)]
 
 mod caller;

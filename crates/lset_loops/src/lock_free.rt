@@ -1,4 +1,4 @@
-//! LockFreeList has no locks. An exchange of a node's link marks the node, and walks unlink marked nodes.
+//! LockFreeList: no locks. A call marks a node by an exchange of the node's link, and walks unlink marked nodes.
 ghost use Rattle.std.specs.Prelude.{◌≡◌, IfSome};
 ghost use Rattle.lset_steps.specs.ReadRows.{first_row};
 ghost use Rattle.lset_lock_free.specs.LockFree.{lock_free};
@@ -13,8 +13,8 @@ use lset_lock_free::LockFreeList;
 use lset_rule::{OwnSlots, Pause, Rounds, TableSeat, Words};
 use lset_words::{Call, Reply};
 
-/// Walks from the head, whose link led to `first`, to the first key that is not smaller than the call's, and unlinks
-/// marked nodes on the way (Herlihy and Shavit's `find`).
+/// Walks from the head to the first key that is not smaller than the call's, and unlinks marked nodes on the way:
+/// Herlihy and Shavit's `find`. `first` is the node to which the head's link led.
 fn find<P: Pause, N: Rounds>(
     caller: &Caller<LockFreeList, P>,
     place: &mut TableSeat,
@@ -50,8 +50,8 @@ fn find<P: Pause, N: Rounds>(
     None
 }
 
-/// Adds the key, removes it, or only replies, at the place where the walk has stopped. Returns `None` if a link has
-/// changed since.
+/// Adds the key, removes it, or only replies, between the two nodes at which the walk has stopped. Returns `None` if a
+/// link has changed since the walk.
 fn attempt<P: Pause>(
     caller: &Caller<LockFreeList, P>,
     place: &mut TableSeat,
@@ -83,9 +83,11 @@ fn attempt<P: Pause>(
     }
 }
 
-/// Makes a whole `add` or `remove` on a LockFreeList. Walks to the key, then links in its next slot, or marks the node
-/// and attempts once to unlink it. Starts over if a link has changed since the walk. (Herlihy and Shavit's lock-free
-/// list.) Returns `None` if one of its loops has made `N::MOST` rounds.
+/// Makes a whole `add` or `remove` on a LockFreeList. Walks to the key. Then an `add` links in the thread's next slot
+/// (an unused node), and a `remove` marks the node and attempts once to unlink it. Starts over if a link has changed
+/// since the walk. This is Herlihy and Shavit's lock-free list.
+///
+/// Returns `None` if a loop of the call has made `N::MOST` rounds. The call is then still pending.
 pub fn lock_free_change_within<P: Pause, N: Rounds>(
     table: &Words<LockFreeList>,
     place: &mut TableSeat,

@@ -1,7 +1,7 @@
-//! The nodes that a call works with.
+//! The nodes of a list, by their numbers.
 ghost use Rattle.std.specs.Prelude.{◌≡◌, ◌/◌, ◌<◌, ◌^◌};
 
-/// A node, identified by its number. The number fits into a link word next to the mark.
+/// A node of a list. Its number is below 2^63, since a link word has 63 bits for the number and one for the mark.
 #[derive(Clone, Copy)]
 pub struct Node {
     pub number: u64,
@@ -16,7 +16,7 @@ impl Node {
         Node { number: 0 }
     }
 
-    /// Returns the node to which a link word leads.
+    /// Returns the node to which a link word leads, without the mark.
     pub fn behind(link: u64) -> Node
         ensures { result.number ≡ link / 2 }
     {

@@ -1,4 +1,5 @@
-//! OptimisticList: a walk without locks, two node locks, and a second walk that validates.
+//! OptimisticList: a call walks without locks, locks the two nodes at which the walk has stopped, and walks again to
+//! check them.
 ghost use Rattle.std.specs.Prelude.{IfSome};
 ghost use Rattle.lset_optimistic.specs.Optimistic.{optimistic};
 ghost use Rattle.lset_rule.specs.Seats.{HasCalled, MayCall};
@@ -12,14 +13,15 @@ use lset_optimistic::OptimisticList;
 use lset_rule::{OwnSlots, Pause, Rounds, TableSeat, Words};
 use lset_words::{Call, HEAD, Reply};
 
-/// The place at which the walk has stopped, and the key word that it saw at `pred`, or 0 at the head.
+/// The two nodes at which a walk has stopped, and the key of `pred` as the walk saw it (0 for the head).
 #[derive(Clone, Copy)]
 pub(crate) struct Stopped {
     pub(crate) found: Found,
     pub(crate) before: u64,
 }
 
-/// Walks from the head, whose link led to `first`, to the first key that is not smaller than the call's.
+/// Walks from the head to the first key that is not smaller than the call's. `first` is the node to which the head's
+/// link led.
 #[inline(always)]
 fn walk<P: Pause, N: Rounds>(
     caller: &Caller<OptimisticList, P>,
@@ -47,7 +49,7 @@ fn walk<P: Pause, N: Rounds>(
     None
 }
 
-/// Walks a second time from the head, up to `pred`. Returns whether the walk reached `pred`. It fails if it sees a key
+/// Walks a second time from the head, and returns whether this walk reaches `pred`. It does not if it sees a key
 /// greater than that of `pred`.
 #[inline(always)]
 fn reaches<P: Pause, N: Rounds>(
@@ -78,7 +80,7 @@ fn reaches<P: Pause, N: Rounds>(
     None
 }
 
-/// Checks that `pred` is still in the list and leads to `curr`. Both must be locked.
+/// Returns whether `pred` is still in the list and leads to `curr`. Both must be locked.
 fn validate<P: Pause, N: Rounds>(
     caller: &Caller<OptimisticList, P>,
     place: &mut TableSeat,
@@ -121,9 +123,11 @@ fn act<P: Pause>(
     }
 }
 
-/// Makes a whole call: walks to the key without a lock, locks the two nodes there, and checks with a second walk that
-/// they are still neighbours in the list. If they are, acts and releases them; otherwise releases them and starts over.
-/// (Herlihy and Shavit's optimistic list.) Returns `None` if one of its loops has made `N::MOST` rounds.
+/// Makes a whole call on an OptimisticList. Walks to the key without locks, locks the two nodes there, and checks with
+/// a second walk that they are still neighbours in the list. If they are, acts and releases them; otherwise releases
+/// them and starts over. This is Herlihy and Shavit's optimistic list.
+///
+/// Returns `None` if a loop of the call has made `N::MOST` rounds. The call is then still pending.
 pub fn optimistic_within<P: Pause, N: Rounds>(
     table: &Words<OptimisticList>,
     place: &mut TableSeat,

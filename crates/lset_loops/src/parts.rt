@@ -1,4 +1,4 @@
-//! The words of a node, and what its link contains.
+//! The words of a node (key, link and lock), and the content of a link.
 ghost use Rattle.std.specs.Prelude.{◌≡◌, ◌<◌};
 ghost use Rattle.lset_words.specs.declared.TheConstants.{MOST_WORDS};
 ghost use Rattle.lset_loops.specs.Nodes.{index_of, word_of};
@@ -15,7 +15,7 @@ pub(crate) enum Part {
 }
 
 impl Part {
-    /// Returns the word's index in the table.
+    /// Returns the index of this word among the shared words of the set.
     pub fn index(self) -> u64
         requires { index_of self < MOST_WORDS }
         ensures { result ≡ index_of self }
@@ -28,7 +28,7 @@ impl Part {
     }
 }
 
-/// A node's link: the next node, and whether the node itself is marked.
+/// The content of a node's link: the next node, and whether the node that has the link is marked.
 #[derive(Clone, Copy)]
 pub(crate) enum Link {
     To(Node),
@@ -36,7 +36,7 @@ pub(crate) enum Link {
 }
 
 impl Link {
-    /// Returns the link as a word.
+    /// Returns the link as a word: twice the number of the next node, plus 1 if marked.
     pub fn word(self) -> u64
         ensures { result ≡ word_of self }
     {

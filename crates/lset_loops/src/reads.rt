@@ -1,4 +1,4 @@
-//! A `contains` as Herlihy and Shavit write it.
+//! A `contains` that only reads, as Herlihy and Shavit write it.
 ghost use Rattle.std.specs.Prelude.{◌≡◌, ◌%◌, ◌==◌, if◌then◌else◌};
 ghost use Rattle.lset_words.specs.declared.Call.TheVariants.{Contains};
 ghost use Rattle.lset_words.specs.declared.Reply.TheVariants.{True, False};
@@ -15,7 +15,7 @@ use lset_rule::{OwnSlots, Pause, TableSeat, Words};
 use lset_steps::OpenReads;
 use lset_words::{Call, Key, Reply};
 
-/// A list whose `contains` and `ceiling` have rows 20 to 25 of `lset_steps`.
+/// A list whose step table has the common rows 20 to 25 for `contains` and `ceiling` (`lset_steps`).
 pub trait ReadsByRows: OpenReads {
     ghost reading: { HasReading Self.table };
 }
@@ -28,8 +28,8 @@ impl ReadsByRows for LockFreeList {
     ghost reading = { lock_free_rows.reading };
 }
 
-/// Returns the reply of a `contains` that has found its key, from the link word of the key's node. An unmarked node is
-/// in the set.
+/// Returns the reply of a `contains` that has found its key. `link` is the link word of the key's node. The key is in
+/// the set if the node is unmarked.
 fn reply_by_mark(link: u64) -> Reply
     ensures { result ≡ (if link % 2 == 0 then True else False) }
 {
@@ -40,11 +40,12 @@ fn reply_by_mark(link: u64) -> Reply
     }
 }
 
-/// Makes a whole `contains` of `key`: walks to the first key that is not smaller than its own, and checks the mark of
-/// the node that has it. (Herlihy and Shavit's wait-free `contains`.)
+/// Makes a whole `contains` of `key`: walks to the first key that is not smaller than `key`, and replies by the mark of
+/// its node. This is Herlihy and Shavit's wait-free `contains`.
 ///
-/// `place` is an idle seat of these words, and `slots` are its thread's slots. Returns the slots and the reply. `pause`
-/// is called after each step that does not end the call. Does not block, and always returns.
+/// `place` is an idle seat (the right to call as one thread) of the words `table`, and `slots` are the slots of its
+/// thread. Returns the slots and the reply. `pause` is called after each step that does not end the call. Does not
+/// block, and always returns.
 pub fn contains_on<M: ReadsByRows, P: Pause>(
     table: &Words<M>,
     place: &mut TableSeat,

@@ -1,4 +1,5 @@
-//! The steps of a pending call. Each function must be called only for the step of the call's current row.
+//! The steps of a pending call. A function may be called only if the list's step table demands its step at the call's
+//! current row.
 ghost use Rattle.std.specs.Prelude.{◌≡◌, ◌≢◌, ℕ, ◌+◌, None, IfSome};
 ghost use Rattle.lset_words.specs.Words.{key_index, link_index, lock_index};
 ghost use Rattle.lset_steps.specs.ReadRows.{continued};
@@ -16,14 +17,14 @@ use lset_steps::{Action, Machine};
 use std::marker::Brand;
 
 impl<'a, M: Machine, P: Pause> Caller<'a, M, P> {
-    /// Calls the pause after a step that could have ended the call but did not end it. All other steps call the pause
-    /// themselves.
+    /// Calls the pause. A loop calls this function after a step that could have ended the call but did not. Functions
+    /// for other steps call the pause themselves.
     #[inline(always)]
     pub fn goes_on(&self) {
         self.pause.moved(self.slots.thread);
     }
 
-    /// Loads a word. The call can end with this step. If the call continues, the loop must call the pause.
+    /// Loads a word. The call can end with this step. If the call continues, the loop must call `goes_on`.
     #[inline(always)]
     fn look_at(&self, place: &mut TableSeat, part: Part) -> u64
         requires { MayAnswer M.table self.now.origin (Load (index_of part)) place.old }
@@ -33,8 +34,8 @@ impl<'a, M: Machine, P: Pause> Caller<'a, M, P> {
         step_on::<M>(self.table, place, Action::Load(part.index()))
     }
 
-    /// Loads the key word of a node. The call can end with this step. If the call continues, the loop must call the
-    /// pause.
+    /// Loads the key word of a node. The call can end with this step. If the call continues, the loop must call
+    /// `goes_on`.
     #[inline(always)]
     pub fn look_at_key(&self, place: &mut TableSeat, node: Node) -> u64
         requires { MayAnswer M.table self.now.origin (Load (key_index node.number)) place.old }
@@ -44,8 +45,8 @@ impl<'a, M: Machine, P: Pause> Caller<'a, M, P> {
         self.look_at(place, Part::Key(node))
     }
 
-    /// Loads the link word of a node. The call can end with this step. If the call continues, the loop must call the
-    /// pause.
+    /// Loads the link word of a node. The call can end with this step. If the call continues, the loop must call
+    /// `goes_on`.
     #[inline(always)]
     pub fn look_at_link(&self, place: &mut TableSeat, node: Node) -> u64
         requires { MayAnswer M.table self.now.origin (Load (link_index node.number)) place.old }
@@ -106,7 +107,7 @@ impl<'a, M: Machine, P: Pause> Caller<'a, M, P> {
         self.store(place, Part::Link(node), link.word());
     }
 
-    /// Releases the lock of a node.
+    /// Releases the lock of a node. The call continues.
     pub fn unlock(&self, place: &mut TableSeat, node: Node)
         requires { MayStep M.table self.now.origin (Store (lock_index node.number) 0) place.old }
         ensures { HasStepped M.table self.now.origin place.old 0 place.new }
@@ -126,8 +127,8 @@ impl<'a, M: Machine, P: Pause> Caller<'a, M, P> {
         step_on::<M>(self.table, place, action)
     }
 
-    /// Exchanges the link of a node from `old` to `new`, and returns whether it succeeded. The call can end with this
-    /// step. If the exchange succeeded and the call continues, the loop must call the pause.
+    /// Exchanges the link of a node from `old` to `new`, and returns whether the exchange succeeded. The call can end
+    /// with this step. If the exchange succeeded and the call continues, the loop must call `goes_on`.
     #[inline(always)]
     pub fn exchange(&self, place: &mut TableSeat, node: Node, old: Link, new: Link) -> bool
         requires { MayAnswer M.table self.now.origin (Exchange (link_index node.number) (word_of old) (word_of new)) place.old }
@@ -140,7 +141,8 @@ impl<'a, M: Machine, P: Pause> Caller<'a, M, P> {
         true
     }
 
-    /// Attempts to take the lock in this word until the thread has it. Returns `None` after `N::MOST` failed attempts.
+    /// Attempts to take the lock at index `word` until the thread has the lock. Returns `None` after `N::MOST` failed
+    /// attempts.
     #[inline(never)]
     fn wait_for<N: Rounds>(&self, place: &mut TableSeat, word: u64) -> Option<()>
         requires { MayLock M.table self.now.origin word self.now.slots.thread place.old }
@@ -158,7 +160,7 @@ impl<'a, M: Machine, P: Pause> Caller<'a, M, P> {
         None
     }
 
-    /// Takes the lock in this word. Returns `None` after one failed attempt and `N::MOST` more.
+    /// Takes the lock at index `word`. Returns `None` after one failed attempt and `N::MOST` more.
     #[inline(always)]
     fn take<N: Rounds>(&self, place: &mut TableSeat, word: u64) -> Option<()>
         requires { MayLock M.table self.now.origin word self.now.slots.thread place.old }
@@ -184,7 +186,7 @@ impl<'a, M: Machine, P: Pause> Caller<'a, M, P> {
         self.take::<N>(place, Part::Lock(node).index())
     }
 
-    /// Begins the call by taking the lock in this word. Returns `None` after one failed attempt and `N::MOST` more.
+    /// Begins the call by taking the lock at index `word`. Returns `None` after one failed attempt and `N::MOST` more.
     pub fn begin_locked<N: Rounds>(&self, place: &mut TableSeat, word: u64) -> Option<()>
         requires begins { MayBegin M.table self.now.origin self.now.slots place.old }
         requires acts { Exchange word 0 (self.now.slots.thread + 1) ≡ M.table.next (first M.table self.now.origin self.now.slots) }
@@ -204,7 +206,7 @@ impl<'a, M: Machine, P: Pause> Caller<'a, M, P> {
         Some(())
     }
 
-    /// Begins the call by loading the head's link.
+    /// Begins the call by loading the head's link. Returns the link word.
     pub fn begin_at_head(&self, place: &mut TableSeat) -> u64
         requires begins { MayBegin M.table self.now.origin self.now.slots place.old }
         requires acts { Load (link_index 0) ≡ M.table.next (first M.table self.now.origin self.now.slots) }
@@ -217,7 +219,7 @@ impl<'a, M: Machine, P: Pause> Caller<'a, M, P> {
         seen
     }
 
-    /// Releases the lock in this word, as the last step of the call.
+    /// Releases the lock at index `word`, as the last step of the call.
     pub fn release_last(&self, place: &mut TableSeat, word: u64)
         requires { MayAnswer M.table self.now.origin (Store word 0) place.old }
         ensures { HasTold M.table self.now.origin place.old 0 place.new }

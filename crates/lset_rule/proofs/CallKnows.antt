@@ -1,4 +1,4 @@
--- What the caller knows after each step of its call.
+-- What a caller knows of its own call after each step of the call.
 use Rattle.std.proofs.Common.{◌≡◌, ℕ, ◌+◌, List, [], ◌∷◌, ◌++◌, length, Option, Some, None, MatchOption, ◌<◌, refl, sym, ap, ◌∙◌}
 use Rattle.std.proofs.Common.{subst, append-nil, append_assoc, length-append, false}
 use Rattle.lset_words.specs.declared.Call.{Call}
@@ -21,14 +21,14 @@ use Rattle.lset_rule.specs.Calls.{IsMid, Makes, Goes, Starts, gone_view, begun_v
 use Rattle.lset_rule.proofs.MovesKeepRule.{IsAt, begun_at, stands_at}
 use Rattle.lset_rule.proofs.RecordsOfRuns.{starts_more}
 
--- States what the caller knows after a step: the call is still pending, or it has ended with a reply.
+-- States what a caller knows after a step with result f: the call is pending if f has no reply, otherwise it has ended
+-- with this reply.
 abbrev pub Comes : Table → Call → View → Fed → View → Type 0
 Comes m c v f w = (w.local ≡ f.local) × MatchOption f.answer (IsMid c v w × Stands m w) (λ r. Makes m c v r w)
 
 pub starts_on : (xs ys zs : List Event) → StartsWith xs ys → StartsWith ys zs → StartsWith xs zs
 starts_on xs ys zs (p, is) (q, is') = (q ++ p, is ∙ (ap (λ l. l ++ p) is' ∙ append_assoc zs q p))
 
--- Returns the view after a step with the new registers `l` and the answer `a`.
 abbrev stepped_view : List Event → View → Local → Option Reply → View
 stepped_view log b l a = record b {
   local = l;
@@ -68,14 +68,13 @@ by_answer m c v b log l (Some r) mid on st =
       stands = st;
     }
 
--- After one more step, the caller knows how far its call has come.
+-- After any step of a pending call, the caller knows `Comes`: the call is still pending, or has ended with a reply.
 pub comes : (m : Table) (c : Call) (v b : View) (log : List Event) (n : ℕ) (w : View) (f : Fed) → IsMid c v b →
     StartsWith log b.seen → w ≡ gone_view m log n b → Stands m w → f ≡ m.feed b.local n → Comes m c v f w
 comes m c v b log n w f mid on is st fed = let f' : Fed = m.feed b.local n in let w' : View = gone_view m log n b in
     let P : View × Fed → Type 0 = λ z. Comes m c v z.1 z.0 in
     subst P (λ i. (sym is i, sym fed i)) (refl, by_answer m c v b log f'.local f'.answer mid on (subst (Stands m) is st))
 
--- After the first step, the caller knows how far its call has come.
 pub comes_first : (m : Table) (c : Call) (v : View) (n : ℕ) (w : View) (f : Fed) → Starts m c v n w →
     f ≡ m.feed (m.begin c v.local) n → Comes m c v f w
 comes_first m c v n w f s fed = let log = s.0 in let b : View = begun_view m log c v in
@@ -89,7 +88,6 @@ comes_first m c v n w f s fed = let log = s.0 in let b : View = begun_view m log
       same = (refl, refl, refl, refl, refl, refl);
     }) ([], sym (append-nil b.seen)) s.3 s.4 fed
 
--- After a later step, the caller knows how far its call has come.
 pub comes_next : (m : Table) (c : Call) (v w : View) (f : Fed) (n : ℕ) (w' : View) (f' : Fed) → Comes m c v f w → f.answer ≡ None
     → Goes m w n w' → f' ≡ m.feed f.local n → Comes m c v f' w'
 comes_next m c v w f n w' f' come none g fed = let P : Option Reply → Type 0 =
@@ -123,12 +121,12 @@ reached_first m law c low v l st idle is =
     occurs m v (v.seen ++ Begin v.thread c ∷ []) l (subst (IsAt m v.shape (v.seen ++ Begin v.thread c ∷ []) v.thread) (sym is)
     (begun_at m law v st c low idle))
 
--- The state of a begun call depends only on the thread's slots s. The registers r have the same slots.
+-- The registers after the begin of a call depend only on the thread's slots, and not on its other registers.
 pub begun_from_slots : (m : Table) → Lawful m → (c : Call) (v : View) (s : OwnSlots) (r l : Local) → s ≡ slots_of v.local →
     r ≡ resting s → l ≡ m.begin c r → l ≡ m.begin c v.local
 begun_from_slots m law c v s r l same rest is = is ∙ (ap (m.begin c) (rest ∙ ap resting same) ∙ sym (law.begins c v.local).alike)
 
--- The state that the interpreter computes when it begins the call is the thread's state in some run.
+-- The registers that the interpreter computes for the begin of a call occur in some run.
 pub first_reached : (m : Table) → Lawful m → (c : Call) → target c < tail_word → (v : View) (s : OwnSlots) (r l : Local) → Stands m v
     → IsIdle v → s ≡ slots_of v.local → r ≡ resting s → l ≡ m.begin c r → Occurs m l
 first_reached m law c low v s r l st idle same rest is =

@@ -1,4 +1,4 @@
--- Proof: a `contains` that does not block ends.
+-- Proof: a `contains` on a list that marks nodes ends after a bounded number of steps.
 use Rattle.std.proofs.Common.{◌≡◌, ℕ, zero, suc, ◌+◌, ◌-◌, ◌<◌, ◌==◌, Bool, true, false, length, Option, Some, None, refl, sym}
 use Rattle.std.proofs.Common.{ap, ◌∙◌, subst, arith, if◌then◌else◌}
 use Rattle.lset_words.specs.declared.Key.{Key}
@@ -21,12 +21,12 @@ use Rattle.lset_rule.proofs.OneMoreEvent.{Tied}
 use Rattle.lset_rule.proofs.MovesKeepRule.{stands_at, own_tied}
 use Rattle.lset_words.specs.Words.{Opening, sizes}
 
--- Returns the number of steps that remain for a call of at most `bound` steps, or 0 if the call has ended.
+-- Returns how many steps a call of at most `bound` steps can still make after `steps` steps.
 abbrev pub steps_left : Option Reply → ℕ → ℕ → ℕ
 steps_left (Some r) bound steps = 0
 steps_left None bound steps = bound - steps
 
--- States that the pending call has counted all steps that its thread has made since the call began.
+-- States that n is the number of steps that the pending call has made.
 abbrev Counted : Option PendingCall → ℕ → Type 0
 Counted None n = Unit {0}
 Counted (Some u) n = u.steps ≡ n
@@ -55,7 +55,6 @@ counted T k es t (suc j) = counted_next T k es j (es j) t (under_at _ t j) (step
 counted_is : (o : Option PendingCall) (u : PendingCall) (n : ℕ) → Counted o n → o ≡ Some u → u.steps ≡ n
 counted_is o u n h e = subst (λ z. Counted z n) e h
 
--- While a `contains` is pending, it has made fewer steps than the bound.
 pub not_yet : (m : Table) (law : Lawful m) → BoundedReads m → (key : Key) (v w : View) (f : Fed) → v.spent ≡ false →
     Comes m (Contains key) v f w → f.answer ≡ None
     → steps_of w.under < most_reads (sizes v.shape)
@@ -73,7 +72,6 @@ not_yet m law ends key v w f sp come none =
     subst (λ (s : _). steps_of w.under < most_reads (sizes s)) mid.0.same.1
     (subst (λ z. z < most_reads (sizes w.shape)) (sym (ap steps_of mid.0.under)) low)
 
--- Each step that does not end the call increases the count by one.
 pub one_more : (m : Table) (n : ℕ) (v w w' : View) (f f' : Fed) (c : Call) → Comes m c v f w → f.answer ≡ None → Comes m c v f' w'
     → f'.answer ≡ None → Goes m w n w' → steps_of w'.under ≡ steps_of w.under + 1
 one_more m n v w w' f f' c come none come' none' goes =

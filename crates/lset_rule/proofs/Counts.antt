@@ -1,4 +1,5 @@
--- Proof: if a view has as many threads as the set, it has all threads of the set.
+-- Proof: if a view has as many threads as the set, each thread of the set is in the view. When the set is closed, the
+-- seat of this view knows the words exactly.
 use Rattle.std.proofs.Common.{◌≡◌, ◌≢◌, ◌⊎◌, inl, inr, ⊎_elim, ℕ, zero, suc, ◌+◌, ◌<◌, ◌≤◌, List, [], ◌∷◌, length, refl, sym, ap}
 use Rattle.std.proofs.Common.{◌∙◌, subst, arith, ◌++◌, false, append-nil, length-append}
 use mathlib.Core.Logic.{dite}
@@ -26,7 +27,6 @@ abbrev Distinct : List ℕ → Type 0
 Distinct [] = Unit {0}
 Distinct (x ∷ xs) = (¬ (In xs x)) × Distinct xs
 
--- If n occurs once in a list, removing it makes the list one shorter.
 dropping : (n : ℕ) (xs : List ℕ) → Distinct xs → In xs n → (ys : List ℕ) × (length xs ≡ suc (length ys)) × Distinct ys
     × ((t : ℕ) → In ys t → In xs t × (t ≢ n))
 dropping n [] d h = absurd h
@@ -83,11 +83,10 @@ module _ (m : Table) (v : View) (st : Stands m v) where
   below : (t : ℕ) → In (names v) t → t < v.shape.threads
   below t i = st.in_range t (⊎_elim inl (λ j. inr (in_has v.others t j)) i)
 
-  -- A seat never has more threads than the set has.
   pub held_few : length v.others + 1 ≤ v.shape.threads
   held_few = let a = few v.shape.threads (names v) all_apart below in let b = long v.others in omega arith
 
-  -- If a seat has as many threads as the set has, it has all of them.
+  -- If a seat has as many threads as the set, it has each thread of the set.
   pub has_all : length v.others + 1 ≡ v.shape.threads → (t : ℕ) → t < v.shape.threads → HasThread v t
   has_all full t lt = ⊎_elim (λ i. ⊎_elim inl (λ j. inr (in_has v.others t j)) i)
       (λ out. let a = few v.shape.threads (t ∷ names v) (
@@ -105,7 +104,7 @@ by_small : (s : State) (e : Event) → Enabled s e → thread_of e < length s.lo
 by_small s (Begin t c) en = en.0
 by_small s (Go t) en = en.0
 
--- If a view has all threads after a run, no later event is made by another thread.
+-- If a view has all threads of the set, all events of a run are among those that it has seen.
 no_more : (m : Table) (law : Lawful m) (k : Opening) (v : View) (es rest : List Event) → ((t : ℕ) → t < k.threads → HasThread v t)
     → IsRunOf m k (es ++ rest) → IsQuiet v rest → rest ≡ []
 no_more m law k v es [] all r quiet = refl
@@ -117,7 +116,8 @@ no_more m law k v es (e ∷ rest) all r quiet =
     let en : Enabled s e = subst (λ z. Enabled s z) (event_first es rest e) (r.enabled (length es) (omega arith)) in
     absurd (quiet.0 (all (thread_of e) (subst (λ z. thread_of e < z) laws.locals (by_small s e en))))
 
--- At the end, the seat that has all threads knows the words exactly.
+-- When the set is closed, the seat that has all threads knows the words exactly: they are those after the events that
+-- it has seen.
 pub closes : (m : Table) (law : Lawful m) (k : Opening) (id : ℕ) (v : View) (ws : List ℕ) (xs : List (Unit {0})) → v.shape ≡ k →
     v.spent ≡ false → length v.others + 1 ≡ k.threads → Final (Seen (Holds m k) id v) ws xs
     → ws ≡ (end_of m k v.seen).words

@@ -1,4 +1,5 @@
--- Proof: creating, splitting and joining seats preserves the rule.
+-- Proof: splitting and joining seats, and giving and taking receipts, preserve the rule (the invariant of the shared
+-- words and all seats).
 use Rattle.std.proofs.Common.{◌≡◌, ◌≢◌, ◌⊎◌, inl, inr, ⊎_elim, ℕ, ◌+◌, ◌<◌, ◌≤◌, ◌==◌, Bool, true, false, cond, List}
 use Rattle.std.proofs.Common.{[], ◌∷◌, ◌++◌, length, set, nat_le, Option, None, refl, sym, ap, ◌∙◌, subst, arith, rules, tests}
 use Rattle.std.proofs.Common.{append-nil, eq-eqb, ne_eqb}
@@ -29,8 +30,7 @@ use Rattle.lset_rule.proofs.ViewsFit.{is_in, set_there, stands_else, stands_stil
 use Rattle.lset_rule.proofs.MovesKeepRule.{M}
 use Rattle.lset_words.specs.Words.{Opening}
 
--- If a view's threads make none of some events, the threads of a view with fewer threads make none of them either. The
--- next lemmas are about a part of the events, and about a view that has the threads of two views.
+-- If no thread of view v makes these events, and all threads of view w are threads of v, no thread of w makes them.
 quiet_less : (v w : View) → ((t : ℕ) → HasThread w t → HasThread v t) → (es : List Event) → IsQuiet v es → IsQuiet w es
 quiet_less v w less [] q = tt
 quiet_less v w less (e ∷ es) q = (λ h. q.0 (less (thread_of e) h), quiet_less v w less es q.1)
@@ -44,7 +44,6 @@ quiet_both : (v w j : View) → ((t : ℕ) → HasThread j t → HasThread v t �
 quiet_both v w j split [] p q = tt
 quiet_both v w j split (e ∷ es) p q = (λ h. ⊎_elim p.0 q.0 (split (thread_of e) h), quiet_both v w j split es p.1 q.1)
 
--- If two lists are prefixes of the same list, the longer one continues the shorter one.
 prefixes : (xs ys rx ry : List Event) → xs ++ rx ≡ ys ++ ry → length xs ≤ length ys → (d : List Event) × (ys ≡ xs ++ d)
     × (rx ≡ d ++ ry)
 prefixes [] ys rx ry e le = (ys, refl, e)
@@ -68,7 +67,7 @@ longer_of log xs ys x y = by_test (nat_le (length xs) (length ys)) refl
     by_test false is = let le : length ys ≤ length xs = search (rules, tests) in
         record { begins = x; first = omega arith; second = le }
 
--- ---- Lemmas about the spare threads of two views
+-- ---- Lemmas about the spare threads of two views (idle threads that a seat can still split off)
 has_end : (os ps : List SpareThread) (t : ℕ) → HasAside (os ++ ps) t → HasAside os t ⊎ HasAside ps t
 has_end [] ps t h = inr h
 has_end (o ∷ os) ps t h = ⊎_elim (λ e. inl (inl e)) (λ x. ⊎_elim (λ y. inl (inr y)) (λ y. inr y) (has_end os ps t x)) h
@@ -88,8 +87,7 @@ asides_join ends t r (o ∷ os) ps apart a b = (
   asides_join ends t r os ps (λ u h. apart u (inr h)) a.3 b,
 )
 
--- Spare threads that are idle according to a record are idle according to any other record with the same calls of these
--- threads.
+-- The spare threads stay idle if the record is replaced by another one that has the same calls of these threads.
 asides_in : (ends : ℕ → Here) (t t' : ℕ) (r r' : Past) (os : List SpareThread) →
     ((u : ℕ) → HasAside os u → (u ≢ t') × (calls_of u r' ≡ calls_of u r)) → AreIdle ends t r os → AreIdle ends t' r' os
 asides_in ends t t' r r' [] same a = tt
@@ -105,7 +103,7 @@ not_own w t r [] a h = h
 not_own w t r (o ∷ os) a h = ⊎_elim (λ e. a.0 (sym e)) (λ x. not_own w t r os a.3 x) h
 
 module _ (m : Table) where
-  -- A view that matches the log still matches the log after it has lost threads.
+  -- A view that loses threads still matches the events.
   fits_less : (k : Opening) (log : List Event) (so so' : ℕ → ℕ) (i j : ℕ) (v w : View) (f : MatchesLog m k log so i v) →
       w.shape ≡ v.shape → w.seen ≡ v.seen → StartsWith log w.ours → StartsWith log w.theirs
       → ((t : ℕ) → HasThread w t → HasThread v t) → Stands m w → ((t : ℕ) → HasThread w t → so' t ≡ j) → MatchesLog m k log so' j w
@@ -125,7 +123,7 @@ module _ (m : Table) where
   fits_seat k log so so' j v same f =
       fits_less k log so so' j j v v f refl refl f.ours f.theirs (λ t h. h) f.stands (λ t h. same t (f.seat t h) h)
 
-  -- ---- Lemmas about splitting a seat
+  -- ---- Lemmas about splitting a seat, which is the right to call as one thread
   module _ (v0 : View) (o : SpareThread) (os : List SpareThread) where
     abbrev V : View
     V = record v0 { spent = false; under = None; past = Fresh v0.thread; others = o ∷ os }
@@ -196,7 +194,7 @@ module _ (m : Table) where
   splits k id v o os sp idle fresh there = subst (λ (z : View). Splits (Holds m k) id z (left_view z) (right_view z))
       (λ i. record v { spent = sym sp i; under = sym idle i; past = sym fresh i; others = sym there i }) (splits_at v o os k id)
 
-  -- A view that has seen more events. The additional events are made by other threads.
+  -- View v after it has learned of more events, up to the list `to`. The additional events are made by other threads.
   module _ (k : Opening) (log : List Event) (so : ℕ → ℕ) (i : ℕ) (v : View) (f : MatchesLog m k log so i v) (ran : IsRunOf m k log) (to : List Event) (begins : StartsWith log to) (le : length v.seen ≤ length to) where
     more : (d : List Event) × (to ≡ v.seen ++ d) × (f.rest ≡ d ++ begins.0)
     more = prefixes v.seen to f.rest begins.0 (sym f.is ∙ begins.1) le
@@ -207,7 +205,8 @@ module _ (m : Table) where
     still_there : (t : ℕ) → HasThread v t → at_end m v.shape to t ≡ at_end m v.shape v.seen t
     still_there t h = ap (λ l. at_end m v.shape l t) more.1 ∙ still_quiet m v.shape v v.seen more.0 t h quiet.0
 
-    -- The view matches the log, whatever lists it keeps from a joining or a receipt.
+    -- After it has learned of the events `to`, the view still matches all events. The lists that it keeps from a
+    -- joining can be any two prefixes.
     sees : (mine theirs : List Event) → StartsWith log mine → StartsWith log theirs →
         MatchesLog m k log so i (record v { seen = to; ours = mine; theirs = theirs })
     sees mine theirs ours other = record {
@@ -233,7 +232,7 @@ module _ (m : Table) where
       theirs = other;
     }
 
-  -- ---- Lemmas about joining two seats
+  -- ---- Lemmas about joining two seats, whose views are v and w
   module _ (k : Opening) (log : List Event) (so so' : ℕ → ℕ) (i j : ℕ) (apart : j ≢ i) (v w : View) (f : MatchesLog m k log so i v) (g : MatchesLog m k log so j w) (v_idle : v.under ≡ None) (w_idle : w.under ≡ None) (ran : IsRunOf m k log) where
     abbrev J : View
     J = joined v w
@@ -247,7 +246,7 @@ module _ (m : Table) where
     abbrev F : Stands m (record v { seen = J.seen })
     F = (sees k log so i v f ran J.seen lo.begins lo.first v.ours v.theirs f.ours f.theirs).stands
 
-    -- The other view, with the first view's opening.
+    -- View w, after it has learned of the events that the joined view has seen.
     abbrev S : Stands m (record w { seen = J.seen; shape = v.shape })
     S = subst (λ z. Stands m (record w { seen = J.seen; shape = z })) (g.shape ∙ sym f.shape)
         (sees k log so j w g ran J.seen lo.begins lo.second w.ours w.theirs g.ours g.theirs).stands
@@ -307,13 +306,12 @@ module _ (m : Table) where
       theirs = (g.rest, g.is);
     }
 
-  -- If the first view changes, the view that is joined to it does not.
   other_there : (s : St) (id other : ℕ) (v w : View) → other ≢ id → get_elem? (set s.views id v) other ≡ some w →
       get_elem? s.views other ≡ some w
   other_there s id other v w apart there = ⊎_elim (λ (t : (other ≡ id) × (v ≡ w)). absurd (apart t.0))
       (λ (t : (other ≢ id) × (get_elem? s.views other ≡ some w)). t.1) (at_set s.views id other v w there)
 
-  -- One view changes and the other becomes spent.
+  -- The views after a joining: view `id` is changed and view `other` is spent.
   takes_in : (k : Opening) (log : List Event) (so : ℕ → ℕ) (s : St) (id other : ℕ) (v : View) → MatchesLog m k log so id v →
       ((j : ℕ) (x : View) → j ≢ other → j ≢ id → get_elem? s.views j ≡ some x → Fits m k log so j x)
       → (j : ℕ) (x : View) → get_elem? (set (set s.views id v) other nobody) j ≡ some x → Fits m k log so j x
@@ -350,7 +348,6 @@ module _ (m : Table) where
       (stands_else (set s.views id j) other (h.seat_of t) t nobody ne
       (stands_still s.views id (h.seat_of t) t v j at v_sp (λ x. has t (inl x)) (h.placed t lt)))))
 
-  -- Giving a receipt, or copying one, preserves the rule.
   pub notes : (k : Opening) (id : ℕ) (v : View) → Splits (Holds m k) id v v (without_thread v)
   notes k id v s h at =
       let w : View = without_thread v in
@@ -359,7 +356,6 @@ module _ (m : Table) where
       (each_more (Fits m k h.log h.seat_of) s.views w (spent_fits refl (h.known id v at)) (each_fits m k s h))
       (λ t lt. stands_more s.views (h.seat_of t) t w (h.placed t lt)))
 
-  -- Taking a receipt preserves the rule.
   pub informs : (k : Opening) (id other : ℕ) (v w : View) → v.spent ≡ false → w.spent ≡ true →
       Joins (Holds m k) id v other w (informed v w) nobody
   informs k id other v w v_sp w_sp s h at apart there =
@@ -379,7 +375,6 @@ module _ (m : Table) where
       stands_else (set s.views id j) other (h.seat_of t) t nobody ne
       (stands_still s.views id (h.seat_of t) t v j at v_sp (λ x. x) st))
 
-  -- The load that ends a gathering preserves the rule.
   pub learns : (slots id i : ℕ) (me : M) (k : Opening) → me.0.spent ≡ false →
       Allows (Holds m k) slots id me i (λ n. n) (learned m (step slots i 0 0 none) me)
   learns slots id i me k sp s h _ at _ =

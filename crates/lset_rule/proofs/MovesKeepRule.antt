@@ -1,4 +1,5 @@
--- Proof: each move that makes an event preserves the rule.
+-- Proof: a step of a call, and the begin of a call, preserve the rule (the invariant of the shared words and all
+-- seats).
 use Rattle.std.proofs.Common.{◌≡◌, ◌≢◌, inl, inr, ℕ, ◌+◌, ◌<◌, ◌≤◌, false, List, [], ◌∷◌, ◌++◌, length, set, slice_index}
 use Rattle.std.proofs.Common.{slice_set, Option, Some, None, refl, sym, ap, ◌∙◌, subst, arith, append-nil, append_assoc, length-append}
 use mathlib.Core.Option.{some}
@@ -29,21 +30,21 @@ use Rattle.lset_rule.specs.Calls.{gone_view, begun_view, record_after, Goes, Sta
 use Rattle.lset_rule.proofs.RecordsOfRuns.{still_quiet, quiet_append, starts_more, asides_stay, before_more, after_calls, after_calls_other}
 use Rattle.lset_rule.proofs.RecordsOfRuns.{after_root, after_apart, after_in, after_in_order, after_before, BegunBy, begun_by, after_in_time}
 
--- States that after the run of these events, the thread has a pending call and is in state `l`.
+-- States that after the run of these events, thread t has a pending call and the registers `l`.
 abbrev pub IsAt : Table → Opening → List Event → ℕ → Local → Type 0
 IsAt m k es t l = UnderWay m k (event_at es) (length es) t × (local_of (end_of m k es) t ≡ l)
 
--- Returns the view after an event of its own thread.
+-- Returns view v after event e of its own thread, which changes its registers, pending call and record.
 abbrev pub later : View → List Event → Event → Local → Option PendingCall → Past → View
 later v log e l u r = record v { local = l; under = u; past = r; seen = log ++ e ∷ [] }
 
 module _ (m : Table) where
-  -- After all events, each thread of a view is in the same state as after the events that the view has seen.
+  -- Later events do not change the state of a view's threads, because other threads make these events.
   pub still : (k : Opening) (log : List Event) (so : ℕ → ℕ) (j : ℕ) (v : View) (f : MatchesLog m k log so j v) (t : ℕ) → HasThread v t →
       at_end m k log t ≡ at_end m k v.seen t
   still k log so j v f t h = ap (λ l. at_end m k l t) f.is ∙ still_quiet m k v v.seen f.rest t h f.quiet
 
-  -- After an event of a thread that a view does not have, the view still matches the log.
+  -- A view matches the events also after a further event of a thread that is not its own.
   pub others_fit : (k : Opening) (log : List Event) (so : ℕ → ℕ) (j : ℕ) (v : View) (e : Event) → ¬ (HasThread v (thread_of e)) →
       MatchesLog m k log so j v → MatchesLog m k (log ++ e ∷ []) so j v
   others_fit k log so j v e other f = record {
@@ -155,7 +156,8 @@ module _ (m : Table) where
       pub is_at : IsAt m v.shape h.log v.thread v.local
       is_at = (record { run = h.ran; thread = small; open_call = busy }, local_stood)
 
-      -- The call of a view makes the step of its current row.
+      -- The call of view v makes the step of its current row. The rule (the invariant of the shared words and all
+      -- seats) still holds.
       pub steps : let a = m.next v.local in
           let n = slice_index s.words (word_named a) in
           let w = gone_view m h.log (found a n) v in
@@ -200,7 +202,6 @@ module _ (m : Table) where
             b.1.0,
           )
 
-    -- Beginning a call preserves the rule.
     pub starts : (c : Call) → target c < tail_word → v.under ≡ None → let b = begun_view m h.log c v in
         Stands m b × ((h' : Holds m v.shape record { words = s.words; homes = s.homes; views = set s.views id b })
         × (h'.log ≡ b.seen))
@@ -219,7 +220,8 @@ module _ (m : Table) where
 abbrev pub M : Type 0
 M = Me (Unit {0}) View
 
--- A step of the current row of a view's call preserves the rule, whether it is a load, a store or an exchange.
+-- An access that the step table demands at the current row of a seat's call preserves the rule (the invariant of the
+-- shared words and all seats), whether it is a load, a store or an exchange.
 pub goes_on : (m : Table) (law : Lawful m) (slots id : ℕ) (me : M) (k : Opening) (a : Action) → a ≡ m.next me.0.local →
     me.0.shape ≡ k → IsOpen me.0
     → Allows (Holds m k) slots id me (word_named a) (left a) (λ n me'. Goes m me.0 (found a n) me'.0 × (me'.1 ≡ me.1))
@@ -234,7 +236,8 @@ goes_on m law slots id me k a acts shape is_open = let v : View = me.0 in
       (r.0, refl),
     ))
 
--- The first step of a call preserves the rule.
+-- The access that the step table demands at the first row of a call preserves the rule (the invariant of the shared
+-- words and all seats). The call begins with this access.
 pub goes_first : (m : Table) (law : Lawful m) (slots id : ℕ) (me : M) (k : Opening) (c : Call) → target c < tail_word →
     (a : Action) → a ≡ m.next (m.begin c me.0.local) → me.0.shape ≡ k → IsIdle me.0
     → Allows (Holds m k) slots id me (word_named a) (left a) (λ n me'. Starts m c me.0 (found a n) me'.0 × (me'.1 ≡ me.1))
@@ -276,7 +279,7 @@ goes_first m law slots id me k c low a acts shape is_idle = let v : View = me.0 
       ),
     ))
 
--- ---- Lemmas about the state of a view's own thread
+-- ---- Lemmas about the state of the thread that makes a seat's calls
 module _ (m : Table) (law : Lawful m) (v : View) (st : Stands m v) where
   own_small : v.thread < v.shape.threads
   own_small = st.in_range v.thread (inl refl)
@@ -284,7 +287,6 @@ module _ (m : Table) (law : Lawful m) (v : View) (st : Stands m v) where
   own_inside : v.thread < length (end_of m v.shape v.seen).locals
   own_inside = in_locals m law v.shape v.seen st.ran v.thread own_small
 
-  -- The thread number in the registers of the view's own thread is the number of this thread.
   pub own_number : v.local.thread ≡ v.thread
   own_number = ap (λ (x : Here). x.local.thread) (sym st.own)
       ∙ ((end_laws m law v.shape v.seen st.ran).threads v.thread own_small).thread
@@ -303,7 +305,7 @@ module _ (m : Table) (law : Lawful m) (v : View) (st : Stands m v) where
     ap (λ (x : Here). x.local) st.own,
   )
 
-  -- The thread's state after it has begun a call and before its first step.
+  -- The registers of a view's own thread after the begin of call c, before the first step of the call.
   pub begun_at : (c : Call) → target c < tail_word → IsIdle v → IsAt m v.shape (v.seen ++ Begin v.thread c ∷ []) v.thread
       (m.begin c v.local)
   begun_at c low is_idle =
@@ -322,7 +324,7 @@ module _ (m : Table) (law : Lawful m) (v : View) (st : Stands m v) where
         is,
       )
 
--- A row's step accesses a word of the table.
+-- The word that a row accesses is a word of the set.
 in_table : (m : Table) → Lawful m → (k : Opening) (es : List Event) (t : ℕ) (l : Local) → IsAt m k es t l →
     word_named (m.next l) < word_count (sizes k)
 in_table m law k es t l at =

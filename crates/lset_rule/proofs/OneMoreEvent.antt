@@ -1,4 +1,4 @@
--- A run with one more event, and how the event affects each thread.
+-- How one more event of a run changes the state of each thread.
 use Rattle.std.proofs.Common.{◌≡◌, ◌≢◌, ⊎_elim, ℕ, zero, suc, ◌+◌, ◌<◌, ◌≤◌, ◌==◌, Bool, true, false, List, [], ◌∷◌, ◌++◌, length}
 use Rattle.std.proofs.Common.{Option, Some, None, refl, sym, ap, ◌∙◌, subst, arith, slice_index, slice_set, get_or-set_other}
 use Rattle.std.proofs.Common.{get_or-set_same, if◌then◌else◌, length-append}
@@ -32,26 +32,26 @@ pick_yes b x y e = rw e refl
 pick_not : {A : Type 0} (b : Bool) (x y : A) → b ≡ false → (if b then x else y) ≡ y
 pick_not b x y e = rw e refl
 
--- Returns the value of the accessed word after an action, given its value before.
+-- Returns the value that an action leaves in its word. n is the value before.
 abbrev pub left : Action → ℕ → ℕ
 left (Load w) n = n
 left (Store w v) n = v
 left (Exchange w old new) n = either (n == old) new n
 
--- Returns the value that the action sees.
+-- Returns the value that an action sees. n is the value of its word before.
 abbrev pub found : Action → ℕ → ℕ
 found (Load w) n = n
 found (Store w v) n = v
 found (Exchange w old new) n = n
 
--- Returns the state of a thread after a step. `begins` returns its state after it has begun a call.
+-- Returns the state h of a thread after its step, which is event n. `begins` returns the state after the begin of a
+-- call.
 abbrev pub gone : Here → Fed → ℕ → Here
 gone h f n = here f.local (under_after f.answer h.under) (h.done ++ ending f.answer h.under n)
 
 abbrev pub begins : Table → Here → Call → ℕ → Here
 begins T h c n = here (T.begin c h.local) (Some (record { call = c; begun = n; steps = 0 })) h.done
 
--- The table's step writes and sees the same values as the action.
 pub left_is : (ws : List ℕ) (a : Action) → slice_set ws (word_named a) (left a (slice_index ws (word_named a))) ≡ left_by ws a
 left_is ws (Load w) = set-get_or ws w 0
 left_is ws (Store w v) = refl
@@ -66,7 +66,6 @@ found_is ws (Load w) = refl
 found_is ws (Store w v) = refl
 found_is ws (Exchange w old new) = refl
 
--- If two logs agree, a thread has the same calls in both.
 pub under_agree : (f g : Log) (t k : ℕ) → ((j : ℕ) → j < k → g j ≡ f j) → under_at g t k ≡ under_at f t k
 under_agree f g t zero h = refl
 under_agree f g t (suc k) h = ap (λ e. under_next (suc k) e t (under_at g t k)) (h k (omega arith))
@@ -78,7 +77,7 @@ done_agree f g t (suc k) h = ap (λ e. done_next (suc k) e t (under_at g t k) (d
     ∙ (ap (λ u. done_next (suc k) (f k) t u (done_at g t k)) (under_agree f g t k (λ j l. h j (omega arith)))
     ∙ ap (λ d. done_next (suc k) (f k) t (under_at f t k) d) (done_agree f g t k (λ j l. h j (omega arith))))
 
--- ---- Lemmas about one event of a run
+-- ---- Lemmas about the state of a thread after one more event of a run
 module _ (T : Table) (op : Opening) (es : ℕ → Event) (k t : ℕ) where
   at_begin : (c : Call) → es k ≡ Begin t c → t < length (state_at T op es k).locals
       → here_at T op es t (suc k) ≡ begins T (here_at T op es t k) c (suc k)
@@ -137,8 +136,8 @@ module _ (T : Table) (op : Opening) (es : ℕ → Event) (k t : ℕ) where
       let d = other_done s (es k) (under_at (log_of T op es) t k) (done_at (log_of T op es) t k) ne in
       λ i. here (l i) (u i) (d i)
 
--- States that the thread's registers fit its pending call: they contain this call at a row other than 0, or are at row
--- 0 if no call is pending.
+-- States that a thread's registers match its pending call: at row 0 if no call is pending, otherwise at another row and
+-- with the same call.
 abbrev pub Tied : Option PendingCall → Local → Type 0
 Tied None l = l.pc ≡ 0
 Tied (Some u) l = (l.pc ≢ 0) × (l.call ≡ u.call)
@@ -192,7 +191,7 @@ module _ (T : Table) (law : Lawful T) (op : Opening) (es : ℕ → Event) (last 
       (omega arith))
   tied t (suc k) th l = tied_by t k th (omega arith) (es k) refl (tied t k th (omega arith))
 
--- ---- Lemmas about lists of events
+-- ---- Lemmas about a list of events to which events are appended
 event_before : (es : List Event) (e : Event) (j : ℕ) → j < length es → event_at (es ++ e ∷ []) j ≡ event_at es j
 event_before [] e j h = absurd (omega arith)
 event_before (x ∷ es) e zero h = refl
@@ -261,7 +260,6 @@ end_go T k es t lt =
     ∙ (λ i. gone (here_before T k es e t i) (T.feed (local_of (states_before T k es e (length es) (omega arith) i) t)
     (seen_next T (states_before T k es e (length es) (omega arith) i) t)) (one i)))
 
--- A prefix of a run is a run.
 pub event_of_first : (es rest : List Event) (j : ℕ) → j < length es → event_at (es ++ rest) j ≡ event_at es j
 event_of_first [] rest j h = absurd (omega arith)
 event_of_first (x ∷ es) rest zero h = refl
@@ -277,7 +275,7 @@ run_of_first T k es rest r = record {
       )) (r.enabled j (omega arith));
 }
 
--- The law of a machine at the end of a run.
+-- At the end of a run, the state has the properties that the list's law states of each state in a run.
 module _ (T : Table) (law : Lawful T) (k : Opening) (es : List Event) (r : IsRunOf T k es) where
   pub end_laws : StateLaws T.marks (sizes k) (end_of T k es)
   end_laws = law.states k (length es) (length es) (event_at es) r (omega arith)

@@ -1,4 +1,4 @@
--- Runs of a machine, and the calls of each thread in a record.
+-- The calls of each thread in a seat's record, compared with the calls that the thread has made in the run.
 use Rattle.std.proofs.Common.{◌≡◌, ◌≢◌, ◌⊎◌, inl, inr, ℕ, zero, suc, ◌<◌, ◌≤◌, ◌==◌, Bool, true, false, if◌then◌else◌, cond, List, [], ◌∷◌}
 use Rattle.std.proofs.Common.{◌++◌, Option, Some, None, refl, sym, ap, ◌∙◌, subst, arith, eq-eqb, ne_eqb, append-nil, append_assoc}
 use Rattle.lset_words.specs.declared.Reply.{Reply}
@@ -21,7 +21,6 @@ use Rattle.lset_rule.specs.Calls.{record_after}
 use Rattle.lset_words.specs.Words.{Opening}
 
 module _ (T : Table) (k : Opening) where
-  -- Events of other threads do not affect a thread.
   pub still_quiet : (v : View) (es rest : List Event) (t : ℕ) → HasThread v t → IsQuiet v rest →
       at_end T k (es ++ rest) t ≡ at_end T k es t
   still_quiet v es [] t h quiet = ap (λ l. at_end T k l t) (append-nil es)
@@ -57,7 +56,6 @@ before_gathered n (Fresh t) b = tt
 before_gathered n (Called' p r c) b = before_gathered n r b.0
 before_gathered n (Gathered' p r q g) b = (before_gathered n r b.0, b.1)
 
--- States that the pending call began within the first n events.
 abbrev pub BegunBy : Option PendingCall → ℕ → Type 0
 BegunBy None n = Unit {0}
 BegunBy (Some u) n = u.begun ≤ n
@@ -86,25 +84,23 @@ pub begun_by : (log : Log) (t n : ℕ) → BegunBy (under_at log t n) n
 begun_by log t zero = tt
 begun_by log t (suc n) = begun_next (log n) t n (under_at log t n) (begun_by log t n)
 
--- Returns the record's own calls, in order.
+-- Returns the calls that a record's own thread made, without those of gathered records.
 abbrev pub own_calls : Past → List OwnCall
 own_calls (Fresh t) = []
 own_calls (Called' p r c) = own_calls r ++ c ∷ []
 own_calls (Gathered' p r q g) = own_calls r
 
--- States that a record of this thread was gathered into the record.
+-- States that a record of thread u was gathered into the record.
 abbrev pub HasGathered : ℕ → Past → Type 0
 HasGathered u (Fresh t) = ⊥
 HasGathered u (Called' p r c) = HasGathered u r
 HasGathered u (Gathered' p r q g) = HasGathered u r ⊎ IsIn u g
 
--- Every record contains its own thread.
 root_in : (r : Past) → IsIn (root r) r
 root_in (Fresh t) = refl
 root_in (Called' p r c) = root_in r
 root_in (Gathered' p r q g) = inl (root_in r)
 
--- If a thread is not in a record, the record has no calls of the thread.
 pub none_of_another : (u : ℕ) (r : Past) → ¬ (IsIn u r) → calls_of u r ≡ []
 none_of_another u (Fresh t) out = refl
 none_of_another u (Called' p r c) out =
@@ -113,7 +109,7 @@ none_of_another u (Called' p r c) out =
 none_of_another u (Gathered' p r q g) out = λ i. none_of_another u r (λ h. out (inl h)) i
     ++ none_of_another u g (λ h. out (inr h)) i
 
--- After a step, the record has the calls that its thread has completed.
+-- After a step of the own thread, the record has the calls that this thread has completed.
 pub after_calls : (t : ℕ) (r : Past) (a : Option Reply) (u : Option PendingCall) (n : ℕ) → root r ≡ t → calls_of t r
     ++ ending a u n ≡ calls_of t (record_after r a u n)
 after_calls t r (Some x) (Some u) n is = ap (λ b. calls_of t r ++ cond b (own u x n ∷ []) []) (sym (eq-eqb t (root r) (sym is)))

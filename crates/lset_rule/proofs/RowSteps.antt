@@ -1,4 +1,4 @@
--- What is known of the interpreter's call before and after each step other than the first.
+-- The facts about an interpreted call before and after each of its steps.
 use Rattle.std.proofs.Common.{◌≡◌, Some, None, sym, ap, ◌∙◌}
 use Rattle.atomic_table.specs.Seated.{TableId}
 use Rattle.lset_words.specs.declared.Call.{Call}
@@ -13,11 +13,10 @@ use Rattle.lset_rule.specs.Seats.{TableSeat, IsSeat, MayCall, HasCalled}
 use Rattle.lset_rule.specs.RowSteps.{MayStep, HasStepped}
 use Rattle.lset_rule.proofs.CallKnows.{Comes, is_mid, mid_open, reached, comes_next, made}
 
--- States that call c, made from seat s, has reached f, and that the seat is now s'.
+-- States that call c began from seat s, that its last step had the result f, and that the seat is now s'.
 abbrev pub Reached : Table → Call → TableSeat → Fed → TableSeat → Type 0
 Reached m c s f s' = Comes m c s.me.0 f s'.me.0 × IsSeat s s'
 
--- A call that has not ended can make its next step.
 pub may_step : (m : Table) → Lawful m → (c : Call) (z : TableId) (k : Opening) (own : OwnSlots) (s s' : TableSeat) (f : Fed) →
     MayCall m z k own s → Reached m c s f s' → f.answer ≡ None → MayStep m z k f.local s'
 may_step m law c z k own s s' f may (come, seat) none = let mid = is_mid m c s.me.0 s'.me.0 f come none in record {
@@ -28,7 +27,6 @@ may_step m law c z k own s s' f may (come, seat) none = let mid = is_mid m c s.m
   occurs = reached m law c s.me.0 s'.me.0 f may.idle.0 come none;
 }
 
--- After the step, the call has reached the next state.
 pub stepped : (m : Table) (c : Call) (s s' s'' : TableSeat) (f f' : Fed) → Reached m c s f s' → f.answer ≡ None →
     HasStepped m f.local s' f' s'' → Reached m c s f' s''
 stepped m c s s' s'' f f' (come, seat) none step = (
@@ -36,7 +34,6 @@ stepped m c s s' s'' f f' (come, seat) none step = (
   (step.place.0 ∙ seat.0, step.place.1 ∙ seat.1, step.place.2 ∙ seat.2),
 )
 
--- If the last step has ended the call, the caller has made the whole call.
 pub answered : (m : Table) (c : Call) (s s' : TableSeat) (f : Fed) (own : OwnSlots) (r : Reply) → Reached m c s f s' →
     f.answer ≡ Some r → own ≡ slots_of f.local → HasCalled m c s (own, r) s'
 answered m c s s' f own r (come, seat) is slots = record {

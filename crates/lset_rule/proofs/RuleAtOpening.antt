@@ -1,4 +1,4 @@
--- Proof: when a set is opened, the rule holds.
+-- Proof: when a set has been opened, the rule (the invariant of the shared words and all seats) holds.
 use Rattle.std.proofs.Common.{◌≡◌, ◌≢◌, inl, inr, ⊎_elim, ℕ, zero, suc, ◌+◌, ◌-◌, ◌<◌, ◌≤◌, List, [], ◌∷◌, length, None}
 use Rattle.std.proofs.Common.{refl, sym, ap, ◌∙◌, subst, arith}
 use mathlib.Core.Option.{some, some-injective, some-ne-none}
@@ -21,15 +21,15 @@ use Rattle.lset_rule.specs.Runs.{here, at_end, IsRunOf, StartsWith}
 use Rattle.lset_rule.specs.Rule.{Holds, MatchesLog, opener, asides_from, left_view, right_view}
 use Rattle.lset_rule.specs.Views.{Stands, HasThread, HasAside, AreIdle, IsIdle}
 
--- Returns the view of a seat that was just split off, with thread t alone.
+-- Returns the view of a seat of thread t that was just split off and has made no calls.
 abbrev pub fresh : Opening → ℕ → View
 fresh k t = record (opener k) { thread = t; local = idle k.quota t; others = []; past = Fresh t }
 
--- Returns the first seat's view after the threads below t were split off.
+-- Returns the view of the first seat after the threads below t have been split off.
 abbrev pub spare : Opening → ℕ → View
 spare k t = record (opener k) { others = asides_from k t (k.threads - 1 - t) }
 
--- States that this is a new seat of thread t.
+-- States that s is a seat of thread t that was just split off and has made no calls.
 abbrev pub IsNew : TableId → Opening → ℕ → Seat (Unit {0}) View → Type 0
 IsNew z k t s = (s.table_id ≡ z) × (s.me ≡ (fresh k t, []))
 
@@ -43,12 +43,10 @@ among k t zero u le lt = absurd (omega arith)
 among k t (suc n) u le lt = dite (ℕ_discrete u t) (λ (e : u ≡ t). inl e)
     (λ (ne : u ≢ t). inr (among k (t + 1) n u (omega arith) (omega arith)))
 
--- The first seat has all threads of the set.
 all_there : (k : Opening) (t : ℕ) → t < k.threads → HasThread (opener k) t
 all_there k t lt = dite (ℕ_discrete t (k.threads - 1)) (λ (e : t ≡ k.threads - 1). inl e)
     (λ (ne : t ≢ k.threads - 1). inr (among k 0 (k.threads - 1) t (omega arith) (omega arith)))
 
--- Before any event, each thread is idle.
 at_opening : (m : Table) (k : Opening) (t : ℕ) → t < k.threads → at_end m k [] t ≡ here (idle k.quota t) None []
 at_opening m k t lt = λ i. here (get_or-map-range_with_len (idle k.quota) 0 k.threads t t (idle 0 0) lt (omega arith) i) None []
 
@@ -143,7 +141,7 @@ spare_all k =
     let e : k.threads - 1 ≡ k.threads - 1 - 0 = omega arith in
     ap (λ n. record (opener k) { others = asides_from k 0 n }) e
 
--- ---- The properties of the fields of a new seat
+-- A new seat is idle, its view is correct, and it has one thread.
 pub new_seat : (m : Table) (k : Opening) (t : ℕ) (me : T.Me (Unit {0}) View) → Opens k → t < k.threads → me ≡ (fresh k t, []) →
     (slots : OwnSlots) → slots ≡ slots_of (idle k.quota t)
     → IsIdle me.0 × Stands m me.0 × (slots ≡ slots_of me.0.local) × (1 ≡ length me.0.others + 1) × (me.1 ≡ [])

@@ -1,4 +1,4 @@
--- The steps of a call: what a caller learns from each of them, and how a whole call changes the caller's view.
+-- The steps of a call: what a caller learns from each step, and how a whole call changes the view of the caller's seat.
 use Rattle.std.specs.Prelude.{◌≡◌, ℕ, ◌+◌, List, [], ◌∷◌, ◌++◌, length, Option, Some, None}
 use Rattle.atomic_table.specs.Table.{Me, Step}
 use Rattle.lset_words.specs.declared.Call.{Call}
@@ -14,7 +14,7 @@ use Rattle.lset_rule.specs.Pasts.{called}
 use Rattle.lset_rule.specs.Runs.{StartsWith, own, under_after, end_of}
 use Rattle.lset_rule.specs.Views.{Stands}
 
--- Returns the view after call c has begun. `log` has all events before that.
+-- Returns view v after its thread has begun call c. `log` has all events before that.
 abbrev pub begun_view : Table → List Event → Call → View → View
 begun_view m log c v = record v {
   local = m.begin c v.local;
@@ -22,13 +22,13 @@ begun_view m log c v = record v {
   seen = log ++ Begin v.thread c ∷ [];
 }
 
--- Returns the record after event n. If the event ends the pending call, this call is appended.
+-- Returns a seat's record after event n: if the event ends the pending call, that call is appended.
 abbrev pub record_after : Past → Option Reply → Option PendingCall → ℕ → Past
 record_after r (Some x) (Some u) n = called r (own u x n)
 record_after r (Some x) None n = r
 record_after r None u n = r
 
--- Returns the view after a step that saw n.
+-- Returns view v after a step of its thread that saw the value n. `log` has all events before the step.
 abbrev pub gone_view : Table → List Event → ℕ → View → View
 gone_view m log n v = let f = m.feed v.local n in record v {
   local = f.local;
@@ -37,21 +37,22 @@ gone_view m log n v = let f = m.feed v.local n in record v {
   seen = log ++ Go v.thread ∷ [];
 }
 
--- The facts that a caller learns from a step. Some `log` contains all events before the step and begins with the events
--- that the caller had seen. After the log, the step sees n. Afterwards the caller has seen the log and the step. (Sees:
--- in some run of the machine, a thread has these registers and sees n next. `feed` requires this.)
+-- What a caller learns from a step that sees the value n and changes its view from v to w. Some `log` has all events
+-- before the step, and begins with the events that v had seen. The view w has seen the log and the step. `Sees` states
+-- that in some run a thread with these registers sees n next, as `feed` requires.
 abbrev pub Goes : Table → View → ℕ → View → Type 0
 Goes m v n w = (log : List Event) × (on : StartsWith log v.seen) × Sees m v.local n × (w ≡ gone_view m log n v) × Stands m w
     × (seen_next m (end_of m v.shape log) v.thread ≡ n)
 
--- The facts that a caller learns from the first step of call c. The call begins just before the step.
+-- What a caller learns from the first step of call c, which sees the value n and changes its view from v to w. The call
+-- begins just before the step.
 abbrev pub Starts : Table → Call → View → ℕ → View → Type 0
 Starts m c v n w = (log : List Event) × (on : StartsWith log v.seen) × Sees m (m.begin c v.local) n
     × (let b = begun_view m log c v in w ≡ gone_view m b.seen n b) × Stands m w
     × (let b = begun_view m log c v in seen_next m (end_of m v.shape b.seen) v.thread ≡ n)
 
--- `Goes` and `Starts` in the form that the table's steps require. A seat never holds a slot of the table, since the
--- table has no slots.
+-- `Goes` and `Starts` in the form that accesses of the shared words (`atomic_table`) require. The last part states that
+-- the seat holds the same cells of the table as before (none).
 abbrev pub onward : Table → Step (Unit {0}) → Me (Unit {0}) View → ℕ → Me (Unit {0}) View → Type 0
 onward m st me n me' = Goes m me.0 n me'.0 × (me'.1 ≡ me.1)
 
@@ -63,12 +64,12 @@ abbrev pub steps_of : Option PendingCall → ℕ
 steps_of None = 0
 steps_of (Some u) = u.steps
 
--- States that the views agree except in the registers, the pending call, the record and the events seen.
+-- States that views v and w agree except in the registers, the pending call, the record and the events seen.
 abbrev pub Same : View → View → Type 0
 Same v w = (w.spent ≡ v.spent) × (w.shape ≡ v.shape) × (w.thread ≡ v.thread) × (w.others ≡ v.others)
     × (w.ours ≡ v.ours) × (w.theirs ≡ v.theirs)
 
--- A pending call: c began after everything that view v had seen.
+-- The view of a seat changed from v to w, and call c is pending. The call began after all events that v had seen.
 pub record IsMid (c : Call) (v w : View) : Type 0 where
   pub log : List Event
   pub before : StartsWith log v.seen
@@ -78,8 +79,8 @@ pub record IsMid (c : Call) (v w : View) : Type 0 where
   pub past : w.past ≡ v.past
   pub same : Same v w
 
--- A whole call: c was made and returned r. It began after everything that v had seen. Its last step is the last event
--- seen, and the record has grown by exactly this call.
+-- The view of a seat changed from v to w by a whole call c with reply r. The call began after all events that v had
+-- seen. Its last step is the last event that w has seen, and the record has grown by exactly this call.
 pub record Makes (m : Table) (c : Call) (v : View) (r : Reply) (w : View) : Type 0 where
   pub log : List Event
   pub between : List Event

@@ -1,4 +1,4 @@
--- Records of seats, and what they contain.
+-- The record of a seat: its completed calls, and the records of the seats that it gathered, oldest first.
 use Rattle.std.specs.Prelude.{◌≡◌, ℕ, ◌⊎◌, ◌<◌, ◌==◌, List, [], ◌∷◌, ◌++◌, cond}
 use denote.Bor.{Bor}
 use Rattle.lset_rule.specs.declared.view.OwnCall.{OwnCall}
@@ -7,51 +7,50 @@ use Rattle.lset_rule.specs.declared.view.Past.{Past, Fresh, Called', Gathered'}
 abbrev nowhere : Bor (Unit {0})
 nowhere = record { now = tt; ref_ptr = (0, 0) }
 
--- Appends a call to a record.
 abbrev pub called : Past → OwnCall → Past
 called r c = Called' nowhere r c
 
--- Appends a gathered record to a record.
+-- Appends the record g of a gathered seat to the record r.
 abbrev pub gathered : Past → Past → Past
 gathered r g = Gathered' nowhere r nowhere g
 
--- Returns the thread to which the record belongs.
+-- Returns the thread that made the record's own calls.
 abbrev pub root : Past → ℕ
 root (Fresh t) = t
 root (Called' p r c) = root r
 root (Gathered' p r q g) = root r
 
--- Returns the calls of thread u in a record, in order.
+-- Returns the calls of thread u in a record and in the records gathered into it, in order.
 abbrev pub calls_of : ℕ → Past → List OwnCall
 calls_of u (Fresh t) = []
 calls_of u (Called' p r c) = calls_of u r ++ cond (u == root r) (c ∷ []) []
 calls_of u (Gathered' p r q g) = calls_of u r ++ calls_of u g
 
--- States that all calls in the record, own and gathered, began and ended before event n.
+-- States that all calls in a record, own and gathered, began and ended before event n.
 abbrev pub Before : ℕ → Past → Type 0
 Before n (Fresh t) = Unit {0}
 Before n (Called' p r c) = Before n r × (c.ended < n) × (c.begun < n)
 Before n (Gathered' p r q g) = Before n r × Before n g
 
--- States that all calls in the gathered records began and ended before event n.
+-- States that all calls in the records that were gathered into a record began and ended before event n.
 abbrev pub GatheredBefore : ℕ → Past → Type 0
 GatheredBefore n (Fresh t) = Unit {0}
 GatheredBefore n (Called' p r c) = GatheredBefore n r
 GatheredBefore n (Gathered' p r q g) = GatheredBefore n r × Before n g
 
--- States that each own call began after the calls of all records that were gathered before it.
+-- States that each own call of a record began after all calls of the records that were gathered before this call.
 abbrev pub InOrder : Past → Type 0
 InOrder (Fresh t) = Unit {0}
 InOrder (Called' p r c) = InOrder r × GatheredBefore c.begun r
 InOrder (Gathered' p r q g) = InOrder r × InOrder g
 
--- States that the record belongs to thread u, or that a record of u was gathered into it.
+-- States that a record belongs to thread u, or that a record of u was gathered into it.
 abbrev pub IsIn : ℕ → Past → Type 0
 IsIn u (Fresh t) = u ≡ t
 IsIn u (Called' p r c) = IsIn u r
 IsIn u (Gathered' p r q g) = IsIn u r ⊎ IsIn u g
 
--- States that the record contains no two records of the same thread.
+-- States that no thread has two records in a record and the records gathered into it.
 abbrev pub Apart : Past → Type 0
 Apart (Fresh t) = Unit {0}
 Apart (Called' p r c) = Apart r

@@ -1,4 +1,4 @@
--- One step of a call by the interpreter: what it requires of the seat and of the thread's state, and its result.
+-- One step of an interpreted call: what the step requires of its seat and of the thread's state, and its result.
 use Rattle.std.specs.Prelude.{◌≡◌, ℕ}
 use Rattle.atomic_table.specs.Seated.{TableId}
 use Rattle.lset_words.specs.Words.{Opening}
@@ -10,7 +10,8 @@ use Rattle.lset_rule.specs.Views.{IsOpen, Stands}
 use Rattle.lset_rule.specs.Calls.{Goes}
 use Rattle.lset_rule.specs.Seats.{TableSeat, IsOf, IsSeat}
 
--- The seat belongs to this table and has a pending call. In some run, its thread has these registers at some moment.
+-- What the next step of an interpreted call requires: seat s belongs to table z and has a pending call, and `l` are the
+-- registers of its thread. They occur in some run.
 pub record MayStep (m : Table) (z : TableId) (k : Opening) (l : Local) (s : TableSeat) : Type 0 where
   pub place : IsOf z k s
   pub under_way : IsOpen s.me.0
@@ -18,8 +19,8 @@ pub record MayStep (m : Table) (z : TableId) (k : Opening) (l : Local) (s : Tabl
   pub held : l ≡ s.me.0.local
   pub occurs : Occurs m l
 
--- The call has made its next step from the same seat. f is the result that the table has for these registers and the
--- value seen.
+-- An interpreted call has made its next step: its seat changed from s to s'. The step table computes f from the
+-- registers `l` and the value that the step saw.
 pub record HasStepped (m : Table) (l : Local) (s : TableSeat) (f : Fed) (s' : TableSeat) : Type 0 where
   pub place : IsSeat s s'
   pub seen : ℕ

@@ -1,6 +1,5 @@
--- The run of a list of events, computed from the opening state one event at a time. It has the last state, and for each
--- thread its registers, its pending call and its completed calls, with the numbers of their events. The first event has
--- the number 1.
+-- The run of a list of events, computed from the opening state one event at a time: the state after the last event, and
+-- for each thread its registers, its pending call and its completed calls. Events are numbered from 1.
 use Rattle.std.specs.Prelude.{◌≡◌, ℕ, zero, suc, ◌+◌, ◌==◌, if◌then◌else◌, List, [], ◌∷◌, ◌++◌, length, Option, Some, None}
 use Rattle.lset_words.specs.declared.Reply.{Reply}
 use Rattle.lset_words.specs.declared.history.CallRecord.{CallRecord}
@@ -13,11 +12,10 @@ use Rattle.lset_rule.specs.declared.view.OwnCall.{OwnCall}
 use Rattle.lset_rule.specs.declared.view.PendingCall.{PendingCall}
 use Rattle.lset_words.specs.Words.{Opening}
 
--- States that the events `seen` are a prefix of `log`.
 abbrev pub StartsWith : List Event → List Event → Type 0
 StartsWith log seen = (rest : List Event) × (log ≡ seen ++ rest)
 
--- A thread: its registers, its pending call and its completed calls.
+-- A thread at some moment: its registers, its pending call and its completed calls.
 pub record Here : Type 0 where
   pub local : Local
   pub under : Option PendingCall
@@ -26,24 +24,24 @@ pub record Here : Type 0 where
 abbrev pub here : Local → Option PendingCall → List OwnCall → Here
 here l u d = record { local = l; under = u; done = d }
 
--- Returns the completed call that a pending call becomes if it ends at event n with reply r.
+-- Returns the completed call that the pending call u becomes if event n ends it with reply r.
 abbrev pub own : PendingCall → Reply → ℕ → OwnCall
 own u r n = record { call = u.call; reply = r; begun = u.begun; ended = n }
 
--- Returns the pending call after a step, which may have ended it.
+-- Returns the pending call of a thread after a step of the thread: none if the step returned a reply.
 abbrev pub under_after : Option Reply → Option PendingCall → Option PendingCall
 under_after (Some r) u = None
 under_after None None = None
 under_after None (Some u) = Some (record u { steps = u.steps + 1 })
 
--- Returns the call that ends at event n, if any, as a list.
+-- Returns the call that event n ends, as a list. The list is empty if the event ends no call.
 abbrev pub ending : Option Reply → Option PendingCall → ℕ → List OwnCall
 ending (Some r) (Some u) n = own u r n ∷ []
 ending (Some r) None n = []
 ending None u n = []
 
--- The calls of a thread in a log: the pending call, with the number of the event at which it began and the number of
--- its steps, and the completed calls. under_next and done_next compute them after event n from those before it.
+-- The pending call of thread t after event n, computed from that before the event. `done_next` is the same for the
+-- completed calls.
 abbrev pub under_next : ℕ → Entry → ℕ → Option PendingCall → Option PendingCall
 under_next n (began u c) t before = if u == t then Some (record { call = c; begun = n; steps = 0 }) else before
 under_next n (stepped u change answer) t before = if u == t then under_after answer before else before
@@ -52,7 +50,7 @@ abbrev pub done_next : ℕ → Entry → ℕ → Option PendingCall → List Own
 done_next n (began u c) t open_now before = before
 done_next n (stepped u change answer) t open_now before = if u == t then before ++ ending answer open_now n else before
 
--- Returns the pending call after the first k events. `done_at` returns the completed calls.
+-- Returns the pending call of thread t after the first k events of a log. `done_at` returns its completed calls.
 abbrev pub under_at : Log → ℕ → ℕ → Option PendingCall
 under_at log t zero = None
 under_at log t (suc k) = under_next (suc k) (log k) t (under_at log t k)
@@ -61,12 +59,12 @@ abbrev pub done_at : Log → ℕ → ℕ → List OwnCall
 done_at log t zero = []
 done_at log t (suc k) = done_next (suc k) (log k) t (under_at log t k) (done_at log t k)
 
--- Returns a thread after the first k events of a run.
+-- Returns the registers, pending call and completed calls of thread t after the first k events of a run.
 abbrev pub here_at : Table → Opening → (ℕ → Event) → ℕ → ℕ → Here
 here_at T op es t k = here (local_of (state_at T op es k) t) (under_at (log_of T op es) t k) (done_at (log_of T op es) t k)
 
--- The run of a list of events, for a set with this opening: its log, its last state, each thread at its end, and the
--- condition that it is a run, so that each event is enabled when it occurs.
+-- The run of a list of events from this opening: `log_by` is its log, `end_of` its last state, `at_end` the state of a
+-- thread at its end. `IsRunOf` states that each event was enabled when it occurred.
 abbrev pub log_by : Table → Opening → List Event → Log
 log_by T k es = log_of T k (event_at es)
 
@@ -79,6 +77,6 @@ at_end T k es t = here_at T k (event_at es) t (length es)
 abbrev pub IsRunOf : Table → Opening → List Event → Type 0
 IsRunOf T k es = Run T k (event_at es) (length es)
 
--- Returns the history of the run of these events.
+-- Returns the history (all calls with begin, end and reply) of the run of these events.
 abbrev pub history_of : Table → Opening → List Event → List CallRecord
 history_of T k es = history_at (log_by T k es) (length es)

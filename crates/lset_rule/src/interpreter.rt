@@ -1,4 +1,4 @@
-//! The interpreter makes a whole call on the shared words, one row of the machine's table at a time.
+//! The interpreter: makes a whole call on the shared words, one row of the list's step table at a time.
 ghost use Rattle.std.specs.Prelude.{IfSome};
 ghost use Rattle.lset_words.specs.declared.Call.TheVariants.{Contains};
 ghost use Rattle.lset_rule.specs.Seats.{HasCalled, MayCall};
@@ -12,9 +12,10 @@ use lset_steps::{Machine, OpenReads};
 use lset_words::{Call, Key, Reply};
 use std::marker::Brand;
 
-/// Runs the code between two steps: returns the reply if the call has ended, and pauses otherwise. This is a macro
-/// because a pause can block. After a call of a function that can block, the compiled code would not jump straight to
-/// the next row.
+/// The code between two steps of a call: returns the reply if the call has ended, otherwise pauses.
+///
+/// A macro, because a pause can block. After a call of a function that can block, the compiled code would not jump
+/// straight to the code of the next row.
 macro_rules! ends_or_pauses {
     ($last:expr, $pause:expr) => {
         if let Some(reply) = $last.fed.answer {
@@ -30,13 +31,14 @@ macro_rules! ends_or_pauses {
 
 /// Makes a whole call step by step, in at most `N::MOST` rounds of four steps each.
 ///
-/// `place` is an idle seat of these words. `slots` are its thread's slots, as its last call returned them. After each
-/// step that does not end the call, `pause.failed` is called if the step has failed, and `pause.moved` otherwise, even
-/// when the call takes a lock that it has waited for. `pause.taken` is never called.
+/// `place` is an idle seat (the right to call as one thread) of the words `table`. `slots` are the thread's slots, as
+/// the thread's last call returned them. After each step that does not end the call, the interpreter calls
+/// `pause.failed` if the step has failed, and `pause.moved` otherwise. `pause.moved` is also called when the call takes
+/// a lock that it has waited for: `pause.taken` is never called.
 ///
 /// Returns the thread's slots after the call, and the reply. The call began after all events that the seat had seen,
-/// and the seat's record has grown by this call. Returns `None` if the call has not ended after these rounds. The call
-/// is then still pending and keeps its locks, and the seat can make no other call.
+/// and the call has been added to the seat's record. Returns `None` if the call has not ended after these rounds. The
+/// call is then still pending and keeps its locks, and the seat can make no other call.
 pub fn interpret_within<M: Machine, P: Pause, N: Rounds>(
     table: &Words<M>,
     place: &mut TableSeat,
@@ -55,7 +57,7 @@ pub fn interpret_within<M: Machine, P: Pause, N: Rounds>(
         failed: has_failed(action, seen),
     };
     // A round has four steps. Within a round, the compiled code of one row jumps straight to the code of the next row.
-    // At the end of a round, the code of the next row is looked up.
+    // After a round, the code of the next row is found by its number.
     for round in 0..N::MOST {
         ends_or_pauses!(last, pause);
         let second = one_step::<M, 1>(table, place, &last.fed.local);
@@ -70,10 +72,11 @@ pub fn interpret_within<M: Machine, P: Pause, N: Rounds>(
     Some((OwnSlots::of(&last.fed.local), reply))
 }
 
-/// Makes a whole `contains` of `key` step by step, without blocking. This is for lists whose walk reaches each node at
-/// most once (`OpenReads`), which are the lists that mark nodes before they unlink them.
+/// Makes a whole `contains` of `key` step by step, without blocking. `M` is a list whose walk reaches each node at most
+/// once (`OpenReads`): a list that marks nodes before it unlinks them.
 ///
-/// `place` and `slots` are those of [`interpret_within`]. Returns the thread's slots after the call, and the reply.
+/// `place` is an idle seat (the right to call as one thread) of the words `table`, and `slots` are the thread's slots,
+/// as the thread's last call returned them. Returns the thread's slots after the call, and the reply.
 pub fn interpret_read<M: OpenReads>(
     table: &Words<M>,
     place: &mut TableSeat,

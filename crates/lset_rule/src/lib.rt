@@ -1,9 +1,10 @@
-//! The rule of a list on shared words, for every machine (`lset_steps::Machine`): between any two moves of the threads,
-//! there is a list of events whose run ends with the table's words, and each seat has seen a prefix of this list.
+//! The invariant of a list on shared words, called its rule. It holds between any two steps, for every list
+//! (`lset_steps::Machine`): some list of events is a run that ends with the words in memory, and each seat has seen a
+//! prefix of these events. A seat is the right to call as one thread.
 //!
-//! `rule` states the rule for the table of words, `view` has what a seat knows, `word_steps` has the steps of a call,
-//! `pause` the code between two steps, and `interpreter` makes whole calls from these steps. Read the definitions in
-//! specs/ in this order: `Pasts`, `Runs`, `Views`, `Rule`, `Calls`, `Seats`.
+//! Module `rule` has the rule, `view` what a seat knows, `word_steps` the single steps of a call, `pause` the code
+//! between two steps, and `interpreter` whole calls. Read the definitions in specs/ in this order: `Pasts`, `Runs`,
+//! `Views`, `Rule`, `Calls`, `Seats`.
 #![tactic(auto)]
 
 mod interpreter;

@@ -3,34 +3,35 @@
 use crossbeam_utils::Backoff;
 use std::cell::Cell;
 
-/// The code that a call runs between two of its steps. No contract depends on it: it cannot access the words or the
-/// seat, and affects only how long a call takes.
+/// The code that a call runs between two of its steps. No contract depends on this code: it cannot access the words or
+/// the seat, and affects only how long a call lasts.
 ///
-/// Each outcome has a function of its own, because the kit reads a byte after each call of a function that can yield.
-/// This way, a pause that yields only after a failed step costs nothing after other steps.
+/// Each outcome of a step has its own function, because the kit reads a byte after each call of a function that can
+/// yield. If a pause yields only after a failed step, no byte is read after other steps.
 pub trait Pause {
     /// Called after a step that succeeded without ending the call. `thread` is the number of the calling thread.
     fn moved(&self, thread: u32);
 
-    /// Called after a step that failed without ending the call: an exchange that found another value than it expected,
-    /// for example because a lock is taken. `thread` is the number of the calling thread.
+    /// Called after a step that failed without ending the call. Such a step is an exchange that found another value
+    /// than expected, for example because a lock is held. `thread` is the number of the calling thread.
     fn failed(&self, thread: u32);
 
-    /// Called instead of `moved` when a call takes a lock that it has waited for. Only the loops of the four lists with
-    /// locks call this function; the interpreter (`interpret_within`) calls `moved` then, too. `thread` is the number
-    /// of the calling thread.
+    /// Called instead of `moved` when a call takes a lock that it has waited for. The loops of the four lists with
+    /// locks call this function. The interpreter (`interpret_within`) calls `moved` instead. `thread` is the number of
+    /// the calling thread.
     fn taken(&self, thread: u32) {
         self.moved(thread)
     }
 }
 
-/// The maximum number of `Backoff` waits after a failed step. At 16 waits, a thread pauses 1,024 times. In that time
-/// the holder of a lock makes many calls, and the lock's cache line stays with it.
+/// The maximum number of `Backoff::spin` calls after a failed step. At 16, a thread executes 1,024 pause instructions.
+/// In that time the holder of a lock makes many calls, and the cache line of the lock stays with the holder's
+/// processor.
 const MOST_WAITS: u32 = 16;
 
-/// Waits after each failed exchange with `Backoff` of `crossbeam_utils`: twice as long each time, up to a limit. Beyond
-/// the limit, it also yields the processor. At the next lock, the waits start from the beginning. Each call has its own
-/// `Spin`.
+/// A pause that waits after each failed exchange with `Backoff` of `crossbeam_utils`. Each wait is twice as long as the
+/// previous one, up to a limit. Beyond the limit, the pause also yields the processor. When the call takes a lock, the
+/// waits become short again. Each call has its own `Spin`.
 #[derive(Drop)]
 pub struct Spin {
     backoff: Backoff,

@@ -11,14 +11,14 @@ pub trait Rounds {
     const MOST: u64;
 }
 
-/// No practical bound: 2^64 - 1 rounds, more than any run makes.
+/// The bound of a call that has no practical bound: 2^64 - 1 rounds.
 pub struct Countless;
 
 impl Rounds for Countless {
     const MOST: u64 = u64::MAX;
 }
 
-/// Returns the answer of a call with [`Countless`] rounds, which are 2^64 - 1. Waits forever if there is no answer.
+/// Returns the result of a call that may make [`Countless`] rounds (2^64 - 1). Waits forever if `answer` is `None`.
 #[inline(always)]
 pub fn or_wait_forever<R: Wait>(rt: &R, answer: Option<(OwnSlots, Reply)>) -> (OwnSlots, Reply)
     ensures { answer ≡ Some result }

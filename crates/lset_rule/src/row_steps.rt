@@ -1,12 +1,12 @@
-//! The next step of the interpreter's call, by the code of its row.
+//! The next step of an interpreted call, by the compiled code of its row in the step table.
 ghost use Rattle.std.specs.Prelude.{◌≡◌};
 ghost use Rattle.lset_rule.specs.RowSteps.{HasStepped, MayStep};
 
 use crate::word_steps::{TableSeat, Words, step_on};
 use lset_steps::{Action, Fed, Local, Machine};
 
-/// The outcome of a step: the thread's state after it, the reply if the step ended the call, and whether the step was a
-/// failed exchange.
+/// The outcome of one step: the thread's state after the step, the reply if the step ended the call, and whether the
+/// step was a failed exchange.
 #[derive(Clone, Copy)]
 pub(crate) struct Stepped {
     pub fed: Fed,
@@ -22,8 +22,8 @@ pub(crate) fn has_failed(action: Action, seen: u64) -> bool {
     }
 }
 
-/// Makes the next step of a call at row `PC`. `PC` is a constant for the compiler, which compiles only this row of the
-/// machine's `next` and `feed`, its access, and the state after it.
+/// Makes the next step of a call at row `PC` of the step table. `PC` is a compile-time constant: the compiler removes
+/// the code of all other rows from `M::next` and `M::feed`.
 fn row_step<M: Machine, const PC: u8>(
     table: &Words<M>,
     place: &mut TableSeat,
@@ -42,9 +42,9 @@ fn row_step<M: Machine, const PC: u8>(
     }
 }
 
-/// Makes the next step of a call at a row that has no arm in [`one_step`]. `SITE` is different at each call site and
-/// has no other use: a function that is called from a single place is inlined there. If this function were inlined, the
-/// registers would have to be kept in memory at every step of every row.
+/// Makes the next step of a call at a row that has no arm in [`one_step`]. `SITE` differs at each call site, and only
+/// keeps this function from being inlined: the compiler inlines a function that has a single call site. Inlined here,
+/// it would force the registers into memory at every step.
 fn other_step<M: Machine, const SITE: u8>(
     table: &Words<M>,
     place: &mut TableSeat,
@@ -61,11 +61,11 @@ fn other_step<M: Machine, const SITE: u8>(
     }
 }
 
-/// Makes the next step of a call by the code of its row.
+/// Makes the next step of a call by the compiled code of its row.
 ///
-/// `place` is a seat of these words with a pending call, and `local` is the state of its thread. Each call site passes
-/// its own number `SITE`. There is an arm for each row of the five tables. Rows of other tables work without an arm
-/// here, but their steps are slower.
+/// `place` is a seat of the words `table` with a pending call, and `local` is the state of its thread. Each call site
+/// passes its own number `SITE`. Each row of the five lists' step tables has an arm. Rows of other tables work without
+/// an arm, but their steps are slower.
 #[inline(always)]
 pub(crate) fn one_step<M: Machine, const SITE: u8>(
     table: &Words<M>,

@@ -1,4 +1,4 @@
-//! The rule of the table, and what a thread learns from each kind of move.
+//! The rule (the invariant of the shared words and all seats), and what a seat learns from each kind of move.
 ghost use Rattle.lset_words.specs.declared.Call.{Call};
 ghost use Rattle.lset_words.specs.declared.Call.TheVariants.{Contains};
 ghost use Rattle.lset_rule.specs.Rule.{Holds, opener, left_view, right_view, joined, nobody, learned, without_thread, informed};
@@ -9,8 +9,8 @@ use atomic_table::{Join, Play, Split, TableRule};
 use lset_steps::Machine;
 use std::marker::{Brand, PhantomData};
 
-/// The rule of a table with the words of machine `M`: the events of all threads are a run of `M` that ends with these
-/// words, and each view matches this run. The first seat has all threads.
+/// The rule of shared words whose list is `M`: the events of all threads are a run of `M` that ends with these words,
+/// and the view of each seat matches this run. When the set is opened, one seat has all threads.
 pub struct Follows<M> {
     machine: PhantomData<M>,
 }
@@ -21,7 +21,7 @@ impl<M: Machine> TableRule<(), View, Opened> for Follows<M> {
     ghost first = { opener };
 }
 
-/// Identifies the call that a first step begins. A caller passes `Brand`, and proves which call `Brand` stands for.
+/// The call that a first step begins, as a type. A caller passes `Brand`, and proves which call `Brand` means.
 pub trait Asking {
     ghost call: { Call };
 }
@@ -30,7 +30,7 @@ impl Asking for Brand {
     ghost call = { Contains (record { 0 = 0 }) };
 }
 
-/// What a thread learns from a step that is not the first of its call.
+/// What a seat learns from a step of its call other than the first.
 pub struct Step<M> {
     machine: PhantomData<M>,
 }
@@ -39,7 +39,7 @@ impl<M: Machine> Play<(), View> for Step<M> {
     ghost then = { onward M.table };
 }
 
-/// What a thread learns from the first step of a call. This step begins the call.
+/// What a seat learns from the first step of a call. The call begins with this step.
 pub struct FirstStep<M, J> {
     machine: PhantomData<M>,
     asking: PhantomData<J>,
@@ -49,7 +49,7 @@ impl<M: Machine, J: Asking> Play<(), View> for FirstStep<M, J> {
     ghost then = { starting M.table J.call };
 }
 
-/// The views after a seat is split: one of its spare threads becomes the thread of a new seat.
+/// The views of both seats after a split: a spare thread of the old seat becomes the thread of a new seat.
 pub struct SplitSeat;
 
 impl Split<View> for SplitSeat {
@@ -58,7 +58,7 @@ impl Split<View> for SplitSeat {
     ghost right = { right_view };
 }
 
-/// The view after a seat gathers another seat. It has that seat's threads and record, too.
+/// The view of a seat after it has gathered another seat: it also has the other seat's threads and record.
 pub struct JoinSeats;
 
 impl Join<View> for JoinSeats {
@@ -67,8 +67,8 @@ impl Join<View> for JoinSeats {
     ghost spent = { nobody };
 }
 
-/// The views after a seat gives a receipt. The seat keeps its view, and the receipt is a view without threads that has
-/// seen the same events. Copying a receipt works the same way.
+/// The views after a seat makes a receipt, or a receipt is copied. The view of the seat stays. The receipt is a view
+/// without threads that has seen the same events.
 pub struct GiveReceipt;
 
 impl Split<View> for GiveReceipt {
@@ -77,7 +77,7 @@ impl Split<View> for GiveReceipt {
     ghost right = { without_thread };
 }
 
-/// The view after a seat takes a receipt. It has seen everything that either view had seen.
+/// The view of a seat after it has taken a receipt: it has seen all events that the seat or the receipt had seen.
 pub struct TakeReceipt;
 
 impl Join<View> for TakeReceipt {
@@ -86,8 +86,8 @@ impl Join<View> for TakeReceipt {
     ghost spent = { nobody };
 }
 
-/// What a seat learns from the load after gathering a seat or taking a receipt: it has seen everything that either view
-/// had seen.
+/// What a seat learns from the load that follows a gathering or the taking of a receipt: the events that it has seen
+/// include those that either view had seen.
 pub struct Learn<M> {
     machine: PhantomData<M>,
 }

@@ -1,4 +1,4 @@
-//! The slots of a thread: the state that it keeps between two calls.
+//! The slots of a thread (the nodes for keys that it can still add), and what else it keeps between two calls.
 ghost use Rattle.std.specs.Prelude.{◌≡◌};
 ghost use Rattle.lset_steps.specs.Steps.{idle};
 ghost use Rattle.lset_rule.specs.OwnSlots.{slots_of, resting};
@@ -6,8 +6,8 @@ ghost use Rattle.lset_rule.specs.OwnSlots.{slots_of, resting};
 use lset_steps::Local;
 use lset_words::{Call, Key, Layout};
 
-/// The state that a thread keeps between two calls: its number, the number of its slots, and how many of them it has
-/// used. The next call does not depend on the other registers.
+/// The state that a thread keeps between two calls: its number, the number of its slots (nodes for keys that it adds),
+/// and how many slots it has used. Other registers do not affect the next call.
 #[derive(Clone, Copy)]
 pub struct OwnSlots {
     pub thread: u32,
@@ -27,7 +27,7 @@ impl OwnSlots {
         }
     }
 
-    /// Returns the slots that the registers contain.
+    /// Returns the part of the registers that is kept after a call.
     pub(crate) fn of(local: &Local) -> OwnSlots
         ensures { result ≡ slots_of local.now }
     {
@@ -38,7 +38,7 @@ impl OwnSlots {
         }
     }
 
-    /// Returns registers with these slots and no call.
+    /// Returns the registers of a thread with these slots and no pending call.
     pub(crate) fn resting(self) -> Local
         ensures { result ≡ resting self }
     {

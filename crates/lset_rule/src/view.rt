@@ -1,4 +1,4 @@
-//! What a seat knows, as plain data for contracts. A running program has no values of these types.
+//! What a seat (the right to call as one thread) knows, as data for contracts. No such values exist at run time.
 ghost use Rattle.std.specs.Prelude.{◌≡◌};
 ghost use Rattle.lset_words.specs.Words.{Opening};
 
@@ -7,8 +7,8 @@ use lset_words::{Call, Reply};
 use std::collections::LinkedList;
 use std::marker::Model;
 
-/// The opening of a set: the number of threads, the number of slots per thread, and the opening keys. It is the `key`
-/// of the set's table, and is fixed when the set is opened.
+/// The opening of a set: the number of threads, the number of keys that each thread can add (its quota), and the
+/// opening keys. Fixed when the set is opened.
 #[derive(Drop)]
 pub struct Opened {
     threads: u32,
@@ -23,7 +23,7 @@ impl Model for Opened {
 }
 
 impl Opened {
-    /// Returns the opening of a set with this many threads, this many slots for each thread, and these keys.
+    /// Returns the opening of a set with `threads` threads that can add `quota` keys each, and the opening keys `keys`.
     pub fn new(threads: u32, quota: u32, keys: Vec<u32>) -> Opened
         ensures { result ≡ record { threads = threads; quota = quota; keys = keys.items } }
     {
@@ -35,32 +35,32 @@ impl Opened {
     }
 }
 
-/// A completed call.
+/// A completed call in a seat's record.
 pub struct OwnCall {
     pub call: Call,
     pub reply: Reply,
-    /// The number of the event at which it began, among the events of all threads. The first event has the number 1.
+    /// The number of the event at which the call began. All events of all threads are numbered from 1.
     pub begun: u64,
-    /// The number of the step that ended it.
+    /// The number of the step that ended the call.
     pub ended: u64,
 }
 
-/// A pending call.
+/// A pending call of a thread.
 pub struct PendingCall {
     pub call: Call,
-    /// The number of the event at which it began.
+    /// The number of the event at which the call began. All events of all threads are numbered from 1.
     pub begun: u64,
-    /// The number of steps that it has made.
+    /// The number of steps that the call has made.
     pub steps: u64,
 }
 
-/// The record of a seat: its completed calls and the records that it gathered, in the order in which they were added.
+/// The record of a seat: its completed calls, and the records of the seats that it gathered, oldest first.
 pub enum Past {
-    /// A record without calls, of this thread.
+    /// The record of this thread, without calls.
     Fresh(u32),
-    /// A record with one more call by its own thread.
+    /// A record, and a call that the record's own thread completed after it.
     Called(&'static Past, OwnCall),
-    /// A record into which another seat's record was gathered.
+    /// A record, and the record of a seat that was gathered after it.
     Gathered(&'static Past, &'static Past),
 }
 
@@ -70,27 +70,27 @@ pub struct SpareThread {
     pub local: Local,
 }
 
-/// What a seat knows.
+/// A view: what a seat (the right to call as one thread) knows.
 pub struct View {
-    /// Whether the view has no threads, because its seat was gathered or because it is a receipt. For such a view, the
-    /// rule only states which events it has seen.
+    /// Whether the view has no threads, because its seat was gathered or the view is a receipt. Of such a view, the
+    /// rule only says which events it has seen.
     pub spent: bool,
     /// The opening of the set.
     pub shape: Opened,
-    /// The seat's own thread, which makes the seat's calls.
+    /// The number of the seat's own thread, which makes the seat's calls.
     pub thread: u32,
     /// The registers of the seat's own thread.
     pub local: Local,
     /// The pending call of the seat's own thread.
     pub under: Option<PendingCall>,
-    /// The seat's spare threads: those that it gathered, and those that can still be split off.
+    /// The idle threads that the seat has in addition to its own: they were gathered, or can be split off.
     pub others: LinkedList<SpareThread>,
-    /// The seat's record.
+    /// The seat's completed calls, and the records of the seats that it gathered.
     pub past: Past,
-    /// The events that the seat has seen.
+    /// The events that the seat has seen, oldest first.
     pub seen: LinkedList<Event>,
-    /// After a gathering or a receipt: the events that this seat had seen before.
+    /// After a gathering or the taking of a receipt: the events that this seat had seen before.
     pub ours: LinkedList<Event>,
-    /// After a gathering or a receipt: the events that the other view had seen.
+    /// After a gathering or the taking of a receipt: the events that the other view had seen.
     pub theirs: LinkedList<Event>,
 }

@@ -1,5 +1,5 @@
--- Proof that the lines after a header and the contents read from them determine each other, for every kind of file with
--- event lines.
+-- Proof: the lines after a header and the content read from them determine each other. This is true of every kind of
+-- text with event lines.
 use Rattle.std.proofs.Common.{◌≡◌, ℕ, ◌+◌, ◌<◌, ◌≤◌, ◌^◌, inl, inr, Bool, true, false, cond, ltb, List, [], ◌∷◌, ◌++◌, map}
 use Rattle.std.proofs.Common.{length, Result, Ok, Err, refl, sym, ap, subst, ◌∙◌, arith, append_assoc, codes}
 use Rattle.std.specs.Fmt.{decimal}
@@ -44,15 +44,15 @@ room_for_events : {L : Type 0} (b : Bool) (s t : BodyValue L) → cond b (Err To
 room_for_events true s t is = absurd cc
 room_for_events false s t is = (refl, ok_is s t is)
 
--- States that the contents can be written in this version.
+-- States that a content can be written in version v: it is within the limits, and v has its opening keys and lines.
 pub record HasText {L : Type 0} (text : EventLines L) (v : Version) (Good : L → Type 0) (s : BodyValue L) : Type 0 where
   pub opens : Opens (record { threads = s.header.threads; quota = s.header.quota; keys = s.keys })
   pub opening : HasOpening v s.keys
   pub lines : AllByRecursion Good s.lines
   pub few : sum_by text.count s.lines ≤ MOST_EVENTS
 
--- What the proofs need to know about the kinds of event lines: each value that they make is good, they make every good
--- value, and no good value looks like an opening key.
+-- What the proofs require of the patterns of event lines: they match exactly the lines of good values, and no such line
+-- has the pattern of an opening key.
 module _ {L : Type 0} (text : EventLines L) (v : Version) (title : List ℕ) (pieces : L → List (List ℕ)) (Good : L → Type 0)
     (known : AllByRecursion (Knows v pieces Good) text.kinds) (makes : (l : L) → Good l → IsMade v pieces text.kinds l)
     (apart : (l : L) → Good l → have_form v opening_form (pieces l) ≡ false) where
@@ -73,7 +73,7 @@ module _ {L : Type 0} (text : EventLines L) (v : Version) (title : List ℕ) (pi
   abbrev text_lines : BodyValue L → List (List ℕ)
   text_lines s = header_lines title s.header ++ body_lines s
 
-  -- ---- Lemmas about the kinds of lines that can come next
+  -- ---- Lemmas about the patterns that the next line can have
 
   events_known : AllByRecursion (Knows v item_pieces IsItem) (map (kind_as event) text.kinds)
   events_known = knows_as event v pieces item_pieces (λ l. refl) Good IsItem (λ l good. good) text.kinds known
@@ -98,7 +98,6 @@ module _ {L : Type 0} (text : EventLines L) (v : Version) (title : List ℕ) (pi
   no_key (Ok l) k is = cc
   no_key (Err c) k is = cc
 
-  -- An opening key can come only before all event lines.
   none_above : (w : Version) (ls : List L) (ps : List (List ℕ)) (k : ℕ) → first_of v Event (kinds_after text w ls) ps ≡ Ok (opens k)
       → ls ≡ []
   none_above One ls ps k is = absurd (no_key (first_of v Event text.kinds ps) k (sym (first_as event v Event text.kinds ps) ∙ is))
@@ -108,7 +107,8 @@ module _ {L : Type 0} (text : EventLines L) (v : Version) (title : List ℕ) (pi
 
   -- ---- Lemmas about a single line
 
-  -- States that the line appends itself to the text of the contents, and that the contents stay good.
+  -- States that reading the line x changes the content from s to t, that t can be written, and that its text is the
+  -- text of s and x.
   abbrev Adds : BodyValue L → List ℕ → BodyValue L → Type 0
   Adds s x t = HasText text v Good t × (text_lines t ≡ text_lines s ++ x ∷ [])
 
@@ -209,7 +209,7 @@ module _ {L : Type 0} (text : EventLines L) (v : Version) (title : List ℕ) (pi
       has.opens has.opening (λ front k two room low above. key_step t.header front k two low room above))
       (events_lead t t.lines has.lines has.few)
 
-  -- ---- Proof for whole files
+  -- ---- Proof for whole texts
 
   starts : (h : Header) → IsHeader h → HasText text v Good (no_lines h)
   starts h is = record {
@@ -219,7 +219,7 @@ module _ {L : Type 0} (text : EventLines L) (v : Version) (title : List ℕ) (pi
     few = omega arith;
   }
 
-  -- If a file is read, it is the text of the contents that were read.
+  -- If a text can be read, it is the text of the content that was read.
   pub body_found : (bytes : List ℕ) (t : BodyValue L) → text_from (texts text v title) (cut_at 10 bytes) ≡ Ok t
       → HasText text v Good t × (bytes ≡ text_of (text_lines t))
   body_found bytes t is =
@@ -227,7 +227,7 @@ module _ {L : Type 0} (text : EventLines L) (v : Version) (title : List ℕ) (pi
       (λ s u x has e. (line_adds s u x has e).0) (λ s u e. ok_is s u e) bytes t is in
       (found.2, found.0)
 
-  -- The text of good contents can be read.
+  -- If a content is within the limits, its text can be read.
   pub body_again : (t : BodyValue L) → Lacks 10 title → HasText text v Good t
       → (cut_at 10 (text_of (text_lines t)) ≡ header_lines title t.header ++ (body_lines t ++ [] ∷ []))
       × (text_from (texts text v title) (header_lines title t.header ++ (body_lines t ++ [] ∷ [])) ≡ Ok t)

@@ -1,5 +1,5 @@
--- Lemmas for the loop that reads the lines after a header: at which line an error is reported, and that a failed
--- allocation is never reported as an error of the text.
+-- Lemmas for the loop that reads the lines after the header: which line a reported error has, and that the text itself
+-- never causes the error `Memory`.
 use Rattle.std.proofs.Common.{arith, ◌≡◌, ℕ, ◌+◌, inl, inr, Bool, true, false, cond, ltb, List, [], ◌∷◌, length, Option, Some}
 use Rattle.std.proofs.Common.{None, Result, Err, refl, codes}
 use Rattle.std.specs.Prelude.{MatchOption}
@@ -20,15 +20,15 @@ use Rattle.lset_text.specs.declared.causes.Cause.{Cause}
 use Rattle.lset_text.specs.declared.causes.Cause.TheVariants.{Event, Number, Memory}
 use Rattle.lset_schedule.specs.ScheduleReading.{EventLines, BodyValue, Item, opens, event, kinds_after, with_item, with_line}
 
--- ---- Lemmas about lines where an opening key is allowed
+-- ---- Lemmas about the lines before the first event line, in version 2
 
 number_told : {L : Type 0} (o : Option ℕ) → (let word : Option (Unit {0}) = Some tt in
     made {Y = Item L} (λ t. opens t.1.0) (or_fail Number (both word (both o word)))) ≡ made opens (or_fail Number o)
 number_told None = refl
 number_told (Some n) = refl
 
--- Where an opening key is allowed (in version 2, before all event lines), the line is read as an opening key or as an
--- event line.
+-- In version 2, before the first event line, a line is read as an opening key if it has this pattern, else as an event
+-- line.
 pub key_told : {L K : Type 0} (text : EventLines L) (ls : List L) (line : List ℕ) (now : K → List ℕ) (o : Option K) → ls ≡ []
     → MatchOption o (have_form Two opening_form (cut_at 32 line) ≡ false) (λ key. cut_at 32 line ≡ codes "opening" ∷ now key ∷ [])
     → MatchOption o (line_in Two Event (kinds_after text Two ls) line ≡ made event (line_in Two Event text.kinds line))
@@ -36,14 +36,14 @@ pub key_told : {L K : Type 0} (text : EventLines L) (ls : List L) (line : List �
 key_told text ls line now None none other = rw (none, other) (first_as event Two Event text.kinds (cut_at 32 line))
 key_told text ls line now (Some key) none is = rw (none, is) (number_told (number_in 0 max_number (now key)))
 
--- Where no opening key is allowed, the line is read as an event line.
+-- In version 1, and after the first event line, each line is read as an event line.
 pub not_due : {L : Type 0} (text : EventLines L) (v : Version) (ls : List L) (line : List ℕ) → (v ≡ Two → ls ≡ [] → ⊥)
     → line_in v Event (kinds_after text v ls) line ≡ made event (line_in v Event text.kinds line)
 not_due text One ls line not = first_as event One Event text.kinds (cut_at 32 line)
 not_due text Two [] line not = absurd (not refl refl)
 not_due text Two (l ∷ ls) line not = first_as event Two Event text.kinds (cut_at 32 line)
 
--- ---- Proof that no check fails with `Memory`
+-- ---- No check of a line returns `Memory`
 
 either_fails : {A : Type 0} (b : Bool) (r s : Result A Cause) → (r ≡ Err Memory → ⊥) → (s ≡ Err Memory → ⊥)
     → cond b r s ≡ Err Memory → ⊥

@@ -1,4 +1,4 @@
--- The invariant that the generator preserves from turn to turn.
+-- The invariant of `generate` from turn to turn.
 use Rattle.std.proofs.Common.{◌≡◌, ℕ, zero, suc, List, [], ◌∷◌, map, slice_index_or, refl, ◌≢◌, ◌+◌, ◌^◌, ◌<◌, ◌≤◌, ◌⊎◌, inl, inr, IsTrue, ◌↔◌, false, ◌++◌, length}
 use Rattle.std.proofs.Common.{length-append, sym, ap, subst, ◌∙◌, arith}
 use Rattle.std.specs.List.{range_with_len, AllByRecursion, count_by, sum_by}
@@ -22,7 +22,7 @@ use Rattle.lset_steps.proofs.MoreEvents.{RunsTo, runs_to_opening, runs_to_more}
 use Rattle.lset_schedule.specs.Drawing.{line_of_event, left_after, IsOver}
 use Rattle.lset_schedule.specs.GeneratorTurns.{IsIdle, IsNextEvent}
 
--- ---- Proof that no call is pending at the opening
+-- ---- No call is pending when the set is opened
 
 idle_rests : (q t : ℕ) (xs : List ℕ) → (slice_index_or (map (idle q) xs) t (idle 0 0)).pc ≡ 0
 idle_rests q t [] = refl
@@ -35,14 +35,15 @@ opening_rests n q t = idle_rests q t (range_with_len 0 n)
 abbrev pub Resting : State → ℕ → Type 0
 Resting s n = (t : ℕ) → t < n → (local_of s t).pc ≡ 0
 
--- No turn has been taken, so no event has been made.
+-- The state before the first turn: no event was made, and all calls can still begin.
 pub record IsUnbegun (turns n calls left : ℕ) (lines : List Line) (s : State) : Type 0 where
   pub turn : turns ≡ 0
   pub all_left : left ≡ calls
   pub none : lines ≡ []
   pub rest : Resting s n
 
--- The invariant after this many turns, if this many calls remain to be drawn.
+-- The invariant of `generate` after `turns` turns, if `left` calls can still begin: the lines are a run of valid events
+-- that ends in this state.
 pub record IsDraft (T : Table) (n q calls keys turns left : ℕ) (lines : List Line) (w : WorldState) : Type 0 where
   pub sized : w.sizes ≡ sizes (empty n q)
   pub run : RunsTo T (empty n q) (events_of_lines lines) w.state
@@ -91,16 +92,14 @@ draft_opening T s calls keys h none = record {
     same : s ≡ sizes (empty s.threads s.quota)
     same = ap (λ m. record { threads = s.threads; quota = s.quota; opening = m }) none
 
--- If the test for the end returns false, the generator takes another turn.
 pub goes_on : (s : State) (events m left : ℕ) → events ≡ m → (IsTrue false ↔ IsOver s events left) → IsOver s m left → ⊥
 goes_on s events m left e test over = let f : IsTrue false = test.1 (subst (λ k. IsOver s k left) (sym e) over) in cc
 
--- If a thread's turn makes no event, another thread has a pending call.
+-- If a turn makes no event and the schedule has not ended, another thread has a pending call.
 idle_with_others : (s : State) (n left t m : ℕ) → length s.locals ≡ n → (IsOver s m left → ⊥) → IsIdle s t left
     → Resting s n → ⊥
 idle_with_others s n left t m len more h rest = more (inr (h.1, λ u lt. rest u (omega arith)))
 
--- A turn without an event preserves the invariant.
 pub draft_idle : (T : Table) (n q calls keys turns left t : ℕ) (lines : List Line) (w : WorldState)
     → IsDraft T n q calls keys turns left lines w → (IsOver w.state (length lines) left → ⊥) → t < n
     → IsIdle w.state t left → IsDraft T n q calls keys (turns + 1) left lines w
@@ -148,7 +147,6 @@ next_enabled s n t left keys (event.Begin u call) len lt small h =
 next_enabled s n t left keys (event.Go u) len lt small h =
     (omega (arith, h.0), subst (λ v. (local_of s v).pc ≢ 0) (sym h.0) h.1)
 
--- A turn with an event preserves the invariant.
 pub draft_event : (T : Table) (n q calls keys turns left t : ℕ) (lines : List Line) (w : WorldState) (e : Event)
     → IsDraft T n q calls keys turns left lines w → (IsOver w.state (length lines) left → ⊥) → t < n
     → IsNextEvent w.state t left keys e → keys < 2 ^ 32
@@ -185,7 +183,7 @@ draft_along T n q calls keys turns left left' lines lines' w w' e f h d =
     subst (λ l. IsDraft T n q calls keys turns l lines' w') (sym e)
     (rw f (subst (λ v. IsDraft T n q calls keys turns left lines v) (sym h) d))
 
--- ---- Proof that generated lines are allowed in a schedule
+-- ---- All lines that `generate` draws are allowed in a schedule
 
 lines_fit : (n keys : ℕ) (lines : List Line) → n ≤ MOST_THREADS → keys < 2 ^ 32
     → AllByRecursion (IsGeneratedLine n keys) lines → AllByRecursion (IsLine One) lines
@@ -201,7 +199,6 @@ one_each : (n keys : ℕ) (l : Line) → IsGeneratedLine n keys l → event_coun
 one_each n keys (line.Begin t call) h = refl
 one_each n keys (line.Go t steps) h = h.1
 
--- Each line counts as one event.
 events_counted : (n keys : ℕ) (lines : List Line) → AllByRecursion (IsGeneratedLine n keys) lines
     → sum_by event_count lines ≡ length lines
 events_counted n keys [] each = refl

@@ -8,7 +8,8 @@ use Rattle.rand_core.specs.Stream.{Stream}
 use Rattle.lset_words.specs.declared.Call.{Call}
 use Rattle.lset_schedule.specs.Draws.{drawn_call, drawn_calls}
 
--- Returns the calls drawn so far and those still to be drawn from s, and the stream after all of them.
+-- Returns the calls drawn so far and the next `left` calls that the random numbers s select, with the random numbers
+-- after them.
 abbrev pub with_others : ℕ → ℕ → List Call → Stream → List Call × Stream
 with_others keys left drawn s = (drawn ++ (drawn_calls keys left s).0, (drawn_calls keys left s).1)
 
@@ -33,7 +34,6 @@ draws_end keys calls i drawn s whole le so_far =
     let one : with_others keys (calls - i) drawn s ≡ (drawn, s) = rw (k, append-nil drawn) refl in
     sym one ∙ so_far
 
--- The program of thread t is appended to the list of programs.
 pub programs_more : {X : Type 0} (calls_of : X → List Call) (f : ℕ → List Call) (all more : List X) (x : X) (t : ℕ)
     → more ≡ all ++ x ∷ [] → calls_of x ≡ f t → map calls_of all ≡ map f (range_with_len 0 t)
     → map calls_of more ≡ map f (range_with_len 0 (t + 1))

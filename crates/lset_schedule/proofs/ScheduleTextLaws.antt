@@ -1,4 +1,4 @@
--- Proof of two laws: each text that is read is the text of its schedule, and the text of each schedule can be read.
+-- Proof: each text that can be read is the text of the schedule read, and the text of each schedule can be read.
 use Rattle.std.proofs.Common.{◌≡◌, ℕ, ◌<◌, ◌^◌, inl, inr, List, [], ◌∷◌, ◌++◌, map, false, Result, Ok, Err, refl, ap, subst, ◌∙◌}
 use Rattle.std.proofs.Common.{sym, arith}
 use Rattle.std.specs.Prelude.{IfOk, MatchResult, ◌≢◌}
@@ -30,7 +30,7 @@ use Rattle.lset_schedule.specs.ScheduleReading.{begin_kind, events, schedules, p
 use Rattle.lset_text.proofs.TextLaws.{version_again}
 use Rattle.lset_schedule.proofs.BodyLaws.{body_found, body_again}
 
--- ---- Lemmas about the kinds of event lines
+-- ---- Lemmas about the patterns of event lines
 
 begun : (v : Version) (n : ℕ) (w : CallWord) (k : Key) → n < 2 ^ 32 → k.0 < 2 ^ 32 → HasWord v w
     → (spell begin_kind.0 (tt, (n, (w, (k.0, tt)))) ≡ pieces_of (Begin n (with_key w k))) × IsLine v (Begin n (with_key w k))
@@ -56,7 +56,7 @@ event_made v (Begin t c) is =
 event_made v (Go t n) is =
     inr (refl, inl ((tt, (t, (n, tt))), refl, (tt, ((omega arith, omega (arith, is.0)), ((is.1, is.2), tt)))))
 
--- An event line has three or four fields and does not look like an opening key.
+-- No event line has the pattern of an opening key.
 pub no_opening : (v : Version) (l : Line) → IsLine v l → have_form v opening_form (pieces_of l) ≡ false
 no_opening v (Begin t c) is = refl
 no_opening v (Go t n) is = refl
@@ -85,14 +85,13 @@ reads_text p is =
     let parts : List (List ℕ) = header_lines (title v) (header_in p) ++ rest in
     ap plan_of again.0 ∙ ap (λ w. plan_in w parts) (version_again schedules refl v (header_in p) rest) ∙ rw again.1 refl
 
--- ---- The laws, in the form in which a reader's contract states them
+-- ---- Proof of the contract of a function that reads a schedule
 
--- If a cause can be nothing else, it is a failed allocation.
 is_memory : (c : Cause) → (c ≢ Memory → ⊥) → c ≡ Memory
 is_memory Memory h = refl
 is_memory c h = absurd (h (λ e. cc))
 
--- If reading succeeds, the function returns the value, unless an allocation failed.
+-- If a text can be read, the reader returns its content or fails to allocate.
 pub gives_ok : {X Y : Type 0} (view : X → Y) (r : Result X LineFault) (y : Y) → Gives view r (Ok y)
     → MatchResult r (λ x. view x ≡ y) (λ e. e.cause ≡ Memory)
 gives_ok view (Ok x) y gives = sym (ok_is y (view x) gives)

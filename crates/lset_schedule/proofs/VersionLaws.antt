@@ -1,4 +1,4 @@
--- Every schedule that can be read can be written.
+-- Proof: every schedule that can be read can be written.
 use Rattle.std.proofs.Common.{List, [], ◌∷◌}
 use Rattle.std.specs.List.{AllByRecursion}
 use Rattle.lset_text.specs.declared.words.Version.{Version}
@@ -11,6 +11,5 @@ calls_of_lines v [] are = tt
 calls_of_lines v (Begin t c ∷ ls) are = (are.0.2, calls_of_lines v ls are.1)
 calls_of_lines v (Go t n ∷ ls) are = (tt, calls_of_lines v ls are.1)
 
--- A schedule that can be read can be written.
 pub schedule_has_words : (p : Plan) → IsSchedule p → HasWordsOfVersion p
 schedule_has_words p is = (is.opening, calls_of_lines p.version p.lines is.lines)

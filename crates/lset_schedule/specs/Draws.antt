@@ -1,4 +1,4 @@
--- The calls drawn from a stream of random numbers, and the programs that a seed determines.
+-- The calls that random numbers select, and the programs that a seed determines.
 use Rattle.std.specs.Prelude.{ℕ, zero, suc, ◌+◌, ◌%◌, ◌^◌, ◌==◌, List, [], ◌∷◌, map, if◌then◌else◌}
 use Rattle.std.specs.List.{range_with_len}
 use Rattle.rand_core.specs.Pcg32Seed.{pcg32_seed}
@@ -9,26 +9,26 @@ use Rattle.lset_words.specs.declared.Key.{Key}
 use Rattle.lset_words.specs.declared.Call.{Call}
 use Rattle.lset_words.specs.declared.Call.TheVariants.{Add, Remove, Contains}
 
--- Returns the numbers that `Pcg32` produces with this seed.
+-- Returns the random numbers that the generator `Pcg32` produces from this seed.
 abbrev pub seeded : ℕ → Stream
 seeded seed = stream_of (steps_u32 pcg32) (pcg32_of_seed (pcg32_seed 16 seed))
 
--- Returns the call of a key, of the kind that a number selects.
+-- Returns a call of this key. A random number selects its kind: add, remove or contains.
 abbrev pub call_by : ℕ → Key → Call
 call_by choice key = if choice % 3 == 0 then Add key else (if choice % 3 == 1 then Remove key else Contains key)
 
--- Returns the call that two numbers select. Its key is below `keys`.
+-- Returns the call that two random numbers select. Its key is below `keys`.
 unfoldable pub chosen : ℕ → ℕ → ℕ → Call
 chosen keys a b = call_by a (record { 0 = b % keys })
 
--- Draws the next call, and returns it with the remaining stream.
+-- Returns the call that the next two random numbers select, and the random numbers after them.
 unfoldable pub drawn_call : ℕ → Stream → Call × Stream
 drawn_call keys s =
     let a = next_u32 s in
     let b = next_u32 a.1 in
     (chosen keys a.0 b.0, b.1)
 
--- Draws the next n calls, and returns them with the remaining stream.
+-- Returns the n calls that the next random numbers select, and the random numbers after them.
 unfoldable pub drawn_calls : ℕ → ℕ → Stream → List Call × Stream
 drawn_calls keys zero s = ([], s)
 drawn_calls keys (suc n) s =
@@ -36,11 +36,11 @@ drawn_calls keys (suc n) s =
     let others = drawn_calls keys n first.1 in
     (first.0 ∷ others.0, others.1)
 
--- Returns the program of a thread. Its random numbers are seeded with the wrapping sum of the seed and the thread's
--- number.
+-- Returns the random program of a thread. Its random generator is seeded with the wrapping sum of the seed and the
+-- thread's number.
 unfoldable pub program_of : ℕ → ℕ → ℕ → ℕ → List Call
 program_of calls keys seed thread = (drawn_calls keys calls (seeded ((seed + thread) % 2 ^ 64))).0
 
--- Returns the programs of all threads.
+-- Returns the random programs of threads 0 to `threads` - 1.
 abbrev pub programs_of : ℕ → ℕ → ℕ → ℕ → List (List Call)
 programs_of threads calls keys seed = map (program_of calls keys seed) (range_with_len 0 threads)

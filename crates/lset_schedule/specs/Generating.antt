@@ -1,4 +1,4 @@
--- The properties of a generated schedule, and the arguments that the generator rejects.
+-- The properties of a random schedule, and the arguments that `generate` rejects.
 use Rattle.std.specs.Prelude.{◌≡◌, ℕ, ◌<◌, ◌≤◌, ◌⊎◌, Bool, true, false, List, [], ◌∷◌, length, count_by, flat_map, replicate}
 use Rattle.std.specs.List.{AllByRecursion}
 use Rattle.lset_text.specs.Spellings.{HasCall}
@@ -14,8 +14,8 @@ use Rattle.lset_schedule.specs.declared.value.Line.TheVariants as line
 use Rattle.lset_schedule.specs.declared.gen_fault.GenFault.{GenFault}
 use Rattle.lset_schedule.specs.declared.gen_fault.GenFault.TheVariants.{Threads, Quota, Keys, Memory}
 
--- Returns the events of a line. `events_of_lines` returns those of a list of lines. Each step of a `go` line is an
--- event.
+-- Returns the events of a line. Each step of a `go` line is one event. `events_of_lines` returns the events of a list
+-- of lines.
 abbrev pub events_of_line : Line → List Event
 events_of_line (line.Begin t call) = event.Begin t call ∷ []
 events_of_line (line.Go t steps) = replicate steps (event.Go t)
@@ -27,8 +27,8 @@ abbrev pub is_begin : Line → Bool
 is_begin (line.Begin t call) = true
 is_begin (line.Go t steps) = false
 
--- States that the line is one event of one of the threads, that its key is below `keys`, and that version 1 has its
--- call.
+-- States that a line is one event of one of the threads. If a call begins, its key is below `keys`, and version 1 has
+-- this call.
 abbrev pub IsGeneratedLine : ℕ → ℕ → Line → Type 0
 IsGeneratedLine threads keys (line.Begin t call) = (t < threads) × ((key_of call).0 < keys) × HasCall One call
 IsGeneratedLine threads keys (line.Go t steps) = (t < threads) × (steps ≡ 1)
@@ -37,28 +37,29 @@ abbrev pub StartsWithBegin : List Line → Type 0
 StartsWithBegin [] = ⊥
 StartsWithBegin (l ∷ ls) = is_begin l ≡ true
 
--- States that thread t has no pending call after these events.
+-- States that thread t has no pending call after these events of a set without opening keys.
 abbrev pub NoneOpenAfter : Table → ℕ → ℕ → List Event → ℕ → Type 0
 NoneOpenAfter T threads quota es t = (local_of (state_at T (empty threads quota) (event_at es) (length es)) t).pc ≡ 0
 
--- The properties of the lines of a generated schedule of this size, with at most `calls` calls.
+-- The properties of the lines that `generate` draws for these arguments.
 pub record IsGenerated (T : Table) (threads quota calls keys : ℕ) (lines : List Line) : Type 0 where
-  -- Each line is a single event.
+  -- Each line is one event.
   pub each : AllByRecursion (IsGeneratedLine threads keys) lines
-  -- Each event is enabled when it is made.
+  -- The events are a run: each is enabled at its turn.
   pub run : Run T (empty threads quota) (event_at (events_of_lines lines)) (length (events_of_lines lines))
   pub first : 0 < calls → StartsWithBegin lines
   pub few : count_by is_begin lines ≤ calls
-  -- If there is only one thread, all calls were begun and have ended, unless the maximum number of events was reached.
+  -- With a single thread, all `calls` calls have begun and ended, unless the maximum number of events was reached.
   pub alone : threads ≡ 1
       → (length lines ≡ MOST_GENERATED)
       ⊎ ((count_by is_begin lines ≡ calls) × NoneOpenAfter T threads quota (events_of_lines lines) 0)
 
--- States that every check of the arguments passes.
+-- States that `generate` accepts these arguments.
 abbrev pub IsAccepted : ℕ → ℕ → ℕ → Type 0
 IsAccepted threads quota keys = IsWithin (record { threads = threads; quota = quota; opening = 0 }) × (0 < keys)
 
--- States that this is the error of the first check that fails. It is `Memory` if no check fails.
+-- States that `generate` returns this error for these arguments: that of the first check that fails, or `Memory` if
+-- none fails.
 abbrev pub Refuses : ℕ → ℕ → ℕ → GenFault → Type 0
 Refuses threads quota keys Threads = (threads ≡ 0) ⊎ (MOST_THREADS < threads)
 Refuses threads quota keys Quota = (0 < threads) × (threads ≤ MOST_THREADS) × (MOST_QUOTA < quota)

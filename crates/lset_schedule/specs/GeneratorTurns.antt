@@ -1,4 +1,4 @@
--- One turn of the generator: its thread and its event.
+-- One turn of `generate`, which makes at most one event.
 use Rattle.std.specs.Prelude.{◌≡◌, ◌≢◌, ℕ, ◌<◌}
 use Rattle.lset_words.specs.Words.{key_of}
 use Rattle.lset_text.specs.Spellings.{HasCall}
@@ -10,11 +10,12 @@ use Rattle.lset_steps.specs.Steps.{State, local_of}
 abbrev pub HasOpenCall : State → ℕ → Type 0
 HasOpenCall s t = (local_of s t).pc ≢ 0
 
--- States that thread t's turn makes no event.
+-- States that a turn that has drawn thread t makes no event: the thread has no pending call, and none can begin.
 abbrev pub IsIdle : State → ℕ → ℕ → Type 0
 IsIdle s t left = ((local_of s t).pc ≡ 0) × (left ≡ 0)
 
--- States that this is the event of thread t's turn.
+-- States that e is a possible event of a turn that has drawn thread t: a step of its pending call, or the begin of a
+-- call if `left` calls can still begin.
 abbrev pub IsNextEvent : State → ℕ → ℕ → ℕ → Event → Type 0
 IsNextEvent s t left keys (event.Begin u call) = (u ≡ t) × ((local_of s t).pc ≡ 0) × (0 < left) × ((key_of call).0 < keys)
     × HasCall One call

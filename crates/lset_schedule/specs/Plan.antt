@@ -1,4 +1,4 @@
--- Schedules and their text: each schedule has exactly one text.
+-- Schedules and their texts. Each schedule has exactly one text.
 use Rattle.std.specs.Prelude.{ℕ, ◌+◌, ◌<◌, ◌≤◌, ◌^◌, List, [], ◌∷◌, ◌++◌, length, map, codes}
 use Rattle.std.specs.Fmt.{decimal}
 use Rattle.std.specs.List.{sum_by, AllByRecursion}
@@ -17,7 +17,7 @@ use Rattle.lset_schedule.specs.declared.value.Line.{Line}
 use Rattle.lset_schedule.specs.declared.value.Line.TheVariants.{Begin, Go}
 use Rattle.lset_schedule.specs.declared.value.Schedule.{Schedule}
 
--- A schedule as a plain value.
+-- A schedule in contracts.
 pub record Plan : Type 0 where
   pub version : Version
   pub kind : Kind
@@ -26,7 +26,7 @@ pub record Plan : Type 0 where
   pub opening : List ℕ
   pub lines : List Line
 
--- Returns the schedule with this version, header, opening keys and lines.
+-- Returns a schedule with this version, header, opening keys and lines.
 abbrev pub planned : Version → Header → List ℕ → List Line → Plan
 planned v h keys lines = record {
   version = v;
@@ -43,7 +43,7 @@ view s = planned s.version (record { kind = s.kind; threads = s.threads; quota =
 abbrev pub header_in : Plan → Header
 header_in p = record { kind = p.kind; threads = p.threads; quota = p.quota }
 
--- Returns the opening of the schedule's set.
+-- Returns the opening of the set on which a schedule runs: its threads, quota and opening keys.
 abbrev pub opening_in : Plan → Opening
 opening_in p = record { threads = p.threads; quota = p.quota; keys = p.opening }
 
@@ -66,13 +66,13 @@ schedule_lines p = header_lines (title p.version) (header_in p) ++ (opening_line
 abbrev pub schedule_text : Plan → List ℕ
 schedule_text p = text_of (schedule_lines p)
 
--- Returns the line number of the first event, counted from 1. The header and the opening keys come before it.
+-- Returns the number of the line with the first event in the text of a schedule. Lines are numbered from 1.
 abbrev pub first_event_line : Plan → ℕ
 first_event_line p = first_line + length p.opening
 
 -- ---- The limits of a schedule
 
--- Returns the number of events that a line counts as.
+-- Returns the number of events that a line counts as: 1, or the number of steps of a `go` line.
 abbrev pub event_count : Line → ℕ
 event_count (Begin thread call) = 1
 event_count (Go thread steps) = steps
@@ -81,24 +81,24 @@ abbrev pub IsLine : Version → Line → Type 0
 IsLine version (Begin thread call) = (thread < 2 ^ 32) × ((key_of call).0 < 2 ^ 32) × HasCall version call
 IsLine version (Go thread steps) = (thread < 2 ^ 32) × (1 ≤ steps) × (steps ≤ MOST_STEPS)
 
--- The limits within which a schedule's text can be read.
+-- The limits of a schedule: a text is read as a schedule only within these limits.
 pub record IsSchedule (p : Plan) : Type 0 where
   pub opens : Opens (opening_in p)
   pub opening : HasOpening p.version p.opening
   pub lines : AllByRecursion (IsLine p.version) p.lines
   pub few : sum_by event_count p.lines ≤ MOST_EVENTS
 
--- ---- The calls that a schedule's version has
+-- ---- The calls that a version of schedules has
 
 abbrev pub HasCallOfLine : Version → Line → Type 0
 HasCallOfLine version (Begin thread call) = HasCall version call
 HasCallOfLine version (Go thread steps) = Unit {0}
 
--- States that the schedule's version has each call that the schedule begins.
+-- States that the version of a schedule has each call that the schedule begins.
 abbrev pub HasCallsOfVersion : Plan → Type 0
 HasCallsOfVersion p = AllByRecursion (HasCallOfLine p.version) p.lines
 
--- States that the schedule can be written as a text of its version. `IsSchedule` implies this (see
--- proofs/VersionLaws.antt).
+-- States that a schedule can be written in its version: the version has all calls of the schedule, and has opening keys
+-- if the schedule has any. `IsSchedule` implies this (see proofs/VersionLaws.antt).
 abbrev pub HasWordsOfVersion : Plan → Type 0
 HasWordsOfVersion p = HasOpening p.version p.opening × HasCallsOfVersion p

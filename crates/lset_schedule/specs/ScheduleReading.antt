@@ -1,5 +1,5 @@
--- Reading a schedule: its value, or the first error. Lines are read from the first to the last, and the checks of a
--- line have a fixed order.
+-- Reading a schedule: its value, or the first error. Lines are read from the first to the last. The checks of a line
+-- have a fixed order.
 use Rattle.std.specs.Prelude.{◌≡◌, ◌≢◌, ℕ, ◌+◌, ◌<◌, ◌≤◌, nat_lt, List, [], ◌∷◌, ◌++◌, length, map, codes, Result, Ok, Err}
 use Rattle.std.specs.Prelude.{if◌then◌else◌, ◌⊎◌}
 use Rattle.std.specs.List.{sum_by}
@@ -26,14 +26,14 @@ use Rattle.lset_schedule.specs.declared.value.Line.TheVariants.{Begin, Go}
 use Rattle.lset_schedule.specs.declared.body.Body.{Body as TextBody}
 use Rattle.lset_schedule.specs.Plan.{Plan, planned, IsSchedule, title, schedule_text, event_count}
 
--- ---- Reading the lines after a header: opening keys, then event lines
+-- ---- Reading the lines after the header: opening keys, then event lines
 
--- The kinds of event lines in a file, and the number of events that each line counts as.
+-- A kind of text with event lines: the patterns of these lines, and the number of events that each line counts as.
 pub record EventLines (L : Type 0) : Type 0 where
   pub kinds : List (LineKind L)
   pub count : L → ℕ
 
--- The contents of a file.
+-- The content of a text: its header, its opening keys and its event lines.
 pub record BodyValue (L : Type 0) : Type 0 where
   pub header : Header
   pub keys : List ℕ
@@ -42,7 +42,7 @@ pub record BodyValue (L : Type 0) : Type 0 where
 abbrev pub no_lines : {L : Type 0} → Header → BodyValue L
 no_lines h = record { header = h; keys = []; lines = [] }
 
--- The contents of one line.
+-- The content of one line after the header: an opening key or an event line.
 pub data Item (L : Type 0) : Type 0 where
   opens : ℕ → Item L
   event : L → Item L
@@ -50,15 +50,15 @@ pub data Item (L : Type 0) : Type 0 where
 abbrev pub opening_kind : {L : Type 0} → LineKind (Item L)
 opening_kind = (opening_form, λ t. opens t.1.0)
 
--- Returns the kinds of lines that are allowed next. An opening key is allowed only in version 2 and before all event
--- lines.
+-- Returns the patterns of the lines that can come after the event lines ls. An opening key can come only in version 2,
+-- and before all event lines.
 abbrev pub kinds_after : {L : Type 0} → EventLines L → Version → List L → List (LineKind (Item L))
 kinds_after text One ls = map (kind_as event) text.kinds
 kinds_after text Two [] = opening_kind ∷ map (kind_as event) text.kinds
 kinds_after text Two (l ∷ ls) = map (kind_as event) text.kinds
 
--- Returns the contents with one more line. Each opening key must be above the one before it, and the limits of keys and
--- events must not be exceeded.
+-- Returns the content of a text after one more line, or the error of this line. Each opening key must be above the one
+-- before it. The numbers of opening keys and events are limited.
 abbrev pub with_item : {L : Type 0} → EventLines L → BodyValue L → Item L → Result (BodyValue L) Cause
 with_item text s (opens k) =
     if nat_lt (length s.keys) MOST_OPENING then (if is_above s.keys k then Ok (record s { keys = s.keys ++ k ∷ [] }) else Err Opening)
@@ -73,7 +73,7 @@ with_line text version s line = line_in version Event (kinds_after text version 
 abbrev pub grammar : {L : Type 0} → EventLines L → Version → Grammar (BodyValue L)
 grammar text version = record { step = with_line text version; ends = Ok }
 
--- Returns the grammar of files with this version and title.
+-- Returns the grammar of texts of this version with this first line.
 abbrev pub texts : {L : Type 0} → EventLines L → Version → List ℕ → TextGrammar (BodyValue L)
 texts text version title = record { title = title; start = no_lines; lines = grammar text version }
 
@@ -91,12 +91,13 @@ events = record { kinds = begin_kind ∷ go_kind ∷ []; count = event_count }
 abbrev pub schedules : Version → TextGrammar (BodyValue Line)
 schedules version = texts events version (title version)
 
--- Reads the parts of a text as a schedule of this version.
+-- Reads the lines of a text as a schedule of this version.
 abbrev pub plan_in : Version → List (List ℕ) → Result Plan LineFault
 plan_in version parts = text_from (schedules version) parts >>= λ told. Ok (planned version told.header told.keys told.lines)
 
--- Returns the version of a text, which depends only on its first line: version 2 if the line is version 2's title, else
--- version 1. If this title has no newline, the version is 2, and the line is rejected as it would be in version 1.
+-- Returns the version of a schedule, which depends only on the first line of its text: version 2 if the line is the
+-- title of version 2, else version 1. If this title has no newline, the version is 2, and the line is rejected as in
+-- version 1.
 abbrev pub version_told : List (List ℕ) → Version
 version_told parts = version_in (title Two) parts
 
@@ -106,36 +107,37 @@ plan_of parts = plan_in (version_told parts) parts
 abbrev pub reading : List ℕ → Result Plan LineFault
 reading bytes = plan_of (cut_at 10 bytes)
 
--- States that each text that is read is the text of its schedule, and that the text of each schedule can be read.
+-- States that each text that can be read is the text of the schedule read, and that the text of each schedule can be
+-- read.
 abbrev pub SchedulesReadBack : Type 0
 SchedulesReadBack = (p : Plan) (bytes : List ℕ)
     → (IsSchedule p → reading (schedule_text p) ≡ Ok p)
     × (reading bytes ≡ Ok p → IsSchedule p × (bytes ≡ schedule_text p))
 
--- States that a function returned a value whose `view` is the schedule read, or returned the error of reading, or
--- failed to allocate.
+-- States that a function returned the result `read`, or failed to allocate. `view` maps a value of the function to the
+-- value in `read`.
 abbrev pub Gives : {X Y : Type 0} → (X → Y) → Result X LineFault → Result Y LineFault → Type 0
 Gives view (Ok x) read = read ≡ Ok (view x)
 Gives view (Err e) read = e.cause ≢ Memory → read ≡ Err e
 
--- States that this is a whole line after the header, and that neither this line nor any line above it has an error.
+-- States that `line` is a complete line after the header, and that neither this line nor a line above it has an error.
 abbrev pub IsGoodAfterHeader : {X : Type 0} → List ℕ → Result X LineFault → ℕ → Type 0
 IsGoodAfterHeader bytes read line = (last_of_header < line) × lines.IsGoodLine 1 (cut_at 10 bytes) read line
 
 abbrev pub IsGoodLine : List ℕ → ℕ → Type 0
 IsGoodLine bytes line = IsGoodAfterHeader bytes (reading bytes) line
 
--- ---- The state of a reader
+-- ---- The state of a function that reads the lines of a text
 
 abbrev pub told : {L : Type 0} → TextBody L → BodyValue L
 told t = record { header = t.header; keys = t.opening.items; lines = t.lines.items }
 
--- States that the reader has counted the events of its lines correctly.
+-- States that a reader's count of events is right and within the limit.
 abbrev pub Counts : {L : Type 0} → EventLines L → TextBody L → Type 0
 Counts text t = (t.total ≡ sum_by text.count t.lines.items) × (t.total ≤ MOST_EVENTS)
 
--- States what a reader did with a line: it changed its state as the grammar says, or returned the grammar's error, or
--- failed to allocate at a line without errors.
+-- States that a reader has processed a line as the grammar demands: it has changed its content, or returned the error
+-- of the line. It can also fail to allocate at a line without errors.
 abbrev pub Takes : {L X : Type 0} → Result (BodyValue L) Cause → BodyValue L → Result X Cause → Type 0
 Takes next now (Ok x) = next ≡ Ok now
 Takes {L = L} next now (Err cause) = (next ≡ Err cause) ⊎ ((cause ≡ Memory) × (s : BodyValue L) × (next ≡ Ok s))

@@ -29,13 +29,14 @@ use lset_text::{Cause, Header, LineFault, Version, cut, is_above, number, read_h
 use lset_words::MOST_OPENING;
 use std::alloc::Global;
 
-/// An event line of a schedule or a draft.
+/// An event line of a schedule or a draft. Both are texts with opening keys and then event lines, and each has its own
+/// type of event lines.
 pub trait EventLine: Copy {
-    /// The kinds of event lines, and the number of events that a line counts as.
+    /// The patterns of event lines, and the number of events that a line counts as.
     ghost lines: { EventLines Self };
 
-    /// Reads a line of a file of this version, given without its newline. Fails with `Event` if the line does not have
-    /// the fields of an event line, and with `Number` if a field must be a number and is not one, or is out of range.
+    /// Reads an event line of a text of this version, given without its newline. Returns `Event` if the line matches no
+    /// pattern, and `Number` if a field that must be a number is not one, or is out of range.
     fn read(version: Version, line: &[u8]) -> Result<Self, Cause>
         ensures { result ≡ line_in version Cause.Event lines.kinds line.now };
 
@@ -44,7 +45,7 @@ pub trait EventLine: Copy {
         ensures { result ≡ lines.count self };
 }
 
-/// The contents of a schedule or draft: its header, its opening keys, and its event lines.
+/// The content of a schedule or draft: its header, its opening keys, and its event lines.
 #[derive(Drop)]
 pub struct Body<L> {
     pub header: Header,
@@ -53,7 +54,7 @@ pub struct Body<L> {
     total: u32,
 }
 
-/// Returns the field with the key if the line has the form `opening K`.
+/// Returns the second field `K` if the line is `opening K`, else `None`.
 fn opening_piece(line: &[u8]) -> Option<&[u8]>
     ensures { MatchOption result (have_form Version.Two opening_form (cut_at 32 line.now) ≡ false)
         (λ key. cut_at 32 line.now ≡ codes "opening" ∷ key.now ∷ []) }
@@ -81,7 +82,8 @@ impl<L: EventLine> Body<L> {
         }
     }
 
-    /// Returns the field with the key if the line has the form `opening K` and an opening key is allowed here.
+    /// Returns the second field `K` if the line is `opening K` and the text can have an opening key here, else `None`.
+    /// Opening keys are in version 2 only, and before all event lines.
     fn key_due<'a>(&self, version: Version, line: &'a [u8]) -> Option<&'a [u8]>
         ensures { MatchOption result
             (line_in version Cause.Event (kinds_after L.lines version self.now.lines.items) line.now
@@ -143,7 +145,7 @@ impl<L: EventLine> Body<L> {
     }
 }
 
-/// Reads the lines after the header, for a file of this version.
+/// Reads the lines after the header of a text of this version. Returns their content or the first error.
 fn read_body<L: EventLine>(
     alloc: Global,
     version: Version,
@@ -170,7 +172,7 @@ fn read_body<L: EventLine>(
     Ok(body)
 }
 
-/// Reads a file of this version and title. Returns its contents or its first error. Allocates.
+/// Reads a text of this version, which begins with the line `title`. Returns its content or its first error. Allocates.
 #[tactic(auto, unfolding(lset_text::specs::Texts::text_from))]
 pub fn read_text<L: EventLine>(
     alloc: Global,

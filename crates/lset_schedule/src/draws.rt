@@ -11,7 +11,8 @@ use rand_core::{Rng, SeedableRng};
 use rand_pcg::Pcg32;
 use std::alloc::{AllocError, Global};
 
-/// Returns the call that two random numbers select: `a` selects the kind of call, `b` the key, which is below `keys`.
+/// Returns the call that two random numbers select: `a` selects the kind (`add`, `remove` or `contains`), and `b` the
+/// key, which is below `keys`.
 #[tactic(auto, unfolding(crate::specs::Draws::chosen))]
 fn chosen(keys: u32, a: u32, b: u32) -> Call
     requires { 0 < keys }
@@ -27,7 +28,7 @@ fn chosen(keys: u32, a: u32, b: u32) -> Call
     }
 }
 
-/// Draws the next call from a generator.
+/// Draws a random call with a key below `keys`, which must be at least 1.
 #[tactic(auto, unfolding(crate::specs::Draws::drawn_call))]
 pub(crate) fn draw_call<R: Rng>(keys: u32, rng: &mut R) -> Call
     requires { 0 < keys }
@@ -40,7 +41,7 @@ pub(crate) fn draw_call<R: Rng>(keys: u32, rng: &mut R) -> Call
     chosen(keys, a, b)
 }
 
-/// Draws the next `calls` calls from a generator.
+/// Draws `calls` random calls with keys below `keys`, which must be at least 1.
 fn draw_calls<R: Rng>(
     alloc: Global,
     calls: u32,
@@ -72,8 +73,8 @@ fn program(
     draw_calls(alloc, calls, keys, &mut rng)
 }
 
-/// Returns the layout of a set that opens empty, for calls with keys below `keys`. Fails with the error that `generate`
-/// and `programs` return for the same arguments.
+/// Returns the layout of a set without opening keys. Fails with the error that `generate` and `programs` return for the
+/// same arguments.
 pub(crate) fn layout_to_draw(threads: u32, quota: u32, keys: u32) -> Result<Layout, GenFault>
     ensures sizes { IfOk result (λ l. l ≡ record { threads = threads; quota = quota; opening = 0 }) }
     ensures accepted { IfOk result (λ _. IsAccepted threads quota keys) }
@@ -88,9 +89,9 @@ pub(crate) fn layout_to_draw(threads: u32, quota: u32, keys: u32) -> Result<Layo
     }
 }
 
-/// Draws a program of `calls` calls for each of `threads` threads, 1 to 64. The same arguments give the same programs.
-/// Each thread has its own generator, seeded with the wrapping sum of `seed` and the thread's number. Two random
-/// numbers select each call: one its kind, one its key below `keys`. Allocates.
+/// Draws a random program of `calls` calls for each of `threads` threads, 1 to 64. The same arguments return the same
+/// programs. Each thread has its own random generator, seeded with the wrapping sum of `seed` and the thread's number. Two
+/// random numbers select a call: one its kind, one its key below `keys`. Allocates.
 ///
 /// # Errors
 ///

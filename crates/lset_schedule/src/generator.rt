@@ -16,7 +16,7 @@ use rand_core::{Rng, SeedableRng};
 use rand_pcg::Pcg32;
 use std::alloc::{AllocError, Global};
 
-/// Returns the schedule line for one event.
+/// Returns the line of a schedule for one event.
 fn line_of(event: Event) -> Line
     ensures { result ≡ line_of_event event }
 {
@@ -26,7 +26,7 @@ fn line_of(event: Event) -> Line
     }
 }
 
-/// Returns how many of `left` calls remain after an event.
+/// Returns how many calls can still begin after an event, if `left` could begin before it.
 fn left_by(left: u32, event: Event) -> u32
     ensures { result ≡ left_after left event }
 {
@@ -36,7 +36,7 @@ fn left_by(left: u32, event: Event) -> u32
     }
 }
 
-/// Returns whether a thread has a pending call.
+/// Returns whether any of the threads 0 to `threads` - 1 has a pending call.
 fn has_open_call<M: Machine>(world: &World<M>, threads: u32) -> bool
     requires { world.now.sizes.threads ≡ threads }
     ensures { IsTrue result ↔ ((t : ℕ) × (t < threads) × HasOpenCall world.now.state t) }
@@ -49,7 +49,8 @@ fn has_open_call<M: Machine>(world: &World<M>, threads: u32) -> bool
     false
 }
 
-/// Returns whether the generator has finished, after this many events and with `left` calls remaining.
+/// Returns whether the generator is finished after `events` events: the maximum is reached, or no call is pending and
+/// none can begin.
 fn is_over<M: Machine>(world: &World<M>, threads: u32, events: usize, left: u32) -> bool
     requires threads { world.now.sizes.threads ≡ threads }
     requires locals { length world.now.state.locals ≡ threads }
@@ -61,7 +62,9 @@ fn is_over<M: Machine>(world: &World<M>, threads: u32, events: usize, left: u32)
     left == 0 && !has_open_call(world, threads)
 }
 
-/// Returns the event of a thread's turn, if `left` calls remain to begin. Returns `None` if the turn makes no event.
+/// Returns the event of the generator's turn if the turn has drawn `thread`: a step if the thread has a pending call,
+/// else the begin of a random call. Returns `None` if the thread has no pending call and `left`, the number of calls
+/// that can still begin, is 0.
 fn next_event<M: Machine, R: Rng>(
     world: &World<M>,
     thread: u32,
@@ -83,7 +86,7 @@ fn next_event<M: Machine, R: Rng>(
     Some(Event::Begin(thread, draw_call(keys, rng)))
 }
 
-/// Executes an event, which must be enabled.
+/// Changes the state of the list by one event, which must be enabled.
 fn make<M: Machine>(world: &mut World<M>, event: Event)
     requires enabled { Enabled world.old.state event }
     requires threads { length world.old.state.locals ≡ world.old.sizes.threads }
@@ -92,7 +95,7 @@ fn make<M: Machine>(world: &mut World<M>, event: Event)
     let _told = world.step(event).unwrap();
 }
 
-/// Draws the lines of at most 100,000 turns.
+/// Draws the lines of a random schedule, in at most 100,000 turns.
 fn generated_lines<M: Machine, R: Rng>(
     alloc: Global,
     layout: Layout,
@@ -125,13 +128,13 @@ fn generated_lines<M: Machine, R: Rng>(
     Ok(lines)
 }
 
-/// Draws a random schedule of at most 10,000 events, one on each line. The same arguments give the same schedule. Its
-/// kind is the machine's, its version is 1, and `replay` accepts each of its events.
+/// Draws a random schedule of at most 10,000 events, one on each line. The same arguments return the same schedule. Its
+/// list is `M`, its version is 1, and `replay` accepts each of its events.
 ///
 /// `threads` must be 1 to 64, `quota` 0 to 16,384, and `keys` at least 1. All random numbers come from one generator,
-/// seeded with `seed`. There are at most 100,000 turns. Each turn draws a thread. If the thread has a pending call, it
-/// makes a step. Otherwise, if fewer than `calls` calls have begun, the thread begins a call, and two more numbers
-/// select its kind and its key below `keys`. The generator stops when no call is pending and none remains to begin.
+/// seeded with `seed`. The schedule is drawn in turns, at most 100,000. Each turn draws a thread. If the thread has a
+/// pending call, the call makes a step. Otherwise, if fewer than `calls` calls have begun, the thread begins a call, and two
+/// more numbers select its kind and its key below `keys`. The schedule ends when no call is pending and none can begin.
 /// Allocates.
 ///
 /// # Errors

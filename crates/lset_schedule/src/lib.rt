@@ -1,5 +1,5 @@
-//! Schedules. A schedule says, event by event, which thread begins which call and which thread makes a step. This crate
-//! reads and writes the text of schedules, and draws schedules at random.
+//! Schedules. A schedule is a list of events: which thread begins which call, and which thread makes a step. This crate
+//! reads and writes the text of schedules, and draws random schedules.
 #![tactic(auto)]
 
 mod body;
@@ -25,7 +25,7 @@ const TITLE_ONE: &str = "listset-schedule 1";
 /// The first line of a schedule of version 2, which also has opening keys and the call `ceiling`.
 const TITLE_TWO: &str = "listset-schedule 2";
 
-/// The number of the first line after a schedule's header, counted from 1.
+/// The number of the first line after the header of a schedule. Lines are numbered from 1.
 pub const FIRST_LINE: u64 = 5;
 
 /// The maximum number of events in a schedule. Each step of a `go` line counts as one event.
@@ -37,5 +37,5 @@ pub const MOST_STEPS: u32 = 10_000;
 /// The maximum number of events in a schedule that `generate` draws.
 pub const MOST_GENERATED: u32 = 10_000;
 
-/// The maximum number of turns that `generate` takes.
+/// The maximum number of turns in which `generate` draws a schedule. A turn makes at most one event.
 pub const MOST_TURNS: u32 = 100_000;

@@ -77,7 +77,7 @@ impl EventLine for Line {
     }
 }
 
-/// Returns the version that line 1 indicates.
+/// Returns the version of a schedule, which its first line determines.
 fn told_version(bytes: &[u8]) -> Version
     ensures { result ≡ version_told (cut_at 10 bytes.now) }
 {
@@ -112,21 +112,20 @@ fn schedule(alloc: Global, bytes: &[u8]) -> Result<Schedule, ScheduleFault>
 /// line then has no other error.
 #[tactic(auto, using(crate::proofs::ScheduleTextLaws::found_in, crate::proofs::ScheduleTextLaws::only_in))]
 pub fn read_schedule(alloc: Global, bytes: &[u8]) -> Result<Schedule, ScheduleFault>
-    // A returned value is a schedule, and the bytes are its text.
+    // If a schedule is returned, it is within the limits, and the bytes are its text.
     ensures found { IfOk result (λ s. IsSchedule (view s) × (bytes.now ≡ schedule_text (view s))) }
-    // The text of each schedule is read, unless an allocation fails.
+    // The text of every schedule within the limits is read as this schedule, unless an allocation fails.
     ensures only { (p : Plan) → IsSchedule p → bytes.now ≡ schedule_text p
         → MatchResult result (λ s. view s ≡ p) (λ e. e.cause ≡ Cause.Memory) }
-    // Determines the returned value or error exactly.
+    // The result is that of the definition `reading`, unless an allocation fails.
     ensures exact { Gives view result (reading bytes.now) }
-    // `Memory` is returned only with a line after the header, and neither this line nor a line above it has another
-    // error.
+    // The error `Memory` names a line after the header. Neither this line nor a line above it has another error.
     ensures memory { IfErr result (λ e. e.cause ≡ Cause.Memory → IsGoodLine bytes.now e.line) }
 {
     schedule(alloc, bytes)
 }
 
-/// Lemma: a file is read only as the schedule whose text it is, and the text of every schedule can be read.
+/// Lemma: a text is read only as the schedule that is written as this text, and the text of every schedule can be read.
 pub fn schedules_read_back()
     ensures { SchedulesReadBack }
 {}

@@ -5,8 +5,9 @@ use crate::{FIRST_LINE, TITLE_ONE, TITLE_TWO};
 use lset_text::{Header, Version};
 use lset_words::{Call, Kind};
 
-/// A line of a schedule. `Begin(thread, call)`: the thread begins the call. `Go(thread, steps)`: the thread makes this
-/// many steps, 1 to 10,000. Any call is allowed here, but `write_schedule` requires that the schedule's version has it.
+/// A line of a schedule. `Begin(thread, call)`: the thread begins the call. `Go(thread, steps)`: the pending call of
+/// the thread makes this many steps, 1 to 10,000. Any call is allowed here, but `write_schedule` requires one that the
+/// schedule's version has.
 #[derive(Clone, Copy, Debug, PartialEq, Eq)]
 pub enum Line {
     Begin(u32, Call),
@@ -14,7 +15,7 @@ pub enum Line {
 }
 
 impl Line {
-    /// Returns the number of events that the line counts as: 1, or the steps of a `Go`.
+    /// Returns the number of events that the line counts as: 1, or the number of steps of a `Go`.
     pub fn event_count(self) -> u32
         ensures { result ≡ event_count self }
     {
@@ -25,7 +26,7 @@ impl Line {
     }
 }
 
-/// Returns the first line of a schedule of this version.
+/// Returns the first line of the text of a schedule of this version, without its newline.
 pub(crate) fn title(version: Version) -> &'static str
     ensures { result.now ≡ title version }
 {
@@ -50,7 +51,7 @@ pub struct Schedule {
 }
 
 impl Schedule {
-    /// Returns the schedule with this version, header, opening keys and lines.
+    /// Returns a schedule with this version, header, opening keys and lines.
     pub(crate) fn of_header(
         version: Version,
         header: Header,
@@ -69,8 +70,8 @@ impl Schedule {
         }
     }
 
-    /// Returns the line number of the first event in the schedule's text, counted from 1. The header and the opening
-    /// keys come before it. If there are no events, returns the line number that a first event would have.
+    /// Returns the number of the line with the first event in the schedule's text. Lines are numbered from 1. If the
+    /// schedule has no events, returns the number that the line of a first event would have.
     pub fn first_event_line(&self) -> u64
         ensures { result ≡ first_event_line (view self.now) }
     {

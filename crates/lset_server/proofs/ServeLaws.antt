@@ -1,4 +1,4 @@
--- Laws of the sums over the workers' results.
+-- Lemmas about the sums of the workers' results.
 use Rattle.std.proofs.Common.{◌≡◌, ◌≢◌, ℕ, zero, suc, ◌+◌, ◌-◌, ◌*◌, ◌<◌, ◌≤◌, eqb, List, [], ◌∷◌, ◌++◌, length, map, sum_by, Option, None}
 use Rattle.std.proofs.Common.{refl, sym, ap, ◌∙◌, subst, append_assoc, append-nil, arith, length-append, true, false, ⊎_elim}
 use Rattle.std.proofs.lemmas.Bool.{ne_eqb, eq-eqb}
@@ -18,9 +18,8 @@ use Rattle.lset_server.specs.Serving.{followed, HasGathered}
 use Rattle.lset_server.specs.Workers.{HasWorked, HaveWorked}
 use Rattle.lset_server.proofs.BalanceKept.{weigh-append}
 
--- ---- Lemmas about a single worker
+-- ---- Lemmas about a single worker thread
 
--- If a worker has completed n sessions and completes one more, it has completed n + 1.
 pub worked_more : (s s1 s2 : SeatValue) (v v' : Tally) (n m k number : ℕ) → HasWorked s s1 v n m
     → v' ≡ tally v.parts v.sent (v.received ++ number ∷ []) → s2.held ≡ s1.held
     → ((added : List CallMade) × (s2.past ≡ with_calls s1.past added) × (k ≡ length added)) → HasWorked s s2 v' (n + 1) (m + k)
@@ -34,13 +33,13 @@ worked_more s s1 s2 v v' n m k number b e same (more, recorded, count) = record 
   held = same ∙ b.held;
 }
 
--- ---- Lemmas about the sender of connections
+-- ---- Lemmas about the thread that sends connections to the workers
 
 length-numbers : (n : ℕ) → length (numbers_below n) ≡ n
 length-numbers zero = refl
 length-numbers (suc n) = omega (arith, length-append (numbers_below n) (n ∷ []), length-numbers n)
 
--- If n parts have been split off the sender's pass and one more is split off, n + 1 have been split off.
+-- One more part is split off the sender's pass, after n parts were split off.
 pub part_more : (v u u' : Tally) (n m : ℕ) → u ≡ tally (v.parts - n) v.sent v.received →
     u' ≡ tally (u.parts - 1) u.sent u.received → m ≡ n + 1
     → u' ≡ tally (v.parts - m) v.sent v.received
@@ -136,8 +135,8 @@ bound_next' s d most n n' total h e small =
 pub as_many : {H T : Type 0} (seat_of : H → T) (hs : List H) (ss : List T) → map seat_of hs ≡ ss → length hs ≡ length ss
 as_many seat_of hs ss e = sym (length-map hs seat_of) ∙ ap (λ l. length l) e
 
--- After all workers have been joined, the sender's pass has all parts again, and the numbers of all connections count
--- as sent with it.
+-- After all workers were joined, the sender's pass has all parts again. Its tally has the numbers of all connections as
+-- sent.
 pub whole_again : (n many : ℕ) (v u x y : Tally) (received : List ℕ) (k : ℕ) → v ≡ tally PARTS [] [] → n ≤ MOST_THREADS →
     u ≡ tally (v.parts - n) v.sent v.received
     → x ≡ tally u.parts (u.sent ++ numbers_below many) u.received → k ≡ n →
@@ -150,7 +149,6 @@ whole_again n many v u x y received k a few b c e f =
     f ∙ ap (λ (z : Tally). tally (z.parts + k) z.sent (z.received ++ received)) xv
     ∙ ap (λ p. tally p (numbers_below many) received) (omega (arith, few, e))
 
--- If each number has weight 1, the weight of a list is its length.
 weigh-one : (xs : List ℕ) → weigh (λ _. 1) xs ≡ length xs
 weigh-one [] = refl
 weigh-one (x ∷ xs) = omega (arith, weigh-one xs)
@@ -188,7 +186,8 @@ times-below (suc n) m lt =
     below : (n ≢ m) → m < n
     below other = omega (arith, lt, other)
 
--- If as many connections were received as were sent, each was received once, and the queue is empty.
+-- If the number of received connections is the number of sent ones, each connection was received exactly once, and the
+-- queue is empty.
 pub received_once : (n : ℕ) (v : Tally) (received left : List ℕ) → v ≡ tally PARTS (numbers_below n) received →
     n ≡ length received
     → ((h : ℕ → ℕ) → weigh h v.sent ≡ weigh h v.received + weigh h left) → ReceivedOnce n v

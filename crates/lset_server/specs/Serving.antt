@@ -1,4 +1,4 @@
--- [Served]: what a server has done when it ends.
+-- [Served]: the calls of a server that has ended.
 use Rattle.std.specs.Prelude.{◌≡◌, ℕ, List, [], ◌∷◌, length, sum_by, Option, None}
 use Rattle.lset_words.specs.Records.{Record, CallMade, with_calls}
 use Rattle.lset_live.specs.Explained.{IsOneLegalOrder}
@@ -7,21 +7,21 @@ use Rattle.lset_server.specs.declared.channel.Tally.{Tally}
 use Rattle.lset_server.specs.Tallies.{ReceivedOnce}
 use Rattle.lset_words.specs.Words.{Opening}
 
--- Returns the records, each extended by some calls.
+-- Returns the records of the seats, each followed by the calls that were then made on the seat.
 abbrev pub followed : List Record → List (List CallMade) → List Record
 followed [] more = []
 followed (r ∷ rs) [] = r ∷ rs
 followed (r ∷ rs) (cs ∷ more) = with_calls r cs ∷ followed rs more
 
--- A legal order of exactly the calls in these records and `calls` more keeps the records and leaves these keys. The
--- additional calls that follow a record were made by the record's own thread.
+-- Some legal order has exactly the calls in these records and `calls` more. It keeps the order of each record, and
+-- leaves these keys. The calls that follow a record were made by the record's own thread.
 pub record IsServed (k : Opening) (records : List Record) (calls : ℕ) (keys : List ℕ) : Type 0 where
   pub added : List (List CallMade)
   pub each : length added ≡ length records
   pub count : calls ≡ sum_by (λ cs. length cs) added
   pub explained : IsOneLegalOrder k (followed records added) keys
 
--- The seats of all workers are gathered, and each connection was received once.
+-- All workers have ended: their seats have been gathered, and each connection was received exactly once.
 pub record HasGathered (starts : List Record) (end : Option Record) (v : Tally) (asked sessions calls : ℕ) : Type 0 where
   pub added : List (List CallMade)
   pub each : length added ≡ length starts

@@ -1,8 +1,8 @@
--- The tally in a server's result. Only contracts can see it.
+-- The connections that a server has sent and received, as its result has them in contracts.
 use Rattle.crossbeam_channel.specs.Claims.{view}
 use Rattle.lset_server.specs.declared.channel.Tally.{Tally}
 use Rattle.lset_server.specs.declared.set_server.Served.{Served}
 
--- Returns the tally of the pass into which all passes of the channel were joined.
+-- Returns the connections sent and received with all passes of the server's channel, which were joined into one.
 abbrev pub tally_of : Served → Tally
 tally_of s = view s.pass

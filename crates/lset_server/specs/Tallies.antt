@@ -1,6 +1,6 @@
--- The rule of the channel that passes connections to the workers. Each pass has a tally: the numbers of the connections
--- that were sent and received with it. No connection is lost or duplicated: each number was sent exactly as often as it
--- was received or is in the queue.
+-- The invariant of the channel that passes connections to the workers. A pass (a right to use the channel) has a tally:
+-- the numbers of the connections that were sent and received with it. No connection is lost or duplicated: each number
+-- was sent exactly as often as it was received or is in the queue.
 use Rattle.std.specs.Prelude.{◌≡◌, ◌==◌, ◌≤◌, ◌<◌, ℕ, ◌+◌, zero, suc, List, [], ◌∷◌, ◌++◌, if◌then◌else◌}
 use mathlib.Core.Option.{some}
 use lib.ListN.{get_elem?}
@@ -13,16 +13,16 @@ use Rattle.lset_server.specs.declared.channel.Tally.{Tally}
 abbrev pub tally : ℕ → List ℕ → List ℕ → Tally
 tally parts sent received = record { parts = parts; sent = sent; received = received }
 
--- Returns the number of a connection as a list. The message Close has none.
+-- Returns the number of the connection in a message, as a list. The list is empty for the message Close.
 abbrev pub number_of : {S : Type 0} → Message S → List ℕ
 number_of (message.Connection c) = c.number ∷ []
 number_of message.Close = []
 
--- Returns the numbers of the connections among these messages.
+-- Returns the numbers of the connections in these messages.
 abbrev pub numbers : {S : Type 0} → List (Message S) → List ℕ
 numbers = flat_map number_of
 
--- Returns the sum of the weights of the numbers.
+-- Returns the sum of the weights of the numbers, if h is the weight of each number.
 abbrev pub weigh : (ℕ → ℕ) → List ℕ → ℕ
 weigh h [] = 0
 weigh h (x ∷ xs) = h x + weigh h xs
@@ -31,11 +31,11 @@ weigh h (x ∷ xs) = h x + weigh h xs
 abbrev pub one_at : ℕ → ℕ → ℕ
 one_at n m = if m == n then 1 else 0
 
--- Returns how often a number occurs in a list.
+-- Returns how often n occurs in a list.
 abbrev pub times : ℕ → List ℕ → ℕ
 times n = weigh (one_at n)
 
--- Returns the sum of f over the tallies.
+-- Returns the sum of f over the tallies of all passes.
 abbrev pub total : (Tally → ℕ) → List Tally → ℕ
 total f [] = 0
 total f (v ∷ vs) = f v + total f vs
@@ -44,22 +44,22 @@ total f (v ∷ vs) = f v + total f vs
 abbrev pub IdleIsEmpty : List Tally → Type 0
 IdleIsEmpty views = (port : ℕ) (v : Tally) → get_elem? views port ≡ some v → v.parts ≡ 0 → (v.sent ≡ []) × (v.received ≡ [])
 
--- States that the channel has lost and duplicated nothing. The passes together have all parts. For every assignment of
--- weights h to connection numbers, the total weight of the sent numbers is the total weight of the received numbers
--- plus that of the numbers in the queue. A pass without parts has sent and received nothing.
+-- States that the channel has lost and duplicated nothing: with any weights h, the numbers sent weigh as much as the
+-- numbers received and those in the queue. The passes together have all parts, and a pass without parts has sent and
+-- received nothing.
 abbrev pub IsBalanced : List ℕ → List Tally → Type 0
 IsBalanced queue views =
     (total (λ v. v.parts) views ≡ PARTS)
     × ((h : ℕ → ℕ) → total (λ v. weigh h v.sent) views ≡ total (λ v. weigh h v.received) views + weigh h queue)
     × IdleIsEmpty views
 
--- Returns the numbers of the first n connections.
+-- Returns the numbers 0 to n - 1, which are those of the first n connections.
 abbrev pub numbers_below : ℕ → List ℕ
 numbers_below zero = []
 numbers_below (suc n) = numbers_below n ++ n ∷ []
 
--- All passes of a channel have been joined into one with this tally. The numbers below n were sent, in order. Each of
--- them was received once, and no other number was received.
+-- All passes of a channel were joined into one with tally v. The numbers 0 to n - 1 were sent, in order. Each of them
+-- was received exactly once, and no other number was received.
 pub record ReceivedOnce (n : ℕ) (v : Tally) : Type 0 where
   pub parts : v.parts ≡ PARTS
   pub sent : v.sent ≡ numbers_below n

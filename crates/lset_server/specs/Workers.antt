@@ -1,4 +1,4 @@
--- The results of a server's workers.
+-- The results of the worker threads of a server.
 use Rattle.std.specs.Prelude.{◌≡◌, ℕ, ◌+◌, List, [], ◌++◌, length, sum_by, Option, None}
 use Rattle.lset_words.specs.Records.{Record, CallMade, with_calls}
 use Rattle.lset_live.specs.Seats.{SeatValue, gather_onto}
@@ -6,7 +6,8 @@ use Rattle.lset_server.specs.declared.channel.Tally.{Tally}
 use Rattle.lset_server.specs.Serving.{followed}
 use Rattle.lset_server.specs.Tallies.{tally}
 
--- A worker has received this many connections with its pass, and made this many calls from its seat.
+-- A worker's results: it has received `sessions` connections with its pass, and has made `calls` calls on its seat,
+-- which changed from s to s'.
 pub record HasWorked (s s' : SeatValue) (v : Tally) (sessions calls : ℕ) : Type 0 where
   pub received : List ℕ
   pub view : v ≡ tally 1 [] received
@@ -16,8 +17,8 @@ pub record HasWorked (s s' : SeatValue) (v : Tally) (sessions calls : ℕ) : Typ
   pub count : calls ≡ length added
   pub held : s'.held ≡ s.held
 
--- The passes of this many workers have been joined to the sender's pass, their seats have been gathered, and their
--- sessions and calls have been added up.
+-- The results of `workers` joined workers: their passes were joined to the sender's pass, which changed its tally from
+-- v to v', their seats were gathered into `end`, and their sessions and calls were added up.
 pub record HaveWorked (starts : List Record) (end : Option Record) (v v' : Tally) (workers sessions calls : ℕ) : Type 0 where
   pub added : List (List CallMade)
   pub each : length added ≡ length starts

@@ -1,4 +1,4 @@
-//! The channel that passes connections to the workers, and its rule.
+//! The channel that passes connections to the worker threads, and the invariant that no connection is lost.
 ghost use Rattle.std.specs.Prelude.{◌≡◌, ◌<◌, ◌++◌, [], ℕ, List, MatchResult, ⊤, ◌-◌, ◌+◌};
 ghost use Rattle.crossbeam_channel.specs.Claims.{view, IsSeatAt};
 ghost use Rattle.crossbeam_channel.specs.Ends.{sends_on, receives_on};
@@ -11,33 +11,34 @@ use std::alloc::Global;
 use std::collections::LinkedList;
 use std::sync::Wait;
 
-/// The number of parts into which knowledge of the whole channel can be split: one for each worker and one for the
-/// sender. There are at most as many workers as a set has threads.
+/// The number of parts that the passes of a channel have together: one for each worker and one for the sender. A pass
+/// (a right to use the channel) with all parts knows the whole channel. A server has at most as many workers as a set
+/// has threads.
 pub(crate) const PARTS: u64 = MOST_THREADS as u64 + 1;
 
-/// A connection with its number. Connections are counted from 0 in the order in which they are accepted.
+/// An accepted connection with its number. Connections are numbered from 0, in the order in which they are accepted.
 #[derive(Drop)]
 pub(crate) struct Connection<S> {
     pub number: u64,
     pub stream: S,
 }
 
-/// A message in the channel: a connection, or the notice that no more connections will come.
+/// A message to a worker: a connection, or the notice that no more connections will come.
 #[derive(Drop)]
 pub(crate) enum Message<S> {
     Connection(Connection<S>),
     Close,
 }
 
-/// The value of a pass in contracts: the numbers of the connections sent and received with it, and how many parts of
-/// the knowledge of the whole channel it has. A running program has no value of this type.
+/// The tally of one pass (a right to use the channel): the connections that were sent and received with the pass, and
+/// the number of its parts. A pass with all parts knows the whole channel. Exists in contracts only.
 pub(crate) struct Tally {
     pub parts: u64,
     pub sent: LinkedList<u64>,
     pub received: LinkedList<u64>,
 }
 
-/// The rule of the channel: each connection that was sent has been received or is in the queue.
+/// The invariant of the channel: each connection that was sent has been received or is in the queue.
 pub(crate) struct NothingLost;
 
 impl<S> Protocol<Message<S>, Tally> for NothingLost {
@@ -50,7 +51,7 @@ impl<S> Protocol<Message<S>, Tally> for NothingLost {
     ghost first = { tally PARTS [] [] };
 }
 
-/// The moves that split a part off a pass, or join one pass to another.
+/// Splitting a part off a pass for a new pass, and joining two passes. A pass is a right to use the channel.
 pub(crate) struct Parting;
 
 impl Split<Tally> for Parting {
@@ -71,7 +72,7 @@ impl Join<Tally> for Parting {
     ghost spent = { tally 0 [] [] };
 }
 
-/// The move that sends a message.
+/// Sending a message, which the sender's pass records.
 pub(crate) struct Sending;
 
 impl<S> Outcome<Message<S>, Tally> for Sending {
@@ -82,7 +83,7 @@ impl<S> Lesson<Message<S>, Tally> for Sending {
     ghost fact = { λ v items. ⊤ };
 }
 
-/// The move that receives a message.
+/// Receiving a message, which the receiver's pass records.
 pub(crate) struct Receiving;
 
 impl<S> Outcome<Message<S>, Tally> for Receiving {
@@ -93,8 +94,7 @@ impl<S> Lesson<Message<S>, Tally> for Receiving {
     ghost fact = { λ v items. ⊤ };
 }
 
-/// The fact that a pass with all parts proves about the queue: the connections sent are those received and those in the
-/// queue.
+/// The lemma about a pass that has all parts: the connections sent are those received and those in the queue.
 pub(crate) struct Balanced;
 
 impl<S> Lesson<Message<S>, Tally> for Balanced {
@@ -108,10 +108,10 @@ pub(crate) type Sender<S> = RuledSender<Message<S>, Tally, NothingLost>;
 
 pub(crate) type Receiver<S> = RuledReceiver<Message<S>, Tally, NothingLost>;
 
-/// The right to send and receive on the channel. A token is zero-sized.
+/// A pass: the right to send and receive on the channel. Zero-sized.
 pub(crate) type Token<S> = Pass<Message<S>, Tally>;
 
-/// Sends a message. Blocks while the channel is full.
+/// Sends a message. Blocks while the channel is full. `pass` must belong to this channel.
 pub fn send<S: Drop, R: Wait>(
     rt: &R,
     to: &Sender<S>,
@@ -128,7 +128,7 @@ pub fn send<S: Drop, R: Wait>(
     to.send_as::<Sending, R>(rt, pass, message)
 }
 
-/// Receives a message. Blocks until a message arrives.
+/// Receives a message. Blocks until a message arrives. `pass` must belong to this channel.
 pub fn receive<S: Drop, R: Wait>(
     rt: &R,
     from: &Receiver<S>,
@@ -144,7 +144,7 @@ pub fn receive<S: Drop, R: Wait>(
     from.recv_as::<Receiving, R>(rt, pass)
 }
 
-/// Splits a pass for a receiver off this one.
+/// Splits a pass for a receiver off the sender's `pass`.
 pub(crate) fn cut_part<S: Drop>(to: &Sender<S>, pass: &mut Token<S>) -> Token<S>
     requires channel { IsSeatAt (sends_on to.now) pass.old }
     requires parts { 1 < (view pass.old).parts }
@@ -155,7 +155,7 @@ pub(crate) fn cut_part<S: Drop>(to: &Sender<S>, pass: &mut Token<S>) -> Token<S>
     to.another::<Parting>(pass)
 }
 
-/// Joins a receiver's pass to this one.
+/// Joins a receiver's pass `other` to the sender's `pass`.
 pub(crate) fn take_back<S: Drop>(to: &Sender<S>, pass: &mut Token<S>, other: Token<S>)
     requires channel { IsSeatAt (sends_on to.now) pass.old × IsSeatAt (sends_on to.now) other }
     requires part { 0 < (view pass.old).parts }
@@ -166,7 +166,8 @@ pub(crate) fn take_back<S: Drop>(to: &Sender<S>, pass: &mut Token<S>, other: Tok
     to.absorb::<Parting>(pass, other)
 }
 
-/// Lemma: if the pass has all parts, the connections sent are the connections received and those in the queue.
+/// Lemma: if `pass` has all parts, the connections sent are those received and those in the queue. Does nothing at run
+/// time.
 pub(crate) fn balance<S: Drop>(to: &Sender<S>, pass: &mut Token<S>)
     requires channel { IsSeatAt (sends_on to.now) pass.old }
     requires all { (view pass.old).parts ≡ PARTS }

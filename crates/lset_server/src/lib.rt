@@ -1,4 +1,5 @@
-//! The set server: sessions on the seats of a running set, with one worker thread for each seat.
+//! The set server: sessions with clients on a running set. Each seat (the right to call as one thread) has its own
+//! worker thread.
 #![tactic(auto)]
 
 mod channel;

@@ -1,4 +1,4 @@
-//! Serves the connections that a listener accepts.
+//! Serves a running set to the connections that a listener accepts.
 ghost use Rattle.std.specs.Prelude.{◌≡◌, ◌≢◌, ◌<◌, ◌≤◌, ◌↔◌, ◌++◌, [], All, None, Some, length, map, sum_by};
 ghost use Rattle.std.specs.Prelude.{IfErr, IfOk, IfSome, IsOk, OnOk};
 ghost use Rattle.std.specs.Option.{option_map};
@@ -35,7 +35,7 @@ pub enum ServeCause {
     /// The system refused to start a thread.
     #[error("the system refused to start a thread")]
     Spawn,
-    /// The channel returned a connection.
+    /// The channel returned a connection, or another message, in place of sending it to a worker.
     #[error("the channel returned a connection")]
     Send,
     /// An allocation failed.
@@ -46,7 +46,7 @@ pub enum ServeCause {
     Left,
 }
 
-/// The result of serving: the number of sessions, the number of calls made in them, and the final keys in increasing
+/// The result of `serve`: the number of sessions, the number of calls made in them, and the final keys in increasing
 /// order.
 #[derive(Drop)]
 pub struct Served {
@@ -101,7 +101,7 @@ fn accept_all<R: Wait>(
     Ok(())
 }
 
-/// Tells each worker, by a message, that no more connections will come.
+/// Sends each worker the notice that no more connections will come.
 fn close_all<R: Wait>(
     rt: &R,
     to: &Sender<TcpStream>,
@@ -120,7 +120,8 @@ fn close_all<R: Wait>(
     Ok(())
 }
 
-/// Accepts `sessions` connections and sends them to the workers. Then tells each worker that no more will come.
+/// Accepts `sessions` connections and sends them to the workers. Then sends each worker the notice that no more will
+/// come.
 fn send_all<R: Wait>(
     rt: &R,
     listener: &TcpListener,
@@ -138,8 +139,8 @@ fn send_all<R: Wait>(
     close_all(rt, to, pass, workers)
 }
 
-/// Starts the workers, accepts the connections, and joins the workers. Returns the pass with all parts, and the
-/// gathered seat.
+/// Starts the workers, sends them `sessions` connections, and joins them. Returns the pass of the channel, which has
+/// all parts again, and the seat into which all seats were gathered.
 fn serve_in<'s, E, R: Threads + Wait + Clock + Sync, M: Running + Send + Sync>(
     alloc: Global,
     scope: &Scope<'s, E>,
@@ -175,7 +176,7 @@ fn serve_in<'s, E, R: Threads + Wait + Clock + Sync, M: Running + Send + Sync>(
     Ok((pass, gathered))
 }
 
-/// Creates the channel, and serves the connections. After an error, the channel is dropped, and the workers end.
+/// Creates the channel and serves the connections. After an error, the channel is dropped, which ends the workers.
 fn serve_all<R: Threads + Wait + Clock + Sync, M: Running + Send + Sync>(
     rt: &R,
     alloc: Global,
@@ -215,12 +216,12 @@ fn serve_all<R: Threads + Wait + Clock + Sync, M: Running + Send + Sync>(
     )
 }
 
-/// Serves a set to `sessions` connections, with one worker for each of `seats`.
+/// Serves a set to `sessions` connections, with one worker thread for each of `seats`.
 ///
-/// `seats` must belong to `set`. Connections are numbered from 0, and go through a channel with as many places as there
-/// are seats. Each worker runs `buffered_session` on its seat, for one connection after another. A session that ends
-/// with a fault does not end the server. At the end, the seats are gathered and the set is closed. Blocks until all
-/// connections have been accepted and all workers have ended. Each worker waits for its client.
+/// `seats` must belong to `set`. Connections are numbered from 0, and wait in a channel with as many places as `seats`
+/// has seats. Each worker runs `buffered_session` on its seat, for one connection after another. A session that ends
+/// with a read or write error does not end the server. At the end, the seats are gathered and the set is closed. Blocks
+/// until all connections have been accepted and all workers have ended. Each worker blocks for its client.
 ///
 /// # Errors
 ///
@@ -243,9 +244,9 @@ pub fn serve<R: Threads + Wait + Clock + Sync, M: Running + Send + Sync>(
     sessions: u32,
 ) -> Result<Served, ServeFault<M>>
     requires { All (λ s. s.set ≡ set) seats.items }
-    // [Received once]: each connection was received once.
+    // [Received once]: each connection was received by a worker exactly once.
     ensures received { IfOk result (λ s. (s.sessions ≡ sessions) × ReceivedOnce sessions (tally_of s)) }
-    // [Served]: one legal order of the seats' earlier calls and of `calls` more calls leaves the final keys.
+    // [Served]: some legal order of the seats' earlier calls and of `calls` more calls leaves the final keys.
     ensures served { IfOk result (λ s. IsServed set.shape (map (λ t. t.past) seats.items) s.calls s.keys.items) }
     ensures all { IsOk result → sum_by (λ s. s.held) seats.items ≡ set.shape.threads }
     ensures refused { IfErr result (λ f. f.cause ≡ ServeCause.Seats ↔ (sum_by (λ s. s.held) seats.items ≢ set.shape.threads)) }

@@ -1,4 +1,4 @@
-//! The workers of a server, one for each seat.
+//! The worker threads of a server, one for each seat.
 ghost use Rattle.std.specs.Prelude.{◌≡◌, ◌≢◌, ◌<◌, ◌≤◌, ◌-◌, ◌*◌, ◌++◌, List, [], ◌∷◌, All, length, map, sum_by};
 ghost use Rattle.std.specs.Prelude.{IfErr, IfOk, IfSome, MatchOption, OnOk};
 ghost use Rattle.std.specs.Option.{option_map};
@@ -24,7 +24,7 @@ use std::sync::Wait;
 use std::thread::{Promise, PromisedHandle, Scope, Threads};
 use std::time::Clock;
 
-/// The result of a worker: its pass, its seat, and how many sessions and calls it has completed.
+/// The result of a worker thread: its pass of the channel, its seat, and how many sessions and calls it has completed.
 #[derive(Drop)]
 pub(crate) struct WorkerResult<M: Running> {
     pub pass: Token<TcpStream>,
@@ -33,8 +33,8 @@ pub(crate) struct WorkerResult<M: Running> {
     pub calls: u64,
 }
 
-/// What a worker promises. It contains the channel, the set and the seat with which the worker was started, and its
-/// maximum number of sessions.
+/// The promise of a worker thread, in contracts: its channel, its set, its seat when it was started, and the maximum
+/// number of its sessions.
 #[derive(Drop)]
 pub(crate) struct WorkerPromise<M: Running> {
     pub from: Snapshot<Receiver<TcpStream>>,
@@ -49,10 +49,10 @@ impl<M: Running> Promise<WorkerResult<M>> for WorkerPromise<M> {
         × (b.sessions ≤ p.most) × (b.calls ≤ MOST_LINES * p.most) };
 }
 
-/// A started worker.
+/// A started worker thread.
 pub(crate) type Worker<M> = PromisedHandle<WorkerResult<M>, WorkerPromise<M>>;
 
-/// Waits for the next connection. Returns `None` if no more connections come.
+/// Blocks until the next connection arrives. Returns `None` if no more connections come.
 fn next<R: Wait>(
     rt: &R,
     from: &Receiver<TcpStream>,
@@ -70,8 +70,8 @@ fn next<R: Wait>(
     }
 }
 
-/// Serves one client in a session on the seat, and finishes the exchange with the client. Returns the number of calls
-/// made. A fault ends only this session.
+/// Serves one client in a session on `seat`, and prepares the connection for closing. Returns the number of calls made.
+/// A read or write error ends only this session.
 fn hold<R: Wait + Clock, M: Running>(
     rt: &R,
     stream: &TcpStream,
@@ -83,14 +83,14 @@ fn hold<R: Wait + Clock, M: Running>(
     ensures calls { (added : List CallMade) × (seat.new.past ≡ with_calls seat.old.past added) × (result ≡ length added) }
     ensures few { result ≤ MOST_LINES }
 {
-    // If the system refuses this option, answers can arrive later, but nothing else changes.
+    // If the system refuses the option, answers can arrive later. Nothing else changes.
     let _ = stream.set_nodelay(true);
     let ended = buffered_session(rt, Device::new(stream), Device::new(stream), set, seat);
     take_leave(rt, stream, ended.why);
     ended.calls
 }
 
-/// Serves connections on the seat until no more come or `most` have been received.
+/// Serves connections on the seat, until no more come or `most` have been received.
 fn work<R: Wait + Clock, M: Running>(
     rt: &R,
     from: &Receiver<TcpStream>,
@@ -123,7 +123,7 @@ fn work<R: Wait + Clock, M: Running>(
     }
 }
 
-/// How many sessions and calls all workers have completed together, and the seat into which their seats were gathered.
+/// The sum of all workers' sessions and calls, and the seat into which their seats were gathered.
 #[derive(Drop)]
 pub(crate) struct Gathered<M: Running> {
     pub seat: Option<Seat<M>>,
@@ -131,8 +131,8 @@ pub(crate) struct Gathered<M: Running> {
     pub calls: u64,
 }
 
-/// A pool of workers: the set with whose seats they work, both ends of the channel that passes connections to them, and
-/// the number of connections.
+/// A pool of worker threads: the set that they serve, both ends of the channel that passes connections to them, and the
+/// number of connections.
 #[derive(Drop)]
 pub(crate) struct Pool<'s, R, M: Running> {
     pub rt: &'s R,
@@ -143,7 +143,7 @@ pub(crate) struct Pool<'s, R, M: Running> {
 }
 
 impl<'s, R: Threads + Wait + Clock + Sync, M: Running + Send + Sync> Pool<'s, R, M> {
-    /// Starts a worker on the seat. Returns `None` if the system refuses to start the thread.
+    /// Starts a worker thread on `seat`. Returns `None` if the system refuses to start the thread.
     fn start<E>(
         &self,
         scope: &Scope<'s, E>,
@@ -171,8 +171,8 @@ impl<'s, R: Threads + Wait + Clock + Sync, M: Running + Send + Sync> Pool<'s, R,
             .ok()
     }
 
-    /// Starts a worker on each seat, with a part of the sender's pass. Allocates the memory for all handles before it
-    /// starts the first worker.
+    /// Starts a worker thread on each seat. Each worker gets a pass (a right to use the channel) that is split off the
+    /// sender's `pass`. Allocates the memory for all thread handles before it starts the first.
     pub fn start_all<E>(
         &self,
         alloc: Global,
@@ -205,7 +205,7 @@ impl<'s, R: Threads + Wait + Clock + Sync, M: Running + Send + Sync> Pool<'s, R,
         Ok(workers)
     }
 
-    /// Joins the workers and their passes, and gathers their seats.
+    /// Joins the worker threads, joins their passes of the channel to `pass`, and gathers their seats.
     pub fn join_all(&self, pass: &mut Token<TcpStream>, workers: Vec<Worker<M>>) -> Gathered<M>
         requires pass { IsSeatAt (sends_on self.now.to) pass.old × (0 < (view pass.old).parts) }
         requires owed { All (λ h. (receives_on h.promise.from.value ≡ sends_on self.now.to)

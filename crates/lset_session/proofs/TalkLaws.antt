@@ -1,4 +1,4 @@
--- Laws of a session that processes its input line by line.
+-- Lemmas about a session that processes its input line by line.
 use Rattle.std.proofs.Common.{◌≡◌, ◌≢◌, ℕ, ◌+◌, ◌-◌, ◌<◌, ◌≤◌, Bool, true, false, eqb, List, [], ◌∷◌, ◌++◌, length, Option, Some, None}
 use Rattle.std.proofs.Common.{if◌then◌else◌, refl, sym, ap, ◌∙◌, subst, append_assoc, append-nil, arith, length-append, length-take, take}
 use Rattle.std.proofs.Common.{drop, get_or, take-append-drop, add-one}
@@ -26,9 +26,9 @@ use Rattle.lset_session.specs.Sessions.{Wrote, text_end, IsSession}
 use Rattle.lset_session.specs.SessionSoFar.{WroteSoFar, IsLast, Told, Heard, IsTalk, pending_of, counted, ending}
 use Rattle.lset_session.specs.declared.sessions.Talk.{Talk}
 
--- ---- Lemmas about the parts of a text to which bytes are added
+-- ---- Lemmas about a text to which bytes are appended
 
--- If more bytes follow bytes without a newline, both are in the first part.
+-- If q has no newline, it is part of the first line of q and the bytes after it.
 cut_more : (q x : List ℕ) (xs : List (List ℕ)) (more : List ℕ) → cut_at 10 more ≡ x ∷ xs → Lacks 10 q
     → cut_at 10 (q ++ more) ≡ (q ++ x) ∷ xs
 cut_more [] x xs more e lacks = e
@@ -63,14 +63,14 @@ turns_line left p more lacks short = by_parts (cut_at 10 more) refl (some_part 1
         let few = le-ltb LONGEST_LINE (length p) short in
         rw (first, e, few) refl
 
--- Bytes after the last newline are not a request.
+-- Bytes after the last newline cause no turn, unless they are too long for a line.
 pub turns_rest : (left : ℕ) (p : List ℕ) → Lacks 10 p → length p ≤ LONGEST_LINE → turns_at left (cut_at 10 (p ++ [])) ≡ []
 turns_rest left p lacks short =
     let few = le-ltb LONGEST_LINE (length p) short in
     let one = slice_split_none (λ b. eqb b 10) p lacks in
     rw (append-nil p, one, few) refl
 
--- ---- Lemmas about the turn of a line
+-- ---- Lemmas about the turn of a line: the line's request, or the reason why the session ends
 
 pub turns_quit : (left : ℕ) (e : Exchange) (q : Request) (later : List Turn) → turn_of e ≡ line q → q ≡ request.Quit
     → turns_after left q later ≡ turn_of e ∷ []
@@ -101,9 +101,9 @@ counted_is (made c) q h = absurd cc
 counted_is e (request.Call d) h = absurd cc
 counted_is e q h = refl
 
--- ---- Lemmas about the bytes processed so far
+-- ---- Lemmas about the bytes that the session has processed
 
--- Either the last line of a session was written, or its write failed.
+-- At the end of a session, the last line was written, or the reason is WriteFault.
 told_last : (left left' : ℕ) (bytes p' : List ℕ) (talk : List Exchange) (why : EndReason) (whole : Bool) → IsLast why
     → ((more : List ℕ) → turns_at left (cut_at 10 (bytes ++ more)) ≡ turns_in talk ++ []) → end_of (turns_in talk) ≡ why
     → Told left bytes (ending whole why) left' p' talk
@@ -136,7 +136,7 @@ heard_long left left' q p' r w w' n whole lacks many wrote = record {
   count = omega arith;
 }
 
--- The session answers one complete line.
+-- A session in state t has read a newline and answers the line, whose request is q.
 module _ (t : Talk) (talk : IsTalk t) (left' : ℕ) (p' : List ℕ) (r r' : Record) (w w' : Option (List ℕ)) (n' : ℕ)
     (e : Exchange) (q : Request) (asked : q ≡ request_of (pending_of t)) (is : turn_of e ≡ line q)
     (recorded : r' ≡ with_calls r (call_of e)) (count : n' ≡ t.calls + counted q) where
@@ -277,9 +277,9 @@ heard_then l l' l'' p p' p'' cs o r r' r'' w w' w'' n n' n'' h k = record {
     calls = ap (λ (l : List CallMade). length l) (flat_map-append call_of h.talk k.talk)
         ∙ length-append (calls_in h.talk) (calls_in k.talk)
 
--- ---- Lemmas about the bytes of a single read
+-- ---- Lemmas about processing the bytes of a single read
 
--- The session processes one more byte.
+-- The session has processed i bytes of a read, and processes one more.
 pub heard_byte : (l l' l'' : ℕ) (p p' p'' xs : List ℕ) (i : ℕ) (o : Option EndReason) (r r' r'' : Record) (w w' w'' : Option (List ℕ))
     (n n' n'' : ℕ)
     → i < length xs → Heard l (p ++ take i xs) None l' p' r r' w w' n n' →
@@ -292,7 +292,7 @@ heard_byte l l' l'' p p' p'' xs i o r r' r'' w w' w'' n n' n'' lt h k =
     subst (λ t. Heard l t o l'' p'' r r'' w w'' n n'') regrouped
     (heard_then l l' l'' (p ++ take i xs) p' p'' (get_or xs i 0 ∷ []) o r r' r'' w w' w'' n n' n'' h k)
 
--- After its end, the session processes no more bytes.
+-- If the session ends within a read, its state is the same for the whole read.
 pub heard_rest : (l l' : ℕ) (p p' xs : List ℕ) (i : ℕ) (end : EndReason) (r r' : Record) (w w' : Option (List ℕ)) (n n' : ℕ)
     → Heard l (p ++ take i xs) (Some end) l' p' r r' w w' n n' → Heard l (p ++ xs) (Some end) l' p' r r' w w' n n'
 heard_rest l l' p p' xs i end r r' w w' n n' h = record {
@@ -314,7 +314,7 @@ heard_rest l l' p p' xs i end r r' w w' n n' h = record {
 
 -- ---- Lemmas about the end of the input
 
--- At the end of the input, there is no complete line left, and no line has ended the session.
+-- If the input ends and no line has ended the session, its last bytes cause no turn.
 pub spoken_rest : (end : EndReason) (bytes : List ℕ) (t : Talk) (r r' : Record) (s s' w w' : Option (List ℕ)) → IsTalk t
     → ((talk : List Exchange) → Appends w w' (answers_in talk) → Wrote end w w' talk) → why.End ≡ text_end end
     → (end ≡ why.End → IsAtEnd s') → Consumes s s' bytes →

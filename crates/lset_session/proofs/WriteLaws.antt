@@ -1,4 +1,4 @@
--- Laws about a text that is written in several pieces.
+-- Lemmas about a text that is written in several pieces.
 use Rattle.std.proofs.Common.{◌≡◌, ℕ, ◌-◌, ◌<◌, List, [], ◌∷◌, ◌++◌, length, take, drop, sym, ap, ◌∙◌, append_assoc}
 use Rattle.std.proofs.Common.{take-append-drop, arith, Option}
 use Rattle.std.proofs.lemmas.List.{take_rest}
@@ -11,7 +11,6 @@ moves_front all done rest n e =
     e ∙ ap (λ l. done ++ l) (sym (take-append-drop n rest)) ∙ sym (append_assoc done (take n rest) (drop n rest))
     ∙ ap (λ l. (done ++ take n rest) ++ l) (sym (take_rest rest n))
 
--- If some bytes have not been written, the written ones are a proper prefix of the text.
 pub cut_short : (old new : Option (List ℕ)) (all done rest : List ℕ) → all ≡ done ++ rest → 0 < length rest → Appends old new done
     → CutShort old new all
 cut_short old new all done [] e some a = absurd (omega arith)

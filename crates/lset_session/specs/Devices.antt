@@ -1,20 +1,18 @@
--- Definitions of the statements that a text was written completely, or only in part.
+-- Definitions for contracts of writers: a text was written completely, or only a prefix of it.
 use Rattle.std.specs.Prelude.{◌≡◌, ℕ, Bool, MatchBool, List, ◌∷◌, ◌++◌, Option}
 use Rattle.std.specs.Io.KnownBytes.{Appends}
 use Rattle.lset_session.specs.declared.devices.Device.{Device}
 
--- Returns the reader or writer in a device.
 abbrev pub inner_of : {T : Type 0} → Device T → T
 inner_of d = d.inner
 
--- Returns whether a device has failed.
 abbrev pub is_failed : {T : Type 0} → Device T → Bool
 is_failed d = d.failed
 
--- States that a proper prefix of the text was written.
+-- States that a prefix of the text was written, but not the whole text.
 abbrev pub CutShort : Option (List ℕ) → Option (List ℕ) → List ℕ → Type 0
 CutShort old new text = (front : List ℕ) × (b : ℕ) × (cut : List ℕ) × (text ≡ front ++ b ∷ cut) × Appends old new front
 
--- States that the whole text was written if `whole` is true, and otherwise a proper prefix.
+-- States that the whole text was written if `whole` is true. Otherwise only a prefix was written.
 abbrev pub Writes : Bool → Option (List ℕ) → Option (List ℕ) → List ℕ → Type 0
 Writes whole old new text = MatchBool whole (Appends old new text) (CutShort old new text)

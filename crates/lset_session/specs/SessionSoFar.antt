@@ -1,4 +1,4 @@
--- How far a session has come: the contracts of the functions with which `session` processes its input.
+-- A session that has processed a prefix of its input: the contracts of the functions that `session` calls.
 use Rattle.std.specs.Prelude.{◌≡◌, ◌≢◌, ℕ, ◌+◌, ◌*◌, ◌<◌, ◌≤◌, List, [], ◌++◌, take, length, Option, Some, None, Bool, true}
 use Rattle.std.specs.Prelude.{false, if◌then◌else◌}
 use Rattle.std.specs.Io.KnownBytes.{Appends}
@@ -13,19 +13,19 @@ use Rattle.lset_session.specs.declared.requests.Request.TheVariants as request
 use Rattle.lset_session.specs.SessionText.{Turn, turns_at, end_of, Exchange, turns_in, answers_in, calls_in}
 use Rattle.lset_session.specs.Sessions.{Wrote}
 
--- States which answers have been written, if the session continues (`None`) or has ended.
+-- States which answers a session has written if it continues (`None`) or has ended for a reason.
 abbrev pub WroteSoFar : Option EndReason → Option (List ℕ) → Option (List ℕ) → List Exchange → Type 0
 WroteSoFar None w w' talk = Appends w w' (answers_in talk)
 WroteSoFar (Some end) w w' talk = Wrote end w w' talk
 
--- States that the session can end for this reason because of a line or a failed write.
+-- States that a session can end for this reason after a line or a failed write (and not only when its input ends).
 abbrev pub IsLast : EndReason → Type 0
 IsLast why.End = ⊥
 IsLast why.ReadFault = ⊥
 IsLast end = Unit {0}
 
--- States that the turns of the talk are the first turns of the input. If the session has not ended, the turns of the
--- pending bytes and of all later bytes follow.
+-- States that `talk` has the first turns (answered lines) of the input. If the session has not ended, the remaining
+-- turns are those of the incomplete line `pending` and of all later bytes.
 abbrev pub Told : ℕ → List ℕ → Option EndReason → ℕ → List ℕ → List Exchange → Type 0
 Told left bytes None left' pending talk =
     (end_of (turns_in talk) ≡ why.End)
@@ -35,8 +35,8 @@ Told left bytes (Some w) left' pending talk =
     IsLast w × ((more : List ℕ) → (later : List Turn) × (turns_at left (cut_at 10 (bytes ++ more)) ≡ turns_in talk ++ later)
     × (w ≢ why.WriteFault → (later ≡ []) × (end_of (turns_in talk) ≡ w)))
 
--- How far the session has come after these bytes, if `left` lines could still be answered: whether it continues
--- (`None`) or has ended, and its calls and answers.
+-- The state of a session after it has processed these bytes: o is None if it continues, otherwise the reason of its
+-- end. It could answer `left` lines before and `left'` lines afterwards. `talk` has its calls and answers.
 pub record Heard (left : ℕ) (bytes : List ℕ) (o : Option EndReason) (left' : ℕ) (pending : List ℕ) (r r' : Record)
     (w w' : Option (List ℕ)) (calls calls' : ℕ) : Type 0 where
   pub talk : List Exchange
@@ -49,7 +49,8 @@ pub record Heard (left : ℕ) (bytes : List ℕ) (o : Option EndReason) (left' :
 abbrev pub pending_of : Talk → List ℕ
 pending_of t = take t.len t.line
 
--- The invariant of a session that has not ended.
+-- The invariant of a session that has not ended: its current line is short and has no newline, and it can answer
+-- another line.
 pub record IsTalk (t : Talk) : Type 0 where
   pub room : length t.line ≡ LONGEST_LINE
   pub short : t.len ≤ LONGEST_LINE
@@ -57,25 +58,26 @@ pub record IsTalk (t : Talk) : Type 0 where
   pub more : 0 < t.left
   pub few : t.calls + t.left ≤ MOST_LINES
 
--- States that processing n bytes decreases the bound on the bytes that the session can still process by at least n. The
--- bound is (LONGEST_LINE + 1) * left - len.
+-- States that the session has advanced by at least n bytes from state t to u. The number of bytes that a session can
+-- still process is bounded by (LONGEST_LINE + 1) * left - len.
 abbrev pub Nearer : Talk → Talk → ℕ → Type 0
 Nearer t u n = (LONGEST_LINE + 1) * u.left + t.len + n ≤ (LONGEST_LINE + 1) * t.left + u.len
 
--- States that the session has processed these bytes.
+-- States that the session has processed these bytes, which changed its state from t to u, the record of its seat from r
+-- to r', and the written bytes from w to w'.
 abbrev pub Hears : List ℕ → Option EndReason → Talk → Talk → Record → Record → Option (List ℕ) → Option (List ℕ) → Type 0
 Hears bytes o t u r r' w w' = Heard t.left (pending_of t ++ bytes) o u.left (pending_of u) r r' w w' t.calls u.calls
 
--- Returns the number of calls that a request makes: 1 or 0.
+-- Returns the number of calls that a request makes: 1, or 0 for `QUIT` and bad lines.
 abbrev pub counted : Request → ℕ
 counted (request.Call c) = 1
 counted other = 0
 
--- Returns whether the writer has failed.
+-- Returns whether a session that ended for this reason has a writer that failed.
 abbrev pub failed_by : Option EndReason → Bool
 failed_by (Some why.WriteFault) = true
 failed_by other = false
 
--- Returns the reason why the session ends after its last line: `w` if the line was written, else a failed write.
+-- Returns why a session ends that writes a last line: `w` if the whole line was written, else WriteFault.
 abbrev pub ending : Bool → EndReason → Option EndReason
 ending whole w = Some (if whole then w else why.WriteFault)

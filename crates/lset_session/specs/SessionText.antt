@@ -1,5 +1,5 @@
--- [Session text]: the requests in the lines of a session, and the answers to them. The definitions are about all bytes
--- of the input at once, cut at newlines.
+-- [Session text]: the requests in the lines of a session, and the answers to them. The definitions look at all bytes of
+-- the input at once, cut at the newlines.
 use Rattle.std.specs.Prelude.{ℕ, ◌-◌, ◌==◌, nat_lt, List, [], ◌∷◌, ◌++◌, map, length, codes, if◌then◌else◌}
 use Rattle.std.specs.Fmt.{decimal}
 use Rattle.std.specs.List.{flat_map}
@@ -23,7 +23,7 @@ use Rattle.lset_session.specs.declared.sessions.EndReason.TheVariants as why
 
 -- ---- The request in a line
 
--- Returns the form of a call's line: the call's name and a key.
+-- Returns the pattern of a request line: the name of a call, and a key.
 abbrev pub call_line : List ℕ → (Key → Call) → LineKind Request
 call_line name call = (word name ∷ any ∷ [], λ t. request.Call (call (record { 0 = t.1.0 })))
 
@@ -42,19 +42,20 @@ request_of line = request_of_pieces (cut_at 32 line)
 
 -- ---- The requests in the bytes of a session
 
--- A turn: a line that is answered, a line that is too long, or the limit of answered lines.
+-- A turn of a session: a line with its request, a line that is too long, or the limit of answered lines.
 pub data Turn : Type 0 where
   line : Request → Turn
   long : Turn
   limit : Turn
 
--- Returns a line's turn and those after it. After QUIT there are none. If no more lines can be answered, the limit
--- follows.
+-- Returns the turns of a session (its answered lines) from a line with request q on. `later` are the turns of the lines
+-- after it. QUIT is the last turn of a session. If the session can answer only one more line, the limit follows q.
 abbrev pub turns_after : ℕ → Request → List Turn → List Turn
 turns_after left request.Quit later = line request.Quit ∷ []
 turns_after left other later = line other ∷ (if left == 1 then limit ∷ [] else later)
 
--- Returns the turns of the parts between newlines, if `left` lines can still be answered. The last part has no newline.
+-- Returns the turns of the lines of an input if the session can answer `left` lines. The last part of the input has no
+-- newline: it causes a turn only if it is too long.
 abbrev pub turns_at : ℕ → List (List ℕ) → List Turn
 turns_at left [] = []
 turns_at left (rest ∷ []) = if nat_lt LONGEST_LINE (length rest) then long ∷ [] else []
@@ -65,7 +66,8 @@ turns_at left (first ∷ next ∷ more) =
 unfoldable pub turns_of : List ℕ → List Turn
 turns_of bytes = turns_at MOST_LINES (cut_at 10 bytes)
 
--- Returns the reason why a session with these turns ends.
+-- Returns the reason for which a session ends after a turn (an answered line), or `otherwise` if the session does not
+-- end with this turn.
 abbrev pub end_after : Turn → EndReason → EndReason
 end_after (line request.Quit) otherwise = why.Quit
 end_after (line other) otherwise = otherwise
@@ -78,7 +80,7 @@ end_of (t ∷ ts) = end_after t (end_of ts)
 
 -- ---- The answers to requests
 
--- A turn with its answer: a call with its reply, or one of the other answers.
+-- A turn of a session with its answer: a call with its reply, or one of the other answers.
 pub data Exchange : Type 0 where
   made : CallMade → Exchange
   bad : Exchange
@@ -100,7 +102,7 @@ reply_word reply.Full = codes "FULL"
 reply_word (reply.At k) = codes "AT " ++ decimal k.0
 reply_word reply.Nothing = codes "NONE"
 
--- Returns the line that answers a turn.
+-- Returns the answer of a turn as it is written, with its newline.
 abbrev pub answer_of : Exchange → List ℕ
 answer_of (made c) = ended (reply_word c.reply)
 answer_of bad = ended (codes "BAD")

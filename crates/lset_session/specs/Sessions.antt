@@ -1,4 +1,4 @@
--- [Session]: what a session has done when it ends.
+-- [Session]: the calls and the answers of a session that has ended.
 use Rattle.std.specs.Prelude.{◌≡◌, ◌≢◌, ℕ, List, [], ◌∷◌, ◌++◌, length, Option}
 use Rattle.std.specs.Io.KnownBytes.{Appends, Consumes, IsAtEnd}
 use Rattle.lset_words.specs.Records.{Record, with_calls}
@@ -6,36 +6,36 @@ use Rattle.lset_session.specs.declared.sessions.EndReason.{EndReason}
 use Rattle.lset_session.specs.declared.sessions.EndReason.TheVariants as why
 use Rattle.lset_session.specs.SessionText.{Turn, turns_of, end_of, Exchange, turns_in, answers_in, calls_in, answer_of}
 
--- States that all answers except the last were written, and a proper prefix of the last.
+-- States that all answers except the last were written completely, and only a prefix of the last.
 abbrev pub CutAnswers : Option (List ℕ) → Option (List ℕ) → List Exchange → Type 0
 CutAnswers w w' talk =
     (said : List Exchange) × (last : Exchange) × (front : List ℕ) × (b : ℕ) × (cut : List ℕ)
     × (talk ≡ said ++ last ∷ []) × (answer_of last ≡ front ++ b ∷ cut) × Appends w w' (answers_in said ++ front)
 
--- States which bytes have been written, if the session has ended for this reason.
+-- States which answers a session has written if it has ended for this reason.
 abbrev pub Wrote : EndReason → Option (List ℕ) → Option (List ℕ) → List Exchange → Type 0
 Wrote why.WriteFault w w' talk = CutAnswers w w' talk
 Wrote end w w' talk = Appends w w' (answers_in talk)
 
--- Returns why the text that was read ends, for a session that has ended for the reason `end`. After a failed read, no
--- line has ended the text, so the result is `End`. Otherwise the result is `end`.
+-- Returns the reason for which the text that was read ends a session. This is the session's reason `end`, except after
+-- a failed read: then no line has ended the session, and the result is `End`.
 abbrev pub text_end : EndReason → EndReason
 text_end why.ReadFault = why.End
 text_end end = end
 
 -- A session that has ended for the reason `end` after this number of calls. s and s' are the remaining input before and
--- after it, r and r' the records of its seat, and w and w' the bytes written.
+-- after the session, r and r' the records of its seat, and w and w' the bytes written to its client.
 pub record IsSession (end : EndReason) (calls : ℕ) (s s' : Option (List ℕ)) (r r' : Record) (w w' : Option (List ℕ)) : Type 0 where
-  -- The bytes that were read, and their turns with the answers.
+  -- The bytes that the session has read, and its turns with their answers.
   pub bytes : List ℕ
   pub talk : List Exchange
   pub read : Consumes s s' bytes
-  -- The turns are the first turns of these bytes. Unless a write has failed, they are all of them.
+  -- The turns are the first turns of these bytes. Unless a write has failed, they are all turns of these bytes.
   pub turns : (later : List Turn) × (turns_of bytes ≡ turns_in talk ++ later) × (end ≢ why.WriteFault → later ≡ [])
   pub recorded : r' ≡ with_calls r (calls_in talk)
   pub count : calls ≡ length (calls_in talk)
   pub wrote : Wrote end w w' talk
-  -- Unless a write has failed, the text of these bytes ends for the session's reason or, after a failed read, for
+  -- Unless a write has failed, the bytes end the session for the reason `end`. After a failed read, they end it for
   -- `End`.
   pub ends : end ≢ why.WriteFault → end_of (turns_of bytes) ≡ text_end end
   pub drained : end ≡ why.End → IsAtEnd s'

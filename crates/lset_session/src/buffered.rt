@@ -1,7 +1,9 @@
-//! Sessions that buffer their answers. A plain session writes each answer before it makes the next call. A buffered
-//! session collects its answers in a buffer of 4,096 bytes and writes them together: before it reads again, when the
-//! buffer is full, and when it ends. So a client that sends many lines at once causes only a few writes, and its
-//! answers are written before the session waits for its next line.
+//! Sessions that buffer their answers.
+//!
+//! `session` writes each answer before it makes the next call. A buffered session collects answers in a buffer of 4,096
+//! bytes. It writes them together: before it reads again, when the buffer is full, and when it ends. A client that
+//! sends many lines at once causes only a few writes. Its answers are written before the session waits for its next
+//! line.
 ghost use Rattle.std.specs.Prelude.{◌≡◌, ◌≢◌, ◌<◌, ◌≤◌, IfSome, IsTrue, None, false, length, Option, List, ℕ};
 ghost use Rattle.lset_session.specs.Sessions.{IsSession};
 ghost use Rattle.lset_session.specs.declared.TheConstants.{MOST_LINES};
@@ -13,10 +15,10 @@ use lset_words::SetCalls;
 use std::cell::RefCell;
 use std::sync::Wait;
 
-/// The size of the buffer in bytes.
+/// The size of the answer buffer in bytes.
 const ROOM: usize = 4096;
 
-/// A buffer of answers that have not been written, their writer, and whether a write has failed.
+/// A buffer of answers that were not written yet, their writer, and whether a write has failed.
 #[derive(Drop)]
 struct Buffer<O: Sink> {
     bytes: [u8; ROOM],
@@ -28,7 +30,7 @@ struct Buffer<O: Sink> {
 }
 
 impl<O: Sink> Buffer<O> {
-    /// Returns an empty buffer for a writer that has not failed.
+    /// Returns an empty buffer for `writer`, which must not have failed.
     fn new(writer: O) -> Buffer<O>
         requires { O.has_failed writer ≡ false }
     {
@@ -40,7 +42,8 @@ impl<O: Sink> Buffer<O> {
         }
     }
 
-    /// Writes the buffered answers, and returns whether all were written. Does not write again after a failed write.
+    /// Writes the answers in the buffer, and returns whether all were written. After a failed write, writes nothing and
+    /// returns false.
     fn flush(&mut self) -> bool
         ensures { IsTrue result → self.new.len ≡ 0 }
     {
@@ -53,7 +56,7 @@ impl<O: Sink> Buffer<O> {
         whole
     }
 
-    /// Copies as much of the text into the buffer as fits, and returns the number of bytes copied.
+    /// Copies as much of `text` into the buffer as fits, and returns the number of bytes copied.
     fn put(&mut self, text: &[u8]) -> usize
         ensures bound { result ≤ length text.now }
         ensures some { self.old.len ≢ ROOM → 0 < length text.now → 0 < result }
@@ -65,8 +68,8 @@ impl<O: Sink> Buffer<O> {
         count
     }
 
-    /// Copies as much of the text into the buffer as fits, and returns the number of bytes copied. If the buffer is
-    /// full, writes its answers first, and returns `None` if that fails.
+    /// Copies as much of `text` into the buffer as fits, and returns the number of bytes copied. If the buffer is full,
+    /// writes its answers first. Returns `None` if that write fails.
     fn write(&mut self, text: &[u8]) -> Option<usize>
         ensures { IfSome result (λ n. (n ≤ length text.now) × (0 < length text.now → 0 < n)) }
     {
@@ -77,7 +80,7 @@ impl<O: Sink> Buffer<O> {
     }
 }
 
-/// Writes the buffer's answers, and returns whether all were written.
+/// Writes the answers in the shared buffer, and returns whether all were written.
 fn flush<O: Sink>(buffer: &RefCell<Buffer<O>>) -> bool {
     match buffer.try_borrow_mut() {
         Ok(mut buffer) => buffer.flush(),
@@ -85,7 +88,7 @@ fn flush<O: Sink>(buffer: &RefCell<Buffer<O>>) -> bool {
     }
 }
 
-/// The reader of a buffered session. It writes the buffered answers before each read.
+/// The reader of a buffered session. Writes the answers in the buffer before each read.
 #[derive(Drop)]
 struct Flushing<'a, I, O: Sink> {
     reader: I,
@@ -109,8 +112,8 @@ impl<I: Source, O: Sink> Source for Flushing<'_, I, O> {
     }
 }
 
-/// The writer of a buffered session. It puts answers into the buffer. No contract can see into a cell, so no contract
-/// states which bytes were written.
+/// The writer of a buffered session: puts answers into the shared buffer. No contract states which bytes were written,
+/// because contracts cannot see into a `RefCell`.
 #[derive(Drop)]
 struct Buffered<'a, O: Sink> {
     buffer: &'a RefCell<Buffer<O>>,
@@ -149,8 +152,8 @@ pub fn buffered_session<R: Wait, I: Source + Drop, O: Sink + Drop, S: SetCalls>(
 ) -> Ended
     requires seat { S.is_of set.now seat.old }
     requires works { (I.has_failed reader ≡ false) × (O.has_failed writer ≡ false) }
-    // [Session] holds for the bytes that were read and the calls that were made. Nothing is stated about the bytes that
-    // were written.
+    // [Session] is true of the bytes that were read and the calls that were made. Nothing is stated about the bytes
+    // that were written.
     ensures session { (end : Ending) × (left : Option (List ℕ)) × (result.why ≢ EndReason.WriteFault → result.why ≡ end)
         × IsSession end result.calls (I.remaining reader) left (S.record_of seat.old) (S.record_of seat.new) None None }
     ensures few { result.calls ≤ MOST_LINES }

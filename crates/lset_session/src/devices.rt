@@ -1,20 +1,20 @@
-//! Readers and writers of sessions.
+//! The readers and writers of sessions.
 ghost use Rattle.std.specs.Prelude.{◌≡◌, ◌<◌, ◌≤◌, if◌then◌else◌, ℕ, List, Bool, true, false, Option, length, take, IfSome, MatchOption};
 ghost use Rattle.std.specs.Io.KnownBytes.{Appends, Consumes, IsAtEnd, Keeps};
 ghost use Rattle.lset_session.specs.Devices.{inner_of, is_failed, Writes};
 
 use std::io::{Read, Write};
 
-/// A reader of a session's bytes. After a failed read, it is not read again.
+/// A reader of the bytes that a client sends. No function reads from it again after a failed read.
 pub trait Source {
-    /// The bytes that remain to be read, if they are known.
+    /// The bytes that have not been read yet, if they are known.
     ghost remaining: { Self → Option (List ℕ) };
 
-    /// Whether a read has returned `None`.
+    /// Whether a read has returned `None`, which means that it failed.
     ghost has_failed: { Self → Bool };
 
-    /// Reads bytes into `buffer`, from its first byte on, and returns how many. The number is 0 only at the end of the
-    /// input, or if the buffer is empty. Returns `None` if the read fails.
+    /// Reads bytes into `buffer`, from its first byte on, and returns their number. The number is 0 only at the end of
+    /// the input, or if the buffer is empty. Returns `None` if the read fails.
     fn read(&mut self, buffer: &mut [u8]) -> Option<usize>
         requires works { has_failed self.old ≡ false }
         ensures bound { IfSome result (λ n. n ≤ length buffer.new) }
@@ -24,16 +24,16 @@ pub trait Source {
         ensures failed { MatchOption result (has_failed self.new ≡ true) (λ n. has_failed self.new ≡ false) };
 }
 
-/// A writer of a session's answers. After a failed write, it is not written to again.
+/// A writer of the answers of a session. No function writes to it again after a failed write.
 pub trait Sink {
     /// The bytes that have been written, if they are known.
     ghost written: { Self → Option (List ℕ) };
 
-    /// Whether a write has returned `None`.
+    /// Whether a write has returned `None`, which means that it failed.
     ghost has_failed: { Self → Bool };
 
-    /// Writes a prefix of `text` and returns its length, which is at least 1 if the text is not empty. Returns `None`
-    /// if the write fails; nothing has been written then.
+    /// Writes a prefix of `text` and returns its length, which is at least 1 unless `text` is empty. Returns `None` if
+    /// the write fails. Nothing has been written then.
     fn write(&mut self, text: &[u8]) -> Option<usize>
         requires works { has_failed self.old ≡ false }
         ensures bound { IfSome result (λ n. (n ≤ length text.now) × (0 < length text.now → 0 < n)) }
@@ -42,8 +42,8 @@ pub trait Sink {
         ensures failed { MatchOption result (has_failed self.new ≡ true) (λ n. has_failed self.new ≡ false) };
 }
 
-/// Makes a standard library reader or writer a `Source` or `Sink`. Errors count as failures, and so does a write that
-/// accepts none of the bytes.
+/// A reader or writer of the standard library, as a `Source` or `Sink`. Each error is a failure. A write that accepts
+/// no byte is a failure, too.
 #[derive(Drop)]
 pub struct Device<T> {
     inner: T,
@@ -51,7 +51,7 @@ pub struct Device<T> {
 }
 
 impl<T> Device<T> {
-    /// Wraps a reader or writer that has not failed.
+    /// Wraps `inner`, a reader or writer that has not failed.
     pub fn new(inner: T) -> Device<T>
         ensures inner { inner_of result ≡ inner }
         ensures works { is_failed result ≡ false }
@@ -98,7 +98,7 @@ impl<T: Write> Sink for Device<T> {
     }
 }
 
-/// Writes the text, and returns whether all of it was written. Does not write again after a failed write.
+/// Writes `text`, and returns whether all of it was written. After a failed write, writes nothing more.
 pub fn write_all<W: Sink>(sink: &mut W, text: &[u8]) -> bool
     requires works { W.has_failed sink.old ≡ false }
     ensures text { Writes result (W.written sink.old) (W.written sink.new) text.now }

@@ -1,5 +1,5 @@
-//! Sessions: a client sends requests, one on each line, and gets answers. Works with any reader and writer, and with
-//! any set whose calls are made from seats.
+//! Sessions: a client sends one request per line, and gets an answer to each. A session reads from any `Source`, writes
+//! to any `Sink`, and calls any set that implements `SetCalls`.
 #![tactic(auto)]
 
 mod buffered;
@@ -12,8 +12,8 @@ pub use devices::{Device, Sink, Source, write_all};
 pub use requests::{Request, read_request};
 pub use sessions::{EndReason, Ended, session};
 
-/// The maximum length of a line in a session, in bytes without the newline.
+/// The maximum length of a request line, in bytes without the newline.
 pub const LONGEST_LINE: usize = 64;
 
-/// The maximum number of lines that a session answers.
+/// The maximum number of lines that one session answers.
 pub const MOST_LINES: u32 = 1_000_000;

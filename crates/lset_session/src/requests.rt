@@ -1,23 +1,23 @@
-//! Reading the requests in the lines of a session.
+//! Reads the request in a line that a client sent.
 ghost use Rattle.std.specs.Prelude.{◌≡◌};
 ghost use Rattle.lset_session.specs.SessionText.{request_of};
 
 use lset_text::{cut, number};
 use lset_words::{Call, Key};
 
-/// A request, as one line of a session.
+/// A request of a client: one line of a session.
 #[derive(Clone, Copy, Debug, PartialEq, Eq)]
 pub enum Request {
     /// `ADD k`, `REMOVE k`, `CONTAINS k` or `CEILING k`.
     Call(Call),
-    /// `QUIT`.
+    /// `QUIT`, which ends the session.
     Quit,
-    /// Any other line.
+    /// Any other line, which is answered with `BAD`.
     Bad,
 }
 
-/// Reads the request in a line, given without its newline: `ADD`, `REMOVE`, `CONTAINS` or `CEILING`, one space, and a key from 0
-/// to 4,294,967,295 in decimal without leading zeros; or `QUIT`. Any other line is `Bad`.
+/// Reads the request in a line, given without its newline: `ADD`, `REMOVE`, `CONTAINS` or `CEILING`, one space, and a
+/// key from 0 to 4,294,967,295 in decimal without leading zeros; or `QUIT`. Any other line is `Bad`.
 #[tactic(auto, unfolding(crate::specs::SessionText::request_of))]
 pub fn read_request(line: &[u8]) -> Request
     ensures { result ≡ request_of line.now }

@@ -20,7 +20,7 @@ use std::sync::Wait;
 pub enum EndReason {
     /// A line was `QUIT`. The answer was `BYE`.
     Quit,
-    /// The input ended. Bytes after the last newline were dropped.
+    /// The input ended. Bytes after the last newline were ignored.
     End,
     /// A line has more than 64 bytes. The answer was `LONG`.
     Long,
@@ -28,7 +28,7 @@ pub enum EndReason {
     Limit,
     /// A read failed.
     ReadFault,
-    /// A write failed. Of the last answer, at most a proper prefix was written.
+    /// A write failed. The last answer was not written completely.
     WriteFault,
 }
 
@@ -39,8 +39,8 @@ pub struct Ended {
     pub calls: u64,
 }
 
-/// The state of a session: the bytes of the current line, how many lines can still be answered, and the number of calls
-/// made.
+/// The state of a session: the bytes of the current line, the number of lines that it can still answer, and the number
+/// of calls that it has made.
 #[derive(Drop)]
 struct Talk {
     line: [u8; LONGEST_LINE],
@@ -49,7 +49,7 @@ struct Talk {
     calls: u64,
 }
 
-/// Returns the line that answers a call. The longest one is `AT 4294967295`.
+/// Returns the line that answers a call with this reply. The longest line is `AT 4294967295`.
 fn reply_line(reply: Reply) -> ArrayString<14>
     ensures { result.bytes ≡ ended (reply_word reply) }
 {
@@ -68,7 +68,7 @@ fn reply_line(reply: Reply) -> ArrayString<14>
     line
 }
 
-/// Answers a request, and returns whether the whole answer was written.
+/// Makes the call of a request and writes the answer. Returns whether the whole answer was written.
 fn answer<R: Wait, W: Sink, S: SetCalls>(
     rt: &R,
     writer: &mut W,
@@ -94,7 +94,8 @@ fn answer<R: Wait, W: Sink, S: SetCalls>(
     }
 }
 
-/// Writes the last line of a session, and returns the reason why it ends: `why`, or `WriteFault` if the write fails.
+/// Writes `text`, the last line of a session. Returns why the session ends: `why` if the line was written, else
+/// `WriteFault`.
 fn last_line<W: Sink>(writer: &mut W, text: &[u8], why: EndReason) -> EndReason
     requires works { W.has_failed writer.old ≡ false }
     ensures { (whole : Bool) × (result ≡ (if whole then why else EndReason.WriteFault))
@@ -118,7 +119,7 @@ fn count_of(request: Request) -> u64
     }
 }
 
-/// Answers the current line, which is complete. Returns `None` if the session continues afterwards.
+/// Answers the current line, which is complete. Returns the reason if the session ends with this line, else `None`.
 fn line_in<R: Wait, W: Sink, S: SetCalls>(
     rt: &R,
     writer: &mut W,
@@ -151,7 +152,7 @@ fn line_in<R: Wait, W: Sink, S: SetCalls>(
     None
 }
 
-/// Processes one byte. Returns `None` if the session continues afterwards.
+/// Processes one byte of the input. Returns the reason if the session ends with this byte, else `None`.
 fn byte_in<R: Wait, W: Sink, S: SetCalls>(
     rt: &R,
     writer: &mut W,
@@ -180,7 +181,7 @@ fn byte_in<R: Wait, W: Sink, S: SetCalls>(
     None
 }
 
-/// Processes the bytes of one read. Returns `None` if the session continues afterwards.
+/// Processes the bytes of one read. Returns the reason if the session ends with one of them, else `None`.
 fn bytes_in<R: Wait, W: Sink, S: SetCalls>(
     rt: &R,
     writer: &mut W,
@@ -230,11 +231,11 @@ pub fn session<R: Wait, I: Source, O: Sink, S: SetCalls>(
 ) -> Ended
     requires seat { S.is_of set.now seat.old }
     requires works { (I.has_failed reader.old ≡ false) × (O.has_failed writer.old ≡ false) }
-    // [Session]: the calls made and the bytes written are those that the input requires.
+    // [Session]: the calls that were made and the bytes that were written are those that the input demands.
     ensures session { IsSession result.why result.calls (I.remaining reader.old) (I.remaining reader.new)
         (S.record_of seat.old) (S.record_of seat.new) (O.written writer.old) (O.written writer.new) }
-    // The session ends with `ReadFault` if and only if the reader has failed, and with `WriteFault` if and only if the
-    // writer has failed.
+    // The session ends with `ReadFault` exactly if the reader has failed, and with `WriteFault` exactly if the writer
+    // has failed.
     ensures read_fault { IsTrue (I.has_failed reader.new) ↔ (result.why ≡ EndReason.ReadFault) }
     ensures write_fault { IsTrue (O.has_failed writer.new) ↔ (result.why ≡ EndReason.WriteFault) }
     ensures few { result.calls ≤ MOST_LINES }

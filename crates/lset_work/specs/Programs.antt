@@ -1,4 +1,4 @@
--- Programs of calls, and what threads that run them return.
+-- Programs of calls, and the results of the threads that run them.
 use Rattle.std.specs.Prelude.{◌≡◌, ℕ, Bool, true, List, [], ◌∷◌, length, map, sum_by, Option, Some, None, IfSome, All}
 use Rattle.std.specs.Option.{option_map}
 use Rattle.lset_words.specs.declared.Call.{Call}
@@ -13,25 +13,26 @@ use Rattle.lset_live.specs.Seats.{SeatValue, SetValue, gather_onto, held_in}
 use Rattle.lset_work.specs.declared.work_fault.WorkCause.{WorkCause}
 use Rattle.lset_work.specs.declared.work_fault.WorkCause.TheVariants.{Programs, Spawn, Gate, Memory}
 
--- Returns a program's calls with their replies.
+-- Returns the calls of a program, each with its reply.
 abbrev pub made : List Call → List Reply → List CallMade
 made [] replies = []
 made (c ∷ cs) [] = []
 made (c ∷ cs) (a ∷ more) = record { call = c; reply = a } ∷ made cs more
 
--- Returns the records of seats, each extended by the calls of the seat's program with their replies.
+-- Returns the records of the seats after their programs: each seat's record has grown by its program's calls with their
+-- replies.
 abbrev pub worked : List Record → List (List Call) → List (List Reply) → List Record
 worked [] programs replies = []
 worked (r ∷ rs) [] replies = []
 worked (r ∷ rs) (p ∷ ps) [] = []
 worked (r ∷ rs) (p ∷ ps) (a ∷ more) = with_calls r (made p a) ∷ worked rs ps more
 
--- States that there are as many programs as seats, and that the seats together hold all seats of the set.
+-- States that the number of programs is the number of seats, and that these seats hold all seats of the set.
 abbrev pub Fit : SetValue → List SeatValue → ℕ → Type 0
 Fit set seats programs = (programs ≡ length seats) × (sum_by (λ (s : SeatValue). s.held) seats ≡ set.shape.threads)
 
--- States what an error returns: everything that was passed, if the programs do not fit or an allocation failed, but
--- nothing if threads were started.
+-- States which part of its input `work` returns with an error: all if no thread was started (Programs and Memory),
+-- otherwise none.
 abbrev pub GivesBack : {Given : Type 0} → Given → WorkCause → Option Given → Type 0
 GivesBack given Programs back = back ≡ Some given
 GivesBack given Spawn back = back ≡ None
@@ -40,36 +41,38 @@ GivesBack given Memory back = back ≡ Some given
 
 -- ---- The contracts of the functions that `work` calls
 
--- States that there is one reply for each call of the program, and that the record has grown by these calls.
+-- States that each call of the program has one reply, and that the seat's record has grown from `before` to `after` by
+-- these calls.
 abbrev pub IsMadeOn : Record → List Call → List Reply → Record → Type 0
 IsMadeOn before program replies after = (length replies ≡ length program) × (after ≡ with_calls before (made program replies))
 
--- States that the last seat has seen all events that seat s had seen.
+-- States that the last seat exists and has seen all events that seat s had seen.
 abbrev pub HasSeenAll : Option SeatValue → SeatValue → Type 0
 HasSeenAll None s = ⊥
 HasSeenAll (Some last) s = StartsWith last.events s.events
 
--- The programs have run on the seats, and the seats have been gathered into the last one, if there is any.
+-- The programs have run on the seats, and all seats have been gathered into `last`.
 pub record HaveRun (set : SetValue) (seats : List SeatValue) (programs : List (List Call)) (last : Option SeatValue)
     (replies : List (List Reply)) : Type 0 where
   pub fit : length programs ≡ length seats
-  -- There is one reply for each call of each program.
+  -- Each call of each program has one reply.
   pub counted : map (λ (l : List Reply). length l) replies ≡ map (λ (l : List Call). length l) programs
   pub gathers : option_map (λ (s : SeatValue). s.past) last
       ≡ gather_onto None (worked (map (λ (s : SeatValue). s.past) seats) programs replies)
   pub held : held_in last ≡ sum_by (λ (s : SeatValue). s.held) seats
   pub same : IfSome last (λ (s : SeatValue). s.set ≡ set)
-  -- What the last seat has seen begins with what each seat had seen.
+  -- The last seat has seen all events that each seat had seen before its program ran.
   pub begins : All (HasSeenAll last) seats
 
--- A legal order of exactly the calls in these records that also linearizes the history of some run. The run begins with
--- the events that each of the seats had seen.
+-- A legal order of exactly the calls in these records, which leaves these keys and also linearizes the history of some
+-- run. The run begins with the events that each seat had seen.
 pub record IsWorkInTime (T : Table) (k : Opening) (seats : List SeatValue) (records : List Record) (keys : List ℕ) : Type 0 where
   pub events : List Event
   pub begins : All (λ (s : SeatValue). StartsWith events s.events) seats
   pub order : IsOneOrderInTime T k events records keys
 
--- States that this cause can occur after threads were started. `may_shut` is whether the gate can return false.
+-- States that `work` can fail for this cause after it has started threads. `may_shut` is whether the gate can return
+-- false.
 abbrev pub IsOfThreads : Bool → WorkCause → Type 0
 IsOfThreads may_shut Programs = ⊥
 IsOfThreads may_shut Spawn = Unit {0}

@@ -1,12 +1,11 @@
 ghost use Rattle.std.specs.Prelude.{◌≡◌, Bool, true, false, IsTrue};
 
-/// A check before each call of a program. It decides whether the call is made, and has no access to the set.
+/// A gate: decides, before each call of a program, whether the call is made. A gate cannot access the set.
 pub trait Gate {
     /// Whether the gate can return false.
     ghost may_shut: { Self → Bool } = { λ _. true };
 
-    /// Returns whether to make call number `call`, counted from 0, of the program that runs on the seat of thread
-    /// `seat`.
+    /// Returns whether to make call number `call` (from 0) of the program that runs on the seat of thread `seat`.
     fn pass(&self, seat: u32, call: u32) -> bool
         ensures { may_shut self.now ≡ false → IsTrue result };
 }

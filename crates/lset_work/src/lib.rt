@@ -1,4 +1,5 @@
-//! Programs of calls on threads, one thread for each seat of a running set.
+//! Runs programs of calls on a running set at the same time, one program and one thread for each seat. A seat is the
+//! right to call as one thread.
 #![tactic(auto)]
 
 mod gate;

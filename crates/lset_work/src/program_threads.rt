@@ -1,4 +1,4 @@
-//! Threads: starting them, running their programs, and joining them.
+//! The threads of `work`: starting them, running their programs, and joining them.
 ghost use Rattle.std.specs.Prelude.{◌≡◌, ◌<◌, ◌≤◌, ◌^◌, [], IfSome, MatchBool, MatchOption, All, map, length, true, vec_capacity};
 ghost use Rattle.lset_rule.specs.Runs.{StartsWith};
 ghost use Rattle.lset_work.specs.Programs.{HaveRun, IsMadeOn};
@@ -12,14 +12,14 @@ use std::snapshot::Snapshot;
 use std::sync::Wait;
 use std::thread::{Promise, PromisedHandle, Scope, Threads};
 
-/// The result of a thread: its seat, and the replies of its program, or `None` if the gate returned false.
+/// The result of a thread: its seat, and the replies to its program's calls, or `None` if the gate has returned false.
 #[derive(Drop)]
 pub(crate) struct Done<M: Running> {
     pub seat: Seat<M>,
     pub replies: Option<Vec<Reply>>,
 }
 
-/// What a thread promises: it makes the calls of its program on its seat, unless its gate can return false.
+/// The promise of a thread, in contracts: it makes the calls of its program on its seat, unless the gate returns false.
 #[derive(Drop)]
 pub(crate) struct WorkerPromise<M: Running, G: Gate> {
     pub set: Snapshot<LiveSet<M>>,
@@ -35,7 +35,7 @@ impl<M: Running, G: Gate> Promise<Done<M>> for WorkerPromise<M, G> {
         × StartsWith done.seat.events owed.seat.value.events };
 }
 
-/// A started thread.
+/// A started thread that runs a program.
 pub(crate) type Worker<M, G> = PromisedHandle<Done<M>, WorkerPromise<M, G>>;
 
 /// Makes the calls of a program until the gate returns false, and appends their replies. Returns whether all calls were
@@ -103,7 +103,7 @@ pub(crate) struct Shared<'s, R, M: Running, G: Gate> {
 }
 
 impl<'s, R: Wait + Sync, M: Running + Send + Sync, G: Gate + Sync> Shared<'s, R, M, G> {
-    /// Starts a thread that runs a program. Returns `None` if the system refuses to start the thread.
+    /// Starts a thread that runs `program` on `seat`. Returns `None` if the system refuses to start the thread.
     fn start_one<E>(
         &self,
         scope: &Scope<'s, E>,
@@ -128,7 +128,7 @@ impl<'s, R: Wait + Sync, M: Running + Send + Sync, G: Gate + Sync> Shared<'s, R,
             .ok()
     }
 
-    /// Starts a thread for each seat. Returns `None` if the system refuses to start a thread.
+    /// Starts a thread for each seat and its program. Returns `None` if the system refuses to start a thread.
     pub fn start_all<E>(
         &self,
         scope: &Scope<'s, E>,
@@ -159,7 +159,7 @@ impl<'s, R: Wait + Sync, M: Running + Send + Sync, G: Gate + Sync> Shared<'s, R,
     }
 }
 
-/// The replies of the programs, and the seat into which all other seats were gathered.
+/// The replies of all programs, and the seat into which all seats were gathered.
 #[derive(Drop)]
 pub(crate) struct Gathered<M: Running> {
     pub seat: Option<Seat<M>>,

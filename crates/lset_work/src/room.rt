@@ -1,4 +1,4 @@
-//! The lists that the threads fill. All are allocated before the first thread starts.
+//! The vectors that the threads fill. All are allocated before the first thread starts.
 ghost use Rattle.std.specs.Prelude.{◌≡◌, ◌<◌, ◌≤◌, ◌^◌, [], IfSome, All, map, length, vec_capacity};
 
 use crate::gate::Gate;
@@ -7,7 +7,7 @@ use lset_live::Running;
 use lset_words::{Call, Reply};
 use std::alloc::Global;
 
-/// A program, with space for its replies.
+/// A program of calls, with space for their replies.
 #[derive(Drop)]
 pub(crate) struct Program {
     pub calls: Vec<Call>,
@@ -17,8 +17,8 @@ pub(crate) struct Program {
     ghost short: { length calls.items < 2 ^ 32 },
 }
 
-/// All lists that the threads fill: the programs with space for their replies, space for the threads' handles, and
-/// space for the lists of replies.
+/// All vectors that the threads fill: the programs with space for their replies, space for the handles of the threads,
+/// and space for the vectors of replies.
 #[derive(Drop)]
 pub(crate) struct Room<M: Running, G: Gate> {
     pub programs: Vec<Program>,
@@ -44,8 +44,8 @@ fn with_room(alloc: Global, programs: Vec<Vec<Call>>) -> Option<Vec<Program>>
     Some(all)
 }
 
-/// Allocates all lists that the threads fill, and a list for up to `keys` final keys. Returns `None` if an allocation
-/// fails.
+/// Allocates all vectors that the threads fill, and a vector for up to `keys` final keys. Returns `None` if an
+/// allocation fails.
 pub fn reserved<M: Running, G: Gate>(
     alloc: Global,
     programs: Vec<Vec<Call>>,

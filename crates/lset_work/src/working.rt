@@ -14,16 +14,16 @@ use std::sync::Wait;
 use std::thread;
 use std::thread::{Scope, Threads};
 
-/// The outcome of running programs on a set.
+/// The outcome of `work`.
 #[derive(Drop)]
 pub struct Outcome {
-    /// The replies of each program, in the order of the seats.
+    /// The replies to each program's calls, in the order of the seats.
     pub replies: Vec<Vec<Reply>>,
-    /// The final keys, in increasing order.
+    /// The final keys of the set, in increasing order.
     pub keys: Vec<u32>,
 }
 
-/// Runs the programs in a thread scope, and gathers the seats.
+/// Runs each program on its seat in a thread of `scope`, and gathers the seats.
 fn run_in<'s, E, R: Threads + Wait + Sync, M: Running + Send + Sync, G: Gate + Sync>(
     scope: &Scope<'s, E>,
     rt: &'s R,
@@ -52,7 +52,7 @@ fn run_in<'s, E, R: Threads + Wait + Sync, M: Running + Send + Sync, G: Gate + S
     Ok(gathered)
 }
 
-/// Runs the programs, and gathers the seats.
+/// Runs each program on its seat in its own thread, and gathers the seats when all threads have ended.
 fn run_all<R: Threads + Wait + Sync, M: Running + Send + Sync, G: Gate + Sync>(
     rt: &R,
     set: &LiveSet<M>,
@@ -79,10 +79,11 @@ fn run_all<R: Threads + Wait + Sync, M: Running + Send + Sync, G: Gate + Sync>(
 
 /// Makes the calls of each program on its seat. All programs run at the same time, each on its own thread.
 ///
-/// `gate` is asked before each call. At the end, the seats are gathered and the set is closed. There is a legal order
-/// of calls (Herlihy and Wing) that has each seat's earlier record followed by the calls of its program with their
-/// replies, has no other call, and leaves the final keys. A program has at most 4,294,967,295 calls. Blocks until all
-/// threads have ended. A thread can wait for locks of the set, and for as long as the gate does.
+/// Before each call, `gate` decides whether the program continues. At the end, the seats are gathered and the set is
+/// closed. Some legal order (Herlihy and Wing) has exactly the calls in the seats' records and those of the programs
+/// with their replies, keeps the order of each seat's calls, and leaves the final keys. A program has at most
+/// 4,294,967,295 calls. Blocks until all threads have ended. A thread can block for locks of the set, and for as long
+/// as the gate does.
 ///
 /// # Errors
 ///
@@ -106,15 +107,15 @@ pub fn work<R: Threads + Wait + Sync, M: Running + Send + Sync, G: Gate + Sync>(
 ) -> Result<Outcome, WorkFault<M>>
     requires seats { All (λ s. s.set ≡ set) seats.items }
     requires short { All (λ p. length p.items < 2 ^ 32) programs.items }
-    // There is one reply for each call of each program.
+    // Each call of each program has one reply.
     ensures replies { IfOk result (λ o. map (λ v. length v.items) o.replies.items ≡ map (λ p. length p.items) programs.items) }
     ensures outcome { IfOk result (λ o. IsOneLegalOrder set.shape (worked
         (map (λ s. s.past) seats.items) (map (λ p. p.items) programs.items) (map (λ v. v.items) o.replies.items)) o.keys.items) }
-    // The order also linearizes a history that begins with the events that the seats had seen. So calls that had ended
-    // in these events come before calls that began later, even if a seat knew them only from a receipt.
+    // The order also linearizes a history that begins with the events that the seats had seen. Calls that had ended in
+    // these events come before calls that began later, even if a seat knew of them only from a receipt.
     ensures in_time { IfOk result (λ o. IsWorkInTime M.table set.shape seats.items (worked
         (map (λ s. s.past) seats.items) (map (λ p. p.items) programs.items) (map (λ v. v.items) o.replies.items)) o.keys.items) }
-    // The cause is `Programs` exactly if the programs and the seats do not fit.
+    // The cause is `Programs` exactly if the numbers of programs, seats and threads of the set do not match.
     ensures fitting { IsOk result → Fit set seats.items (length programs.items) }
     ensures refused { IfErr result (λ f. f.cause ≡ WorkCause.Programs ↔ ¬ (Fit set seats.items (length programs.items))) }
     ensures back { IfErr result (λ f. GivesBack (set, seats) f.cause f.back) }

@@ -25,7 +25,6 @@ opens_so sz keys many within increasing low = record {
   low = low;
 }
 
--- If two openings have the same numbers and keys, they are equal.
 shape_so : (sz : Sizes) (keys : List ℕ) (n q : ℕ) (v : List ℕ) → n ≡ sz.threads → q ≡ sz.quota → v ≡ keys
     → record { threads = n; quota = q; keys = v } ≡ opening_of sz keys
 shape_so sz keys n q v a b e = λ i. record { threads = a i; quota = b i; keys = e i }

@@ -1,5 +1,5 @@
--- `deed` states which row the decision leads to (9, 12 or 14), and `moved` that the thread is at this row. The steps
--- from there on follow by computation.
+-- `deed` states to which row the decision leads (9, 12 or 14), and `moved` that the thread is at this row. The
+-- following steps are found by computation.
 use Rattle.std.proofs.Common.{◌*◌, refl, ap}
 use Rattle.lset_words.specs.Words.{link_index}
 use Rattle.lset_steps.specs.declared.Action.TheVariants.{Store}

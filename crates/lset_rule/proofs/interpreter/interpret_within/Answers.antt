@@ -18,7 +18,7 @@ loop-round-init g c = (
   c.start_on-seen.ensures.place,
 )
 
--- How far the call has come after each step of the round except the last.
+-- After each step of a round except the last, the interpreted call has reached the state that the step returned.
 second : (g : Over) (c : After-one_step-second g) →
     Reached g.M.Machine.table c.args.call c.args.place.now c.one_step-second.result.fed c.one_step-second.new.place
 second g c =

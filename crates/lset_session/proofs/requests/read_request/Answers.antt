@@ -5,7 +5,6 @@ use Rattle.lset_session.specs.declared.requests.Request.TheVariants.{Bad}
 use Rattle.lset_session.specs.SessionText.{request_of, request_of_pieces}
 use Rattle.lset_session.proofs.requests.read_request.Goals as goal
 
--- A line of three or more fields is not a request.
 many_pieces : (a b : List ℕ) (more : List (List ℕ)) → 0 < length more → Bad ≡ request_of_pieces (a ∷ b ∷ more)
 many_pieces a b [] some = absurd (omega arith)
 many_pieces a b (c ∷ cs) some = refl

@@ -1,4 +1,4 @@
--- `into_box` puts the box together again.
+-- Proof of the contract of `into_box`: it returns the box with this pointer. Assumes `Logic`.
 use contract.BorrowLft.{◌⊑◌}
 use denote.Triple.Clauses.{Lasts, lasts}
 use denote.Triple.Call.{calls_at_last}

@@ -19,20 +19,19 @@ use Rattle.lset_judge.specs.Stream.{state_or, state_for}
 use Rattle.lset_judge.proofs.KeyStates.{there_again}
 use Rattle.lset_judge.proofs.stream.Stream.wrongly_left.Goals as goal
 
--- If the final state of one more key is possible, the invariant holds with this key.
+-- The loop has visited one more key, whose final state is possible.
 right_more : (keys : List ℕ) (xs : List (Bor ℕ × Bor KeyState)) (x : Bor ℕ × Bor KeyState) (wrong : Option ℕ) (Q : ℕ → Type 0)
     → MatchOption wrong (All (λ p. may_be_left (has_key p.0.now keys) (state_of p.1.now) ≡ true) xs) Q → may_be_left (has_key x.0.now keys) (state_of x.1.now) ≡ true
     → MatchOption wrong (All (λ p. may_be_left (has_key p.0.now keys) (state_of p.1.now) ≡ true) (xs ++ x ∷ [])) Q
 right_more keys xs x None Q all here = All-push (λ (p : Bor ℕ × Bor KeyState). may_be_left (has_key p.0.now keys) (state_of p.1.now) ≡ true) xs x all here
 right_more keys xs x (Some k) Q h here = h
 
--- If the final states of two keys are impossible, so is that of the smaller key.
+-- Of two keys whose final states are impossible, the loop keeps the smaller one.
 wrong_more : (P : ℕ → Type 0) (A : Type 0) (wrong : Option ℕ) (key smallest : ℕ) → (smallest ≡ key) ⊎ (wrong ≡ Some smallest) → P key → MatchOption wrong A P → P smallest
 wrong_more P A wrong key smallest (inl e) here before = subst P (sym e) here
 wrong_more P A None key smallest (inr e) here before = absurd (cc)
 wrong_more P A (Some k) key smallest (inr e) here before = subst P (let s : k ≡ smallest = cc in s) before
 
--- If the final state of each key in the table is possible, so is that of a key that is found there.
 found_right : (keys : List ℕ) (k : ℕ) (es : List (ℕ × KeyState)) → AllByRecursion (λ (e : ℕ × KeyState). may_be_left (has_key e.0 keys) (state_of e.1) ≡ true) es
     → IsSome (lookup (nat_eq k) es) → may_be_left (has_key k keys) (state_or (lookup (nat_eq k) es)) ≡ true
 found_right keys k [] all there = absurd (cc)
