@@ -151,8 +151,8 @@ pub extern "C" fn listset_why_from(
 
 /// Checks a report and writes the verdict as a record. If the report's order explains its calls, the record is `verdict
 /// own`. Otherwise the status is 1 and the record has these parts:
-/// - `order ERROR CALL ..`, the order's first error with its details: the reply in the order, its place and the set's reply;
-///   or the call's begin, the other call and its end;
+/// - `order ERROR CALL ..`, the order's first error with its details: the reply in the order, its place and the set's
+///   reply; or the call's begin, the other call and its end;
 /// - `set K ..`, only for `SetReply` and `WrongSet`;
 /// - `verdict another`, `verdict unknown` or `verdict none`, which state what is known of all other orders;
 /// - after `verdict none`: `reply N` if no set returns the reply of call N, nothing if the final keys are not in increasing
