@@ -105,7 +105,7 @@ listset =
     faults_app.top)
     (file_app (codes "explain")).top
 
--- ---- commands as values of clap's type
+-- ---- Commands as values of clap's type
 
 -- The clap command c is described by a, and its arguments are not global.
 abbrev pub IsApp : clap.Command → App → Type 0
@@ -124,7 +124,7 @@ abbrev pub MakesWithSubcommand : Result clap.Command AllocError → Result clap.
     Type 0
 MakesWithSubcommand old sub new = (a b : App) → Makes old a → Makes sub b → Makes new (with_subcommand a b.top)
 
--- ---- the result of parsing a command line
+-- ---- The result of parsing a command line
 
 -- The names of flags and options. Every other name is an argument whose values are returned in order.
 abbrev pub is_option : Text → Bool
@@ -198,7 +198,7 @@ abbrev pub choice_of : Option (Text × List Row) → Choice
 choice_of None = record { command = Replay; values = []; options = options_in [] }
 choice_of (Some found) = record { command = command_named found.0; values = values_in found.1; options = options_in found.1 }
 
--- ---- the options as the program stores them
+-- ---- The options as the program stores them
 
 abbrev pub options_of : Options → OptionValues
 options_of o = record {

@@ -21,7 +21,7 @@ use Rattle.lset_dispatch.specs.declared.job.Job.TheVariants.{Replay, Judge, Verd
 abbrev pub Ending : Type 1
 Ending = Option (List ℕ) → Option (List ℕ) → Option (List ℕ) → Option (List ℕ) → ℕ → Type 0
 
--- ---- accepted command lines
+-- ---- Accepted command lines
 
 -- The command ends with its result for the bytes of the input.
 abbrev pub EndsOnBytes : (List ℕ → Made → Type 0) → Option (List ℕ) → Ending
@@ -63,7 +63,7 @@ abbrev pub EndsOnInput : Choice → (Option (List ℕ) → Type 0) → Option (L
 EndsOnInput choice IsFile input output_old output_new stderr_old stderr_new status =
     EndsAsked (asked choice) (path_of choice) IsFile input output_old output_new stderr_old stderr_new status
 
--- ---- refused command lines
+-- ---- Refused command lines
 
 -- The user asked for the help or the version.
 abbrev pub IsHelp : ErrorKind → Type 0
@@ -89,7 +89,7 @@ Declines kind output_old output_new stderr_old stderr_new status =
     Ends (Helps kind) output_old output_new stderr_old stderr_new status
     ⊎ Refuses kind output_old output_new stderr_old stderr_new status
 
--- ---- the whole program: accepted or refused command lines, as clap's definitions decide
+-- ---- The whole program: accepted or refused command lines, as clap's definitions decide
 
 abbrev pub Runs : List Text → (Option (List ℕ) → Type 0) → Option (List ℕ) → Ending
 Runs words IsFile input output_old output_new stderr_old stderr_new status =

@@ -25,7 +25,7 @@ length_of_events n (l ∷ ls) = search (rules, length-append, length_of_line, su
 pub as_many : (es : List LineEvent) → length (only_events es) ≡ length es
 as_many es = length-map es event_in
 
--- ---- the position of the loop: which events were made and which remain
+-- ---- Lemmas about the events that the loop has made and the events that remain
 
 -- The first k events were made, and the events in `rest` remain.
 pub record IsAhead (es : List LineEvent) (k : ℕ) (rest : List LineEvent) : Type 0 where
@@ -73,7 +73,7 @@ module _ (n : ℕ) (ls : List Line) (i k times : ℕ) (next : LineEvent) where
         let t : times ≡ times - 0 = omega arith in cc (e, f, t));
   }
 
-  -- when j events of the current line were made
+  -- Lemmas for the case that j events of the current line were made.
   module _ (j : ℕ) (ahead : IsAhead (events_from n ls) k (rest_of n ls i (times - j) next)) where
     is_next : j < times → drop k (events_from n ls) ≡ next ∷ rest_of n ls i (times - (j + 1)) next
     is_next inside = ahead.rest_is ∙ ap (λ z. rest_of n ls i z next) (let e : times - j ≡ suc (times - (j + 1)) = omega arith in e)

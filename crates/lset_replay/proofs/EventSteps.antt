@@ -44,7 +44,7 @@ run_more T op es k r e = record {
     last_or_before : (j k : ℕ) → j < suc k → (j ≡ k) ⊎ (j < k)
     last_or_before j k l = grind arith
 
--- ---- one more event is made and recorded
+-- ---- Lemmas for one more event that is made and recorded
 module _ (T : Table) (op : Opening) (events : List LineEvent) (k : ℕ) (w : WorldState)
     (r : Recorder) (h : HasFollowed T op events k w r) (next : LineEvent) (there : ComesNext events k next) where
   abbrev es : ℕ → Event
@@ -124,7 +124,7 @@ module _ (T : Table) (op : Opening) (events : List LineEvent) (k : ℕ) (w : Wor
             account low k (omega arith) r (ap (λ (o : Opening). o.threads) h.opening_is) h.trace t _ _ (entered (Go t) i) in
             (may.0, subst (λ (z : Told). MayChange (moments_of r.changes) (suc k) z.change) (sym says) may.1)
 
--- ---- the loop over the events
+-- ---- Lemmas for the loop over the events
 
 -- All events before `rest` were made and recorded.
 pub record IsOnWay (T : Table) (op : Opening) (events rest : List LineEvent) (w : WorldState) (r : Recorder) : Type 0 where

@@ -38,7 +38,7 @@ use Rattle.lset_replay.proofs.FollowedRuns.{TellsKeys, shown, account_then, low_
 use Rattle.lset_replay.proofs.EventLists.{as_many}
 use Rattle.lset_schedule.specs.Plan.{Plan, opening_in}
 
--- ---- the calls sorted by linearization point are in the order of [Placement]
+-- ---- Lemmas: the calls, sorted by linearization point, are in the order of [Placement]
 
 abbrev moment_of : Option Linearized → Option ℕ
 moment_of None = None
@@ -153,7 +153,7 @@ module _ (op : Opening) (last : ℕ) (log : Log) (contents : Contents) (counts :
 content_once : (v : View) (ks js : List ℕ) → IsContent v ks → IsContent v js → ks ≡ js
 content_once v ks js a b = a.0.2 ∙ ap (keys_in v) (chain_once v 0 a.0.0 b.0.0 a.0.1 b.0.1) ∙ sym b.0.2
 
--- ---- the report of a recorded run
+-- ---- Lemmas about the report of a recorded run
 module _ (T : Table) (accounts : TellsKeys T) (op : Opening) (events : List LineEvent) (k : ℕ) (w : WorldState) (r : Recorder)
     (h : HasFollowed T op events k w r) where
   open shown T op events use {log, contents, counts}
@@ -187,7 +187,7 @@ replay_is T accounts p w r order keys h o c =
       };
     }
 
--- ---- the order of a report explains its history
+-- ---- Lemmas: the order of a report explains its history
 module _ (T : Table) (headline : PlacementExplainsRuns T) (op : Opening) (events : List Event) (history : List CallRecord)
     (order : List Placed) (keys : List ℕ)
     (h : IsReportOf T op events history order keys) where

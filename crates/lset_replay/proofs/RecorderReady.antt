@@ -27,7 +27,7 @@ use Rattle.lset_replay.specs.Trace.{Trace, trace_at, trace_after, trace_of, MayS
 use Rattle.lset_replay.proofs.ReplayKept.{Follows, follows_beginning}
 use Rattle.lset_replay.proofs.StepKept.{follows_step}
 
--- ---- before the first event, the set has the opening keys
+-- ---- Lemmas: before the first event, the set has the opening keys
 
 one_upto : (i : ℕ) → i < 1 → get_or (0 ∷ []) i 0 ≤ 0
 one_upto zero l = omega arith
@@ -66,7 +66,7 @@ module _ (op : Opening) (contents : Contents) (opens : (k : ℕ) → (contents 0
 module _ (op : Opening) (last : ℕ) (log : Log) (contents : Contents) (counts : Counts)
     (account : Account op last log contents counts)
     (low : HoldsKeys last contents) where
-  -- recording an event keeps the invariant `Follows`
+  -- Recording an event keeps the invariant `Follows`.
   entered : (k : ℕ) → k < last → (s : Trace) → (e : Entry) → log k ≡ e → Enters op.threads op.quota log contents counts k e
       → Follows op log contents counts k s
       → Follows op log contents counts (suc k) (trace_after (suc k) e s)

@@ -28,7 +28,7 @@ use Rattle.lset_replay.proofs.KeyChanges.{Tells, changes_by, quiet_keys}
 pub record IsWatched (log : Log) (contents : Contents) (counts : Counts) (k t : ℕ) (o : OpenCall) : Type 0 where
   pub here : OpenNumber (calls_at log k) t o.number o.call o.begun
   pub since : o.begun ≤ k
-  -- until the call changes the set, the thread's count of added keys stays the same
+  -- Until the call changes the set, the number of keys that its thread has added stays the same.
   pub steady : has_changed log t k ≡ false → (m : ℕ) → o.begun ≤ m → m ≤ k → counts m t ≡ counts k t
 
 -- The linearization point of a call: its change or, for a completed call without a change, the first moment at which
@@ -56,7 +56,7 @@ pub record Follows (op : Opening) (log : Log) (contents : Contents) (counts : Co
   pub placed : (i : ℕ) → i < length (calls_at log k)
       → PlaceOf op.quota contents counts (traced_at (calls_at log k) i) (place_at s.places i)
 
--- ---- the effect of a step on each part of the recorder
+-- ---- Lemmas about the effect of a step on each part of the recorder
 abbrev pub change_place : Option Change → ℕ → Option Linearized → Option Linearized
 change_place None m p = p
 change_place (Some c) m p = Some (changed_at m)
@@ -131,7 +131,7 @@ module _ (m t : ℕ) where
   ended_changes None s = refl
   ended_changes (Some x) s = refl
 
--- ---- a call begins
+-- ---- Lemmas for an event that begins a call
 pub calls_are : (log : Log) (k : ℕ) (e : Entry) → log k ≡ e → calls_at log (suc k) ≡ calls_after (suc k) e (calls_at log k)
 calls_are log k e at = ap (λ z. calls_after (suc k) z (calls_at log k)) at
 

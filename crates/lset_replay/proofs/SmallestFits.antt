@@ -48,11 +48,11 @@ module _ (q : ℕ) (contents : Contents) (counts : Counts) (first last t : ℕ) 
   abbrev pub FitsAt : Call → Reply → ℕ → Type 0
   FitsAt c r m = Fits q (contents m) (counts m t) c r
 
-  -- the test by which `fit` decides that the reply of a call without a change is correct at moment m
+  -- The test by which `fit` decides that the reply of a call without a change is correct at moment m.
   abbrev pub Passes : (ℕ → List ℕ) → Call → Reply → ℕ → Type 0
   Passes changes c r m = shows changes c r m ≡ needs_key c r
 
-  -- the reply of a ceiling depends on all keys, not on one
+  -- The case of a ceiling, whose reply depends on all keys.
   ceiling_smallest : (changes : ℕ → List ℕ) (k : Key) (found : Option ℕ) (r : Reply) (o : Option ℕ)
       → ((m : ℕ) → FitsAt (call.Ceiling k) r m → IsCeiling (contents m) k.0 found)
       → ((m : ℕ) → IsCeiling (contents m) k.0 found → FitsAt (call.Ceiling k) r m) → IsBounded changes

@@ -29,7 +29,7 @@ use Rattle.lset_replay.proofs.ReplayKept.{changed_seats, changed_open, changed_c
 use Rattle.lset_replay.proofs.ReplayKept.{ended_seats, ended_others, ended_seat, ended_count, ended_other, ended_here}
 use Rattle.lset_replay.proofs.ReplayKept.{ended_changes, calls_are, steady_next, watched_next}
 
--- ---- the linearization point of the call that makes the step
+-- ---- Lemmas about the linearization point of the call that makes the step
 module _ (q : ℕ) (contents : Contents) (counts : Counts) (x : TracedCall) (m : ℕ) (changes : ℕ → List ℕ) (o : OpenCall) where
   changed_place : (ch : Option Change) (r : Option Reply) (p : Option Linearized) (c : ℕ) → p ≡ Some (changed_at c)
       → end_place changes m r o p ≡ Some (changed_at c)
@@ -52,7 +52,7 @@ module _ (q : ℕ) (contents : Contents) (counts : Counts) (x : TracedCall) (m :
         record { from = w.2.from; upto = w.2.upto; fits = w.2.fits; smallest = w.2.smallest },
       )
 
--- ---- the history after the step
+-- ---- Lemmas about the history after a step
 module _ (m t : ℕ) (cs : List TracedCall) (ch : Option Change) (o : OpenCall) (s : Trace) where
   abbrev num : ℕ
   num = o.number
@@ -90,7 +90,7 @@ module _ (op : Opening) (last : ℕ) (log : Log) (contents : Contents) (counts :
   abbrev open_now : (o : OpenCall) × (open_call_at s.under_way t ≡ Some o) × IsWatched log contents counts k t o
   open_now = f.busy t en.of_a_thread en.under_way
 
-  -- the call that makes the step
+  -- The pending call that makes the step.
   abbrev watching : OpenCall
   watching = open_now.0
 
@@ -103,7 +103,7 @@ module _ (op : Opening) (last : ℕ) (log : Log) (contents : Contents) (counts :
   number : OpenNumber (calls_at log k) t number_here watching.call watching.begun
   number = open_now.2.here
 
-  -- the recorder's contents after the call's change, and then after its end
+  -- The recorder's contents after the call's change (`changed`), and then after its end (`kept`).
   abbrev changed : Trace
   changed = changed_on (suc k) t ch s
 

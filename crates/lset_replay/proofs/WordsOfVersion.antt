@@ -35,7 +35,7 @@ use Rattle.lset_replay.specs.declared.events.LineEvent.{LineEvent}
 use Rattle.lset_replay.specs.Events.{events_of_line, events_from, events_of, only_events}
 use Rattle.lset_replay.specs.Reports.{IsReplay, IsExplained}
 
--- ---- the version has words for the calls that the schedule begins
+-- ---- Lemmas: the version has words for the calls that the schedule begins
 
 abbrev BeginsIn : Version → Event → Type 0
 BeginsIn v (event.Begin t c) = HasCall v c
@@ -66,7 +66,7 @@ event_begins v [] k h = tt
 event_begins v (e ∷ es) zero h = h.0
 event_begins v (e ∷ es) (suc k) h = event_begins v es k h.1
 
--- ---- each call in the history was begun by the schedule
+-- ---- Lemmas: each call in the history was begun by the schedule
 
 abbrev EntersIn : Version → Entry → Type 0
 EntersIn v (began t c) = HasCall v c
@@ -116,7 +116,7 @@ history_is_in v T op k es h =
     all_map record_of (IsRecordIn v) (calls_at (log_of T op at) k)
     (calls_are_in v (log_of T op at) k (λ j. entry_enters v T (state_at T op at j) (at j) (event_begins v es j h)))
 
--- ---- the sequential set has only replies of version 1 for calls of version 1
+-- ---- Lemmas: the sequential set has only replies of version 1 for calls of version 1
 
 abbrev IsReplyIn : Placed → Type 0
 IsReplyIn p = HasReply One p.reply
@@ -148,7 +148,7 @@ order_is_in q calls s (p ∷ ps) legal h =
       order_is_in q calls (after_call s c.thread c.call p.reply) ps legal.1 h,
     )
 
--- ---- the reply of a completed call is the one in the order
+-- ---- Lemmas: the reply of a completed call is the one in the order
 
 end_is_in : (order : List Placed) (number : ℕ) (end : Option (ℕ × Reply)) → AllByRecursion IsReplyIn order
     → ((m : ℕ) (r : Reply) → end ≡ Some (m, r) → Contains order (record { call = number; reply = r })) → HasEnd One end
@@ -158,7 +158,7 @@ end_is_in order number (Some e) h there =
     let place : Contains order p = there e.0 e.1 refl in
     subst IsReplyIn (get_or_default order place.0 p _ place.1 ∙ place.2) (all_at IsReplyIn order p place.0 place.1 h)
 
--- ---- the version has words for the whole report
+-- ---- Lemmas: the version has words for the whole report
 
 words_in : (v : Version) (q : ℕ) (s : SetState) (calls : List CallRecord) (order : List Placed) → Linearizes q s calls order
     → AllByRecursion (IsRecordIn v) calls → HasWordsIn v calls order

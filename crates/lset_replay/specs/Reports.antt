@@ -21,16 +21,16 @@ use Rattle.lset_replay.specs.declared.fault.ReplayFault.TheVariants as fault
 use Rattle.lset_report.specs.declared.report.Report.{Report}
 use Rattle.lset_replay.specs.Events.{events_of, only_events, line_at}
 
--- The history, the order and the final keys of a run with these events:
+-- The history, the order and the final keys that the report of a run with these events must have.
 pub record IsReportOf (T : Table) (op : Opening) (events : List Event)
     (history : List CallRecord) (order : List Placed) (keys : List ℕ) : Type 0 where
-  -- each event is enabled,
+  -- Each event is enabled when it is made.
   pub run : Run T op (event_at events) (length events)
-  -- the history is the history of the run,
+  -- The history in the report is the history of the run.
   pub history_is : history ≡ history_of T op (event_at events) (length events)
-  -- the order is the [Placement]: it sorts the calls by the moments at which they take effect,
+  -- The order in the report is the [Placement]: it sorts the calls by the moments at which they take effect.
   pub placement : IsPlacedBy T op (event_at events) (length events) order
-  -- and the final keys are the content of the set after the last event.
+  -- The final keys in the report are the keys of the set after the last event.
   pub content : IsContent (views T op (event_at events) (length events)) keys
 
 -- The shared words and the local states after the first k events.

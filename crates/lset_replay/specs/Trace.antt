@@ -20,7 +20,7 @@ use Rattle.lset_replay.specs.declared.places.OpenCall.{OpenCall}
 use Rattle.lset_replay.specs.declared.places.Linearized.{Linearized}
 use Rattle.lset_replay.specs.declared.recorder.Recorder.{Recorder}
 
--- ---- the reply of a pending call
+-- ---- The reply of a pending call
 
 -- True if this reply of a call that changes nothing is correct while the key is present, false if it is correct while
 -- the key is absent. True for every ceiling, whose whole reply is tested by `shows`.
@@ -50,7 +50,7 @@ shows changes (call.Ceiling k) r = has_ceiling changes k.0 (found_in r)
 abbrev pub fit : (ℕ → List ℕ) → OpenCall → Reply → ℕ → Option ℕ
 fit changes o reply last = first_passing (needs_key o.call reply) (shows changes o.call reply) o.begun (last - o.begun)
 
--- ---- linearization points
+-- ---- Linearization points
 
 abbrev pub changed_at : ℕ → Linearized
 changed_at moment = record { moment = moment; reply = reply.True; change = true }
@@ -67,7 +67,7 @@ abbrev pub settled : Option Linearized → Option ℕ → ℕ → Reply → Opti
 settled (Some p) moment end reply = Some p
 settled None moment end reply = Some (read_at moment end reply)
 
--- ---- the recorder's contents: calls, pending calls, linearization points, and for each key the moments of its changes
+-- ---- The recorder's contents: calls, pending calls, linearization points, and for each key the moments of its changes
 
 pub record Trace : Type 0 where
   pub calls : List CallRecord
@@ -129,7 +129,7 @@ abbrev pub trace_at : Opening → Log → ℕ → Trace
 trace_at op log zero = no_trace op
 trace_at op log (suc k) = trace_after (suc k) (log k) (trace_at op log k)
 
--- ---- what must hold before an event is recorded
+-- ---- What must hold before an event is recorded
 
 abbrev pub number_at : List (Option OpenCall) → ℕ → ℕ
 number_at os thread = number_of (open_call_at os thread)

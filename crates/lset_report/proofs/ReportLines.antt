@@ -29,7 +29,7 @@ use Rattle.lset_report.specs.Texts.{end_pieces}
 use Rattle.lset_report.specs.ReportReading.{call_told, call_form, IsEnd, IsCall, IsPlace, opening_kind, open_kind, ended_kind}
 use Rattle.lset_report.specs.ReportReading.{place_kind, from_calls, from_order, from_keys, kinds, section_after}
 
--- ---- the fields of each line
+-- ---- Definitions of the fields of each line
 
 abbrev pub pieces_of : Line → List (List ℕ)
 pieces_of (told.Opening k) = codes "opening" ∷ decimal k ∷ []
@@ -60,7 +60,7 @@ Reaches section.Order r = r.keys ≡ []
 Reaches section.Keys r = Unit {0}
 Reaches section.Done r = Unit {0}
 
--- ---- bytes that are read as a line are the line's text
+-- ---- Lemmas: bytes that are read as a line are the line's text
 
 -- The line is well formed, and the report has no lines that belong after its section.
 abbrev pub IsNext : Version → ReportValue → Line → Type 0
@@ -128,7 +128,7 @@ kinds_known v section.Order r reached = order_known v r reached
 kinds_known v section.Keys r reached = keys_known v r
 kinds_known v section.Done r reached = tt
 
--- ---- the text of a line is read as this line
+-- ---- Lemmas: the text of a line is read as this line
 
 abbrev pub IsTold : Version → List (LineKind Line) → Line → Type 0
 IsTold v ks l = IsMade v pieces_of ks l
@@ -169,7 +169,7 @@ key_told v k low = inl ((tt, (k, tt)), refl, (tt, (any_fits k low, tt)))
 pub end_told_so : (v : Version) → IsTold v from_keys told.End
 end_told_so v = inr (refl, inl ((tt, tt), refl, (tt, tt)))
 
--- ---- which section the reader has reached
+-- ---- Lemmas about the section that the reader has reached
 
 abbrev pub reached : List CallRecord → List Placed → List ℕ → Section
 reached cs ps ks = later ks (later ps (later cs section.Opening section.Calls) section.Order) section.Keys

@@ -34,7 +34,7 @@ use Rattle.lset_report.specs.ReportReading.{kinds, may_follow, most_keys, is_nex
 use Rattle.lset_report.specs.ReportReading.{grammar, text, no_lines, nothing_told, version_told, reading, RunsOut}
 use Rattle.lset_report.specs.ReportReader.{so_far, state, IsFull}
 
--- ---- the checks that each line must pass
+-- ---- Lemmas about the checks that each line must pass
 
 -- The line's section is not full, an opening key is greater than the one before it, and a call can follow the earlier
 -- calls.
@@ -78,7 +78,7 @@ line_read s r x l e =
     let good = judged_ok r told.0 l told.2 in
     subst (λ (k : Line). (line_in r.version wrong.Line (kinds r.version s) x ≡ Ok k) × IsGood r k) good.0 (told.1, good.1)
 
--- ---- the lines at which an allocation can fail
+-- ---- Lemmas about the lines at which an allocation can fail
 
 -- The text `end` is read as the line End and as no other line.
 end_is : (v : Version) (s : Section) (l : Line) → line_in v wrong.Line (kinds v s) last_line ≡ Ok l → End ≡ l
@@ -110,7 +110,7 @@ stops_at all start s line rest x after e parts (inr full) stands =
       grind (arith, end_is),
     )
 
--- ---- the whole text, header included
+-- ---- Lemmas about the whole text, header included
 
 -- The report of a reader state, as the result of reading.
 abbrev pub report_told : SoFar → Result ReportValue LineFault

@@ -59,7 +59,7 @@ calls_pushed n (y ∷ ys) x =
     ap (λ (ls : List (List ℕ)). call_line n y ∷ ls)
     (calls_pushed (n + 1) ys x ∙ ap (λ m. call_lines (n + 1) ys ++ call_line m x ∷ []) same)
 
--- ---- the lines of the report read so far
+-- ---- Lemmas about the lines of the report read so far
 
 abbrev header : ReportValue → List (List ℕ)
 header r = header_lines (title r.version) (header_in r)
@@ -101,7 +101,7 @@ more_lines r (told.Place p) next good = push_before (to_order r) (map key_line r
 more_lines r (told.Key k) next good = push_last (to_keys r) key_line r.keys k
 more_lines r told.End next good = refl
 
--- ---- an accepted report stays within its limits
+-- ---- Lemmas: an accepted report stays within its limits
 
 is_report : (r : ReportValue) → Opens r.history.opening → HasOpening r.version r.history.opening.keys
     → IsHistory r.history.opening.threads r.history.calls
@@ -145,7 +145,7 @@ reaches_more r (told.Key k) next = tt
 reaches_more r told.End next = tt
 reaches_more r l next = next
 
--- ---- reading one line
+-- ---- Lemmas about reading one line
 
 may_come : (v : Version) (s : Section) (x : List ℕ) (l : Line) → line_in v wrong.Line (kinds v s) x ≡ Ok l → is_done s ≡ false
 may_come v section.Done x l is = absurd cc
@@ -200,7 +200,7 @@ is_found bytes r is =
     let done = (kept_if (is_done last.0.section) _ last.0 last.0 found.1).0 in
     rw (← ok_is last.0.report r last.2) (found.2.0, found.0 ∙ rw done refl)
 
--- ---- reading a text that was written
+-- ---- Lemmas about reading a text that was written
 
 none_reached : (s : Section) (v : Version) (h : Header) → Reaches s (no_lines v h)
 none_reached section.Opening v h = (refl, refl, refl)
@@ -217,7 +217,7 @@ step_again s l is good =
     let known = kinds_known v s.section r (none_reached s.section v (header_in s.report)) in
     rw (line_made v wrong.Line pieces_of (IsNext v r) (kinds v s.section) l known is, judged_good s.report l good) refl
 
--- ---- reading the lines of each section
+-- ---- Lemmas about reading the lines of each section
 
 abbrev at : Version → Header → List ℕ → List CallRecord → List Placed → List ℕ → SoFar
 at v h os cs ps ks = record {
@@ -273,7 +273,7 @@ keys_lead v h os cs ps ks few are =
     ∙ ap (λ (s : Section). Ok (record { section = s; report = (at v h os cs ps (front ++ k ∷ [])).report }))
     (later_pushed front k (reached cs ps []) section.Keys))
 
--- ---- reading the whole text
+-- ---- Lemmas about reading the whole text
 
 -- The lines after the header, without the last line `end`.
 abbrev body : ReportValue → List (List ℕ)
@@ -325,7 +325,7 @@ reads_text r is =
       again.1,
     )
 
--- ---- the two laws, as the contract of `read_report` states them
+-- ---- Lemmas: the two laws, as the contract of `read_report` states them
 
 pub found_in : (bytes : List ℕ) (r : Result Report LineFault) → Gives view r bytes
     → IfOk r (λ s. IsReport (view s) × (bytes ≡ report_text (view s)))
@@ -338,7 +338,7 @@ only_in bytes (Ok s) gives q is text = ok_is (view s) q (sym gives ∙ ap readin
 only_in bytes (Err e) (inl bad) q is text = absurd (let read : reading bytes ≡ Ok q = ap reading text ∙ reads_text q is in cc)
 only_in bytes (Err e) (inr out) q is text = out.cause
 
--- ---- `write_report` accepts every report that was read
+-- ---- Lemmas: `write_report` accepts every report that was read
 
 end_words : (v : Version) (o : Option (ℕ × Reply)) → IsEnd v o → HasEnd v o
 end_words v None h = tt
@@ -356,7 +356,7 @@ words_in Two calls order are places = tt
 pub has_words : (r : ReportValue) → IsReport r → HasWordsOfVersion r
 has_words r is = record { opening = is.opening; words = words_in r.version r.history.calls r.order is.calls is.places }
 
--- ---- the text that `write_report` builds, part by part
+-- ---- Lemmas about the text that `write_report` builds part by part
 
 pub texts_of : (a b c d e : List (List ℕ)) (z : List ℕ)
     → text_of (a ++ b ++ c ++ d ++ e ++ z ∷ []) ≡ text_of a ++ text_of b ++ text_of c ++ text_of d ++ text_of e ++ ended z

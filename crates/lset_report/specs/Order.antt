@@ -16,7 +16,7 @@ points_in xs = map (λ (x : Pointed). x.point) xs
 abbrev pub rank_of : Pointed → ℕ
 rank_of x = if x.point.change then 2 * x.point.moment else 2 * x.point.moment + 1
 
--- ys contains the entries of xs sorted by `rank_of`. Entries with equal keys keep their relative order.
+-- The list ys contains the entries of xs, sorted by `rank_of`. Entries with equal keys keep their relative order.
 pub record AreByPoints (xs ys : List Pointed) : Type 0 where
   pub moved : IsPermutation xs ys
   pub increase : IsNonDecreasingBy rank_of ys

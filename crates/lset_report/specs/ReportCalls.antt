@@ -30,13 +30,13 @@ ends_apart ends begun (Some end) = nat_lt begun end.0 && not (is_last_end ends e
 abbrev pub ends_well_by : List ℕ → CallRecord → Bool
 ends_well_by ends x = ends_apart ends x.begun x.ended
 
--- The fields of CallsSoFar are enough to decide which call can come next:
+-- The fields of CallsSoFar are enough to decide which call can come next.
 pub record Tracks (s : CallsSoFar) : Type 0 where
-  -- last_begun is the moment at which the last call began,
+  -- The field last_begun is the moment at which the last call began.
   pub begins : (m : ℕ) → begins_later s.history.calls m ≡ nat_lt s.last_begun m
-  -- a call begins or ends at a moment after last_begun only if this is the end of some thread's last call,
+  -- After last_begun, a call begins or ends at moment m if and only if some thread's last call ends at m.
   pub taken : (m : ℕ) → s.last_begun < m → is_taken s.history.calls m ≡ is_last_end s.last_ends.items m
-  -- and a thread can begin a call at moment m if busy is false for it and its entry in last_ends is before m.
+  -- A thread t can begin a call at moment m if its last call is not pending (busy) and ended before m (last_ends).
   pub ends : length s.last_ends.items ≡ threads_of s
   pub each : length s.busy.items ≡ threads_of s
   pub idle : (t m : ℕ) → t < threads_of s → 0 < m

@@ -35,7 +35,7 @@ use Rattle.lset_report.specs.declared.reading.report_lines.Section.TheVariants a
 use Rattle.lset_report.specs.Report.{ReportValue}
 use Rattle.lset_report.specs.Texts.{title, last_line, report_text}
 
--- ---- limits on the numbers in a report
+-- ---- Limits on the numbers in a report
 
 -- A call's key and its moments are at most 4294967295. (A history does not imply these limits.)
 abbrev pub IsEnd : Version → Option (ℕ × Reply) → Type 0
@@ -67,7 +67,7 @@ pub record IsReport (r : ReportValue) : Type 0 where
   pub few_places : length r.order ≤ MOST_PLACES
   pub few_keys : length r.keys ≤ most_keys r.version
 
--- ---- the lines after the header
+-- ---- The lines after the header
 
 abbrev pub opening_kind : LineKind ReportLine
 opening_kind = (opening_form, λ t. told.Opening t.1.0)
@@ -125,7 +125,7 @@ kinds version section.Order = from_order
 kinds version section.Keys = from_keys
 kinds version section.Done = []
 
--- ---- can a line follow the lines before it?
+-- ---- Whether a line can follow the lines before it
 
 -- True if a call ended at this moment.
 abbrev pub ends_at : ℕ → Option (ℕ × Reply) → Bool
@@ -214,7 +214,7 @@ with_line r (told.Place p) = record r { order = r.order ++ p ∷ [] }
 with_line r (told.Key k) = record r { keys = r.keys ++ k ∷ [] }
 with_line r told.End = r
 
--- ---- a text as its lines: the complete lines, then the bytes after the last newline
+-- ---- A text as its lines: the complete lines, then the bytes after the last newline
 
 -- The state of the reader after some lines: the section it reached, and the report so far.
 pub record SoFar : Type 0 where
@@ -274,22 +274,22 @@ ReportsReadBack = (r : ReportValue) (bytes : List ℕ)
     → (IsReport r → reading (report_text r) ≡ Ok r)
     × (reading bytes ≡ Ok r → IsReport r × (bytes ≡ report_text r))
 
--- ---- errors from failed allocations
+-- ---- Errors from failed allocations
 
 -- Reading can return the error Memory at a line only if the line passed all its other checks. `parts` are the lines of
 -- the text from line `first` on, and last the bytes after the final newline. `read` is the result if no allocation
 -- fails.
 pub record RunsOut (first : ℕ) (parts : List (List ℕ)) (read : Result ReportValue LineFault) (e : LineFault) : Type 0 where
   pub cause : e.cause ≡ wrong.Memory
-  -- the line is the header's last line or a later one, since the lines before it need no memory,
+  -- An allocation can fail at the header's last line and at later lines. The lines before need no memory.
   pub after_header : last_of_header ≤ e.line
-  -- the line is complete, that is, it ends with a newline,
+  -- The line at which the allocation failed is complete: it ends with a newline.
   pub index : ℕ
   pub line_is : e.line ≡ first + index
   pub whole : index + 1 < length parts
-  -- the line is not `end`, which needs no memory,
+  -- The line at which the allocation failed is not `end`, which needs no memory.
   pub asks : slice_index_or parts index [] ≢ last_line
-  -- and no line up to this one has an error of its own.
+  -- Neither this line nor any line before it has another error.
   pub good : IsFaultlessTo e.line read
 
 -- The result is the report that the bytes spell, their first error, or Memory from a failed allocation.

@@ -53,7 +53,7 @@ report_lines r = header_lines (title r.version) (header_in r) ++ opening_lines r
 abbrev pub report_text : ReportValue → List ℕ
 report_text r = text_of (report_lines r)
 
--- ---- reports that a version of the format can express
+-- ---- Reports that a version of the format can express
 
 -- The call is pending, or the version has a word for its reply.
 abbrev pub HasEnd : Version → Option (ℕ × Reply) → Type 0

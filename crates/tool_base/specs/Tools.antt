@@ -25,14 +25,14 @@ view (Err t) = Err t
 abbrev pub Outcome : Type 0
 Outcome = Result ℕ Trouble
 
--- How a result is written to an output. `old` and `new` are the bytes of the output before and after:
+-- How a result is written to an output. `old` and `new` are the bytes of the output before and after.
 abbrev pub Delivers : Made → Option (List ℕ) → Option (List ℕ) → Outcome → Type 0
--- all of an answer's text is written,
+-- If no write fails, the whole text of an answer is written.
 Delivers (Ok answer) old new (Ok status) = (status ≡ answer.status) × Appends old new answer.text
--- or a prefix of it, if a write fails;
+-- If a write fails, a prefix of the answer's text is written.
 Delivers (Ok answer) old new (Err t) =
     (t ≡ CannotWrite) × (front : List ℕ) × (rest : List ℕ) × (answer.text ≡ front ++ rest) × Appends old new front
--- and nothing is written for an error.
+-- If the result is an error, nothing is written to the output.
 Delivers (Err made) old new (Ok status) = ⊥
 Delivers (Err made) old new (Err t) = (t ≡ made) × Keeps old new
 

@@ -39,7 +39,7 @@ abbrev pub overlap : Option (ℕ × Reply) → ℕ → Bool
 overlap None begun = true
 overlap (Some e) begun = nat_le begun e.0
 
--- ---- a call as text: its thread, operation, key, reply, begin and end
+-- ---- A call as text: its thread, operation, key, reply, begin and end
 abbrev pub thread_text : ℕ → List ℕ
 thread_text thread = codes "thread " ++ decimal thread ++ codes " "
 
@@ -59,7 +59,7 @@ end_text begun (Some e) = codes " " ++ reply_text e.1 ++ codes ", " ++ between b
 unfoldable pub made_text : StreamCall → List ℕ
 made_text x = thread_text x.thread ++ words.call_text x.call ++ key_text (key_of x.call).0 ++ end_text x.begun x.ended
 
--- ---- contradictions in one order: one call leaves the key in one state, the next call needs the other
+-- ---- Contradictions in one order: one call leaves the key in one state, the next call needs the other
 
 abbrev pub leaves_text : ℕ → Presence → List ℕ
 leaves_text key Present = codes "leaves key " ++ decimal key ++ codes " present,\n"
@@ -111,7 +111,7 @@ abbrev pub lines_in_order : ℕ → Presence → Option StreamCall → Option St
 lines_in_order key was first second =
     first_line key was first ++ second_line key (other was) second ++ third_line key (other was) first second
 
--- ---- contradictions in both orders of two overlapping calls
+-- ---- Contradictions in both orders of two overlapping calls
 
 abbrev pub needs_key : ℕ → List ℕ
 needs_key key = codes "needs key " ++ decimal key ++ codes " "

@@ -13,7 +13,7 @@ use Rattle.tool_base.specs.Tools.{AnswerValue, Made}
 use Rattle.lset_judge.specs.declared.clash.Clash.{Clash}
 use Rattle.tool_judge.specs.Clashes.{clash_lines}
 
--- ---- the text of an answer
+-- ---- The text of an answer
 
 abbrev pub ok_line : ℕ → List ℕ
 ok_line calls = codes "ok " ++ decimal calls ++ codes " calls\n"

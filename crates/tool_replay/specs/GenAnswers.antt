@@ -12,16 +12,16 @@ use Rattle.tool_base.specs.declared.arguments.RandomRequest.{RandomRequest}
 use Rattle.tool_base.specs.Arguments.{random_request_of}
 use Rattle.tool_base.specs.Tools.{Made}
 
--- The schedule matches the request and can run on the list with step table T:
+-- The schedule matches the request and can run on the list with step table T.
 pub record IsRequested (T : Table) (request : RandomRequest) (p : Plan) : Type 0 where
   pub version_is : p.version ≡ One
   pub kind_is : p.kind ≡ request.kind
   pub threads_are : p.threads ≡ request.threads
   pub quota_is : p.quota ≡ request.quota
   pub schedule : IsSchedule p
-  -- all its events are enabled, and its calls and keys are within the requested numbers,
+  -- All events are enabled, and the numbers of calls and keys are at most the requested ones.
   pub generated : IsGenerated T request.threads request.quota request.calls request.keys p.lines
-  -- and its lines are those that the random seed determines.
+  -- The lines of the schedule are those that the random seed determines.
   pub drawn : AreOfSeed T request.threads request.quota request.calls request.keys request.seed p.lines
 
 -- The contract of `gen` for a request: the text of a matching schedule, the argument that is wrong, or a failed
