@@ -107,11 +107,11 @@ listset =
 
 -- ---- Commands as values of clap's type
 
--- The clap command c is described by a, and its arguments are not global.
+-- The value `a` describes clap's command c, whose arguments are not global.
 abbrev pub IsApp : clap.Command → App → Type 0
 IsApp c a = (app_of c ≡ a) × ((out-Command c).has_globals ≡ false)
 
--- If a command was created, it is described by a.
+-- If clap's command was created, the value `a` describes it.
 abbrev pub Makes : Result clap.Command AllocError → App → Type 0
 Makes made a = IfOk made (λ c. IsApp c a)
 

@@ -51,7 +51,7 @@ EndsOn (Some path) job IsFile input output_old output_new stderr_old stderr_new 
     Ends (λ made. made ≡ Err CannotRead) output_old output_new stderr_old stderr_new status
     ⊎ ((bytes : Option (List ℕ)) × IsFile bytes × JobEnds job bytes output_old output_new stderr_old stderr_new status)
 
--- The job ends in one of its ways, or the wrong argument is reported.
+-- If a command line asks for a job, the job ends as `EndsOn` states. Otherwise the program reports the wrong argument.
 abbrev pub EndsAsked : Option Asked → Option Text → (Option (List ℕ) → Type 0) → Option (List ℕ) → Ending
 EndsAsked None path IsFile input output_old output_new stderr_old stderr_new status = Unit {0}
 EndsAsked (Some (Ok job)) path IsFile input output_old output_new stderr_old stderr_new status =

@@ -98,7 +98,7 @@ module _ (T : Table) (op : Opening) (events : List LineEvent) (k : ℕ) (w : Wor
   stopped cause.Memory w' made = tt
   stopped c w' made = made
 
-  -- The next event can be recorded. This needs the list's account: which event changes which key, for which call.
+  -- The next event can be recorded. This follows from the list's account: which event changes which key for which call.
   module _ (accounts : TellsKeys T) where
     open shown T op events use {log, contents, counts}
 

@@ -191,7 +191,8 @@ replay_is T accounts p w r order keys h o c =
 module _ (T : Table) (headline : PlacementExplainsRuns T) (op : Opening) (events : List Event) (history : List CallRecord)
     (order : List Placed) (keys : List ℕ)
     (h : IsReportOf T op events history order keys) where
-  -- The report's order is the placement of the run, and the placement of a run explains it.
+  -- The order in the report is the placement, which sorts the calls by the moments at which they take effect. The
+  -- placement explains the run.
   run_explained : ExplainsRun T op (event_at events) (length events) order
   run_explained =
       let found : (o : List Placed) × ExplainsRun T op (event_at events) (length events) o

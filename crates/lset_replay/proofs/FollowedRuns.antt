@@ -31,7 +31,8 @@ shown T op events = record {
   counts = counts_of (views T op (event_at (only_events events)));
 }
 
--- What the replay of a list relies on: the account of its runs, and that all its keys are below 2^32.
+-- What a replay relies on: it is known which event of a run changes which key for which call (the account of the run),
+-- and all keys are below 2^32.
 pub record TellsKeys (T : Table) : Type 0 where
   pub account : HasAccount T
   pub listed : ListedContent T
