@@ -21,7 +21,7 @@ pub enum Refusal {
         moment: u32,
         reply: Reply,
     },
-    /// In the order the call has the reply `says`, but in the history the call returned `ended`.
+    /// In the order, the call has the reply `says`. In the history, the call returned `ended`.
     HistoryReply {
         call: u32,
         place: u64,

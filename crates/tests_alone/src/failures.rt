@@ -118,7 +118,7 @@ impl Run {
     }
 }
 
-/// Runs the program with these arguments. The plans say when the input, the output and `stderr` fail.
+/// Runs the program with these arguments. The plans determine when the input, the output and `stderr` fail.
 fn run_on<R: Host>(rt: &R, alloc: Global, (words, input): Row, plans: [Plan; 3]) -> Run {
     let [of_input, output, stderr] = plans;
     let mut input = Reader::new(input, of_input);

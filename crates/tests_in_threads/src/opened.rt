@@ -10,7 +10,8 @@ pub fn last_of<M: Machine, R: Abort>(
     seats.pop().expect(rt, "no seat is left")
 }
 
-/// Opens a set that contains `keys` and has two seats, which can add 4 keys each. Returns the set, seat 0 and seat 1.
+/// Opens a set that contains `keys` for two threads. Returns the set and the threads' seats 0 and 1, which can add 4
+/// keys each.
 pub fn two_seats_on<M: Machine, R: Abort>(
     rt: &R,
     alloc: Global,
@@ -22,7 +23,7 @@ pub fn two_seats_on<M: Machine, R: Abort>(
     (set, zero, one)
 }
 
-/// Opens an empty set with two seats, which can add 4 keys each. Returns the set, seat 0 and seat 1.
+/// Opens an empty set for two threads. Returns the set and the threads' seats 0 and 1, which can add 4 keys each.
 pub fn two_seats<M: Machine, R: Abort>(rt: &R, alloc: Global) -> (LiveSet<M>, Seat<M>, Seat<M>) {
     two_seats_on::<M, R>(rt, alloc, &[])
 }

@@ -23,7 +23,7 @@ pub fn worked<M: Running + Send + Sync, R: Host, G: Gate + Sync>(
     }
 }
 
-/// Opens an empty set with `seats` seats, which can add 4 keys each.
+/// Opens an empty set for `seats` threads. Returns the set and the threads' seats, which can add 4 keys each.
 fn in_a_row<M: Running, R: Abort>(rt: &R, alloc: Global, seats: u32) -> (LiveSet<M>, Vec<Seat<M>>) {
     open::<M>(alloc, seats, 4).expect(rt, "not opened")
 }

@@ -1,4 +1,5 @@
-//! Tests of seats: they call one after another or at the same time, are gathered, pass receipts, and close the set.
+//! Tests of seats (a seat is the right to call a set as one thread): seats call one after another or at the same time,
+//! are gathered, pass receipts, and close the set.
 
 use crate::meeting::{Meeting, calls};
 use crate::opened::{close_with, make_calls, two_seats, two_seats_on};
@@ -31,7 +32,7 @@ fn open_refuses_seats_and_then_a_quota_outside_their_limits(rt: HostRuntime) {
     }
 }
 
-/// Gathers seat 1 into seat 0, finds 9, and closes the set. Asserts that 9 is the only final key.
+/// Merges seat 1 into seat 0, finds the key 9, and closes the set. Asserts that 9 is the only final key.
 fn gathers_and_closes<M: Running, R: Host>(
     rt: &R,
     set: LiveSet<M>,
