@@ -217,7 +217,7 @@ def test_calls_before_a_crash_or_a_hang_are_judged(form, program, of):
 
 @each(LANGUAGES)
 def test_a_process_that_ends_at_any_moment_has_every_call_once(form, program):
-    """The calls are saved part by part while it runs. A call that stands twice, or is missing, has no verdict or another."""
+    """The calls are saved part by part while the process runs. The verdict would be another if a call were saved twice or lost."""
     _, said = form.told(program, "ends", "threads=4 calls=60000 keys=4 runs=1 pauses=0", TESTS="12")
     for one in said.split("verdict: ")[1:]:
         is_early = "the set could not be created: the set ended its process" in one  # (before the first call)
@@ -285,7 +285,7 @@ def test_a_seed_repeats_the_calls(form, program):
     assert {tuple(it.split()[2:4]) for it in (first + other).splitlines() if it.startswith("call ")} >= {("add", "4"), ("remove", "0"), ("contains", "3")}
 
 
-# ---- passing on the refusal of a judge that refuses with these words
+# ---- a judge that always refuses, with the words that must be passed on
 
 REFUSED = "not linearizable\nno order explains the calls of key 1 up to moment 9\n\n  contains(1) returned true, expected false   # %s $HOME 'quoted'\n"
 REFUSES = """#!/bin/sh
@@ -475,7 +475,7 @@ def test_servers_are_judged_by_their_clients(room, program, of):
     well(sys.executable, "-B", "-m", "unittest", f"test_servers.{of}", cwd=room, env={**os.environ, "LISTSET": program, "TMPDIR": str(room), "PYTHONPATH": paths})
 
 
-# ---- as a package of each language, used by someone else's project from where it is installed
+# ---- the judge as a package of each language, installed and then used by another project
 
 CMAKE = """cmake_minimum_required(VERSION 3.18)
 project(own LANGUAGES CXX)

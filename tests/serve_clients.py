@@ -22,7 +22,7 @@ ONE_LIST = "lazy"
 SEATS = 64
 CLIENTS = SEATS - 1
 REQUESTS = 300
-SHARED = 64  # keys; the clients' own keys are above
+SHARED = 64  # keys that all clients use; the keys of a single client are larger
 ROOM = 16_384
 MANNERS = ["pieces", "bytes", "all at once", "middle of a line", "random bytes"]
 BEYOND = 100_000
@@ -168,8 +168,8 @@ def drips(connection, end):
 
 
 def test_clients_of_one_seat_are_served_in_turn(program):
-    """Clients use one seat with 2 slots one after another. A connection to another address of this machine is refused,
-    and so is the client after the last session.
+    """Clients use one seat, which can add 2 keys, one after another. The system refuses a connection to another address
+    of this machine, and the client after the last session.
     """
     with serving(program, ONE_LIST, 1, 2, 6) as server:
         with pytest.raises(ConnectionRefusedError):
@@ -201,7 +201,7 @@ def test_clients_of_one_seat_are_served_in_turn(program):
 
 
 def test_a_server_listens_on_the_port_in_its_arguments(program):
-    """The server listens on the port in its arguments, which was free just before."""
+    """The port was free just before."""
     with socket.create_server(("127.0.0.1", 0)) as free:
         port = free.getsockname()[1]
     with started(program, "serve", ONE_LIST, 1, ROOM, port, 1) as process:
@@ -272,9 +272,7 @@ def sends_until_stuck(connection):
 
 
 def test_a_client_that_reads_no_answer_holds_only_its_seat(program):
-    """A client that reads no answers occupies nothing but its seat. The other clients are served, and once it disconnects,
-    the server ends.
-    """
+    """The other clients are served. The server ends once the client has disconnected."""
     key = 4_294_967_295
     with serving(program, ONE_LIST, 2, ROOM, 5) as server:
         with server.connect() as connection:
