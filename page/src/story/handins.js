@@ -86,7 +86,6 @@ function judgePart(own, lessons, line, tasks, odd) {
   if (verdict.ofExample) own.notes.push(`${title}: exactly the run of the example ${verdict.ofExample}`);
 }
 
-// Returns the title of a task: a lesson, a level, or a judged run.
 function titleOf(task, courses) {
   const [kind, name] = task.split(" ");
   if (kind === "break") return tasksOf({ break: String(numberOfLevel(name)) }).tasks[0]?.title ?? task;
@@ -141,7 +140,6 @@ export function copiesText({ copies }, all = false) {
   return groups.map(({ count, of, rows }) => `${count} of ${of} with ${rows.map(nameOf).join(", ")}`).join("; ");
 }
 
-// Counts for each task the students who solved it.
 export const sumsOf = ({ rows, columns }) => columns.map(({ id }) => rows.filter(({ solved }) => solved.has(id)).length);
 
 // Returns a table for a spreadsheet. `parted` separates the cells: German and French spreadsheets need semicolons. A cell that a spreadsheet would
