@@ -31,7 +31,7 @@ function effectText({ trace, event }, hidden) {
   if (hidden.includes("effect")) return hidden.includes("reply") ? answers : `${answers}.`;
   if (call.at === event.number) return `${answers}, and takes effect here.`;
   const other = trace.event(call.at).thread;
-  const whose = other === event.thread ? "" : `, <b>a step of ${letterOf(other)}</b>`;
+  const whose = call.at === call.begun ? ", as the call began" : other === event.thread ? "" : `, <b>a step of ${letterOf(other)}</b>`;
   return `${answers}; it took effect at event ${call.at}${whose}.`;
 }
 

@@ -52,9 +52,9 @@ export function drawBar(stage, number, words = number === SCREENS.length ? "And 
   const isDone = stage === "done";
   if (isDone && document.activeElement === show) on.focus({ preventScroll: true });
   show.hidden = isDone;
-  show.className = "quiet";
+  show.className = isLecture() && stage === "playing" ? "primary" : "quiet";
   on.hidden = !isDone && isNarrow();
-  show.textContent = isLecture() && stage !== "again" ? "Reveal" : SHOW[stage];
+  show.textContent = isLecture() && stage !== "again" ? (stage === "playing" ? "Next step →" : "Reveal") : SHOW[stage];
   drawOn(isDone, words);
 }
 
