@@ -11,7 +11,7 @@ export const LECTURE = [
     "A walks until its pred is 3, B removes 3, then A locks, checks pred.next and links 5 behind a removed node."],
   [5, "Why a second walk", "#ask=stale-pred&view=lecture", "Is it safe for A to write? Then the same on a list without this check: 5 is lost.",
     "No: an unlinked node keeps its arrow. Only a new walk from the head shows that pred is gone."],
-  [5, "LazyList: a mark", "#story=7&view=lecture", "B has marked 5, and its node is still in the chain. What does A answer?",
+  [5, "LazyList: a mark", "#story=7&view=lecture", "Press B: it marks 5, and the node is still in the chain. What does A answer?",
     "false: with the mark, 5 has left the set. contains reads the mark and takes no lock."],
   [4, "In another thread’s step", "#ask=read-in-anothers-step&view=lecture", "A will return false. When is that correct?",
     "Between B’s remove and B’s add, while A’s call was pending: it takes effect in a step of B."],
