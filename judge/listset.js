@@ -51,96 +51,50 @@ var require_help = __commonJS({
 var engine_exports = {};
 __export(engine_exports, {
   Engine: () => Engine,
-  FIRST_ROOM: () => FIRST_ROOM,
   bytesOf: () => bytesOf,
-  engineClass: () => engineClass,
   loadScript: () => loadScript,
   passed: () => passed,
   startEngine: () => startEngine
 });
-function engineClass(firstRoom) {
-  const LARGE_MEMORY = 1 << 28;
-  class Engine2 {
-    // `read` copies bytes of a host input to the start of `room`, and returns how many, or -1.
-    /** @param {(input: bigint, room: Uint8Array) => number} read */
-    constructor(module2, read = () => -1) {
-      this.module = module2;
-      this.instance = null;
-      this.host = { env: { read: (input, at, count) => BigInt(read(input, this.piece(Number(at), Number(count)))) } };
-    }
-    piece(at, count) {
-      return new Uint8Array(this.instance.exports.memory.buffer, at, count);
-    }
-    ask(name, ...texts) {
-      const encoder = new TextEncoder();
-      return this.askBytes(name, ...texts.map((text) => encoder.encode(text)));
-    }
-    askBytes(name, ...given) {
-      return this.answered((exports) => answerOf(exports, name, given));
-    }
-    // Judges a recording of any length, read from an input in pieces.
-    judgeFrom(input) {
-      return this.answered((exports) => answerInRoom(exports, "listset_judge_from", [[input]], firstRoom));
-    }
-    // Returns the diagnosis that the program adds to a refusal of `used` lines. Reads the recording again from an input.
-    whyFrom(input, used) {
-      return this.answered((exports) => answerInRoom(exports, "listset_why_from", [[input, BigInt(used)]], firstRoom));
-    }
-    answered(answer) {
-      if (this.instance === null || this.instance.exports.memory.buffer.byteLength > LARGE_MEMORY) {
-        this.instance = new WebAssembly.Instance(this.module, this.host);
-      }
-      try {
-        return answer(this.instance.exports);
-      } catch (fault) {
-        this.instance = null;
-        throw new Error(`the engine stopped: ${fault.message}`);
-      }
-    }
-  }
-  function answerOf(engine, name, given) {
-    const texts = textsOf(engine, engine[name].length, given);
-    let answer = answerInRoom(engine, name, texts, firstRoom);
-    if (answer.bytes === null)
-      answer = answerInRoom(engine, name, texts, answer.length);
-    texts.forEach(([block]) => engine.page_free(block));
-    if (answer.bytes === null)
-      throw new Error("two answers to one text");
-    return { status: answer.status, text: new TextDecoder().decode(answer.bytes), bytes: answer.bytes };
-  }
-  function textsOf(engine, parameters, given) {
-    return Array.from({ length: (parameters - 3) / 2 }, (_, at) => {
-      const text = given[at] ?? new Uint8Array(0);
-      const block = blockOf(engine, text.length);
-      new Uint8Array(engine.memory.buffer, Number(block), text.length).set(text);
-      return [block, BigInt(text.length)];
-    });
-  }
-  function answerInRoom(engine, name, texts, room) {
-    const out = blockOf(engine, room);
-    const status = blockOf(engine, 1);
-    const count = Number(engine[name](...texts.flat(), out, BigInt(room), status));
-    const memory = engine.memory.buffer;
-    const bytes = count <= room ? new Uint8Array(memory, Number(out), count).slice() : null;
-    const said = new Uint8Array(memory, Number(status), 1)[0];
-    engine.page_free(out);
-    engine.page_free(status);
-    return { bytes, length: count, status: said };
-  }
-  function blockOf(engine, length) {
-    const block = engine.page_alloc(BigInt(Math.max(length, 1)));
-    if (!block)
-      throw new Error("no memory");
-    return block;
-  }
-  return Engine2;
+function answerOf(engine, name, given) {
+  const texts = textsOf(engine, engine[name].length, given);
+  let answer = answerInRoom(engine, name, texts, FIRST_ROOM);
+  if (answer.bytes === null)
+    answer = answerInRoom(engine, name, texts, answer.length);
+  texts.forEach(([block]) => engine.page_free(block));
+  if (answer.bytes === null)
+    throw new Error("two answers to one text");
+  return { status: answer.status, text: new TextDecoder().decode(answer.bytes), bytes: answer.bytes };
+}
+function textsOf(engine, parameters, given) {
+  return Array.from({ length: (parameters - 3) / 2 }, (_, at) => {
+    const text = given[at] ?? new Uint8Array(0);
+    const block = blockOf(engine, text.length);
+    new Uint8Array(engine.memory.buffer, Number(block), text.length).set(text);
+    return [block, BigInt(text.length)];
+  });
+}
+function answerInRoom(engine, name, texts, room) {
+  const out = blockOf(engine, room);
+  const status = blockOf(engine, 1);
+  const count = Number(engine[name](...texts.flat(), out, BigInt(room), status));
+  const memory = engine.memory.buffer;
+  const bytes = count <= room ? new Uint8Array(memory, Number(out), count).slice() : null;
+  const said = new Uint8Array(memory, Number(status), 1)[0];
+  engine.page_free(out);
+  engine.page_free(status);
+  return { bytes, length: count, status: said };
+}
+function blockOf(engine, length) {
+  const block = engine.page_alloc(BigInt(Math.max(length, 1)));
+  if (!block)
+    throw new Error("no memory");
+  return block;
 }
 async function passed(bytes, stream) {
   return new Uint8Array(await new Response(new Blob([bytes]).stream().pipeThrough(stream)).arrayBuffer());
 }
 async function engineModule() {
-  if (typeof DecompressionStream === "undefined")
-    return WebAssembly.compile(await (await fetch("listset.wasm")).arrayBuffer());
   if (typeof ENGINE === "undefined") {
     if (document.readyState !== "complete")
       await new Promise((done) => window.addEventListener("load", done, { once: true }));
@@ -154,11 +108,49 @@ function loadScript(src) {
     document.head.append(Object.assign(document.createElement("script"), { src, onload: done, onerror }));
   });
 }
-var FIRST_ROOM, Engine, bytesOf, startEngine;
+var FIRST_ROOM, LARGE_MEMORY, Engine, bytesOf, startEngine;
 var init_engine = __esm({
   "engine.js"() {
     FIRST_ROOM = 1 << 22;
-    Engine = engineClass(FIRST_ROOM);
+    LARGE_MEMORY = 1 << 28;
+    Engine = class {
+      // `read` copies bytes of a host input to the start of `room`, and returns how many, or -1.
+      /** @param {(input: bigint, room: Uint8Array) => number} read */
+      constructor(module2, read = () => -1) {
+        this.module = module2;
+        this.instance = null;
+        this.host = { env: { read: (input, at, count) => BigInt(read(input, this.piece(Number(at), Number(count)))) } };
+      }
+      piece(at, count) {
+        return new Uint8Array(this.instance.exports.memory.buffer, at, count);
+      }
+      ask(name, ...texts) {
+        const encoder = new TextEncoder();
+        return this.askBytes(name, ...texts.map((text) => encoder.encode(text)));
+      }
+      askBytes(name, ...given) {
+        return this.answered((exports) => answerOf(exports, name, given));
+      }
+      // Judges a recording of any length, read from an input in pieces.
+      judgeFrom(input) {
+        return this.answered((exports) => answerInRoom(exports, "listset_judge_from", [[input]], FIRST_ROOM));
+      }
+      // Returns the diagnosis that the program adds to a refusal of `used` lines. Reads the recording again from an input.
+      whyFrom(input, used) {
+        return this.answered((exports) => answerInRoom(exports, "listset_why_from", [[input, BigInt(used)]], FIRST_ROOM));
+      }
+      answered(answer) {
+        if (this.instance === null || this.instance.exports.memory.buffer.byteLength > LARGE_MEMORY) {
+          this.instance = new WebAssembly.Instance(this.module, this.host);
+        }
+        try {
+          return answer(this.instance.exports);
+        } catch (fault) {
+          this.instance = null;
+          throw new Error(`the engine stopped: ${fault.message}`);
+        }
+      }
+    };
     bytesOf = (base64) => Uint8Array.from(atob(base64), (letter) => letter.charCodeAt(0));
     startEngine = async () => new Engine(await engineModule());
   }

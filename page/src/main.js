@@ -4,17 +4,16 @@ import { listenToCourses } from "./activities/courses.js";
 import { compareView } from "./activities/compare.js";
 import { drawJudging, listenToJudging } from "./activities/judging.js";
 import { MAPS } from "./activities/maps.js";
-import { followAddress, openCourseFile, openFirst, openRecorded, showBeforehand } from "./activities/open.js";
+import { followAddress, openCourseFile, openFirst, openRecorded } from "./activities/open.js";
 import { startEngine } from "./engine/engine.js";
-import { loadMore } from "./engine/more.js";
-import { fillExamples, fillWorks, listenToBar, listenToFiles, listenToSettings, listenToWork, placeParts, showQuestion, stopUnable } from "./page/controls.js";
+import { fillExamples, listenToBar, listenToFiles, listenToSettings, listenToWork, placeParts, showQuestion, stopUnable } from "./page/controls.js";
 import { byId } from "./page/dom.js";
-import { showHeader, showMarks } from "./page/work.js";
 import { refreshReport } from "./page/files.js";
 import { keysOf, pressKey } from "./page/play.js";
 import { held, now, on, show, takeTrace } from "./page/now.js";
 import { showParts } from "./page/seen.js";
 import { keepNow, keepSoon } from "./page/visit.js";
+import { escaped } from "./run/markup.js";
 import { Trace } from "./run/trace.js";
 import { askView } from "./story/ask_view.js";
 import { assignmentView } from "./story/assignment.js";
@@ -53,53 +52,47 @@ function render() {
   const isInScene = isScene(now);
   if (isInScene) renderScene(now);
   else leaveScene();
-  for (const draw of isInScene ? [showPlace] : [showRun, showBar, showQuestion, drawJudging, showPlace, showMarks]) draw();
+  for (const draw of isInScene ? [showPlace] : [showRun, showBar, showQuestion, drawJudging, showPlace]) draw();
   keepSoon();
 }
 
 function connect() {
   held.render = render;
-  on("taken", showHeader);
-  on("ran", showMarks, keepSoon, refreshReport);
-  on("kept", fillWorks);
+  on("ran", keepSoon, refreshReport);
   on("recorded", openRecorded);
   on("course", openCourseFile);
 }
 
-// Takes an empty trace without drawing it, so that the page's first text stays while the engine loads.
 function takeEmpty() {
   held.render = () => {};
-  takeTrace(new Trace(EMPTY_TRACE), 0, "");
+  takeTrace(new Trace(EMPTY_TRACE), 0);
   held.render = render;
 }
 
-async function takeEngine() {
-  try {
-    if (typeof WebAssembly === "undefined") throw new Error("WebAssembly is turned off in it");
-    held.engine = await startEngine();
-  } catch (fault) {
-    held.hasEngine = false;
-    byId("no-engine-cause").textContent = fault.message; // what needs the engine is not there; the page says so, and why
-    byId("schedule").readOnly = true;
-    await loadMore();
-  }
-}
+const NO_ENGINE = (cause) => `<h1 class="title">This browser does not run the lists</h1>
+  <p class="lead">Each step on this page is computed by a proved program, as WebAssembly, and this browser does not start it (${escaped(cause)}). Every
+  browser since 2020 can, unless WebAssembly is turned off. <a href="how-it-works.html">How the lists work</a> can be read without it.</p>`;
 
 async function startPage() {
   document.body.dataset.ready = "begun";
   Object.assign(VIEWS, SCENES, MAPS);
+  try {
+    held.engine = await startEngine();
+  } catch (fault) {
+    byId("scene").innerHTML = NO_ENGINE(fault.message);
+    byId("bench").hidden = true;
+  }
+  if (held.engine !== null) await openPage();
+  document.body.dataset.ready = "yes";
+}
+
+async function openPage() {
   connect();
-  listen();
   takeEmpty();
-  await showBeforehand();
-  await takeEngine();
+  listen();
   fillExamples();
   document.body.dataset.ready = "soon";
-  try {
-    await openFirst();
-  } finally {
-    document.body.dataset.ready = "yes";
-  }
+  await openFirst();
 }
 
 if (typeof document !== "undefined") startPage(); // in node there is none

@@ -27,7 +27,7 @@ function checkTraces(result, engine, cases) {
     const answer = engine.ask("listset_trace", schedule);
     if (!answer.text.startsWith("listset-trace")) continue;
     const trace = new (inPage("Trace"))(answer.text, inPage("versionOf")(schedule));
-    check(result, `the grammar of the trace of ${schedule}`, inPage("faultOfTrace")(answer.text) === null);
+    check(result, `the grammar of the trace of ${schedule}`, inPage("traceIn")(answer.text) !== null);
     trace.calls.forEach((call) => replies.add(call.reply));
     const lines = inPage("scheduleOfTrace")(trace);
     if (trace.refused === null) check(result, `the schedule of the trace of ${schedule}`, lines === schedule);

@@ -94,13 +94,15 @@ function checkTeacher(course, folder) {
   const whole = said(folder, text("Ada", answers, [BROKEN.replace(",b0.add.5,g0.8", "")]));
   check(`explained: ${whole.lines[1]}`, whole.status === 1 && whole.lines[1].endsWith("Not broken yet: some order explains this run."));
   const two = `${text("Ada", answers)}\n${quoted(text("Bo", answers.slice(1)))}`;
-  const group = said(folder, two, text("Cy", [], ["judge snip points none"]));
+  const group = said(folder, two, text("Cy", [], ["judge snip points 0-true"]));
   check(`a class: ${group.lines.join("; ")}`, group.status === 1 && group.lines.includes("Bo: 11 of 13 solved; open: judge snip points; The one lock"));
   check("how many have all", group.lines.at(-1) === "0 of 3 students have solved all");
-  const claim = group.lines.find((line) => line.startsWith("Cy: judge snip points"));
-  check(`a claim that is wrong: ${claim}`, claim?.includes("There is one: this is a run"));
+  const wrong = group.lines.find((line) => line.startsWith("Cy: judge snip points"));
+  check(`an order that is wrong: ${wrong}`, wrong?.includes("Still missing: "));
   const twice = said(folder, text("Ada (7)", answers.slice(0, 6)), text("ada (7)", answers.slice(6)));
   check(`two texts of one student: ${twice.lines}`, twice.status === 0 && /merged from .*0.txt, .*1.txt$/.test(twice.lines[1]));
+  const followed = said(folder, text("Di", answers).replace(/^(one-lock .*)$/m, "$1\n=====\nDi,4711\n-"));
+  check(`lines after a solution do not make it wrong: ${followed.lines[0]}`, followed.lines[0] === "Di: 12 of 12 solved");
   const named = said(folder, text("Max", answers.slice(0, 6)), text("Max", answers.slice(6)));
   check(`two of one name: ${named.lines}`, named.status === 1 && named.lines.filter((line) => line.startsWith("Max: 2 rows with this name")).length === 2);
 }
@@ -140,7 +142,7 @@ function checkOwn(ask, course, folder) {
   const group = said(folder, text("Ada", first, [BROKEN_OWN]), text("Dee", grouped, [BROKEN_OWN]), ...many).lines;
   const copies = group.filter((line) => line.includes("same schedules: "));
   const due = ["Ada: same schedules: 3 of 3 with Dee", "Dee: same schedules: 3 of 3 with Ada"];
-  check(`the same schedules: ${copies}`, same(copies.slice(0, 2), due) && copies.length === 3 && copies[2].includes("left out"));
+  check(`the same schedules: ${copies}`, same(copies.slice(0, 2), due) && copies.length === 3 && /many students have one.*\(\d+ students: /.test(copies[2]));
   const example = ask("listset_example", "stale-pred").text;
   const trace = new (inPage("Trace"))(ask("listset_lacking", "second-walk", example, "trace").text, inPage("versionOf")(example));
   const shown = inPage("scheduleOfTrace")(trace);
@@ -184,7 +186,7 @@ This is not a line of a solution.
     'there is no lesson "no-lesson"',
     "judge snip points: Still missing: the point of remove(5) of A, the point of add(7) of B.",
     'judge nosuch points: there is no example "nosuch"',
-    "judge snip deep: expected a level, one of points, replies, claim",
+    "judge snip deep: expected a level, one of points, replies",
     "judge snip replies: This order is not judged: listset: line 8: Line.",
   ];
   for (const line of due) check(`told: ${line}; ${lines.slice(0, 16).join("; ")}`, lines.some((one) => one.startsWith("?Eve (2): ") && one.endsWith(line)));

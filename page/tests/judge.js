@@ -39,18 +39,6 @@ function checkLevels(ask, name, report) {
   }
 }
 
-// Checks that the claim "no order" is right about a report of a broken list, and wrong about a run.
-function checkClaims(ask, name, report) {
-  const claimOf = (exercise) => verdictOn(ask, Object.assign(new OwnAnswer(exercise), { isNone: true }));
-  check(`${name}: there is an order`, claimOf(exerciseOf(report, "claim")).isRight === false);
-  const broken = ask("listset_broken_example", name);
-  if (broken.status !== 0) return;
-  const exercise = exerciseOf(broken.text, "claim", false);
-  check(`${name}: none, of the broken report`, claimOf(exercise).isRight === true);
-  const refused = verdictOn(ask, answerOfWord(exercise, wordIn(broken.text).join()));
-  check(`${name}: its order: ${refused.says}`, refused.isRight === false && !refused.says.startsWith("refused"));
-}
-
 // Checks that no sentence of a run gives away the answer.
 function checkHidden(ask, name, schedule) {
   const trace = new (inPage("Trace"))(ask("listset_trace", schedule).text);
@@ -244,7 +232,7 @@ function checkAnswers(ask) {
   check(`a reply of no call: ${impossible}`, impossible.join() === "No set returns the reply of call 3 to such a call.");
   const bare = said("verdict none\nkey 7");
   check(`no calls: ${bare.reasons}`, bare.reasons[1] === "At the end the set does not have it." && bare.calls.length === 0);
-  for (const line of ["listset: out of memory", "the engine stopped: unreachable", inPage("NO_ENGINE")]) {
+  for (const line of ["listset: out of memory", "the engine stopped: unreachable"]) {
     const trouble = said(line);
     check(`no answer: ${trouble.says}`, trouble.kind === "fault" && trouble.says === line && trouble.reasons.length === 0);
   }
@@ -275,10 +263,6 @@ function checkTroubles(ask) {
   const stopped = () => ({ status: 1, text: "the engine stopped: unreachable" });
   const none = verdictOn(stopped, answer);
   check(`no answer: ${none.says}`, none.isRight === null && none.says === "This order is not judged: the engine stopped: unreachable.");
-  const broken = exerciseOf(ask("listset_broken_example", "snip").text, "claim", false);
-  const claim = verdictOn(stopped, Object.assign(new OwnAnswer(broken), { isNone: true }));
-  const untold = "Whether there is none is not judged: the engine stopped: unreachable.";
-  check(`nor of a claim: ${claim.says}`, claim.isRight === null && claim.says === untold);
 }
 
 // Checks two lists side by side. In each turn, both lists make a step, except a list whose call has already returned.
@@ -323,7 +307,6 @@ async function main() {
     const schedule = ask("listset_example", name).text;
     const report = ask("listset_replay", schedule).text;
     checkLevels(ask, name, report);
-    checkClaims(ask, name, report);
     checkHidden(ask, name, schedule);
     schedules.push(schedule);
     reports.push(report, report.replace(/^(place .*\n)(place .*\n)/m, "$2$1"), report.replace(/^place .*\n/m, ""));

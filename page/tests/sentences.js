@@ -27,10 +27,6 @@ const CLAIMS = [
   [/leads to (\w+) now, not to (\w+)/, ([found, wanted]) => found === wanted],
   [/This adds (\d+) to the set/, ([key], { keys, keysBefore }) => !keys.includes(key) || keysBefore.includes(key)],
   [/This removes (\d+) from the set/, ([key], { keys, keysBefore }) => keys.includes(key) || !keysBefore.includes(key)],
-  [/This should add (\d+) to the set, but \d+ is in it already/, ([key], { keysBefore }) => !keysBefore.includes(key)],
-  [/This should remove (\d+) from the set, but \d+ is not in it any more/, ([key], { keysBefore }) => keysBefore.includes(key)],
-  [/This should add (\d+) to the set, but its node/, ([key], { keys }) => keys.includes(key)],
-  [/This should remove (\d+) from the set, but the chain still/, ([key], { keys }) => !keys.includes(key)],
   [/This unlinks (n\d+)/, ([node], { chain, chainBefore }) => chain.includes(node) || !chainBefore.includes(node)],
   [/(n\d+), .*, which ([A-C]) marked at event (\d+)/, ([node, thread, number], { eventAt }) => !isMarkOf(eventAt(Number(number)), node, thread)],
   [/^[A-C] marks (n\d+)/, ([node], { linkOf }) => !linkOf(node).endsWith("*")],
@@ -42,7 +38,6 @@ const CLAIMS = [
   [/^[A-C] unlocks (the list|\w+)\./, ([name], { lockOf }) => lockOf(name) !== "free"],
   [/tries to lock (the list|\w+), but ([A-C]) holds it/, ([name, other], { lockOf, thread }) => inPage("holderOf")(lockOf(name)) !== other || lockOf(name) === thread],
   [/It will try again/, (_, { event, next }) => next !== null && next.word !== event.word],
-  [/It continues all the same, at row (\d+)/, (_, { event, next }) => next !== null && next.word === event.word],
   [/holds? the locks? of (\w+)(?: and (\w+))?\./, (names, { lockOf, thread }) => names.some((name) => name !== undefined && lockOf(name) !== thread)],
   [/holds no lock now/, (_, { locks, thread }) => locks[thread] !== undefined],
   [/sets (\w+)\.link to (\w+)\./, ([node, to], { linkOf }) => linkOf(node) !== to],
@@ -139,7 +134,8 @@ function readRun(trace) {
     const moment = inPage("momentAt")(state, event.number);
     const [sentence, short] = ["sentenceOf", "saidOf"].map((name) => inPage(name)(moment).replace(/<[^>]*>/g, ""));
     const facts = factsAfter(state, event, before);
-    const wrong = [...falseIn(CLAIMS, sentence, facts), ...falseIn(SHORT_CLAIMS, short, { ...facts, before: moment.before })];
+    const ofLong = trace.lacks === null ? falseIn(CLAIMS, sentence, facts) : []; // the page shows them of correct lists alone
+    const wrong = [...ofLong, ...falseIn(SHORT_CLAIMS, short, { ...facts, before: moment.before })];
     return { number: event.number, sentence, short, wrong };
   });
 }

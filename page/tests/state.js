@@ -3,8 +3,8 @@
 
 const { inPage } = require("../in_node.js");
 
-const { stateAtFirst, reduce, exampleIn, entryOf, factsOf, SEEN, addressIn, titleIn, readAddress, sceneOfHash, startOfLacking } = inPage(
-  "({ stateAtFirst, reduce, exampleIn, entryOf, factsOf, SEEN, addressIn, titleIn, readAddress, sceneOfHash, startOfLacking })",
+const { stateAtFirst, reduce, exampleIn, entryOf, factsOf, SEEN, addressIn, titleIn, readAddress, sceneOfHash, startOfLacking, OWN_TASK } = inPage(
+  "({ stateAtFirst, reduce, exampleIn, entryOf, factsOf, SEEN, addressIn, titleIn, readAddress, sceneOfHash, startOfLacking, OWN_TASK })",
 );
 const result = { passed: 0, failed: [] };
 const TEXT = "listset-schedule 1\nlist lock-free\nthreads 2\nquota 4\nbegin 0 add 5\n";
@@ -16,16 +16,16 @@ function check(name, isGood) {
   else result.failed.push(name);
 }
 
-const traceOf = (text, lacks = null) => ({ refused: null, total: text.split("\n").length - 5, lacks, kind: "lock-free" });
+const traceOf = (text) => ({ refused: null, total: text.split("\n").length - 5, kind: "lock-free" });
 
 // Returns a state that shows a text for a task.
-function shown(task, text, lacks = null, count = 1) {
-  const trace = { trace: traceOf(text, lacks), state: {}, source: "", count };
-  const actions = [["task", { task, lacks }], ["run", { text }], ["trace", trace]];
+function shown(task, text, count = 1) {
+  const actions = [["task", { task }], ["run", { text }], ["trace", { trace: traceOf(text), state: {}, count }]];
   return actions.reduce((state, [type, given]) => reduce(state, { type, ...given }), stateAtFirst());
 }
 
-const EXAMPLE = { kind: "example", id: "snip", work: "from snip", begun: TEXT };
+const EXAMPLE = { kind: "example", id: "snip" };
+
 // Returns a state that shows a scene and its run.
 function atScene(activity, id, text = "", given = {}) {
   const state = reduce(shown(EXAMPLE, TEXT), { type: "place", activity, screen: "scene", id, given });
@@ -34,10 +34,10 @@ function atScene(activity, id, text = "", given = {}) {
 
 function checkReducer() {
   const own = shown(EXAMPLE, TEXT);
-  const other = shown(EXAMPLE, `${TEXT}go 0 1\n`, null, 9);
+  const other = shown(EXAMPLE, `${TEXT}go 0 1\n`, 9);
   check("an example is one", exampleIn(own) === "snip");
   check("a count stays within its run", other.run.count === 2 && reduce(other, { type: "count", count: -3 }).run.count === 0);
-  const judged = reduce(own, { type: "exercise", exercise: { level: "claim" } });
+  const judged = reduce(own, { type: "exercise", exercise: { level: "points" } });
   check("an exercise is of the activity Judge", judged.place.activity === "judge");
   check("another trace ends it", shown(EXAMPLE, TEXT).exercise === null);
   check("a run leaves the scene", reduce(atScene("ask", "snip"), { type: "task", task: EXAMPLE }).place.screen === "stage");
@@ -53,20 +53,19 @@ function checkReducer() {
   check("a step is no entry of the history", entryOf(own) === entryOf(other) && entryOf(own) !== entryOf(atScene("ask", "snip")));
 }
 
-function seenIn(state, given = { hasEngine: true }) {
-  const facts = factsOf(state, given);
+function seenIn(state) {
+  const facts = factsOf(state);
   return Object.keys(SEEN).filter((id) => SEEN[id](facts));
 }
 
 function checkSeen() {
-  const has = (state, ids, given) => ids.every((id) => seenIn(state, given).includes(id));
+  const has = (state, ids) => ids.every((id) => seenIn(state).includes(id));
   const own = shown(EXAMPLE, TEXT);
-  check("a question", has(own, ["question-box", "go-on-here", "past", "run-figure", "bench"]) && !has(own, ["scene"]));
-  check("no moves without the engine", !has(own, ["go-on-here"], { hasEngine: false }) && has(own, ["no-engine"], { hasEngine: false }));
-  const claim = reduce(own, { type: "exercise", exercise: { level: "claim" } });
-  check("a claim shows no run", has(claim, ["judge", "judge-moments"]) && !["run-figure", "dock", "past"].some((id) => has(claim, [id])));
+  check("a question", has(own, ["question-box", "go-on-here", "past", "stage", "bench"]) && !has(own, ["scene"]));
+  const judged = reduce(own, { type: "exercise", exercise: { level: "points" } });
+  check("an exercise hides the history and the question", has(judged, ["judge", "stage"]) && !["past", "question-box"].some((id) => has(judged, [id])));
   const slide = reduce(own, { type: "view", view: "lecture" });
-  check("a slide", has(slide, ["task", "run-figure", "past", "leave"]) && !["top", "go-on-here", "said"].some((id) => has(slide, [id])));
+  check("a slide", has(slide, ["task", "stage", "past", "leave"]) && !["top", "go-on-here", "said"].some((id) => has(slide, [id])));
   const scene = atScene("story", "2");
   check("a scene", has(scene, ["scene", "top"]) && !["bench", "task", "stage", "workshop"].some((id) => has(scene, [id])));
   check("a frame", !has(reduce(scene, { type: "view", view: "embed" }), ["top"]) && !has(reduce(scene, { type: "view", view: "embed" }), ["leave"]));
@@ -79,8 +78,8 @@ function checkAddresses() {
     "#learn=one-lock&list=lock-free&threads=2&quota=4&s=b0.add.5&event=1": atScene("learn", "one-lock", TEXT),
     "#break=3": atScene("break", "3", start),
     "#break=3&list=lock-free&threads=2&quota=2&opening=3.7&s=b0.add.5&event=1": atScene("break", "3", `${start}begin 0 add 5\n`),
-    "#seed=lazy.2.5.2.17&event=1": shown({ kind: "seed", id: "lazy.2.5.2.17", work: "run 17", begun: TEXT }, TEXT),
-    "#list=lock-free&threads=2&quota=4&s=b0.add.5&event=1": shown({ kind: "own", id: "", work: "my schedule", begun: "" }, TEXT),
+    "#seed=lazy.2.5.2.17&event=1": shown({ kind: "seed", id: "lazy.2.5.2.17" }, TEXT),
+    "#list=lock-free&threads=2&quota=4&s=b0.add.5&event=1": shown(OWN_TASK, TEXT),
     "#learn": atScene("learn", ""),
     "#compare": atScene("compare", ""),
     "#read": atScene("read", ""),

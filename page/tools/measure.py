@@ -56,7 +56,7 @@ def measure(visitor, schedule):
     print(f"loaded: {sum(size for _, size in loaded) / 1e6:.2f} MB:", ", ".join(f"{name} {size}" for name, size in loaded))
     print("first picture:", in_words(painted) if None not in painted else "not reported by this browser")
     visitor.open("#example=snip")
-    visitor.inside("listsets.openTask(listsets.ownTask('measured'), given[0], 0)", schedule)
+    visitor.inside("listsets.openTask(listsets.OWN_TASK, given[0], 0)", schedule)
     total = visitor.inside(CHOSEN)
     times = json.loads(visitor.wait("return JSON.stringify((window.wrappedJSObject ?? window).measured)"))
     for what, column in zip(("work", "to the frame"), zip(*times)):

@@ -3,38 +3,34 @@ import { LECTURE } from "../data/lecture.js";
 import { LISTS } from "../../made/rows.js";
 import { loadMore, more } from "../engine/more.js";
 import { anotherSeed, partsOfSeed, scheduleOfSeed, seedOf } from "../run/address.js";
-import { escaped, listOptions } from "../run/markup.js";
+import { counted, listOptions } from "../run/markup.js";
 import { scheduleOfTrace } from "../run/schedule_text.js";
 import { momentAt, sentenceOf } from "../run/sentences.js";
-import { drawOrder, drawTable, drawThreads, MOST_ROWS } from "../draw/tables.js";
-import { HISTORY_LEFT } from "../draw/history.js";
+import { drawOrder, drawTable, drawThreads } from "../draw/tables.js";
 import { drawListing } from "../draw/listing.js";
 import { byId, scrollToLine, setAble, setHtml } from "../page/dom.js";
-import { works } from "../page/kept.js";
 import { askNow, hiddenOutcomes, isJudging, now, show, say } from "../page/now.js";
-import { goByHand, isPlaying } from "../page/play.js";
+import { isPlaying } from "../page/play.js";
 import { addressOfCode, titleIn } from "../page/visit.js";
-import { examples, openTask, scrollToEvent } from "../page/work.js";
+import { examples, openTask } from "../page/work.js";
 import { wayBack } from "../story/assignment.js";
 import { Figure, STILL } from "../story/figure.js";
 import { linesOf, ShownRun } from "../story/live_run.js";
 import { titleOfScene } from "../story/scene.js";
 
 const bench = { key: "", figure: null };
-const LACKING = "The code of the correct list. The list that runs here lacks one of its checks.";
 
 // Returns the figure of the task. A new task gets a new figure.
 function figureOfTask(run) {
-  const { kind, lacks } = run.trace;
-  const key = [now.task.kind, now.task.id, now.task.work, kind, lacks].join();
+  const { kind } = run.trace;
+  const key = [now.task.kind, now.task.id, kind].join();
   if (bench.figure !== null && bench.key === key) return bench.figure;
   bench.figure?.end();
   bench.key = key;
   const box = document.createElement("div");
   byId("run-figure").replaceChildren(box);
-  const codeNote = lacks === null ? "" : LACKING;
   const sentence = (moment) => sentenceOf(moment, hiddenOutcomes());
-  bench.figure = new Figure(box, { ...STILL, list: kind, run, sentence, codeTitle: LISTS[kind].name, codeNote, slots: 5 });
+  bench.figure = new Figure(box, { ...STILL, list: kind, run, sentence, codeTitle: LISTS[kind].name, slots: 5 });
   return bench.figure;
 }
 
@@ -50,15 +46,12 @@ export function showRun() {
   showThreads(moment.event);
   showTable(moment);
   showListing(moment);
-  scrollToEvent(moment.event);
 }
 
 export function showBar() {
-  const { trace, count, source } = now.run;
+  const { trace, count } = now.run;
   const { total } = trace;
-  const name = `${LISTS[trace.kind].name}${trace.lacks === null ? "" : " without one check"}`;
-  byId("title").textContent = `${name}, ${trace.threads} thread${trace.threads > 1 ? "s" : ""}`;
-  byId("source").textContent = source;
+  byId("title").textContent = `${LISTS[trace.kind].name}, ${counted(trace.threads, "thread")}`;
   const where = `event ${count} of ${total}`;
   Object.assign(byId("slider"), { max: total, value: count });
   byId("slider").setAttribute("aria-valuetext", where);
@@ -68,15 +61,11 @@ export function showBar() {
 }
 
 function showThreads(event) {
-  if (!byId("threads-box").open) return;
-  byId("threads").innerHTML = drawThreads(now.run.state, event, now.prefs.allThreads, hiddenOutcomes().includes("reply"));
-  byId("all-threads").hidden = now.run.trace.threads <= MOST_ROWS;
-  byId("all-threads").textContent = now.prefs.allThreads ? "show only those with a pending call" : `show all ${now.run.trace.threads}`;
+  if (byId("threads-box").open) byId("threads").innerHTML = drawThreads(now.run.state, event, hiddenOutcomes().includes("reply"));
 }
 
 function showTable(moment) {
-  const which = now.run.lacks === null ? "" : "the correct ";
-  byId("table-title").textContent = `Step table of ${which}${LISTS[now.run.trace.kind].name}`;
+  byId("table-title").textContent = `Step table of ${LISTS[now.run.trace.kind].name}`;
   if (byId("table-box").open) byId("table").innerHTML = drawTable(moment);
 }
 
@@ -89,25 +78,10 @@ function showListing(moment) {
   if (line !== null) scrollToLine(box, line, 40, 80);
 }
 
-function pressPicture({ target, clientX }) {
-  const calls = target.closest(".calls svg");
-  const said = target.closest("g, svg")?.querySelector(":scope > title")?.textContent ?? "";
-  if (calls !== null) {
-    const { first, step } = bench.figure.scale;
-    goByHand(first - 1 + Math.ceil((clientX - calls.getBoundingClientRect().left - HISTORY_LEFT) / step));
-  }
-  if (said !== "") say(escaped(said));
-}
-
 export function listenToBench() {
-  byId("run-figure").addEventListener("click", pressPicture);
   byId("go-on-here").onpointerdown = byId("go-on-here").onclick = aimGoOn;
-  byId("turns").onclick = ({ target }) => target.dataset.event && goByHand(Number(target.dataset.event));
-  for (const name of ["table-box", "listing-box", "threads-box", "turns-box"]) byId(name).ontoggle = show;
+  for (const name of ["table-box", "listing-box", "threads-box"]) byId(name).ontoggle = show;
 }
-
-// ---- Runs by example or by number.
-export const FIRST = { example: "marked-in-chain", event: 20 };
 
 export function seedForm(id, verb) {
   return `<div class="start-row"><label>list <select id="${id}-list">${listOptions()}</select></label>
@@ -124,8 +98,7 @@ export function listenToSeedForm(id, suffix) {
 }
 
 export function openSeed(seed, count) {
-  const text = scheduleOfSeed(askNow, seed);
-  openTask({ kind: "seed", id: seed, work: works.newName(`run ${partsOfSeed(seed).number}`) }, text, count);
+  openTask({ kind: "seed", id: seed }, scheduleOfSeed(askNow, seed), count);
 }
 
 function taskOfWatch() {
@@ -141,16 +114,10 @@ function taskOfWatch() {
 function drawSeedBox(seed) {
   const { kind, number } = partsOfSeed(seed);
   byId("seed-number").textContent = number;
-  if (document.activeElement !== byId("seed-input")) byId("seed-input").value = number;
   byId("seed-another").href = `#seed=${anotherSeed(seed, kind)}`;
   byId("seed-judge").href = `#seed=${seed}&judge`;
-  byId("seed-open").onclick = () => {
-    const wanted = Number(byId("seed-input").value);
-    if (wanted > 0) location.hash = `#seed=${seedOf(kind, wanted)}`;
-  };
 }
 
-// ---- The links to the previous and the next task, and the window's title.
 // Sets the address of "Go on from here" only when it is pressed, since a long run has a long address.
 function aimGoOn() {
   const { trace, count } = now.run;

@@ -5,7 +5,7 @@ import { handInText } from "../course/hand_in.js";
 import { triedCourse } from "../course/lesson.js";
 import { byId } from "../page/dom.js";
 import { onFile, saveText } from "../page/files.js";
-import { askNow, held } from "../page/now.js";
+import { askNow } from "../page/now.js";
 import { copied, linkTo } from "../page/visit.js";
 import { AddressFault, warningOf } from "../run/address.js";
 import { counted } from "../run/markup.js";
@@ -28,7 +28,6 @@ function takeCourseText(text) {
 }
 
 export async function takeCourseOfAddress(letters) {
-  if (held.engine === null) throw new AddressFault("the address names a course of lessons, which cannot be run here");
   const text = await courseOfAddress(letters);
   if (text === learning.panel.course.text) return;
   showCourseText(text);

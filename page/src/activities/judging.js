@@ -1,10 +1,9 @@
-// The panel in which the reader judges the current run. For a broken list, only its report is judged, as a claim.
+// The panel in which the reader judges the current run.
 import { CLASSICS } from "../../made/classics.js";
-import { drawJudged, drawOwnOrder, judgeScale, momentOfReport } from "../draw/judged_bars.js";
+import { drawJudged, drawOwnOrder, judgeScale } from "../draw/judged_bars.js";
 import { byId, redraw } from "../page/dom.js";
-import { askNow, dispatch, exampleShown, held, isJudging, now, say } from "../page/now.js";
+import { askNow, dispatch, exampleShown, isJudging, now, say } from "../page/now.js";
 import { addressOf, partsOfSeed } from "../run/address.js";
-import { askList } from "../run/broken.js";
 import { exerciseOf, LEVELS, MOST_JUDGED, OwnAnswer, repliesOf, verdictOn, wordOfAnswer } from "../run/judged.js";
 import { callText, chipOf, escaped } from "../run/markup.js";
 import { homeworkOf } from "../story/assignment.js";
@@ -19,25 +18,17 @@ class Judging {
   verdict = null;
   held = null; // the call whose point is dragged
   tries = 0; // that were refused
-  moment = 0; // of a claim
 
   get exercise() {
     return now.exercise;
   }
 
-  // Begins an exercise of this level about the current run. At the third level the report can be that of a broken list.
   begin(level) {
-    const { lacks, text } = now.run;
-    const broken = exampleShown() === "" ? null : askNow("listset_broken_example", exampleShown());
-    const isBroken = level === "claim" && broken?.status === 0 && Math.random() < 0.5;
-    const report = isBroken ? broken : askList(askNow, "listset_replay", lacks, text);
-    if (report.status === 0) this.take(exerciseOf(report.text, lacks === null ? level : "claim", lacks === null && !isBroken));
-    else say(`This run cannot be judged: ${escaped(report.text.trim())}.`);
-  }
-
-  take(exercise) {
-    Object.assign(this, { answer: new OwnAnswer(exercise), held: null, verdict: null, tries: 0, moment: 0 });
-    if (now.run.lacks === null) judgePart("level").value = exercise.level;
+    const report = askNow("listset_replay", now.run.text);
+    if (report.status !== 0) return say(`This run cannot be judged: ${escaped(report.text.trim())}.`);
+    const exercise = exerciseOf(report.text, level);
+    Object.assign(this, { answer: new OwnAnswer(exercise), held: null, verdict: null, tries: 0 });
+    judgePart("level").value = level;
     dispatch("exercise", { exercise });
   }
 
@@ -83,12 +74,10 @@ class Judging {
     this.draw();
   }
 
-  judge(isNone) {
-    this.answer.isNone = isNone;
+  judge() {
     this.verdict = verdictOn(askNow, this.answer);
     if (this.verdict.isRight === false) this.tries++;
-    if (this.verdict.isRight && this.exercise.isWhole) this.keep();
-    this.answer.isNone = false;
+    if (this.verdict.isRight) this.keep();
     this.draw();
     judgePart("verdict").scrollIntoView({ block: "nearest" });
   }
@@ -104,12 +93,10 @@ class Judging {
     this.count = now.run.count;
     this.scale = judgeScale(this.exercise, Math.max(300, judgePart("bars").clientWidth));
     judgePart("task").textContent = `${now.task.kind === "seed" ? `Run ${partsOfSeed(now.task.id).number}. ` : ""}${LEVELS[level].task}`;
-    judgePart("none").hidden = level !== "claim";
     redraw(judgePart("bars"), drawJudged(this));
     const asked = level === "replies" ? calls.filter((call) => call.ended !== null) : [];
     redraw(judgePart("replies"), asked.map((call) => this.replyBox(call)));
     judgePart("order").innerHTML = drawOwnOrder(this.answer);
-    this.drawMoment();
     this.drawVerdict();
   }
 
@@ -128,15 +115,6 @@ class Judging {
     return box;
   }
 
-  // A claim has no run to step through. The slider goes through the moments of its report.
-  drawMoment() {
-    const slider = judgePart("moment");
-    const said = momentOfReport(this.exercise, this.moment);
-    Object.assign(slider, { max: this.exercise.last, value: this.moment });
-    slider.setAttribute("aria-valuetext", said.replace(/<[^>]*>/g, ""));
-    judgePart("said").innerHTML = said;
-  }
-
   drawVerdict() {
     const { verdict, tries } = this;
     const isAsked = homeworkOf(now.place, now.task) !== null && verdict?.isRight !== true; // what shows its answer is not there yet
@@ -145,9 +123,8 @@ class Judging {
     judgePart("verdict").className = kind;
     judgePart("verdict").textContent = verdict?.says ?? "";
     judgePart("tries").textContent = tries === 0 ? "" : `${tries} ${tries === 1 ? "try" : "tries"} refused`;
-    judgePart("hint").textContent = kind === "wrong" && tries >= 2 && this.exercise.level !== "claim" ? hintOfRun() : "";
-    const isKept = kind === "right" && this.exercise.isWhole;
-    judgePart("line").innerHTML = isKept ? `<details><summary>Saved. The line to hand in</summary><code>${escaped(this.line)}</code></details>` : "";
+    judgePart("hint").textContent = kind === "wrong" && tries >= 2 ? hintOfRun() : "";
+    judgePart("line").innerHTML = kind === "right" ? `<details><summary>Saved. The line to hand in</summary><code>${escaped(this.line)}</code></details>` : "";
     const drawn = verdict?.report == null ? "" : askNow("listset_show_svg", verdict.report).text;
     judgePart("picture-box").hidden = !drawn.startsWith("<svg ");
     judgePart("picture").innerHTML = judgePart("picture-box").hidden ? "" : drawn;
@@ -167,7 +144,6 @@ function hintOfRun() {
 
 export function beginJudging() {
   const { trace } = now.run;
-  if (held.engine === null) return say("The replayer does not run in this browser: nothing can be judged.");
   if (!now.run.isRun || trace.refused !== null) return say("A run with a refused event cannot be judged: delete the red line of the schedule first.");
   if (trace.calls.length === 0) return say("No call has begun: there is nothing to judge yet.");
   if (trace.total > MOST_JUDGED) return say(`A run of at most ${MOST_JUDGED} events can be judged; this one has ${trace.total}.`);
@@ -181,12 +157,7 @@ export function listenToJudging() {
   judgePart("level").append(...Object.entries(LEVELS).map(([level, { name }]) => new Option(name, level)));
   judgePart("level").value = "replies";
   judgePart("level").onchange = judgePart("again").onclick = () => judging.begin(judgePart("level").value);
-  judgePart("ask").onclick = () => judging.judge(false);
-  judgePart("none").onclick = () => judging.judge(true);
-  judgePart("moment").oninput = () => {
-    judging.moment = Number(judgePart("moment").value);
-    judging.draw();
-  };
+  judgePart("ask").onclick = () => judging.judge();
   judgePart("end").onclick = () => {
     dispatch("exercise", { exercise: null });
     byId("judge-begin").focus();

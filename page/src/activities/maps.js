@@ -27,7 +27,6 @@ const cards = (all) => tag("div", { class: "cards" }, ...all.map(drawCard));
 const lead = (words, score = "") => `<p class="lead">${words}</p>${score === "" ? "" : `<p class="score">${score}</p>`}`;
 const goOn = (href, count, all) => tag("a", { class: "button primary", href }, `${count === 0 ? "Begin" : count < all ? "Go on" : "Once more"} →`);
 
-// ---- Guess, then see.
 function askHtml() {
   const { asks } = keptStory();
   const seen = QUESTIONS.filter(({ name }) => asks[name] !== undefined);
@@ -42,7 +41,6 @@ function askHtml() {
     ${foot('<a class="button quiet" href="#story=1">← The path</a>', goOn(`#ask=${next.name}`, seen.length, QUESTIONS.length))}`;
 }
 
-// ---- Break it: the lists that lack a check, the simplest first.
 function breakHtml() {
   const cardOf = (name) => {
     const { story, lacks } = BREAK_LEVELS[name];
@@ -58,7 +56,6 @@ function breakHtml() {
     <h2>Three more</h2>${cards(THREE_MORE.map(cardOf))}${foot("", goOn(`#break=${numberOfLevel(next)}`, count, Infinity))}`;
 }
 
-// ---- Solve it: the lessons of a course, the text to hand in, and the reader's own courses.
 function learnHtml() {
   const { panel } = learning;
   const { lessons, name } = panel.course;
@@ -94,7 +91,6 @@ function openBook() {
   drawLearnMap();
 }
 
-// ---- Judge: recorded calls, a run by its number, or an example by its question.
 function judgeHtml() {
   const judged = Object.keys(judgedLines());
   const cardOf = ({ name, kind }) => {

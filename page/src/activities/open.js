@@ -1,16 +1,13 @@
 // What an address opens, and what the page shows first.
-import { CLASSICS } from "../../made/classics.js";
 import { LECTURE } from "../data/lecture.js";
 import { numberOfLevel } from "../data/levels.js";
-import { loadMore } from "../engine/more.js";
 import { byId } from "../page/dom.js";
-import { isExample, openKept, openTask, openWork, ownTask, showMarks } from "../page/work.js";
-import { HERE, isText, keepWork, keptUnder, works } from "../page/kept.js";
-import { fillWorks, pickExample } from "../page/controls.js";
-import { exampleShown, goTo, held, now, say } from "../page/now.js";
+import { isExample, openExample, openTask } from "../page/work.js";
+import { HERE, isText, keptUnder } from "../page/kept.js";
+import { exampleShown, goTo, now, say } from "../page/now.js";
 import { setView } from "../page/seen.js";
 import { stopPlay } from "../page/play.js";
-import { entryOf } from "../page/reducer.js";
+import { entryOf, OWN_TASK } from "../page/reducer.js";
 import { keepSoon, sceneOfHash, visit } from "../page/visit.js";
 import { AddressFault, readAddress } from "../run/address.js";
 import { escaped } from "../run/markup.js";
@@ -20,16 +17,9 @@ import { faultOfScene, openScene } from "../story/scene.js";
 import { showCourseText, takeCourseOfAddress } from "./courses.js";
 import { beginJudging } from "./judging.js";
 import { showRecorded } from "./recording.js";
-import { FIRST, openSeed } from "./bench.js";
-
-const WANTS_ENGINE = { learn: "a lesson", judge: "runs to judge", break: "a broken list", compare: "two lists side by side" };
-
-function needEngine(what) {
-  if (held.engine === null) throw new AddressFault(`the address names ${what}, which cannot be run here`);
-}
+import { openSeed } from "./bench.js";
 
 function openStory(place) {
-  if (place.activity !== "read") needEngine(WANTS_ENGINE[place.activity] ?? "a place where threads step");
   if (place.activity === "story" && place.id === "") place.id = String(keptStory().at);
   const fault = faultOfScene({ id: "", given: {}, ...place });
   if (fault !== null) throw new AddressFault(fault);
@@ -43,7 +33,7 @@ function openPlace([activity, value], { text, event, view }) {
   if (value === "" || activity !== "watch") {
     openStory({ activity: activity === "watch" ? "ask" : activity, id: value, given: text === null ? {} : { text }, view });
   } else if (text === null) openRun({ seed: null, example: value, event });
-  else openLink({ text, event, lacks: null });
+  else openLink({ text, event });
 }
 
 async function openCourse(wanted) {
@@ -53,30 +43,20 @@ async function openCourse(wanted) {
 }
 
 function openRun(wanted) {
-  if (wanted.seed !== null) {
-    needEngine("a run by its number");
-    openSeed(wanted.seed, wanted.event);
-  } else if (wanted.example !== null) {
+  if (wanted.seed !== null) openSeed(wanted.seed, wanted.event);
+  else if (wanted.example !== null) {
     if (!isExample(wanted.example)) throw new AddressFault(`the address names an example "${wanted.example}" that does not exist`);
-    const isShown = exampleShown() === wanted.example && now.run.isRun && now.place.screen === "stage";
-    const isBeforehand = isShown && now.task.work === "" && held.engine !== null; // from its trace, and the reader may have gone on
-    if (isBeforehand) pickExample(wanted.example, now.run.count);
-    else if (isShown) goTo(wanted.event);
-    else pickExample(wanted.example, wanted.event);
+    if (exampleShown() === wanted.example && now.run.isRun && now.place.screen === "stage") goTo(wanted.event);
+    else openExample(wanted.example, wanted.event);
   } else openLink(wanted);
   if (wanted.isJudged) beginJudging();
 }
 
-// Opens a linked schedule under the name of the reader's work with the same text, or under a new name.
-function openLink({ text, event, lacks, view = null }) {
-  needEngine("a schedule");
+// Opens a linked schedule: on the bench, or that of a broken list in its level.
+function openLink({ text, event, lacks = null, view = null }) {
   if (lacks !== null) return openStory({ activity: "break", id: String(numberOfLevel(lacks)), given: { text }, view });
   if (text === now.run.text && now.run.isRun && now.place.screen === "stage") return goTo(event);
-  const own = works.nameOf(text);
-  if (own !== null) return openWork(own, event);
-  const says = "Opened from a link. Your changes are kept under a new name";
-  const others = works.byName.size === 0 ? "" : `; your ${works.byName.size} other works stay under Open`;
-  openTask(ownTask("from a link"), text, event, `${says}${others}.`);
+  openTask(OWN_TASK, text, event);
 }
 
 // Returns the slide that an address names, directly or by its content's address, or 0.
@@ -123,9 +103,8 @@ export function openCourseFile(text) {
 // Opens the address in the address bar, after a move in the history, a link or typing.
 export async function followAddress(event) {
   clearTimeout(visit.timer);
-  keepWork();
   const kept = event.state;
-  if (typeof kept?.text === "string") openLink({ text: kept.text, event: kept.count, lacks: kept.lacks });
+  if (typeof kept?.text === "string") openLink({ text: kept.text, event: kept.count });
   else await openAddress(location.hash);
   visit.entry = entryOf(now);
   keepSoon();
@@ -133,32 +112,11 @@ export async function followAddress(event) {
 
 const addressKept = () => (isText(keptUnder(HERE)) ? keptUnder(HERE) : "");
 
-// Shows the first example from its stored trace, while the engine loads.
-export async function showBeforehand() {
-  works.load();
-  const [, name, event] = /^#example=([a-z-]+)(?:&event=(\d+))?$/.exec(location.hash || addressKept()) ?? [];
-  if (!Object.hasOwn(CLASSICS, name)) return;
-  try {
-    await loadMore();
-    openKept(name, Number(event ?? 0));
-    document.body.dataset.ready = "soon";
-  } catch {
-    // The engine will show the example.
-  }
-}
-
-function firstVisit() {
-  if (held.engine === null) pickExample(FIRST.example, FIRST.event);
-  else openStory({ activity: "story", id: "1" });
-}
-
 export async function openFirst() {
-  fillWorks();
   const isNamed = location.hash !== "" && (await openAddress(location.hash));
   const said = byId("said").innerHTML;
   const isWrong = location.hash !== "" && !isNamed;
-  if (!isNamed && (isWrong || addressKept() === "" || !(await openAddress(addressBack())))) firstVisit();
-  bringBack();
+  if (!isNamed && (isWrong || addressKept() === "" || !(await openAddress(addressBack())))) openStory({ activity: "story", id: "1" });
   if (!isNamed && said !== "") say(said);
   Object.assign(visit, { isRead: true, entry: entryOf(now) });
   keepSoon();
@@ -166,10 +124,3 @@ export async function openFirst() {
 
 // Returns the last address. A screen of the path greets a returning reader.
 const addressBack = () => addressKept().replace(/^#story=(?!1$)\d+$/, "$&&back=yes");
-
-function bringBack() {
-  const kept = works.byName.get(now.task.work);
-  if (kept === undefined || kept.text !== now.run.text || kept.box === kept.text) return;
-  byId("schedule").value = kept.box;
-  showMarks();
-}

@@ -2,8 +2,7 @@
 import { drawRecorded } from "../draw/judged_bars.js";
 import { byId } from "../page/dom.js";
 import { onFile } from "../page/files.js";
-import { askLong, LONG_TEXT } from "../page/long_run.js";
-import { askNow } from "../page/now.js";
+import { askNow, askSoon, LONG_TEXT } from "../page/now.js";
 import { escaped, letterOf, tag } from "../run/markup.js";
 import { RECORDED_EXAMPLE, recordedInWords, verdictOnCalls, withNewline } from "../run/recorded.js";
 import { diagnosisIn } from "../run/why.js";
@@ -45,7 +44,7 @@ function keysInWords(text, { kind }) {
 
 // Replaces the judge's reasons by the diagnosis, if there is one.
 async function withDiagnosis(verdict, text) {
-  const why = verdict.kind === "none" ? diagnosisIn((await askLong("listset_why_record", text, false)).text) : null;
+  const why = verdict.kind === "none" ? diagnosisIn((await askSoon("listset_why_record", text)).text) : null;
   if (why === null) return verdict;
   const inWords = (mark) => (mark === "either" ? "one of the two is wrong" : mark.replace(/^(leaves|finds) /, "$1 the key "));
   const marked = why.calls.filter(({ mark }) => mark !== "").map((call) => `${recordedInWords(call)}: ${inWords(call.mark)}`);
@@ -78,7 +77,7 @@ async function judgeCalls() {
   recorded.text = text;
   if (text === "") return showVerdict({ ...nothing, kind: "fault", says: "Paste the text of recorded calls first, or open a file." });
   showVerdict({ ...nothing, says: text.length < LONG_TEXT ? "" : "Judging .." });
-  const said = await askLong("listset_judge_record", text, false);
+  const said = await askSoon("listset_judge_record", text);
   const verdict = await withDiagnosis(verdictOnCalls(askNow, said, text), text);
   if (recordedPart("text") !== null && withNewline(recordedPart("text").value) === text) showVerdict(withRemarks(verdict, text));
 }

@@ -87,9 +87,9 @@ export function readHandIn({ lines, isEnded, number }) {
   for (const given of lines) {
     const last = parts.at(-1);
     const isName = /^[a-z][a-z0-9-]*$/.test(given.line) && (last === undefined || !lacksWords(last.line));
-    if (isBegin(given.line) || isName) parts.push({ ...given });
+    if (isBegin(given.line) || isName) parts.push({ ...given, shorter: [] });
     else if (last !== undefined && lacksWords(last.line)) last.line += ` ${given.line}`;
-    else if (last !== undefined && isPiece(given.line)) last.line += given.line;
+    else if (last !== undefined && isPiece(given.line)) Object.assign(last, { line: last.line + given.line, shorter: [last.line, ...last.shorter] });
     else faults.push({ line: given.number, fault: `"${given.line.slice(0, 40)}" is not a line of a solution` });
   }
   const valueOf = (word) => parts.find(({ line }) => line.startsWith(`${word} `))?.line.slice(word.length + 1) ?? null;
@@ -106,6 +106,15 @@ export function readSchedule(link) {
     if (!(fault instanceof AddressFault)) throw fault;
     return { fault: fault.message };
   }
+}
+
+// Judges a solution. A folded line can be followed by lines that do not belong to it: if the whole is wrong, `shorter` has it without them.
+export function judgedSolution(ask, lessons, { line, shorter }) {
+  const lines = [line, ...shorter];
+  /** @type {any[]} */
+  const verdicts = lines.map((one) => judgedPart(ask, lessons, one));
+  const at = Math.max(0, verdicts.findIndex(({ isSolved }) => isSolved));
+  return { ...verdicts[at], line: lines[at] };
 }
 
 export function judgedPart(ask, lessons, line) {

@@ -97,13 +97,12 @@ function drawWhen(call, at, y, scale) {
 }
 
 export function drawJudged(judged) {
-  const { exercise, scale, moment } = judged;
+  const { exercise, scale, count } = judged;
   const lanes = Array.from({ length: exercise.threads }, (_, thread) => drawLane(scale, thread));
-  const at = exercise.level === "claim" ? moment : judged.count;
-  const line = { class: "cursor", x1: scale.x(at), x2: scale.x(at), y1: 0, y2: scale.height };
+  const line = { class: "cursor", x1: scale.x(count), x2: scale.x(count), y1: 0, y2: scale.height };
   const frame = { ...frameOf(scale), role: "group", "aria-label": "the calls, each with a point to place" };
   const calls = exercise.calls.map((call) => drawJudgedCall(call, judged));
-  return tag("svg", frame, ...lanes, at === 0 ? "" : tag("line", line), ...calls);
+  return tag("svg", frame, ...lanes, count === 0 ? "" : tag("line", line), ...calls);
 }
 
 // Writes the reader's order. The calls that are not placed yet follow in pale, so the line keeps its size.
@@ -116,15 +115,4 @@ export function drawOwnOrder(answer) {
     return `<li class="later">${chipOf(call.thread)} ${callText(call)} <small>not placed yet</small></li>`;
   });
   return `<ol>${placed.join("")}${others.join("")}</ol>`;
-}
-
-export function momentOfReport({ calls, last }, moment) {
-  if (moment === 0) return `Before the first of ${last} moments.`;
-  const begun = calls.find((call) => call.begun === moment);
-  const ended = calls.find((call) => call.ended === moment);
-  if (begun !== undefined) return `Moment ${moment}: ${chipOf(begun.thread)} begins ${callText(begun)}.`;
-  if (ended !== undefined) return `Moment ${moment}: ${chipOf(ended.thread)} ${callText(ended)} answers <b>${ended.reply}</b>.`;
-  const open = calls.filter((call) => call.begun < moment && (call.ended ?? Infinity) > moment);
-  const names = open.map((call) => `${callText(call)} of ${chipOf(call.thread)}`);
-  return `Moment ${moment}: a step. ${names.length === 0 ? "No call is pending." : `Pending: ${names.join(", ")}.`}`;
 }

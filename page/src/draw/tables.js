@@ -4,11 +4,11 @@ import { callText, chipOf, escaped, keyText, label, openReply, tag, title } from
 import { contentsIn } from "../run/state.js";
 import { drawCursor, HISTORY_LEFT, isReached } from "./history.js";
 
-export const MOST_ROWS = 8; // of more threads only those with an open call are shown at first
+const MOST_ROWS = 8; // of more threads only those with an open call are shown
 
-function threadsShown(state, event, all) {
+function threadsShown(state, event) {
   const every = state.threads.map((_, thread) => thread);
-  if (all || every.length <= MOST_ROWS) return every;
+  if (every.length <= MOST_ROWS) return every;
   return every.filter((thread) => state.threads[thread].pc !== 0 || thread === event?.thread);
 }
 
@@ -48,16 +48,15 @@ function threadRow(state, thread, event, hidesReplies) {
   return tag("tr", moved ? { class: "moved" } : {}, tag("th", { scope: "row" }, chipOf(thread)), ...cells);
 }
 
-export function drawThreads(state, event, all, hidesReplies = false) {
+export function drawThreads(state, event, hidesReplies = false) {
   const { registers } = LISTS[state.trace.kind];
   const heads = ["thread", "call", "next row of the step table", ...registers, "reply", "slots used"];
-  const rows = threadsShown(state, event, all).map((thread) => threadRow(state, thread, event, hidesReplies));
+  const rows = threadsShown(state, event).map((thread) => threadRow(state, thread, event, hidesReplies));
   if (rows.length === 0) rows.push(`<tr><td colspan="${heads.length}" class="pale">every thread is idle</td></tr>`);
   const head = tag("tr", {}, ...heads.map((text) => tag("th", { scope: "col" }, text)));
   return tag("table", {}, tag("thead", {}, head), tag("tbody", {}, ...rows));
 }
 
-// ---- The step table of the running list: the last row made, and each thread at its next row.
 export function drawTable({ trace, state, event, before }) {
   const made = event === null || event.deed === "begin" ? null : before.pc;
   const at = new Map();
@@ -72,7 +71,6 @@ export function drawTable({ trace, state, event, before }) {
   return tag("table", {}, tag("thead", {}, tag("tr", {}, ...heads)), tag("tbody", {}, ...lines));
 }
 
-// ---- The contents of the set, and the order of the calls.
 const KEY_WIDTH = 8; // pixels, of each character of the contents
 
 function drawContent(part, scale) {

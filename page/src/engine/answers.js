@@ -90,7 +90,6 @@ function orderIn([fault, ...values], keys) {
   return { fault, set: `{${keys.join(", ")}}`, ...Object.fromEntries((FAULT_VALUES[fault] ?? ["call"]).map((name, at) => [name, values[at]])) };
 }
 
-// ---- The program's sentences on the causes of errors.
 // Returns the first sentence of `listset faults` on a cause in a text of one of these kinds ("a schedule", "recorded calls"), to be read after a
 // colon. Returns null if there is no cause or no sentence.
 export function sentenceOn(ask, cause, ...kinds) {

@@ -1,108 +1,99 @@
 // The engine: the proved replayer as the WebAssembly module listset.wasm. Text in, text out.
 
-export const FIRST_ROOM = 1 << 22; // bytes handed to the engine for its answer, at first
+const FIRST_ROOM = 1 << 22; // bytes handed to the engine for its answer, at first
+const LARGE_MEMORY = 1 << 28; // past so many bytes an instance is not used again
 
-// Returns the class of engines. It uses no outer names, since a worker is built from its text.
-export function engineClass(firstRoom) {
-  const LARGE_MEMORY = 1 << 28; // past so many bytes an instance is not used again
-
-  class Engine {
-    // `read` copies bytes of a host input to the start of `room`, and returns how many, or -1.
-    /** @param {(input: bigint, room: Uint8Array) => number} read */
-    constructor(module, read = () => -1) {
-      this.module = module;
-      /** @type {any} */
-      this.instance = null;
-      this.host = { env: { read: (input, at, count) => BigInt(read(input, this.piece(Number(at), Number(count)))) } };
-    }
-
-    piece(at, count) {
-      return new Uint8Array(this.instance.exports.memory.buffer, at, count);
-    }
-
-    ask(name, ...texts) {
-      const encoder = new TextEncoder();
-      return this.askBytes(name, ...texts.map((text) => encoder.encode(text)));
-    }
-
-    askBytes(name, ...given) {
-      return this.answered((exports) => answerOf(exports, name, given));
-    }
-
-    // Judges a recording of any length, read from an input in pieces.
-    judgeFrom(input) {
-      return this.answered((exports) => answerInRoom(exports, "listset_judge_from", [[input]], firstRoom));
-    }
-
-    // Returns the diagnosis that the program adds to a refusal of `used` lines. Reads the recording again from an input.
-    whyFrom(input, used) {
-      return this.answered((exports) => answerInRoom(exports, "listset_why_from", [[input, BigInt(used)]], firstRoom));
-    }
-
-    answered(answer) {
-      if (this.instance === null || this.instance.exports.memory.buffer.byteLength > LARGE_MEMORY) {
-        this.instance = new WebAssembly.Instance(this.module, this.host);
-      }
-      try {
-        return answer(this.instance.exports);
-      } catch (fault) {
-        this.instance = null; // after a trap the memory is not looked at again
-        throw new Error(`the engine stopped: ${fault.message}`);
-      }
-    }
+export class Engine {
+  // `read` copies bytes of a host input to the start of `room`, and returns how many, or -1.
+  /** @param {(input: bigint, room: Uint8Array) => number} read */
+  constructor(module, read = () => -1) {
+    this.module = module;
+    /** @type {any} */
+    this.instance = null;
+    this.host = { env: { read: (input, at, count) => BigInt(read(input, this.piece(Number(at), Number(count)))) } };
   }
 
-  function answerOf(engine, name, given) {
-    const texts = textsOf(engine, engine[name].length, given);
-    let answer = answerInRoom(engine, name, texts, firstRoom);
-    if (answer.bytes === null) answer = answerInRoom(engine, name, texts, answer.length);
-    texts.forEach(([block]) => engine.page_free(block));
-    if (answer.bytes === null) throw new Error("two answers to one text");
-    return { status: answer.status, text: new TextDecoder().decode(answer.bytes), bytes: answer.bytes };
+  piece(at, count) {
+    return new Uint8Array(this.instance.exports.memory.buffer, at, count);
   }
 
-  // Copies the texts into memory, as blocks and lengths. The last three parameters are the room's block and length, and the status.
-  function textsOf(engine, parameters, given) {
-    return Array.from({ length: (parameters - 3) / 2 }, (_, at) => {
-      const text = given[at] ?? new Uint8Array(0);
-      const block = blockOf(engine, text.length);
-      new Uint8Array(engine.memory.buffer, Number(block), text.length).set(text);
-      return [block, BigInt(text.length)];
-    });
+  ask(name, ...texts) {
+    const encoder = new TextEncoder();
+    return this.askBytes(name, ...texts.map((text) => encoder.encode(text)));
   }
 
-  function answerInRoom(engine, name, texts, room) {
-    const out = blockOf(engine, room);
-    const status = blockOf(engine, 1);
-    const count = Number(engine[name](...texts.flat(), out, BigInt(room), status));
-    const memory = engine.memory.buffer;
-    const bytes = count <= room ? new Uint8Array(memory, Number(out), count).slice() : null;
-    const said = new Uint8Array(memory, Number(status), 1)[0];
-    engine.page_free(out);
-    engine.page_free(status);
-    return { bytes, length: count, status: said };
+  askBytes(name, ...given) {
+    return this.answered((exports) => answerOf(exports, name, given));
   }
 
-  function blockOf(engine, length) {
-    const block = engine.page_alloc(BigInt(Math.max(length, 1)));
-    if (!block) throw new Error("no memory");
-    return block;
+  // Judges a recording of any length, read from an input in pieces.
+  judgeFrom(input) {
+    return this.answered((exports) => answerInRoom(exports, "listset_judge_from", [[input]], FIRST_ROOM));
   }
 
-  return Engine;
+  // Returns the diagnosis that the program adds to a refusal of `used` lines. Reads the recording again from an input.
+  whyFrom(input, used) {
+    return this.answered((exports) => answerInRoom(exports, "listset_why_from", [[input, BigInt(used)]], FIRST_ROOM));
+  }
+
+  answered(answer) {
+    if (this.instance === null || this.instance.exports.memory.buffer.byteLength > LARGE_MEMORY) {
+      this.instance = new WebAssembly.Instance(this.module, this.host);
+    }
+    try {
+      return answer(this.instance.exports);
+    } catch (fault) {
+      this.instance = null; // after a trap the memory is not looked at again
+      throw new Error(`the engine stopped: ${fault.message}`);
+    }
+  }
 }
-export const Engine = engineClass(FIRST_ROOM);
 
-// Returns the bytes after they have passed through a stream.
+function answerOf(engine, name, given) {
+  const texts = textsOf(engine, engine[name].length, given);
+  let answer = answerInRoom(engine, name, texts, FIRST_ROOM);
+  if (answer.bytes === null) answer = answerInRoom(engine, name, texts, answer.length);
+  texts.forEach(([block]) => engine.page_free(block));
+  if (answer.bytes === null) throw new Error("two answers to one text");
+  return { status: answer.status, text: new TextDecoder().decode(answer.bytes), bytes: answer.bytes };
+}
+
+// Copies the texts into memory, as blocks and lengths. The last three parameters are the room's block and length, and the status.
+function textsOf(engine, parameters, given) {
+  return Array.from({ length: (parameters - 3) / 2 }, (_, at) => {
+    const text = given[at] ?? new Uint8Array(0);
+    const block = blockOf(engine, text.length);
+    new Uint8Array(engine.memory.buffer, Number(block), text.length).set(text);
+    return [block, BigInt(text.length)];
+  });
+}
+
+function answerInRoom(engine, name, texts, room) {
+  const out = blockOf(engine, room);
+  const status = blockOf(engine, 1);
+  const count = Number(engine[name](...texts.flat(), out, BigInt(room), status));
+  const memory = engine.memory.buffer;
+  const bytes = count <= room ? new Uint8Array(memory, Number(out), count).slice() : null;
+  const said = new Uint8Array(memory, Number(status), 1)[0];
+  engine.page_free(out);
+  engine.page_free(status);
+  return { bytes, length: count, status: said };
+}
+
+function blockOf(engine, length) {
+  const block = engine.page_alloc(BigInt(Math.max(length, 1)));
+  if (!block) throw new Error("no memory");
+  return block;
+}
+
 export async function passed(bytes, stream) {
   return new Uint8Array(await new Response(new Blob([bytes]).stream().pipeThrough(stream)).arrayBuffer());
 }
 
 export const bytesOf = (base64) => Uint8Array.from(atob(base64), (letter) => letter.charCodeAt(0));
 
-// Compiles the module. Its packed bytes are in engine.js, a third of listset.wasm. A browser that cannot unpack them fetches listset.wasm.
+// Compiles the module. Its packed bytes are in engine.js, a third of listset.wasm.
 async function engineModule() {
-  if (typeof DecompressionStream === "undefined") return WebAssembly.compile(await (await fetch("listset.wasm")).arrayBuffer());
   if (typeof ENGINE === "undefined") {
     if (document.readyState !== "complete") await new Promise((done) => window.addEventListener("load", done, { once: true })); // the page does not wait for it
     await loadScript("engine.js");

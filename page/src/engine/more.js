@@ -1,8 +1,8 @@
-// Data loaded on demand: the traces of the examples, for browsers without WebAssembly, and the proved code.
+// Data loaded on demand: the proved code.
 import { loadScript } from "./engine.js";
 
-/** @type {{ EXAMPLES: string, TRACES: Record<string, string>, CODE: any, CODE_OF: any }} */
-export const more = { EXAMPLES: "", TRACES: {}, CODE: null, CODE_OF: {} };
+/** @type {{ CODE: any, CODE_OF: any }} */
+export const more = { CODE: null, CODE_OF: {} };
 const loading = { begun: null };
 
 // Loads more.js if it is not loaded yet. Rejects if the file is missing.

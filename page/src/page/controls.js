@@ -1,16 +1,13 @@
 // The handlers of the bench's buttons, slider and schedule box.
 import { CLASSICS } from "../../made/classics.js";
-import { wantsStill } from "../draw/glide.js";
-import { inLetters, tag } from "../run/markup.js";
-import { eventsAsked } from "../run/schedule_text.js";
-import { byId, redraw } from "./dom.js";
-import { onFile, openFile, refreshReport, savePicture, saveText } from "./files.js";
-import { keepUnder, keptUnder, works } from "./kept.js";
-import { cancelLong } from "./long_run.js";
-import { change, dispatch, exampleShown, held, isJudging, now } from "./now.js";
-import { changeSpeed, goByHand, toggleKeys, toggleLecture, togglePlay } from "./play.js";
-import { copyLink, keepSoon } from "./visit.js";
-import { examples, newSchedule, openExample, openKept, openWork, runBox, runWithOpening, showMarks, watchEditor } from "./work.js";
+import { inLetters } from "../run/markup.js";
+import { byId } from "./dom.js";
+import { onFile, openFile, refreshReport, saveText } from "./files.js";
+import { keepUnder, keptUnder } from "./kept.js";
+import { change, dispatch, now } from "./now.js";
+import { goByHand, toggleKeys, toggleLecture, togglePlay } from "./play.js";
+import { copyLink } from "./visit.js";
+import { examples, newSchedule, openExample, runBox, runWithOpening } from "./work.js";
 
 export function stopUnable(event) {
   if (event.target.closest?.('[aria-disabled="true"]') == null) return;
@@ -28,15 +25,11 @@ export function listenToBar() {
   byId("back").onclick = () => goByHand(now.run.count - 1);
   byId("next").onclick = () => goByHand(now.run.count + 1);
   byId("play").onclick = togglePlay;
-  byId("speed").onchange = changeSpeed;
-  byId("speed").value = wantsStill() ? "slow" : "medium";
   byId("slider").oninput = () => goByHand(Number(byId("slider").value));
-  byId("all-threads").onclick = () => dispatch("prefs", { allThreads: !now.prefs.allThreads });
   byId("keys").onclick = toggleKeys;
   byId("skip").onclick = skipToRun;
   for (const name of ["lecture", "leave"]) byId(name).onclick = toggleLecture;
   byId("link-here").onclick = copyLink;
-  byId("long-cancel").onclick = cancelLong;
 }
 
 export function listenToSettings() {
@@ -53,19 +46,11 @@ export function listenToSettings() {
 const SETTINGS = "listset-settings";
 
 export function listenToWork() {
-  const box = byId("schedule");
-  byId("examples").onchange = () => chooseInList(byId("examples").value);
+  byId("examples").onchange = () => openExample(byId("examples").value, 0);
   byId("run").onclick = runBox;
   byId("opening").onchange = runWithOpening;
-  byId("link").onclick = copyLink;
   byId("new").onclick = () => newSchedule(byId("new-list").value, byId("new-threads").value, byId("new-quota").value);
-  box.onscroll = showMarks;
-  watchEditor();
-  box.oninput = () => {
-    showMarks();
-    keepSoon();
-  };
-  box.onkeydown = (event) => {
+  byId("schedule").onkeydown = (event) => {
     if (event.key === "Enter" && (event.ctrlKey || event.metaKey)) runBox();
   };
 }
@@ -75,7 +60,6 @@ export function listenToFiles() {
   onFile(byId("file"), openFile);
   byId("save-schedule").onclick = () => saveText("page.schedule", byId("schedule").value);
   byId("save-trace").onclick = () => saveText("page.trace", now.run.trace.text);
-  byId("save-picture").onclick = savePicture;
 }
 
 export function placeParts() {
@@ -87,48 +71,14 @@ export function placeParts() {
   place();
 }
 
-// ---- The list of examples and works, and the question of the current example.
-const WORK = "work: ";
-
-export function fillWorks() {
-  const options = [...works.byName].reverse().map(([name, { text }]) => {
-    const [, list] = text.split("\n");
-    return new Option(`${name} (${list?.slice("list ".length)}): ${eventsAsked(text)} events`, `${WORK}${name}`);
-  });
-  byId("work-options").replaceChildren(...options);
-  byId("work-options").hidden = options.length === 0 || held.engine === null;
-  const example = exampleShown();
-  byId("nothing-kept").textContent = now.task.work; // what was opened, and not changed yet
-  byId("examples").value = example !== "" ? example : works.byName.has(now.task.work) ? `${WORK}${now.task.work}` : "";
-}
-
 export function fillExamples() {
-  byId("example-options").replaceChildren(...examples().map(({ name, kind }) => new Option(`${name} (${kind})`, name)));
+  byId("examples").append(...examples().map(({ name, kind }) => new Option(`${name} (${kind})`, name)));
 }
 
-function chooseInList(value) {
-  if (value.startsWith(WORK)) openWork(value.slice(WORK.length));
-  else if (value !== "") pickExample(value, 0);
-}
-
-export const pickExample = (name, count) => (held.engine === null ? openKept(name, count) : openExample(name, count));
-
-// Shows the question of the example. The deciding events are shown on request: ticks on the slider, and a button for each.
 export function showQuestion() {
-  if (now.task.kind !== "example") return;
-  const classic = CLASSICS[now.task.id];
-  const box = byId("turns-box");
-  if (box.dataset.example !== now.task.id) {
-    box.open = byId("without-box").open = false;
-    box.dataset.example = now.task.id;
-  }
-  const { total } = now.run.trace;
-  const { turns } = classic;
-  const place = (event) => `left: calc(8px + (100% - 16px) * ${event / total})`;
-  byId("ticks").innerHTML = box.open && !isJudging() ? turns.map((event) => `<i style="${place(event)}"></i>`).join("") : "";
-  byId("question").textContent = inLetters(classic.question);
-  byId("turns-on").textContent = inLetters(classic.turnsOn);
-  byId("without").textContent = inLetters(classic.without);
-  const here = (event) => (event === now.run.count ? { "aria-current": "true" } : {});
-  redraw(byId("turns"), turns.map((event) => tag("button", { "data-event": event, ...here(event) }, event)).join(" "));
+  const { kind, id } = now.task;
+  byId("examples").value = kind === "example" ? id : "";
+  if (kind !== "example") return;
+  byId("question").textContent = inLetters(CLASSICS[id].question);
+  byId("question-ask").href = `#ask=${id}`;
 }

@@ -1,15 +1,13 @@
 // The current state of the page. Each change is an action of reducer.js, after which one render draws everything.
 import { readFault, sentenceOn } from "../engine/answers.js";
 import { LEVELS } from "../run/judged.js";
-import { scheduleOfTrace } from "../run/schedule_text.js";
 import { State } from "../run/state.js";
 import { byId } from "./dom.js";
 import { exampleIn, reduce, stateAtFirst } from "./reducer.js";
 
-export const NO_ENGINE = "The replayer does not run in this browser: it cannot run a schedule or check a report. You can still open a file of listset trace.";
 export const now = stateAtFirst();
-/** The engine, or null. `hasEngine` is false once the engine has failed to start. @type {{ engine: any, hasEngine: boolean, render: () => void }} */
-export const held = { engine: null, hasEngine: true, render: () => {} };
+/** @type {{ engine: any, render: () => void }} */
+export const held = { engine: null, render: () => {} };
 
 // Applies an action without drawing.
 export function change(type, given = {}) {
@@ -23,9 +21,8 @@ export function dispatch(type, given) {
   show();
 }
 
-// The listeners of each occasion: `taken` gets a trace before the trace is drawn, `ran` follows a run of a text, `kept` a change of the works;
-// `recorded` and `course` get a file's text.
-const listeners = { taken: [], ran: [], kept: [], recorded: [], course: [] };
+// The listeners of each occasion: `ran` follows a run of a text; `recorded` and `course` get the text of a file.
+const listeners = { ran: [], recorded: [], course: [] };
 export const on = (what, ...deeds) => listeners[what].push(...deeds);
 
 export function announce(what, ...given) {
@@ -52,25 +49,15 @@ export function say(text) {
 const last = { text: "", html: "" };
 
 // Shows a trace at an event; `at` is its number, or a function of the trace.
-export function takeTrace(trace, at, source) {
+export function takeTrace(trace, at) {
   const { refused } = trace;
-  change("trace", { trace, state: new State(trace), source, count: typeof at === "function" ? at(trace) : at });
-  announce("taken", trace);
-  sayFault(now.run.faultLine, refused?.cause ?? "", refused === null ? "" : `line ${refused.line}: ${refused.cause}`, false);
+  change("trace", { trace, state: new State(trace), count: typeof at === "function" ? at(trace) : at });
+  sayFault(refused?.line ?? null, refused?.cause ?? "", refused === null ? "" : `line ${refused.line}: ${refused.cause}`, false);
   say("");
   show();
 }
 
-export function takeScheduleOfTrace() {
-  const text = scheduleOfTrace(now.run.trace);
-  change("run", { text });
-  change("begun", { begun: text });
-  byId("schedule").value = text;
-  byId("opening").value = now.run.trace.opening.join(" ");
-}
-
 export function askNow(name, ...texts) {
-  if (held.engine === null) return { status: 1, text: NO_ENGINE };
   try {
     return held.engine.ask(name, ...texts);
   } catch (fault) {
@@ -78,13 +65,25 @@ export function askNow(name, ...texts) {
   }
 }
 
+export const LONG_TEXT = 200000; // characters of a text that takes the engine a while
+
+// Returns the engine's answer. Before a long text, what was said is drawn.
+export async function askSoon(name, text) {
+  if (text.length >= LONG_TEXT) await new Promise((done) => setTimeout(done, 100));
+  return askNow(name, text);
+}
+
+// Shows an error of the schedule, and selects its line in the box.
 export function sayFault(line, cause, said, isOld = true) {
-  change("run", { faultLine: line, isRun: !isOld });
+  change("run", { isRun: !isOld });
   byId("stage").classList.toggle("old", isOld);
   byId("old").hidden = !isOld;
   const why = sentenceOn(askNow, cause, "a schedule", "a draft");
-  byId("fault").textContent = why === null ? said : `${said}: ${why}`;
-  if (said !== "") byId("schedule-box").open = true; // the error stands beside the text
+  sayError(why === null ? said : `${said}: ${why}`);
+  if (line === null) return;
+  const box = byId("schedule");
+  const start = box.value.split("\n").slice(0, line - 1).join("\n").length;
+  box.setSelectionRange(start, start + 1 + (box.value.split("\n")[line - 1] ?? "").length);
 }
 
 export function sayError(said) {

@@ -1,10 +1,9 @@
-// Plays the events in three speeds, until the end or a pause. The first speed is slow if the system asks for less motion.
-import { CLASSICS } from "../../made/classics.js";
+// Plays the events until the end or a pause, slowly if the system asks for less motion.
+import { wantsStill } from "../draw/glide.js";
 import { byId } from "./dom.js";
-import { exampleShown, goTo, isLecture, now, show } from "./now.js";
+import { goTo, isLecture, now, show } from "./now.js";
 import { setView } from "./seen.js";
 
-const SPEEDS = { slow: 1600, medium: 700, fast: 200 }; // milliseconds of one event
 const play = { timer: null };
 export const isPlaying = () => play.timer !== null; // the sentence is said where the play ends, and not before
 
@@ -23,7 +22,7 @@ function startPlay() {
   const { count, trace } = now.run;
   if (trace.total === 0) return;
   if (count === trace.total) goTo(0);
-  play.timer = setInterval(playOn, SPEEDS[byId("speed").value]);
+  play.timer = setInterval(playOn, wantsStill() ? 1600 : 700); // milliseconds of an event
   showPlay();
 }
 
@@ -35,23 +34,16 @@ function playOn() {
 
 export const togglePlay = () => (play.timer === null ? startPlay() : stopPlay());
 
-export function changeSpeed() {
-  if (play.timer === null) return;
-  stopPlay();
-  startPlay();
-}
-
 export function goByHand(count) {
   stopPlay();
   goTo(count);
 }
 
-// Goes to the nearest event, forward or back, that changes the set, ends a call, or decides the example.
+// Goes to the nearest event, forward or back, that changes the set or ends a call.
 function goToTurn(step) {
-  const turns = CLASSICS[exampleShown()]?.turns ?? [];
   const changes = (event) => event.put !== undefined || event.took !== undefined || event.answer !== undefined;
   let count = now.run.count + step;
-  while (count > 0 && count < now.run.trace.total && !changes(now.run.trace.event(count)) && !turns.includes(count)) count += step;
+  while (count > 0 && count < now.run.trace.total && !changes(now.run.trace.event(count))) count += step;
   goByHand(count);
 }
 

@@ -4,20 +4,20 @@
 /**
  * A place is a scene or the bench (its activity is "watch" or "judge"). A scene has the id of what is shown, and `given`, the other parts of its
  * address. The state of a scene has the answer that was pressed (-1 if the page showed the answer), the schedule of its run if the address has one,
- * and the branch that is shown. A run has the text, its trace, the check that its list lacks, and the state after `count` events; `isRun` says that
- * the trace belongs to the text. A task is the purpose of the run: attempts are stored under the name `work`, and `begun` is the first text.
+ * and the branch that is shown. A run has the text, its trace, and the state after `count` events; `isRun` says that the trace belongs to the text. A
+ * task is the purpose of the run.
  * @typedef {"lecture" | "embed" | "list" | "history" | null} PageView
  * @typedef {{ activity: string, screen: "stage" | "scene", id: string, given: Record<string, string>, view: PageView, slide: number }} Place
  * @typedef {"" | "task" | "again" | "guess" | "playing" | "moment" | "done"} Stage
  * @typedef {{ stage: Stage, chosen: number | null, note: string, text: string, hints: number, at: number, branches: any[], wrong: string[] }} Scene
- * @typedef {{ text: string, trace: any, state: any, count: number, lacks: string | null, source: string, isRun: boolean, faultLine: number | null }} Run
- * @typedef {{ kind: "own" | "example" | "seed", id: string, work: string, begun: string }} Task
- * @typedef {{ hides: boolean, allThreads: boolean, letters: boolean }} Prefs
+ * @typedef {{ text: string, trace: any, state: any, count: number, isRun: boolean }} Run
+ * @typedef {{ kind: "own" | "example" | "seed", id: string }} Task
+ * @typedef {{ hides: boolean, letters: boolean }} Prefs
  * @typedef {{ place: Place, scene: Scene, run: Run, task: Task, exercise: any, prefs: Prefs }} State
  * @typedef {{ [name: string]: any, type: string }} Action
  */
 
-const NO_TASK_YET = { kind: "own", id: "", work: "", begun: "" };
+export const OWN_TASK = { kind: "own", id: "" };
 
 /** @type {Scene} */
 const SCENE_AT_FIRST = { stage: "", chosen: null, note: "", text: "", hints: 0, at: 0, branches: [], wrong: [] };
@@ -26,19 +26,17 @@ const SCENE_AT_FIRST = { stage: "", chosen: null, note: "", text: "", hints: 0, 
 export const stateAtFirst = () => ({
   place: { activity: "watch", screen: "stage", id: "", given: {}, view: null, slide: 0 },
   scene: SCENE_AT_FIRST,
-  run: { text: "", trace: null, state: null, count: 0, lacks: null, source: "", isRun: false, faultLine: null },
-  task: /** @type {Task} */ ({ ...NO_TASK_YET }),
+  run: { text: "", trace: null, state: null, count: 0, isRun: false },
+  task: /** @type {Task} */ (OWN_TASK),
   exercise: null,
-  prefs: { hides: true, allThreads: false, letters: true },
+  prefs: { hides: true, letters: true },
 });
 
-/** Returns the activity to which a run belongs. @param {State} state */
 const activityOfRun = ({ exercise }) => (exercise !== null ? "judge" : "watch");
 
 /** Returns the name of the example that is shown, or "". @param {State} state */
 export const exampleIn = ({ task }) => (task.kind === "example" ? task.id : "");
 
-/** Returns a state whose run is on the stage of its activity. @param {State} state @returns {State} */
 const onStage = (state) => ({ ...state, place: { ...state.place, activity: activityOfRun(state), screen: "stage", id: "", given: {} } });
 const within = (count, { total }) => Math.max(0, Math.min(total, count));
 
@@ -48,17 +46,11 @@ const MAKES = {
     ({ ...state, place: { ...state.place, activity, screen, id, given }, scene: SCENE_AT_FIRST }),
   scene: (state, { type, ...given }) => ({ ...state, scene: { ...state.scene, ...given } }),
   view: (state, { view, slide = 0 }) => ({ ...state, place: { ...state.place, view, slide } }),
-  task: (state, { task, lacks = null }) =>
-    onStage({ ...state, task: { ...NO_TASK_YET, ...task }, run: { ...state.run, lacks }, exercise: null }),
+  task: (state, { task }) => onStage({ ...state, task, exercise: null }),
   run: (state, { type, ...given }) => ({ ...state, run: { ...state.run, ...given } }),
   // Takes a trace. An exercise about the previous trace ends.
-  trace(state, { trace, state: ofTrace, source, count }) {
-    const isGood = trace.refused === null;
-    const faultLine = isGood ? null : trace.refused.line;
-    const run = { ...state.run, trace, state: ofTrace, source, lacks: trace.lacks, isRun: true, faultLine, count: within(count, trace) };
-    return { ...state, run, exercise: null };
-  },
-  begun: (state, { begun }) => ({ ...state, task: { ...state.task, begun } }),
+  trace: (state, { trace, state: ofTrace, count }) =>
+    ({ ...state, run: { ...state.run, trace, state: ofTrace, isRun: true, count: within(count, trace) }, exercise: null }),
   count: (state, { count }) => ({ ...state, run: { ...state.run, count: within(count, state.run.trace) } }),
   exercise: (state, { exercise }) => onStage({ ...state, exercise }),
   prefs: (state, { type, ...given }) => ({ ...state, prefs: { ...state.prefs, ...given } }),

@@ -7,7 +7,7 @@ import { AddressFault, addressOf, LONGEST_ADDRESS, longLine, partsOfSeed, shortL
 import { startOfLacking } from "../run/broken.js";
 import { escaped, inLetters } from "../run/markup.js";
 import { eventsAsked } from "../run/schedule_text.js";
-import { HERE, keepUnder, keepWork } from "./kept.js";
+import { HERE, keepUnder } from "./kept.js";
 import { now, say } from "./now.js";
 import { entryOf } from "./reducer.js";
 
@@ -23,7 +23,6 @@ export function keepSoon() {
 
 export function keepNow() {
   clearTimeout(visit.timer);
-  keepWork();
   if (visit.isRead) setAddress();
 }
 
@@ -35,8 +34,8 @@ function setAddress() {
   visit.entry = entry;
   if (now.place.view !== "embed") keepUnder(HERE, address);
   if (!isNew && location.hash === (address ?? "")) return;
-  const { text, count, lacks } = now.run;
-  const kept = address === null ? { text, count, lacks } : null;
+  const { text, count } = now.run;
+  const kept = address === null ? { text, count } : null;
   const how = isNew ? "pushState" : "replaceState";
   const place = address ?? location.pathname + location.search;
   try {
@@ -60,7 +59,6 @@ export async function copyLink() {
 // Copies a text. Returns whether the browser allowed it.
 export const copied = async (text) => navigator.clipboard?.writeText(text).then(() => true, () => false) ?? false;
 
-// ---- The addresses of the scenes.
 const SCENES = ["assignment", "story", "ask", "code", "teachers", "notes", "handout"]; // run/address.js reads the others, with their schedules
 const SCENE_VIEWS = ["lecture", "embed"];
 
@@ -120,7 +118,7 @@ export function addressIn(state, given) {
   if (place.slide > 0) return slideAddress(place.slide);
   const view = place.view === null ? "" : `&view=${place.view}`;
   if (place.screen === "scene") return (ADDRESSES[place.activity] ?? plainAddress)(place, state.scene, given) + view;
-  const address = task.kind === "own" ? addressOf(run.text, run.count, run.lacks) : `#${task.kind}=${task.id}&event=${run.count}`;
+  const address = task.kind === "own" ? addressOf(run.text, run.count) : `#${task.kind}=${task.id}&event=${run.count}`;
   return address === null ? null : `${address}${exercise === null ? "" : "&judge"}${view}`;
 }
 
@@ -131,7 +129,7 @@ export function titleIn(state, titleOfScene) {
   const ofTask = {
     example: () => inLetters(CLASSICS[task.id].question),
     seed: () => `Run ${partsOfSeed(task.id).number} of ${list}`,
-    own: () => `${task.work}: ${list}`,
+    own: () => `A run of your own: ${list}`,
   };
   return `${exercise === null ? "" : "Judge: "}${ofTask[task.kind]()} · Why not just one lock?`;
 }

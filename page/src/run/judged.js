@@ -12,17 +12,12 @@ export const LEVELS = {
     task: "What does each call answer, and where does it take effect?",
     hidden: ["change", "reply", "leftInChain", "effect"],
   },
-  claim: {
-    name: "any order at all?",
-    task: "Can a set give these replies? Give an order that explains the report, or say that there is none.",
-    hidden: [],
-  },
 };
 
-export function exerciseOf(text, level, isWhole = true) {
+export function exerciseOf(text, level) {
   const report = readReport(text);
   const last = Math.max(1, ...report.calls.flatMap((call) => [call.begun, call.ended ?? 0]));
-  return { ...report, level, isWhole, reportText: text, last };
+  return { ...report, level, last };
 }
 
 export const nameOfCall = (call) => `${callText(call)} of ${letterOf(call.thread)}`;
@@ -43,7 +38,6 @@ export class OwnAnswer {
     this.points = new Map(); // by the call's number: { at, turn }
     this.replies = new Map();
     this.turn = 0;
-    this.isNone = false;
   }
 
   place(call, at) {
@@ -87,7 +81,6 @@ export function reportOfAnswer(answer) {
 
 export function verdictOn(ask, answer) {
   const unsaid = answer.unsaid();
-  if (answer.isNone) return verdictOnClaim(ask, answer.exercise);
   const nothing = { isRight: null, clash: null, report: null };
   if (unsaid.length > 0) return { ...nothing, says: `Still missing: ${unsaid.join(", ")}.` };
   const report = reportOfAnswer(answer);
@@ -98,20 +91,7 @@ export function verdictOn(ask, answer) {
   return { isRight: false, clash, report, says: faultInWords(answer, order) };
 }
 
-// Judges the claim that no order exists. Asks the proved judge; the page does not search.
-function verdictOnClaim(ask, { isWhole, reportText }) {
-  const said = (isRight, says) => ({ isRight, clash: null, report: null, says });
-  const there = "There is one: this is a run of a correct list, and each of those has an order (proved). Find it.";
-  if (isWhole) return said(false, there);
-  const { kind, fault } = readVerdict(ask("listset_check_record", reportText));
-  if (kind === "fault") return said(null, `Whether there is none is not judged: ${fault.says}.`);
-  if (kind === "none") return said(true, "Right: no order explains this report (proved). It comes from a broken list.");
-  if (kind === "unknown") return said(null, "This report comes from a broken list, and whether an order explains it is not known.");
-  return said(false, "There is one, although this report comes from a broken list. Find it.");
-}
-
 function rightInWords(answer) {
-  if (!answer.exercise.isWhole) return "check says ok: this order explains the report, so this schedule does not break the list.";
   const own = answer.order().map(({ call, reply }) => `${call.id}-${reply}`);
   const isSame = own.join() === answer.exercise.places.map(({ call, reply }) => `${call}-${reply}`).join();
   const also = isSame ? "It is also the order of the replayer." : "The replayer has another one: both explain the run.";
@@ -133,12 +113,11 @@ function faultInWords(answer, { fault, call, place, reply, set, answer: due, beg
 }
 
 // Returns the last word of a line to hand in, as in `judge read-in-anothers-step replies 0-true,2-true,1-false,3-true`, or "".
-export const wordOfAnswer = (answer) => (answer.isNone ? "none" : answer.order().map(({ call, reply }) => `${call.id}-${reply}`).join());
+export const wordOfAnswer = (answer) => answer.order().map(({ call, reply }) => `${call.id}-${reply}`).join();
 
 // Reads such a word. Each call is placed at the earliest moment of its bar that keeps the order. Returns null for any other word.
 export function answerOfWord(exercise, word) {
   const answer = new OwnAnswer(exercise);
-  if (word === "none") return Object.assign(answer, { isNone: true });
   let at = 0;
   for (const piece of word.split(",")) {
     const [, id, reply] = /^(\d{1,5})-([a-z0-9-]+)$/.exec(piece) ?? [];

@@ -1,7 +1,7 @@
 // The effects of an event, as parts of its sentence.
 import { LISTS } from "../../made/rows.js";
 import { chipOf, keyText, valueText } from "./markup.js";
-import { keyNumber, keysInChain, linkTarget, ownerOf } from "./state.js";
+import { keyNumber, linkTarget, ownerOf } from "./state.js";
 import { firstOpeningNode } from "./trace.js";
 
 export const isLock = (word) => word.endsWith(".lock");
@@ -30,22 +30,10 @@ function wholeName({ trace, event }, name) {
   return `${name}</b>, ${whose}, which ${chipOf(mark.thread)} marked at event ${mark.number}`;
 }
 
-export const hasInChain = (state, key) => keysInChain(state).includes(Number(key));
-
 export const OUTCOMES = {
-  // In a broken list a node can be linked after an unlinked one, a removed key can stay, and a key can be added twice.
-  change({ trace, state, event, held, hadKey }) {
-    const { put, took } = event;
-    const had = trace.lacks !== null && hadKey;
-    const hasNow = (key) => trace.lacks !== null && hasInChain(state, key);
-    if (put !== undefined) {
-      if (had) return `<b>This should add ${put} to the set, but ${put} is in it already.</b>`;
-      if (trace.lacks === null || hasNow(put)) return `<b>This adds ${put} to the set</b>, in slot ${held.used} of ${trace.quota}.`;
-      return `<b>This should add ${put} to the set, but its node is not in the chain: ${put} is lost.</b>`;
-    }
-    if (took === undefined) return "";
-    if (trace.lacks !== null && !had) return `<b>This should remove ${took} from the set, but ${took} is not in it any more.</b>`;
-    return hasNow(took) ? `<b>This should remove ${took} from the set, but the chain still has it.</b>` : `<b>This removes ${took} from the set.</b>`;
+  change({ trace, event: { put, took }, held }) {
+    if (put !== undefined) return `<b>This adds ${put} to the set</b>, in slot ${held.used} of ${trace.quota}.`;
+    return took === undefined ? "" : `<b>This removes ${took} from the set.</b>`;
   },
 
   mark({ state, event }) {
@@ -55,9 +43,9 @@ export const OUTCOMES = {
   },
 
   unlink(moment) {
-    const { state, event, before, wasInChain } = moment;
+    const { state, event, before } = moment;
     const gone = before.curr;
-    if (!wasInChain || !isLinkOf(event) || !isDone(event) || gone === "tail" || gone === ownerIn(event.word)) return "";
+    if (!isLinkOf(event) || !isDone(event) || gone === "tail" || gone === ownerIn(event.word)) return "";
     if (linkTarget(state.nodes[gone].link) !== event.to || state.chain().includes(gone)) return "";
     return `<b>This unlinks ${wholeName(moment, gone)}.`;
   },
@@ -136,13 +124,10 @@ export const OUTCOMES = {
   },
 };
 
-// Compares the keys instead of looking at the next row, since a broken list continues at another row than the table says.
-const isBelow = (saw, key) => keyNumber(saw) < Number(key);
-
 function walkAtKey(event, held) {
   const owner = ownerIn(event.word);
   const { key } = held.call;
-  if (isBelow(event.saw, key)) return `${keyText(event.saw)} is below ${key}: the walk continues.`;
+  if (keyNumber(event.saw) < key) return `${keyText(event.saw)} is below ${key}: the walk continues.`;
   if (event.saw === String(key)) return `<b>The walk stops at ${owner},</b> which has its key.`;
   return `<b>The walk stops at ${owner},</b> the first with a key above ${key}.`;
 }

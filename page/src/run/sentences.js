@@ -1,16 +1,15 @@
 // Writes one sentence about an event: what it did, and its effect.
 import { LISTS } from "../../made/rows.js";
 import { callText, chipOf, holderOf, letterOf, valueText } from "./markup.js";
-import { hasInChain, isFailed, isLock, mono, OUTCOMES, ownerIn, setsMark } from "./outcomes.js";
+import { isFailed, isLock, mono, OUTCOMES, ownerIn, setsMark } from "./outcomes.js";
 
 const lockedBy = (word) => (word === "list.lock" ? "the list" : mono(ownerIn(word)));
 
-// Returns what an event did. `row` is the row of its thread before the event.
-function deedText(event, row) {
+function deedText(event) {
   const word = event.word && mono(event.word);
   if (event.deed === "begin") return `begins ${callText(event.call)}.`;
   if (event.deed === "load") return `reads ${word}: ${valueText(event.saw)}.`;
-  if (isLock(event.word)) return lockText(event, row);
+  if (isLock(event.word)) return lockText(event);
   const change = event.deed === "store" ? `${word} := ${valueText(event.to)}` : `${word}: ${valueText(event.from)} → ${valueText(event.to)}`;
   const finds = isFailed(event) ? `, but finds ${valueText(event.saw)}` : "";
   if (setsMark(event)) return `${isFailed(event) ? "tries to mark" : "marks"} ${mono(ownerIn(event.word))} (${change})${finds}.`;
@@ -18,12 +17,10 @@ function deedText(event, row) {
   return `${isFailed(event) ? "tries to change" : "changes"} ${word} from ${valueText(event.from)} to ${valueText(event.to)}${finds}.`;
 }
 
-function lockText(event, row) {
+function lockText(event) {
   const name = lockedBy(event.word);
   if (event.deed === "store") return `unlocks ${name}.`;
-  if (!isFailed(event)) return `locks ${name}.`;
-  const then = event.changes.pc === row ? "It will try again" : `It continues all the same, at row ${event.changes.pc}`;
-  return `tries to lock ${name}, but ${holderOf(event.saw)} holds it. ${then}.`;
+  return isFailed(event) ? `tries to lock ${name}, but ${holderOf(event.saw)} holds it. It will try again.` : `locks ${name}.`;
 }
 
 // Returns the reply of a call and where it took effect. `hidden` leaves out either, for readers who judge the run.
@@ -31,11 +28,10 @@ function effectText({ trace, event }, hidden) {
   const { call } = event;
   if (event.answer === undefined) return "";
   const answers = `<b>${callText(call)} answers ${hidden.includes("reply") ? "… what?" : event.answer}</b>`;
-  const mayFitNowhere = trace.lacks !== null && !call.changes && call.at === event.number;
-  if (hidden.includes("effect") || mayFitNowhere) return hidden.includes("reply") ? answers : `${answers}.`;
+  if (hidden.includes("effect")) return hidden.includes("reply") ? answers : `${answers}.`;
   if (call.at === event.number) return `${answers}, and takes effect here.`;
   const other = trace.event(call.at).thread;
-  const whose = other === event.thread ? "" : `, <b>a step of ${letterOf(other)}</b>`;
+  const whose = call.at === call.begun ? ", as the call began" : other === event.thread ? "" : `, <b>a step of ${letterOf(other)}</b>`;
   return `${answers}; it took effect at event ${call.at}${whose}.`;
 }
 
@@ -51,13 +47,10 @@ export function momentAt(state, count) {
   const event = count > 0 ? trace.event(count) : null;
   state.moveTo(Math.max(count - 1, 0));
   const before = event === null ? null : { ...state.threads[event.thread] };
-  const changed = event?.put ?? event?.took;
-  const hadKey = trace.lacks !== null && changed !== undefined && hasInChain(state, changed);
-  const wasInChain = trace.lacks === null || before === null || state.chain().includes(before.curr);
   state.moveTo(count);
   if (event === null) return { trace, state, event };
   const row = event.deed === "begin" ? undefined : LISTS[trace.kind].rows[before.pc];
-  return { trace, state, event, before, hadKey, wasInChain, held: state.threads[event.thread], row };
+  return { trace, state, event, before, held: state.threads[event.thread], row };
 }
 
 export function sentenceOf(moment, hidden = []) {
@@ -66,6 +59,6 @@ export function sentenceOf(moment, hidden = []) {
   if (event.deed === "begin") return `${chipOf(event.thread)} ${deedText(event)}`;
   const shown = Object.keys(OUTCOMES).filter((name) => !hidden.includes(name));
   const outcomes = shown.map((name) => OUTCOMES[name](moment));
-  const parts = [chipOf(event.thread), deedText(event, moment.before.pc), ...outcomes, effectText(moment, hidden)];
+  const parts = [chipOf(event.thread), deedText(event), ...outcomes, effectText(moment, hidden)];
   return parts.filter((text) => text !== "").join(" ");
 }

@@ -2,8 +2,6 @@
 
 export const HEADER_LINES = 4;
 export const NODE_REGISTERS = ["pred", "curr", "succ", "node"];
-export const KEY_REGISTERS = ["pkey", "ckey"];
-export const CALL_WORDS = ["add", "remove", "contains", "ceiling"];
 export const MOST_NUMBER = 4294967295;
 export const isTrace = (text) => text.startsWith("listset-trace");
 

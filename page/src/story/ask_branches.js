@@ -8,15 +8,6 @@ import { Figure } from "./figure.js";
 import { LiveRun } from "./live_run.js";
 import { drawLedger, isOddRun, LIST_WORDS, part, scene, setScene, takeFigure } from "./scene.js";
 
-export const CHECK_WORDS = {
-  lock: "the lock is ignored",
-  "hand-over-hand": "it releases one node before it has locked the next",
-  "second-walk": "it does not walk again",
-  "marks-in-validation": "it does not look at the marks",
-  "mark-in-remove": "it marks a node that is marked already",
-  "mark-in-add": "an add does not look at the mark of its pred",
-  "mark-at-key": "a contains does not look at the mark",
-};
 export const ALL = [...QUESTIONS, ...APPENDIX];
 export const itemOf = ({ id }) => ALL.find(({ name }) => name === id);
 export const isEmbed = () => now.place.view === "embed";
@@ -28,8 +19,7 @@ export function takeBranch({ lines, opening, lacks = null, isFree = false }) {
     list: item.list, lacks, lines, calls, threads: item.threads ?? 2, quota: item.quota ?? 4, opening: opening ?? item.opening,
     operations: operationsIn(item), hidden: { hides: item.hides },
     strip: true, scrub: true, again: false, free: isFree, isTimed: item.isTimed, slots: 5,
-    code: !isEmbed(), codeTitle: LIST_WORDS[item.list], codeNote: lacks === null ? "" : `Here ${CHECK_WORDS[lacks]}.`,
-    struck: BREAK_LEVELS[lacks]?.missing,
+    code: !isEmbed(), codeTitle: LIST_WORDS[item.list], codeNote: BREAK_LEVELS[lacks]?.lacks ?? "", struck: BREAK_LEVELS[lacks]?.missing,
   }));
 }
 
@@ -124,7 +114,7 @@ const ownWords = ({ from, lacks = null }, isBroken) => {
 
 function fixedWords({ lacks }, isBroken) {
   const { without, broken } = itemOf(now.place);
-  const which = `This is ${without === undefined ? "the same run" : "a run"} of a list with one check less: ${CHECK_WORDS[lacks]}.`;
+  const which = `This is ${without === undefined ? "the same run" : "a run"} of a list with one check less. ${BREAK_LEVELS[lacks].lacks}`;
   const proved = "No order of the calls explains their answers and the final list; that is proved.";
   return `<b>${isBroken ? broken : "Not broken yet."}</b> ${which} ${isBroken ? proved : "The calls so far do not show it."}`;
 }

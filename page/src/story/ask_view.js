@@ -2,7 +2,7 @@
 import { slideAddress } from "../data/lecture.js";
 import { isLecture, now } from "../page/now.js";
 import { QUESTIONS } from "./ask.js";
-import { ALL, CHECK_WORDS, drawBranches, goBack, isEmbed, itemOf, openBranch, seeAgain, takeBranch, promptOfBranch, whatIf, withoutCheck } from "./ask_branches.js";
+import { ALL, drawBranches, goBack, isEmbed, itemOf, openBranch, seeAgain, takeBranch, promptOfBranch, whatIf, withoutCheck } from "./ask_branches.js";
 import { keepStory, keptStory } from "./progress.js";
 import { LiveRun } from "./live_run.js";
 import { drawOn, onStage, head, LIST_WORDS, numberOfKey, openScene, optionButtons, part, replyTo, scene, setScene, showPrompt, threadOfKey } from "./scene.js";
@@ -73,7 +73,7 @@ function promptOf({ stage, chosen, at, branches }) {
     return `<p class="ask">This was the question. Go to any moment with the slider, and try another order from there.</p>
       <p class="line"><button data-do="home">← Back to the example</button></p>`;
   }
-  const without = item.lacks === undefined ? "" : `<button data-do="without">And if ${CHECK_WORDS[item.lacks]}?</button>`;
+  const without = item.lacks === undefined ? "" : `<button data-do="without">And without this check?</button>`;
   return `<div class="reveal${item.options[chosen]?.right ? "" : " other"}"><div>${reply}<p class="why">${item.why}</p><p class="line more"><button data-do="if">What if …?</button> ${without}
     <button data-do="again" class="quiet">See it again</button></p></div></div>`;
 }

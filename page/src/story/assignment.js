@@ -86,8 +86,7 @@ export function tasksOf(given) {
 
 // ---- The progress in this browser: solved lessons, broken levels, judged runs.
 export function taskOfJudged(line, tasks) {
-  const [, run = "", level] = line.split(" ");
-  if (level === "claim") return null;
+  const [, run = ""] = line.split(" ");
   const { schedule = null } = run.includes("#") ? readSchedule(run) : {};
   return tasks.find(({ seed }) => seed !== undefined && schedule === scheduleOfSeed(askNow, seed)) ?? null;
 }

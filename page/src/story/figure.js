@@ -138,7 +138,6 @@ export class Figure {
     return Promise.race([sleep(time), new Promise((done) => (this.wake = done))]);
   }
 
-  // Plays the steps between two events.
   show(from, total = this.run.trace.total) {
     return (this.playing = this.showSteps(from, total));
   }

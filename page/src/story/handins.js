@@ -1,6 +1,6 @@
 // Checks the hand-ins of a class: makes a table of students and tasks from the texts of many files. check_lessons.js prints the same table.
 import { LISTS } from "../../made/rows.js";
-import { judgedPart, readHandIn, textsIn } from "../course/hand_in.js";
+import { judgedSolution, readHandIn, textsIn } from "../course/hand_in.js";
 import { triedCourse } from "../course/lesson.js";
 import { numberOfLevel } from "../data/levels.js";
 import { askNow } from "../page/now.js";
@@ -44,7 +44,7 @@ export async function checkAll(files, assignment, sayProgress = (_at, _of) => {}
   const columns = assignment?.tasks ?? ids.map((id) => ({ id, title: titleOf(id, courses) }));
   const common = noteCopies(rows);
   for (const row of rows) row.notes.unshift(...notesOnNames(row, rows));
-  return { rows, columns, empty, common: common.map((task) => titleOf(task, courses)) };
+  return { rows, columns, empty, common: common.map(({ task, rows: same }) => `${titleOf(task, courses)} (${counted(same.length, "student")}: ${namesOf(same)})`) };
 }
 
 // Groups the texts by number and name. A text without a number gets a row of its own.
@@ -63,15 +63,16 @@ function takeText(students, text, courses, assignment) {
   if (course === undefined) own.notes.push(`the course “${read.course}” is not among the files`);
   own.faults += read.faults.length + (course === undefined ? 1 : 0);
   const odd = { others: new Set(), answers: new Set() };
-  for (const { line } of isOther ? [] : read.solutions) judgePart(own, course?.lessons ?? [], line, assignment?.tasks ?? null, odd);
+  for (const one of isOther ? [] : read.solutions) judgePart(own, course?.lessons ?? [], one, assignment?.tasks ?? null, odd);
   const [others, answers] = [odd.others, odd.answers].map((some) => [...some].map((task) => titleOf(task, courses)));
   if (others.length > 0) own.notes.push(`${counted(others.length, "solution")} of tasks not asked: ${others.join("; ")}`);
   if (answers.length > 0) own.notes.push(`the lesson’s own answer: ${answers.join("; ")}`);
 }
 
 // Judges one solution. `odd` collects the tasks that are not in the assignment, and the solutions that equal the lesson's own answer.
-function judgePart(own, lessons, line, tasks, odd) {
-  const verdict = judgedPart(askNow, lessons, line);
+function judgePart(own, lessons, solution, tasks, odd) {
+  const verdict = judgedSolution(askNow, lessons, solution);
+  const { line } = verdict;
   const task = (line.startsWith("judge ") ? taskOfJudged(line, tasks ?? [])?.id : undefined) ?? verdict.task;
   if (tasks !== null && task !== null && !tasks.some(({ id }) => id === task)) return void odd.others.add(task);
   const title = task === null ? line.slice(0, 40) : (tasks?.find(({ id }) => id === task)?.title ?? titleOf(task, [{ lessons }]));
@@ -86,7 +87,6 @@ function judgePart(own, lessons, line, tasks, odd) {
   if (verdict.ofExample) own.notes.push(`${title}: exactly the run of the example ${verdict.ofExample}`);
 }
 
-// Returns the title of a task: a lesson, a level, or a judged run.
 function titleOf(task, courses) {
   const [kind, name] = task.split(" ");
   if (kind === "break") return tasksOf({ break: String(numberOfLevel(name)) }).tasks[0]?.title ?? task;
@@ -112,7 +112,7 @@ function notesOnNames(row, rows) {
 const oneByOne = (schedule) => schedule.replace(/^go (\d+) (\d+)$/gm, (_, thread, count) => Array(Number(count)).fill(`go ${thread}`).join("\n"));
 
 // Adds to each row the students who have the same schedules, step by step: { count, of, isListed, rows }. A schedule that many students have is no
-// sign of copying, and is returned. A single shared schedule can be chance, so it is listed only if the student has no other rare one.
+// sign of copying, and is returned with them. A single shared schedule can be chance, so it is listed only if the student has no other rare one.
 function noteCopies(rows) {
   const byText = new Map();
   const own = new Map(rows.map((row) => [row, [...row.solved].filter(([, schedule]) => schedule !== null).map((entry) => entry.join("\n"))]));
@@ -131,17 +131,16 @@ function noteCopies(rows) {
     }
     row.copies.sort((one, other) => Number(other.isListed) - Number(one.isListed) || other.count - one.count);
   }
-  return [...new Set([...byText.keys()].filter((key) => !isRare(key)).map((key) => key.split("\n")[0]))];
+  return [...byText].filter(([key]) => !isRare(key)).map(([key, same]) => ({ task: key.split("\n")[0], rows: same }));
 }
 
 // Returns "3 of 3 with David Maier, Vera Peters". With `all`, also pairs that the page does not report (for the spreadsheet).
 export function copiesText({ copies }, all = false) {
-  const nameOf = ({ name, number }) => (number === "" ? name : `${name} (${number})`);
   const groups = copies.filter(({ isListed }) => all || isListed);
-  return groups.map(({ count, of, rows }) => `${count} of ${of} with ${rows.map(nameOf).join(", ")}`).join("; ");
+  return groups.map(({ count, of, rows }) => `${count} of ${of} with ${namesOf(rows)}`).join("; ");
 }
+const namesOf = (rows) => rows.map(({ name, number }) => (number === "" ? name : `${name} (${number})`)).join(", ");
 
-// Counts for each task the students who solved it.
 export const sumsOf = ({ rows, columns }) => columns.map(({ id }) => rows.filter(({ solved }) => solved.has(id)).length);
 
 // Returns a table for a spreadsheet. `parted` separates the cells: German and French spreadsheets need semicolons. A cell that a spreadsheet would

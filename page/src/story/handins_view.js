@@ -23,7 +23,7 @@ export const handInsHtml = () => `<section class="panel" id="handins"><h2>What t
   <div id="in-table" class="scroll" tabindex="0" role="group" aria-label="what was handed in"></div>
   <p class="line" id="in-save" hidden><button class="primary" data-do="csv">Save as CSV</button>
   <button data-do="csv" data-parted=";">Save with semicolons (German, French)</button>
-  <label><input type="checkbox" id="in-wrong"> only rows with a wrong solution</label><button class="quiet" data-do="clear">Clear</button></p>
+  <label><input type="checkbox" id="in-wrong"> only rows with a wrong solution or an error</label><button class="quiet" data-do="clear">Clear</button></p>
   <p class="small">In the CSV a wrong solution is 0, a missing one an empty cell. The check shows that a solution solves its task, and that two students
   have the same schedule. It cannot show who wrote a text: use it to admit students to an exam rather than for marks.</p></section>`;
 
@@ -81,9 +81,9 @@ export function beginHandIns() {
   check();
 }
 
-// Shows only the rows with a wrong solution or a note, if the box is ticked.
+// Shows only the rows with a wrong solution or a line that cannot be read, if the box is ticked.
 function showRows() {
-  for (const row of piece("table").querySelectorAll("tbody tr")) row.hidden = piece("wrong").checked && row.querySelector(".no") === null;
+  for (const row of piece("table").querySelectorAll("tbody tr")) row.hidden = piece("wrong").checked && row.querySelector(".no, .garbled") === null;
 }
 
 function notesOf({ notes }) {
@@ -94,12 +94,12 @@ function notesOf({ notes }) {
 function drawRow(row, columns) {
   const cells = columns.map((column) => `<td class="mark">${MARKS[markOf(row, column)]}</td>`).join("");
   return `<tr><th scope="row">${escaped(row.name)}</th><td>${escaped(row.number)}</td>${cells}<td class="mark"><b>${countOf(row, columns)}</b></td>
-    <td class="same">${escaped(copiesText(row))}</td><td class="notes">${notesOf(row)}</td></tr>`;
+    <td class="same">${escaped(copiesText(row))}</td><td class="notes${row.faults > 0 ? " garbled" : ""}">${notesOf(row)}</td></tr>`;
 }
 
 function drawResult({ rows, columns, empty, common }) {
   const full = rows.filter((row) => countOf(row, columns) === columns.length).length;
-  const odd = [["Without a hand-in", empty], ["Too long", given.tooLong], ["Identical schedules are ignored, since too many students have the same one", common]];
+  const odd = [["Without a hand-in", empty], ["Too long", given.tooLong], ["Many students have the same schedule, which may be the obvious one", common]];
   const wrong = odd.filter(([, names]) => names.length > 0).map(([what, names]) => tag("span", { class: "odd" }, `${what}: ${escaped(names.join(", "))}.`));
   const merged = rows.reduce((sum, { files }) => sum + files.length - 1, 0);
   const files = `${counted(given.files.length + given.tooLong.length, "file")}: <b>${counted(rows.length, "student")}</b>`;

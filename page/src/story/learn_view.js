@@ -32,7 +32,7 @@ function begin({ id, given }) {
   const { panel } = learning;
   panel.lesson = panel.lessonNamed(id);
   const { lesson } = panel;
-  const own = given.text ?? panel.lastTry();
+  const own = given.text ?? panel.own.tries.get(id) ?? null;
   Object.assign(shown, { verdict: null, ticks: new Set() });
   const more = /ceiling/.test(lesson.begun + (lesson.solution ?? "") + lesson.question) ? ["ceiling"] : [];
   const operations = ["add", "remove", "contains", ...more];
@@ -59,11 +59,10 @@ function goOnFromHere({ run }) {
 function looked() {
   const { run } = scene.figure;
   const { panel } = learning;
-  const verdict = panel.judge(run.schedule);
+  const isBegun = run.lines.join() !== run.first.join();
+  const verdict = panel.judge(run.schedule, isBegun);
   shown.verdict = verdict;
   for (const { says, isMet } of verdict.conditions) if (isMet) shown.ticks.add(says);
-  const isBegun = run.lines.join() !== run.first.join();
-  if (isBegun) panel.keepTry(run.schedule);
   setScene({ text: isBegun ? run.schedule : "", stage: verdict.isSolved && !verdict.isShown ? "done" : "task" });
 }
 

@@ -2,10 +2,8 @@
 import { BOOK, BOOK_NAME } from "../../made/book.js";
 import { courseAddress } from "../course/course_text.js";
 import { judged, triedCourse } from "../course/lesson.js";
-import { works } from "../page/kept.js";
 import { askNow } from "../page/now.js";
 import { visit } from "../page/visit.js";
-import { eventsAsked } from "../run/schedule_text.js";
 import { bookCourse } from "./assignment.js";
 import { KeptLessons } from "./progress.js";
 import { linesOf } from "./live_run.js";
@@ -53,25 +51,11 @@ class Learning {
     return this.course.lessons.find(({ name }) => !this.isSolved(name));
   }
 
-  get workName() {
-    return `lesson ${this.lesson.name}${this.course.name === BOOK_NAME ? "" : ` of ${this.course.name}`}`;
-  }
-
-  lastTry() {
-    const { course, lesson } = this;
-    const isTry = ({ task }) => task.kind === "lesson" && task.course === course.name && task.id === lesson.name;
-    return works.byName.get(works.last(isTry))?.text ?? null;
-  }
-
-  keepTry(text) {
-    const task = { kind: "lesson", id: this.lesson.name, course: this.course.name };
-    works.set(this.workName, { text, box: text, count: eventsAsked(text), lacks: this.lesson.lacks, task });
-  }
-
-  // Judges an attempt. Stores a solution, unless it is the answer that the reader has looked at.
-  judge(text) {
+  // Judges an attempt, and stores it. It counts as a solution unless it is the answer that the reader has looked at.
+  judge(text, isBegun) {
     const { lesson, own } = this;
     const { name, solution } = lesson;
+    if (isBegun) own.tries.set(name, text);
     const verdict = judged(askNow, lesson, text);
     const isShown = own.looked.has(name) && solution !== null && linesOf(text).join() === linesOf(solution).join() && !own.solutions.has(name);
     if (verdict.isSolved && !isShown && !own.solutions.has(name)) own.solutions.set(name, text);

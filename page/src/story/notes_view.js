@@ -16,7 +16,7 @@ const minutesTo = (number) => LECTURE.slice(0, number).reduce((sum, [minutes]) =
 const twoDigits = (count) => String(count).padStart(2, "0");
 
 function notesHtml() {
-  return `${head("Notes to the slides", "", '<p id="notes-says" class="lead"></p><p id="notes-next" class="prose"></p>', "title")}
+  return `${head("Notes to the slides", "", '<p id="notes-says" class="lead"></p><p id="notes-answer" class="prose"></p><p id="notes-next" class="prose"></p>', "title")}
     <p class="clock" role="timer"><b id="notes-clock"></b> <span id="notes-plan" class="small"></span></p>
     <p class="small">Keep this window on your own screen. In this browser it follows the slides; ← and → turn its pages by hand.</p>
     ${foot('<a class="button quiet" href="#teachers">For teachers</a>', `<button data-do="restart">Restart</button>
@@ -47,9 +47,10 @@ function endNotes() {
 }
 
 function drawNotes({ at }) {
-  const [minutes, title, , says] = LECTURE[at];
+  const [minutes, title, , says, answer] = LECTURE[at];
   part("h1").textContent = `${at + 1}. ${title}`;
   part("#notes-says").textContent = says;
+  part("#notes-answer").innerHTML = `<b>Answer:</b> ${answer}`;
   part("#notes-next").textContent = at + 1 < LECTURE.length ? `Next: ${LECTURE[at + 1][1]}` : "The last slide.";
   part("#notes-plan").textContent = `${minutes} minutes for this slide; by the plan it ends at ${twoDigits(minutesTo(at + 1))}:00.`;
   drawClock();

@@ -40,9 +40,8 @@ export function promptOf(screen, { stage, chosen, note }, figure) {
   if (stage === "task" || stage === "again") return `<div class="doing">${ledger}<div>${reply}${asked(screen.task ?? screen.playTask, note)}</div></div>`;
   if (stage === "moment") return reply + asked(screen.then.task, note);
   if (stage === "playing") return (isLecture() ? asked(screen.ask) : "") + reply;
-  const after = screen.after === undefined ? "" : `<p class="small after">${screen.after}</p>`;
   const isOther = screen.options !== undefined && !screen.options[chosen]?.right;
-  return `<div class="reveal${isOther ? " other" : ""}">${ledger}<div>${reply}<p class="why">${screen.reveal(figure)}</p>${after}</div></div>`;
+  return `<div class="reveal${isOther ? " other" : ""}">${ledger}<div>${reply}<p class="why">${screen.reveal(figure)}</p></div></div>`;
 }
 
 const SHOW = { guess: "Show me", again: "Start over", moment: "Show me", task: "Show a step", playing: "Show me" };
@@ -52,9 +51,9 @@ export function drawBar(stage, number, words = number === SCREENS.length ? "And 
   const isDone = stage === "done";
   if (isDone && document.activeElement === show) on.focus({ preventScroll: true });
   show.hidden = isDone;
-  show.className = "quiet";
+  show.className = isLecture() && stage === "playing" ? "primary" : "quiet";
   on.hidden = !isDone && isNarrow();
-  show.textContent = isLecture() && stage !== "again" ? "Reveal" : SHOW[stage];
+  show.textContent = isLecture() && stage !== "again" ? (stage === "playing" ? "Next step →" : "Reveal") : SHOW[stage];
   drawOn(isDone, words);
 }
 

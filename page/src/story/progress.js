@@ -59,10 +59,10 @@ export class KeptLessons {
   }
 
   save() {
-    const toObject = ({ solutions, looked }) => ({ solutions: Object.fromEntries(solutions), looked: [...looked] });
+    const toObject = ({ solutions, tries, looked }) => ({ solutions: Object.fromEntries(solutions), tries: Object.fromEntries(tries), looked: [...looked] });
     const of = Object.fromEntries([...this.of].map(([name, own]) => [name, toObject(own)]));
     return keepUnder(LESSONS_KEPT, { course: this.course, courses: Object.fromEntries(this.courses), of });
   }
 }
 
-const ownOf = (kept) => ({ solutions: new Map(textsKept(kept?.solutions)), looked: new Set(namesKept(kept?.looked)) });
+const ownOf = (kept) => ({ solutions: new Map(textsKept(kept?.solutions)), tries: new Map(textsKept(kept?.tries)), looked: new Set(namesKept(kept?.looked)) });

@@ -15,7 +15,7 @@ import { copyText, head, part } from "./scene.js";
 const PANELS = { slides: "Lecture", embed: "Embed", homework: "Homework", handins: "Hand-ins", own: "Your own lessons" };
 
 function lectureHtml() {
-  const slide = ([minutes, title, _, says], at) =>
+  const slide = ([minutes, title, , says, _], at) =>
     tag("li", {}, tag("span", { class: "minutes" }, `${minutes}′`), `<div><b>${at + 1}. ${title}</b><p class="small">${says}</p></div>`,
       tag("a", { class: "button", href: slideAddress(at + 1) }, "Open slide"),
       tag("button", { class: "quiet", "data-do": "link", "data-link": slideAddress(at + 1) }, "Copy link"));

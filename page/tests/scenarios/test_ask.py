@@ -17,7 +17,7 @@ def test_each_question_can_be_answered_shown_changed_and_left(visitor):
         hurried(visitor)
         assert visitor.text(".reveal .you").startswith(("You said: ", "Right.")) and len(visitor.text(".reveal .why")) > 40, name
         if visitor.is_seen("[data-do=without]"):
-            assert visitor.text("[data-do=without]").startswith("And if "), name
+            assert visitor.text("[data-do=without]").startswith("And without"), name
             visitor.click("[data-do=without]")
             visitor.press("Right")
             visitor.wait("return document.querySelector('[data-do=home]') !== null && document.body.dataset.busy !== 'yes'")

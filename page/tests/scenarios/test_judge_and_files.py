@@ -83,9 +83,11 @@ def test_files_of_each_kind_are_opened(visitor):
     trace = visitor.inside("return listsets.now.run.trace.text")
     report = visitor.inside("return listsets.askNow('listset_replay', listsets.now.run.text).text")
     opened(visitor, "own.trace", trace)
-    assert "gives the same" in visitor.text("#source")
-    opened(visitor, "wrong.trace", trace.replace("event 7 ", "event 07 "))
-    assert "line 11" in visitor.text("#fault")
+    assert "makes the same trace" in visitor.text("#said") and visitor.text("#where").endswith(f"of {trace.count('event ')}")
+    opened(visitor, "other.trace", trace.replace("saw tail", "saw head", 1))
+    assert "differs from event" in visitor.text("#said")
+    opened(visitor, "wrong.trace", trace.replace("thread 0", "thread x"))
+    assert "not a trace" in visitor.text("#fault")
     opened(visitor, "good.report", report)
     visitor.wait("return document.getElementById('checked').innerText === 'ok'")
     assert visitor.text("#fault") == ""
@@ -116,11 +118,10 @@ def test_a_wrong_address_is_reported(visitor):
     assert "quota" in visitor.text("#said")
 
 
-def test_without_webassembly_the_stored_examples_work(visitor):
+def test_without_webassembly_the_page_says_what_it_needs(visitor):
     visitor.open("#example=snip", file="tests/less.html")
-    assert "WebAssembly" in visitor.text("#no-engine") and "undefined" not in visitor.text("#no-engine")
-    visitor.press("Right")
-    assert visitor.event() == 1
+    assert "WebAssembly" in visitor.text("#scene") and "undefined" not in visitor.text("#scene")
+    assert visitor.is_seen("#scene a[href='how-it-works.html']") and not visitor.is_seen("#bench")
 
 
 def test_the_documents_have_no_dead_links(visitor):
