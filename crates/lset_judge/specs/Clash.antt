@@ -1,5 +1,5 @@
 -- Clashes: two calls of a key that rule out every order, whatever all other calls did. The state at the opening can
--- replace the first call, and the final state the second.
+-- take the place of the first call, and the final state that of the second.
 use Rattle.std.specs.Prelude.{◌≡◌, ◌≢◌, ℕ, ◌⊎◌, ◌||◌, not, nat_lt, Bool, true, List, Option, Some, None, map, All, IfSome, Contains as Has}
 use Rattle.lset_words.specs.declared.Call.{Call}
 use Rattle.lset_words.specs.declared.Reply.{Reply}
@@ -102,8 +102,8 @@ InOrder calls key there left (Some x) (Some y) =
 InOrder calls key there left None second = Unit {0}
 InOrder calls key there left (Some x) None = Unit {0}
 
--- States that two calls of a key clash: they rule out every order. The state at the opening can replace the first call,
--- and the final state the second.
+-- States that two calls of a key clash: they rule out every order. The state at the opening can take the place of the
+-- first call, and the final state that of the second.
 abbrev pub IsClash : List CallRecord → ℕ → Presence → Option Presence → Presence → Option CallRecord → Option CallRecord → Type 0
 IsClash calls key there left was first second =
     Clashes calls key there left was first second × InOrder calls key there left first second

@@ -87,10 +87,11 @@ pub(crate) enum StreamVerdict {
     NotLinearizable(Refusal),
 }
 
-/// The reason why no order explains the calls and leaves the final keys: a key whose calls have no order, and a moment.
+/// The reason why no order explains the calls and leaves the final keys: a key that rules out every order, and a
+/// moment.
 #[derive(Clone, Copy, Debug, PartialEq, Eq)]
 pub struct Refusal {
-    /// The key whose calls have no order.
+    /// The key that rules out every order.
     pub key: Key,
     /// No order explains the calls of the key that begin by this moment, with all their replies, whatever keys the
     /// order leaves. This is the first moment at which the judge's rule fails for any key. `None` if the rule fails for
@@ -193,7 +194,7 @@ impl Pending {
 }
 
 /// Processes `event`, at the moment after `before`, of a key that has no state yet. Returns whether the judge's rule
-/// has not failed. A separate function, so that other events need no stack space for a new state.
+/// still succeeds. A separate function, so that other events need no stack space for a new state.
 fn meet_new_key(
     states: &mut HashMap<u32, KeyState>,
     alloc: Global,
@@ -214,7 +215,7 @@ fn meet_new_key(
     Ok(goes_on)
 }
 
-/// Processes `event` of a key, at the moment after `before`. Returns whether the judge's rule has not failed.
+/// Processes `event` of a key, at the moment after `before`. Returns whether the judge's rule still succeeds.
 fn meet_key(
     states: &mut HashMap<u32, KeyState>,
     alloc: Global,
@@ -272,7 +273,7 @@ fn note_end(states: &mut HashMap<u32, KeyState>, call: StreamCall) -> Option<Cla
 /// The outcome of the end of a call.
 #[derive(Clone, Copy)]
 struct EndMet {
-    /// Whether the judge's rule has not failed at this end.
+    /// Whether the judge's rule succeeds at this end.
     goes_on: bool,
     /// Whether the call overlaps a change of its key.
     overlaps: bool,
@@ -475,7 +476,7 @@ impl Stream {
         self.clash = None;
     }
 
-    /// Processes the end of a pending call if the judge's rule has not failed.
+    /// Processes the end of a pending call. The judge's rule must not have failed.
     fn meet_end_going(&mut self, next: Pending) -> Result<(), AllocError>
         requires { self.old.failed ≡ None }
         ensures pending { OnOk result (self.new.pending ≡ self.old.pending) }
