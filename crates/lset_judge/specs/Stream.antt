@@ -1,4 +1,5 @@
--- A stream of calls that is judged call by call: its state, and what its verdict means.
+-- A stream: the calls of a recording, which are judged one after another. This file has its state and the meaning of
+-- its verdict.
 use Rattle.std.specs.Prelude.{◌≡◌, ◌≢◌, ℕ, ◌<◌, ◌≤◌, ◌^◌, ◌⊎◌, true, false, List, length, Option, Some, None, All}
 use Rattle.std.specs.Prelude.{AllPairs, Contains, IfSome, ◌-◌}
 use Rattle.std.specs.List.Sorted.{IsStrictlyIncreasing}
@@ -24,15 +25,15 @@ use Rattle.lset_judge.specs.Code.{state_of}
 use Rattle.lset_judge.specs.Events.{kind_if, until_if, end_event, event_at}
 use Rattle.lset_judge.specs.Verdict.{IsPlain, IsExplained, IsUnexplained, IsRefusedBy, is_plain, with_quota}
 
--- Converts a call of a stream to a call of a history.
+-- Returns a call of a recording as a call of a history.
 abbrev pub record_of : StreamCall → CallRecord
 record_of x = record { thread = x.thread; call = x.call; begun = x.begun; ended = x.ended }
 
--- Converts a call of a history to a call of a stream.
+-- Returns a call of a history as a call of a recording.
 abbrev pub call_of : CallRecord → StreamCall
 call_of x = record { thread = x.thread; call = x.call; begun = x.begun; ended = x.ended }
 
--- Returns the history of a stream's calls, for a set without a quota.
+-- Returns the history of the recorded calls, for a set without a quota: the quota is the number of calls.
 abbrev pub stream_history : ℕ → List ℕ → List CallRecord → HistoryValue
 stream_history threads opening calls = record {
   opening = record { threads = threads; quota = length calls; keys = opening };
@@ -41,15 +42,15 @@ stream_history threads opening calls = record {
 
 -- ---- The state of a stream
 
--- The first number that is greater than every moment.
+-- The smallest number that is greater than every moment.
 abbrev pub behind_all : ℕ
 behind_all = 2 ^ 63
 
--- The states of the keys, indexed by key.
+-- The state of each key that has one.
 abbrev pub States : Type 0
 States = HashMap ℕ KeyState (BuildHasherDefault FoldHasher)
 
--- Returns the state of a key. A key without a stored state is absent.
+-- Returns the stored state of a key, or the state of an absent key if none is stored.
 abbrev pub state_or : Option KeyState → State
 state_or None = opened false
 state_or (Some s) = state_of s
@@ -57,7 +58,7 @@ state_or (Some s) = state_of s
 abbrev pub state_for : States → ℕ → State
 state_for states k = state_or (get nat_eq states k)
 
--- Returns the call as a pending call.
+-- Returns a call as a pending call: with the moment before which it takes effect.
 abbrev pub pending_of : CallRecord → Pending
 pending_of x = record {
   end = until_if behind_all x.begun x.ended;
@@ -67,28 +68,27 @@ pending_of x = record {
 abbrev pub key_in : Pending → ℕ
 key_in p = (key_of p.call.call).0
 
--- Returns the event at which the call ends.
+-- Returns the event of a pending call's end.
 abbrev pub event_of : Pending → Event
 event_of p = end_event (kind_if p.call.call p.call.ended) p.call.begun
 
--- States that the call has ended by the given moment.
+-- States that a call has ended by `moment`.
 abbrev pub IsOver : ℕ → CallRecord → Type 0
 IsOver moment x = (end : ℕ × Reply) × (x.ended ≡ Some end) × (end.0 ≤ moment)
 
--- States that the call begins, and ends if it does, at moments of a stream.
+-- States that a call begins, and ends if it does, at moments that a recording can have.
 abbrev pub IsBefore : CallRecord → Type 0
 IsBefore x = (x.begun < behind_all) × IfSome x.ended (λ (end : ℕ × Reply). end.0 < behind_all)
 
--- The pending calls after a moment are correct: they are the calls that have not ended by then, and no two have the
--- same end.
+-- The pending calls after a moment: those that have not ended by then. No two of them have the same end.
 pub record ArePending (calls : List CallRecord) (moment : ℕ) (pending : List Pending) : Type 0 where
   pub known : All (λ (p : Pending). (n : ℕ) × (n < length calls) × (p ≡ pending_of (call_numbered calls n))) pending
   pub kept : (n : ℕ) → n < length calls → IsOver moment (call_numbered calls n) ⊎ Contains pending (pending_of (call_numbered calls n))
   pub apart : AllPairs (λ (p q : Pending). p.end ≢ q.end) pending
   pub later : All (λ (p : Pending). moment < p.end) pending
 
--- States that the states of the keys after a moment are those of the rule. If the rule has failed by then, states
--- instead that it has failed on the key of `f` by the moment of `f`, and on no key by an earlier moment.
+-- States that the states of the keys after a moment are those of the judge's rule. If the rule has failed by then (f),
+-- states instead that it has failed for the key of f by the moment of f, and for no key earlier.
 abbrev pub IsJudgedTo : List ℕ → List CallRecord → ℕ → States → Option Failed → Type 0
 IsJudgedTo opening calls moment states None =
     (k : ℕ) → state_after (event_at behind_all k calls) (has_key k opening) moment ≡ Some (state_for states k)
@@ -96,7 +96,7 @@ IsJudgedTo opening calls moment states (Some f) = (f.moment ≤ moment)
     × (state_after (event_at behind_all f.key.0 calls) (has_key f.key.0 opening) f.moment ≡ None)
     × ((k m : ℕ) → state_after (event_at behind_all k calls) (has_key k opening) m ≡ None → f.moment ≤ m)
 
--- The stream has judged these calls of a set that opens with these keys. No call begins after its moment.
+-- The stream has judged these calls, of a set that opens with these keys. No call begins after the stream's moment.
 pub record IsStreamOf (threads : ℕ) (opening : List ℕ) (calls : List CallRecord) (s : Stream) : Type 0 where
   pub opens : IsStrictlyIncreasing opening
   pub history : IsHistory threads calls
@@ -107,14 +107,14 @@ pub record IsStreamOf (threads : ℕ) (opening : List ℕ) (calls : List CallRec
   pub pending : ArePending calls s.moment s.pending
   pub judged : IsJudgedTo opening calls s.moment s.states s.failed
 
--- Fields of a stream, for the specs of other crates.
+-- Two fields of a stream, for the contracts of other files.
 abbrev pub moment_of : Stream → ℕ
 moment_of s = s.moment
 
 abbrev pub pending_in : Stream → List Pending
 pending_in s = s.pending
 
--- The conditions under which a call can be the next one.
+-- The conditions under which call x can come next.
 
 pub record MayCome (pending : List Pending) (moment : ℕ) (x : CallRecord) : Type 0 where
   pub begins : moment < x.begun
@@ -126,41 +126,41 @@ pub record MayCome (pending : List Pending) (moment : ℕ) (x : CallRecord) : Ty
   -- When this call begins, no other call of its thread is pending.
   pub free : All (λ (p : Pending). p.call.thread ≡ x.thread → p.end ≤ x.begun) pending
 
--- ---- What a verdict means
+-- ---- The meaning of a verdict
 
--- States that the rule has failed on a key by a moment.
+-- States that the judge's rule has failed for key k by a moment.
 abbrev pub HasFailed : HistoryValue → ℕ → ℕ → Type 0
 HasFailed h k moment = state_after (event_at behind_all k h.calls) (has_key k h.opening.keys) moment ≡ None
 
--- States that the rule fails first on this key and at this moment: it has failed on this key by then, and by no earlier
--- moment on any key. Without a moment, states that the rule has failed on no key by any moment. (Then only the final
--- state of the key is wrong: see `IsRefusedBy`.)
+-- States that the judge's rule fails first for this key, at this moment: it has failed for this key by then, and for no
+-- key earlier. Without a moment, states that the rule never fails. (Then only the final state of the key is wrong: see
+-- `IsRefusedBy`.)
 abbrev pub FailsFirst : HistoryValue → ℕ → Option ℕ → Type 0
 FailsFirst h key None = (k m : ℕ) → HasFailed h k m → ⊥
 FailsFirst h key (Some moment) = HasFailed h key moment × ((k m : ℕ) → HasFailed h k m → moment ≤ m)
 
--- Linearizable: some order explains the calls and leaves the keys. NotLinearizable: no order does, under any quota; the
--- reason is about the calls of the refusal's key (`IsRefusedBy`); and the rule fails first on this key, at the
--- refusal's moment.
+-- States that a verdict is correct. Linearizable: some order explains the calls and leaves the keys. NotLinearizable:
+-- no order does, with any quota. The reason is about the calls of the refusal's key (`IsRefusedBy`). The judge's rule
+-- fails first for this key, at the refusal's moment.
 abbrev pub IsStreamVerdict : HistoryValue → List ℕ → StreamVerdict → Type 0
 IsStreamVerdict h keys Linearizable = IsExplained h keys
 IsStreamVerdict h keys (NotLinearizable refusal) =
     ((quota : ℕ) → IsUnexplained (with_quota quota h) keys) × IsRefusedBy h keys refusal.key.0 refusal.moment
     × FailsFirst h refusal.key.0 refusal.moment
 
--- States that the verdict on a recording that was cut off is correct: Linearizable for some final keys, NotLinearizable
+-- States that a verdict on a recording that was cut off is correct: Linearizable for some final keys, NotLinearizable
 -- for all.
 abbrev pub IsStreamVerdictCutOff : HistoryValue → StreamVerdict → Type 0
 IsStreamVerdictCutOff h Linearizable = (keys : List ℕ) × IsStreamVerdict h keys Linearizable
 IsStreamVerdictCutOff h (NotLinearizable refusal) = (keys : List ℕ) → IsStreamVerdict h keys (NotLinearizable refusal)
 
--- ---- Definitions that only single contracts use
+-- ---- Definitions that only one contract uses
 
 abbrev pub no_pending : Pending
 no_pending = record { end = 0; call = call_of no_call }
 
--- States how the states of the keys change at the event of a key at a moment, and whether the rule fails there. After a
--- failure, nothing is stated about the states.
+-- States how an event of a key at a moment changes the states of the keys, and whether the judge's rule fails. After it
+-- has failed, nothing is stated about the states.
 abbrev pub IsMetBy : States → ℕ → ℕ → Event → States → Option Failed → Option Failed → Type 0
 IsMetBy before key moment event after (Some f) failed = failed ≡ Some f
 IsMetBy before key moment event after None None =
@@ -181,7 +181,8 @@ abbrev pub verdict_of_key : Option ℕ → StreamVerdict
 verdict_of_key None = Linearizable
 verdict_of_key (Some k) = NotLinearizable (record { key = record { 0 = k }; moment = None })
 
--- States that the verdict is the rule's failure if the rule has failed. Otherwise, a refusal has no moment.
+-- States that a verdict reports the failure of the judge's rule if the rule has failed. Otherwise, a refusal has no
+-- moment.
 abbrev pub IsToldBy : Option Failed → StreamVerdict → Type 0
 IsToldBy None Linearizable = Unit {0}
 IsToldBy None (NotLinearizable refusal) = refusal.moment ≡ None

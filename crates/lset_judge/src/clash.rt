@@ -10,20 +10,21 @@ ghost use Rattle.lset_judge.specs.Rest.{has_ended, turns_to};
 use crate::stream::StreamCall;
 use lset_words::{Effect, Key, Presence};
 
-/// Two calls of a key that clash. The first leaves the key in one state, and the second needs the other state. Between
-/// the moment at which the first begins and the one at which the second ends, no call is pending that could change the
-/// state. The two calls come in this order, or also clash in the opposite order.
+/// Two calls of a key that clash. The first leaves the key in one state, and the second needs the other state. From the
+/// begin of the first to the end of the second, no call is pending that could change the state. The second call comes
+/// after the first in real time, or the two also clash in the opposite order.
 #[derive(Clone, Copy, Debug, PartialEq, Eq)]
 pub struct Clash {
-    /// The state in which the first call leaves the key.
+    /// The state (present or absent) in which the first call leaves the key.
     pub was: Presence,
-    /// The first call. `None` if the key had the state at the opening.
+    /// The first call. `None` if the key had the state `was` at the opening.
     pub first: Option<StreamCall>,
-    /// The second call. `None` if the key's final state is the other state.
+    /// The second call. `None` if the key's final state is the other state, so that the final keys clash with the first
+    /// call.
     pub second: Option<StreamCall>,
 }
 
-/// A key, its presence at the opening, and its final presence, if known.
+/// A key whose calls are searched for a clash, its presence at the opening, and its final presence, if known.
 #[derive(Clone, Copy)]
 struct Asked {
     key: Key,
@@ -31,8 +32,8 @@ struct Asked {
     left: Option<Presence>,
 }
 
-/// Lemma: if two calls of a history clash, no order explains the history and leaves these keys. The function does
-/// nothing.
+/// Lemma: if two calls of a history clash, no order explains the history and leaves these keys. Does nothing at run
+/// time.
 pub fn clashes_exclude_orders()
     ensures { ClashesExcludeOrders }
 {}
@@ -71,7 +72,7 @@ pub(crate) fn needs(call: StreamCall) -> Option<Presence>
     }
 }
 
-/// Returns whether a call changes its key to a state, or is pending and can do so.
+/// Returns whether a call changes its key to the state `there`, or is pending and can do so.
 pub(crate) fn turns_to(call: StreamCall, there: Presence) -> bool
     ensures { result ≡ turns_to there (kind_if call.call call.ended) }
 {
@@ -150,7 +151,8 @@ fn is_before(begun: u64, second: Option<StreamCall>) -> bool
     }
 }
 
-/// Returns whether a call cannot change the key to a state between a moment and the end of the second call.
+/// Returns whether a call cannot change its key to the state `there` after the moment `since` and before the end of the
+/// second call.
 fn is_apart(call: StreamCall, there: Presence, since: u64, second: Option<StreamCall>) -> bool
     ensures { result ≡ is_apart there since (record_if second) (record_of call) }
 {
@@ -209,14 +211,14 @@ fn in_order(calls: &[StreamCall], asked: Asked, clash: Clash) -> bool
     first.begun != second.begun && clashes(calls, asked, turned)
 }
 
-/// Returns whether two calls clash.
+/// Returns whether `clash` is a clash of these calls.
 fn is_clash(calls: &[StreamCall], asked: Asked, clash: Clash) -> bool
     ensures { IsTrue result → IsClash (records calls.now) asked.key.0 asked.there asked.left clash.was (record_if clash.first) (record_if clash.second) }
 {
     clashes(calls, asked, clash) && in_order(calls, asked, clash)
 }
 
-/// Of the calls that ended by a moment and leave the key in a state, returns the one that began last.
+/// Returns the call that began last, of those that had ended by `moment` and left the key in the state `was`.
 fn last_before(calls: &[StreamCall], was: Presence, moment: u64) -> Option<StreamCall> {
     let mut last = None;
     for call in calls {
@@ -227,8 +229,8 @@ fn last_before(calls: &[StreamCall], was: Presence, moment: u64) -> Option<Strea
     last
 }
 
-/// Returns a clash whose second call is `second`. The clash's first call is `None` if `second` clashes with the opening
-/// state.
+/// Returns a clash whose second call is `second`, if one is found. Its first call is `None` if `second` clashes with
+/// the key's state at the opening.
 fn clash_with(calls: &[StreamCall], asked: Asked, second: StreamCall) -> Option<Clash>
     ensures { IfSome result (λ c. IsClash (records calls.now) asked.key.0 asked.there asked.left c.was (record_if c.first) (record_if c.second)) }
 {
@@ -255,7 +257,7 @@ fn clash_with(calls: &[StreamCall], asked: Asked, second: StreamCall) -> Option<
     None
 }
 
-/// Returns the clash whose second call comes last, if a clash is found.
+/// Returns a clash of these calls, if one is found: that whose second call begins last.
 fn last_clash(calls: &[StreamCall], asked: Asked) -> Option<Clash>
     ensures { IfSome result (λ c. IsClash (records calls.now) asked.key.0 asked.there asked.left c.was (record_if c.first) (record_if c.second)) }
 {
@@ -276,9 +278,8 @@ fn last_clash(calls: &[StreamCall], asked: Asked) -> Option<Clash>
     None
 }
 
-/// Returns a clash of the calls of a key, if one is found. `there` is the key's presence at the opening, `left` its
-/// final presence, if known. If a clash is returned, no order explains these calls, whatever the calls other than these
-/// two did.
+/// Returns two calls of `key` that clash, if they are found. `there` is the key's presence at the opening, `left` its
+/// final presence, if known. If a clash is returned, no order explains these calls, whatever all other calls did.
 pub fn find_clash(
     calls: &[StreamCall],
     key: Key,

@@ -1,4 +1,5 @@
-//! Facts about the calls of a key, from which clashes are found.
+//! Facts about the calls of a key. From these facts the judge finds a clash: two calls of the key that rule out every
+//! order.
 
 ghost use Rattle.std.specs.Prelude.{◌≡◌, IfSome, IsTrue, Some};
 ghost use Rattle.lset_words.specs.Effects.{effect_of};
@@ -13,7 +14,7 @@ use crate::rule::{Kept, KeyState};
 use crate::stream::StreamCall;
 use lset_words::{Call, Key, Presence, Reply};
 
-/// Returns whether both calls have ended, the first no later than the second.
+/// Returns whether both calls have ended, and the first has ended first or at the same moment.
 fn ends_by(first: StreamCall, second: StreamCall) -> bool
     ensures { IsTrue result → EndsBy first.ended second.ended }
 {
@@ -23,8 +24,8 @@ fn ends_by(first: StreamCall, second: StreamCall) -> bool
     }
 }
 
-/// Returns the state in which a call leaves its key, and the kind of the call. `None` for a `ceiling`, and for a reply
-/// that is neither true nor false.
+/// Returns the state in which a completed call leaves its key, and the kind of the call. Returns `None` for a
+/// `ceiling`, and for a reply that is neither true nor false.
 fn kept_as(call: Call, reply: Reply) -> Option<(Presence, Kept)>
     ensures { IfSome result (λ p. (left_so (effect_of call reply) ≡ Some p.0) × (word_kept p.1 p.0 (key_of call) ≡ call)
         × (reply_kept p.1 p.0 ≡ reply) × IsTrue (is_call p.1)) }
@@ -40,7 +41,7 @@ fn kept_as(call: Call, reply: Reply) -> Option<(Presence, Kept)>
     }
 }
 
-/// Returns what a kept call of this kind was, without its reply: an `add`, a `remove` or a `contains` of the key.
+/// Returns the `add`, `remove` or `contains` that a kept call of this kind was. It left `key` in the state `was`.
 fn word_kept(kept: Kept, was: Presence, key: Key) -> Call
     ensures { result ≡ word_kept kept was key }
 {
@@ -51,7 +52,7 @@ fn word_kept(kept: Kept, was: Presence, key: Key) -> Call
     }
 }
 
-/// Returns the reply of a kept call.
+/// Returns the reply of a kept call of this kind, which left its key in the state `was`.
 fn reply_kept(kept: Kept, was: Presence) -> Reply
     ensures { result ≡ reply_kept kept was }
 {
@@ -73,7 +74,8 @@ impl KeyState {
         }
     }
 
-    /// Returns the kept call of a key with this state. `None` if the key had the state `was` at the opening.
+    /// Returns the kept call of `key`, which has this state: a completed call that left the key in the state `was`.
+    /// Returns `None` if the key had this state at the opening.
     fn first(&self, key: Key) -> Option<StreamCall>
         ensures { result ≡ first_of key.0 (facts_of self.now) }
     {
@@ -88,8 +90,8 @@ impl KeyState {
         })
     }
 
-    /// Records that a call begins after the rule has failed. Only the moments by which changes end are raised: the
-    /// pending changes no longer matter.
+    /// Records the begin of a call after the judge has found that no order exists. Only the moments by which changes
+    /// end are raised, since the pending changes no longer matter.
     pub(crate) fn note_begin(&mut self, event: Event)
         ensures { facts_of self.new ≡ begun_by (event_as event) (facts_of self.old) }
     {
@@ -100,7 +102,7 @@ impl KeyState {
         }
     }
 
-    /// Returns whether each call that can change the key to the other state has ended by the begin of the kept call
+    /// Returns whether each call that can change the key from the state `was` has ended by the begin of the kept call
     /// `first`. Without a kept call, returns whether no such call has begun.
     fn is_standing(&self, first: Option<StreamCall>, key: Key) -> bool
         requires { first ≡ first_of key.0 (facts_of self.now) }
@@ -113,8 +115,8 @@ impl KeyState {
         }
     }
 
-    /// Returns whether the facts show that the second call comes after the first in real time, or also clashes with it
-    /// in the opposite order. True without a first call.
+    /// Returns whether the second call comes after the first in real time, or the two calls also clash in the opposite
+    /// order, as far as the facts show this. Returns true if `first` is `None`.
     fn comes_after(&self, first: Option<StreamCall>, second: StreamCall) -> bool
         ensures { IsTrue result → ComesAfter (facts_of self.now) first second }
     {
@@ -135,7 +137,7 @@ impl KeyState {
             && ends_by(first, second)
     }
 
-    /// Returns the clash of a call that ends, if the facts show one.
+    /// Returns the kept call and the call `second`, which ends, if the facts show that the two clash.
     pub(crate) fn clash_of(&self, second: StreamCall) -> Option<Clash>
         ensures { IfSome result (IsFound (facts_of self.now) second) }
     {
@@ -154,15 +156,15 @@ impl KeyState {
         })
     }
 
-    /// Stores the clash of a call that ends, if the facts show one. This is a separate function so that other ends need
-    /// no stack space for a clash.
+    /// Stores the kept call and the call `second`, which ends, if the facts show that the two clash. A separate
+    /// function, so that other ends need no stack space for a `Clash`.
     pub(crate) fn store_clash(&self, second: StreamCall, clash: &mut Option<Clash>)
         ensures { IfSome clash.new (IsFound (facts_of self.now) second) }
     {
         *clash = self.clash_of(second);
     }
 
-    /// Returns the clash with a final state of the key, if the facts show one.
+    /// Returns the kept call, if the facts show that it clashes with `left` as the final state of the key.
     pub(crate) fn clash_left(&self, key: Key, left: Presence) -> Option<Clash>
         ensures { IfSome result (IsFoundLeft key.0 (facts_of self.now) left) }
     {
@@ -177,15 +179,15 @@ impl KeyState {
         })
     }
 
-    /// Returns whether an ended call that begins at `begun` and leaves the key in the state `was` replaces the kept
+    /// Returns whether a completed call that began at `begun` and left the key in the state `was` replaces the kept
     /// call. Each change to the other state must have ended by `begun`. A kept call with the same state stays if each
-    /// such change has ended by its own begin.
+    /// such change had ended by its own begin.
     fn is_to_be_kept(&self, begun: u64, was: Presence) -> bool {
         let until = self.until(other(was));
         until <= begun && !(self.was == was && until <= self.begun)
     }
 
-    /// Records that a call ends: it becomes the kept call, or the facts stay as they are.
+    /// Records that a call ends: the call replaces the kept call, or the facts stay as they are.
     pub(crate) fn keep(&mut self, call: StreamCall)
         ensures state { state_of self.new ≡ state_of self.old }
         ensures ended { IsEnded call (facts_of self.old) (facts_of self.new) }

@@ -144,7 +144,7 @@ impl KeyState {
         true
     }
 
-    /// Processes `event`, which is at the moment after `before`. Returns whether the judge's rule has not failed for
+    /// Processes `event`, which is at the moment after `before`. Returns whether the judge's rule still succeeds for
     /// the key.
     pub(crate) fn meet(
         &mut self,
@@ -167,7 +167,7 @@ impl KeyState {
         Ok(true)
     }
 
-    /// Processes the end of a call, at the moment after `before`. Returns whether the judge's rule has not failed for
+    /// Processes the end of a call, at the moment after `before`. Returns whether the judge's rule still succeeds for
     /// the key. If it fails, searches for a call that clashes with this one.
     pub(crate) fn meet_end(
         &mut self,

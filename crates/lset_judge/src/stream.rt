@@ -1,4 +1,5 @@
-//! A stream of calls that is judged call by call. It stores the state of each key and the pending calls.
+//! A stream: the calls of a recording, which are judged one after another. Keeps the state of each key and the pending
+//! calls.
 
 ghost use Rattle.std.specs.Prelude.{◌≡◌, ◌≢◌, ◌↔◌, ◌<◌, ◌≤◌, ◌+◌, ◌++◌, ◌∷◌, [], ℕ, IsTrue, All, List, length, false, true, None, Some, IfOk, OnOk, IfErr, IfSome, MatchOption, if◌then◌else◌, ◌⊎◌};
 ghost use Rattle.std.specs.Prelude.{Contains, IsSome, slice_index_or, ◌==◌, ◌&&◌};
@@ -29,9 +30,9 @@ use std::alloc::{AllocError, Global};
 use std::collections::HashMap;
 use thiserror::Error;
 
-/// A call of a stream. `thread` is any number. `begun` is the moment at which the call begins, 1 to `LAST_MOMENT`.
-/// `ended` is the moment at which it ends, which is later and at most `LAST_MOMENT`, and its reply. A call without an
-/// end stays pending to the end of the stream.
+/// A call of a recording. `thread` is any number. `begun` is the moment at which the call begins, from 1 to
+/// `LAST_MOMENT`. `ended` is the moment at which the call ends, later and at most `LAST_MOMENT`, and its reply. A call
+/// without an end is pending when the recording ends.
 #[derive(Clone, Copy, Debug, PartialEq, Eq)]
 pub struct StreamCall {
     pub thread: u32,
@@ -40,25 +41,25 @@ pub struct StreamCall {
     pub ended: Option<(u64, Reply)>,
 }
 
-/// The last moment of a stream, 2^63 - 1.
+/// The last moment that a recording can have, 2^63 - 1.
 pub const LAST_MOMENT: u64 = (1 << 63) - 1;
 
-/// The first number that is greater than every moment.
+/// The smallest number that is greater than every moment.
 pub(crate) const BEHIND_ALL: u64 = 1 << 63;
 
-/// Why a call cannot come next. If several reasons apply, the first in this order is returned.
+/// The reason why a call cannot come next. If several reasons apply, the first in this order is returned.
 #[derive(Clone, Copy, Debug, PartialEq, Eq, Error)]
 pub enum StreamFault {
-    /// The call begins at moment 0, or no later than an earlier call, or one of its moments is above `LAST_MOMENT`.
+    /// The call begins at moment 0 or no later than an earlier call, or one of its moments is above `LAST_MOMENT`.
     #[error("it begins at moment 0 or no later than a call before it, or a moment is too large")]
     Early,
     /// The call ends no later than it begins.
     #[error("it does not end after its begin")]
     Ends,
-    /// The call is a `ceiling` that ended, or its reply is neither true nor false.
+    /// The call is a completed `ceiling`, or its reply is neither true nor false.
     #[error("it is a ceiling that ended, or its reply is not true or false")]
     NotPlain,
-    /// An earlier call ends when this call begins or ends.
+    /// An earlier call ends at the moment at which this call begins or ends.
     #[error("a call before it ends at one of its moments")]
     Taken,
     /// The thread already has a pending call when this call begins.
@@ -77,7 +78,7 @@ impl From<AllocError> for StreamFault {
     }
 }
 
-/// The verdict of a stream.
+/// The verdict on the calls of a recording.
 #[derive(Clone, Copy, Debug, PartialEq, Eq)]
 pub(crate) enum StreamVerdict {
     /// Some order explains the calls, from the opening keys, and leaves the final keys.
@@ -86,19 +87,19 @@ pub(crate) enum StreamVerdict {
     NotLinearizable(Refusal),
 }
 
-/// Why no order explains the calls of a stream and leaves the final keys: a key that rules every order out, and a
+/// The reason why no order explains the calls and leaves the final keys: a key that rules out every order, and a
 /// moment.
 #[derive(Clone, Copy, Debug, PartialEq, Eq)]
 pub struct Refusal {
-    /// The key that rules every order out.
+    /// The key that rules out every order.
     pub key: Key,
-    /// No order explains the calls of the key that begin by this moment, with all their replies, whatever keys it
-    /// leaves. It is the first moment at which the judge's rule fails on any key. `None` if the rule fails on no key,
-    /// but no order explains all calls of this key and leaves its final state.
+    /// No order explains the calls of the key that begin by this moment, with all their replies, whatever keys the
+    /// order leaves. This is the first moment at which the judge's rule fails for any key. `None` if the rule fails for
+    /// no key, but no order explains all calls of this key and leaves its final state.
     pub moment: Option<u64>,
 }
 
-/// The key for which the rule failed first, and the moment at which it failed.
+/// The first key for which the judge's rule has failed, and the moment at which it failed.
 #[derive(Clone, Copy)]
 pub(crate) struct Failed {
     pub(crate) key: Key,
@@ -119,7 +120,7 @@ impl StreamCall {
         self.call.key().0 == key
     }
 
-    /// Returns the effect of the call on its key. For a pending call, returns the effect that it can have.
+    /// Returns the effect of the call on its key. For a pending call, returns the effect that the call can have.
     pub(crate) fn effect(self) -> Effect
         ensures { kind_as result ≡ kind_if self.call self.ended }
     {
@@ -184,7 +185,7 @@ impl Pending {
         self.call.call.key().0
     }
 
-    /// Returns the event at which the call ends.
+    /// Returns the event of the call's end.
     pub(crate) fn event(self) -> Event
         ensures { event_as result ≡ event_of self }
     {
@@ -192,8 +193,8 @@ impl Pending {
     }
 }
 
-/// Processes the event, at the moment after `before`, of a key that has no state yet. Returns whether the rule still
-/// holds. This is a separate function so that other events need no stack space for a new state.
+/// Processes `event`, at the moment after `before`, of a key that has no state yet. Returns whether the judge's rule
+/// still succeeds. A separate function, so that other events need no stack space for a new state.
 fn meet_new_key(
     states: &mut HashMap<u32, KeyState>,
     alloc: Global,
@@ -214,7 +215,7 @@ fn meet_new_key(
     Ok(goes_on)
 }
 
-/// Processes the event of a key at the moment after `before`. Returns whether the rule still holds.
+/// Processes `event` of a key, at the moment after `before`. Returns whether the judge's rule still succeeds.
 fn meet_key(
     states: &mut HashMap<u32, KeyState>,
     alloc: Global,
@@ -236,7 +237,7 @@ fn meet_key(
     Ok(goes_on)
 }
 
-/// Records that a call begins after the rule has failed for its key.
+/// Records the begin of a call of a key for which the judge's rule has failed.
 fn note_begin(
     states: &mut HashMap<u32, KeyState>,
     alloc: Global,
@@ -255,7 +256,8 @@ fn note_begin(
     Ok(())
 }
 
-/// Records that a call ends after the rule has failed for its key. Returns the call's clash, if one is found.
+/// Records the end of a call of a key for which the judge's rule has failed. Returns a clash of this call, if one is
+/// found.
 fn note_end(states: &mut HashMap<u32, KeyState>, call: StreamCall) -> Option<Clash>
     ensures { EndIsKept states.old call states.new result }
 {
@@ -268,17 +270,17 @@ fn note_end(states: &mut HashMap<u32, KeyState>, call: StreamCall) -> Option<Cla
     None
 }
 
-/// What the end of a call has shown.
+/// The outcome of the end of a call.
 #[derive(Clone, Copy)]
 struct EndMet {
-    /// Whether the rule still holds.
+    /// Whether the judge's rule succeeds at this end.
     goes_on: bool,
     /// Whether the call overlaps a change of its key.
     overlaps: bool,
 }
 
-/// Ends a call of a key that has no state yet, at the moment after `before`. If the rule fails, searches for the call's
-/// clash.
+/// Processes the end of a call, at the moment after `before`, whose key has no state yet. If the judge's rule fails,
+/// searches for a call that clashes with this one.
 fn meet_new_key_end(
     states: &mut HashMap<u32, KeyState>,
     alloc: Global,
@@ -306,7 +308,8 @@ fn meet_new_key_end(
     })
 }
 
-/// Ends a call at the moment after `before`. If the rule fails, searches for the call's clash.
+/// Processes the end of a call, at the moment after `before`. If the judge's rule fails, searches for a call that
+/// clashes with this one.
 fn meet_key_end(
     states: &mut HashMap<u32, KeyState>,
     alloc: Global,
@@ -334,7 +337,7 @@ fn meet_key_end(
     Ok(met)
 }
 
-/// Returns the states of the keys of a set that opens with `opening`.
+/// Returns the state of each key of a set that opens with the keys `opening`.
 fn opening_states(alloc: Global, opening: &[u32]) -> Result<HashMap<u32, KeyState>, AllocError>
     ensures states { IfOk result (λ states. (k : ℕ) → state_for states k ≡ opened (has_key k opening.now)) }
     ensures facts { IfOk result (λ states. (k : ℕ) → facts_for states k ≡ facts_opened (presence (has_key k opening.now))) }
@@ -367,7 +370,7 @@ fn smallest(key: u32, other: Option<u32>) -> u32
     }
 }
 
-/// Returns the verdict, given a key whose calls cannot leave its final state, if there is one.
+/// Returns the verdict, if `key` is a key whose final state is impossible, or `None` if each final state is possible.
 fn verdict_of_key(key: Option<u32>) -> StreamVerdict
     ensures { result ≡ verdict_of_key key }
 {
@@ -380,12 +383,12 @@ fn verdict_of_key(key: Option<u32>) -> StreamVerdict
     }
 }
 
-/// A stream of calls of a set that is judged call by call. It stores the state of each key, the pending calls, and the
-/// ends of threads' last calls. Its memory grows with the number of keys, of threads and of pending calls, but not with
-/// the number of calls.
+/// A stream: the calls of a recording, which are judged one after another in the order of their begins. Keeps the state
+/// of each key, the pending calls, and the end of each thread's last call. Its memory grows with the numbers of keys,
+/// threads and pending calls, but not with the number of calls.
 ///
-/// Calls must arrive in the order in which they began. `verdict` and `verdict_cut_off` return whether some order
-/// explains them. The rule looks at the moments of each key only once and in order, so no moment has to be stored.
+/// `verdict` and `verdict_cut_off` return whether some order explains all calls. The judge's rule looks at the moments
+/// of each key only once and in order. No moment has to be stored.
 #[derive(Drop)]
 pub(crate) struct Stream {
     alloc: Global,
@@ -393,14 +396,14 @@ pub(crate) struct Stream {
     pending: PendingCalls,
     moment: u64,
     failed: Option<Failed>,
-    /// The clash of the key for which the rule has failed, if one was found.
+    /// Two calls that clash, of the key for which the judge's rule has failed, if they were found.
     clash: Option<Clash>,
-    /// How many of the calls that have ended overlap a change of their key.
+    /// The number of completed calls that overlap a change of their key.
     overlapped: u64,
 }
 
 impl Stream {
-    /// Returns a stream without calls, for a set that opens with `opening`, which must be in increasing order.
+    /// Returns a stream without calls, for a set that opens with the keys `opening`, which must be in increasing order.
     pub fn new(alloc: Global, opening: &[u32]) -> Result<Stream, AllocError>
         requires { IsStrictlyIncreasing opening.now }
         ensures opened { IfOk result (λ s. (threads : ℕ) → IsStreamKept threads opening.now [] s) }
@@ -417,7 +420,7 @@ impl Stream {
         })
     }
 
-    /// Returns the reason why a call cannot come next, or `None` if it can.
+    /// Returns the reason why `call` cannot come next, or `None` if it can.
     fn find_fault(&self, call: StreamCall) -> Option<StreamFault>
         ensures { MatchOption result (MayCome self.now.pending self.now.moment (record_of call))
             (λ fault. MayCome self.now.pending self.now.moment (record_of call) → ⊥) }
@@ -433,7 +436,7 @@ impl Stream {
         }
     }
 
-    /// Processes the event of a key at a moment, and advances to this moment.
+    /// Processes `event` of a key at `moment`, and advances to this moment.
     fn meet(&mut self, key: u32, moment: u64, event: Event) -> Result<(), AllocError>
         ensures met { OnOk result (IsMet self.old key moment (event_as event) self.new) }
         ensures known { OnOk result (BeginIsKnown self.old.states key (event_as event) self.new.states self.old.failed self.old.clash) }
@@ -466,14 +469,14 @@ impl Stream {
         Ok(())
     }
 
-    /// Drops a stored clash. This is a separate function so that ends of calls need no stack space for a clash.
+    /// Forgets the two calls that clash. A separate function, so that ends of calls need no stack space for a `Clash`.
     fn forget_clash(&mut self)
         ensures { self.new ≡ record self.old { clash = None } }
     {
         self.clash = None;
     }
 
-    /// Ends a call while the rule still holds.
+    /// Processes the end of a pending call. The judge's rule must not have failed.
     fn meet_end_going(&mut self, next: Pending) -> Result<(), AllocError>
         requires { self.old.failed ≡ None }
         ensures pending { OnOk result (self.new.pending ≡ self.old.pending) }
@@ -502,7 +505,7 @@ impl Stream {
         Ok(())
     }
 
-    /// Ends a call after the rule has failed.
+    /// Processes the end of a pending call after the judge's rule has failed.
     fn end_after_failure(&mut self, next: Pending, failed: Failed)
         requires { self.old.failed ≡ Some failed }
         ensures met { IsMet self.old (key_in next) next.end (event_of next) self.new }
@@ -514,7 +517,7 @@ impl Stream {
         self.moment = next.end;
     }
 
-    /// Ends a pending call, and advances to the moment of its end.
+    /// Processes the end of a pending call, and advances to the moment of this end.
     fn end(&mut self, next: Pending) -> Result<(), AllocError>
         ensures met { OnOk result (IsMet self.old (key_in next) next.end (event_of next) self.new) }
         ensures known { OnOk result (EndIsKnown self.old.states next.call self.new.states self.old.failed self.old.clash self.new.clash) }
@@ -528,7 +531,7 @@ impl Stream {
         Ok(())
     }
 
-    /// Ends all pending calls that end before a moment.
+    /// Processes the ends of all pending calls that end before `moment`.
     fn meet_before(&mut self, moment: u64) -> Result<(), AllocError>
         requires { moment ≤ behind_all }
         ensures kept { OnOk result ((threads : ℕ) (opening : List ℕ) (calls : List RecordedCall) → IsStreamKept threads opening calls self.old
@@ -543,7 +546,7 @@ impl Stream {
         Ok(())
     }
 
-    /// Begins a call. All pending calls that end before this must have been ended.
+    /// Processes the begin of a call. All ends before this begin must have been processed.
     fn begin(&mut self, call: StreamCall) -> Result<(), AllocError>
         requires may { MayCome self.old.pending self.old.moment (record_of call) }
         requires met { All (λ p. call.begun ≤ p.end) self.old.pending }
@@ -574,8 +577,8 @@ impl Stream {
 
     /// Adds a call, which must begin after all calls added before.
     ///
-    /// An error other than `Memory` is the reason why the call cannot come next, and changes nothing. After `Memory`,
-    /// the stream can no longer be used.
+    /// An error other than `Memory` is the reason why this call cannot come next. Nothing has changed then. After
+    /// `Memory`, the stream can no longer be used.
     pub fn add(&mut self, call: StreamCall) -> Result<(), StreamFault>
         ensures added { OnOk result ((threads : ℕ) (opening : List ℕ) (calls : List RecordedCall) → call.thread < threads
             → IsStreamKept threads opening calls self.old → IsStreamKept threads opening (calls ++ record_of call ∷ []) self.new) }
@@ -591,7 +594,8 @@ impl Stream {
         Ok(())
     }
 
-    /// Of the keys that have a state, returns the smallest one whose calls cannot leave its final state, if any.
+    /// Returns the smallest key whose final state is impossible, of the keys that have a state. Returns `None` if all
+    /// their final states are possible. `keys` are the final keys.
     fn wrongly_left(&self, keys: &[u32]) -> Option<u32>
         requires { IsStrictlyIncreasing keys.now }
         ensures { MatchOption result
@@ -607,7 +611,7 @@ impl Stream {
         wrong
     }
 
-    /// Returns a final key that has no state, if any.
+    /// Returns one of the final keys that has no state, or `None` if all have one.
     fn unknown_left(&self, keys: &[u32]) -> Option<u32>
         ensures { MatchOption result
             ((k : ℕ) → has_key k keys.now ≡ true → get nat_eq self.now.states k ≢ None)
@@ -632,14 +636,14 @@ impl Stream {
         }
     }
 
-    /// Returns how many calls overlap a change of their key that ends, other than themselves. The number is right if
-    /// the rule has not failed. Otherwise it can be wrong.
+    /// Returns how many calls overlap another call of their key that is a change with an end. The number can be wrong
+    /// if the judge's rule has failed.
     pub(crate) fn overlapped(&self) -> u64 {
         self.overlapped
             .saturating_add(self.pending.overlapping(&self.states, self.moment))
     }
 
-    /// Ends all pending calls that have an end.
+    /// Processes the ends of all pending calls that have an end.
     pub(crate) fn come_to_end(&mut self) -> Result<(), AllocError>
         ensures kept { OnOk result ((threads : ℕ) (opening : List ℕ) (calls : List RecordedCall) → IsStreamKept threads opening calls self.old
             → IsStreamKept threads opening calls self.new) }
@@ -648,8 +652,9 @@ impl Stream {
         self.meet_before(BEHIND_ALL)
     }
 
-    /// Decides whether some order linearizes all calls of a stream at its end, from the opening keys, and leaves
-    /// `keys`: returns `Linearizable` if one does and `NotLinearizable` if none does. The set has no quota.
+    /// Decides whether some order linearizes all calls, from the opening keys, and leaves `keys`: returns
+    /// `Linearizable` if one does, otherwise `NotLinearizable`. The set has no quota. All ends must have been
+    /// processed.
     pub(crate) fn verdict(&self, keys: &[u32]) -> StreamVerdict
         requires increase { IsStrictlyIncreasing keys.now }
         requires met { All (λ p. behind_all ≤ p.end) (pending_in self.now) }
@@ -663,9 +668,9 @@ impl Stream {
         }
     }
 
-    /// Decides whether some order linearizes all calls of a stream at its end, from the opening keys, whatever keys it
-    /// leaves: returns `Linearizable` if one does and `NotLinearizable` if none does. For a recording that was cut off,
-    /// so that its final keys are unknown.
+    /// Decides whether some order linearizes all calls, from the opening keys, whatever keys it leaves: returns
+    /// `Linearizable` if one does, otherwise `NotLinearizable`. This function is for a recording that was cut off,
+    /// since its final keys are unknown. All ends must have been processed.
     pub(crate) fn verdict_cut_off(&self) -> StreamVerdict
         requires { All (λ p. behind_all ≤ p.end) (pending_in self.now) }
         ensures said { (threads : ℕ) (opening : List ℕ) (calls : List RecordedCall) → IsStreamOf threads opening calls self.now
@@ -678,7 +683,7 @@ impl Stream {
         }
     }
 
-    /// Returns the clash of the key for which the rule has failed, if one was found.
+    /// Returns two calls that clash, of the key for which the judge's rule has failed, if they were found.
     pub(crate) fn clash_met(&self) -> Option<Clash>
         ensures { result ≡ clash_met self.now.failed self.now.clash }
     {
@@ -688,7 +693,8 @@ impl Stream {
         }
     }
 
-    /// Returns the clash with a key's final state, if one is found. Returns `None` if the rule has failed.
+    /// Returns a call of `key` that clashes with the key's final state `left`, if one is found. Returns `None` if the
+    /// judge's rule has failed.
     pub(crate) fn clash_left(&self, key: u32, left: Presence) -> Option<Clash>
         ensures { IfSome result (λ c. (self.now.failed ≡ None) × IsFoundLeft key (facts_for self.now.states key) left c) }
     {
