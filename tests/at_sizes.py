@@ -70,7 +70,7 @@ def log_uniform(draw, most, least=1):
     return most if draw.random() < 0.1 else min(most, int(math.exp(draw.uniform(math.log(least), math.log(most + 1)))))
 
 
-# ---- calls of many shapes. A shape returns the opening keys, each call with its key and reply, and the final keys.
+# ---- Calls of many shapes. A shape returns the opening keys, each call with its key and reply, and the final keys.
 
 def shuffled(things):
     return random.Random(1).sample([*things], len(things))
@@ -171,7 +171,7 @@ def test_counts_of_runs_of_each_size_add_up(asked, few, kind):
         assert there == sorted({it for it in there if it < keys}) and len(there) <= threads * quota * lives
 
 
-# ---- limits
+# ---- Tests of the limits on inputs and arguments
 
 def text_of(title, threads=1, quota=0, opening=0, lines=()):
     left = [*(f"key {key}\n" for key in range(opening)), "end\n"] if title == "report 2" else []

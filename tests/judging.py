@@ -78,7 +78,7 @@ def text_of(calls, opening, keys):
     return "".join(f"{it}\n" for it in [TITLE, *(f"opening {it}" for it in opening), *map(call_line, calls), *ends])
 
 
-# ---- the search of all orders
+# ---- The search of all orders
 
 
 def changes(it):
@@ -149,7 +149,7 @@ class Judged:
         return ["not linearizable", f"no order explains the calls of key {self.key} {upto}"]
 
 
-# ---- two calls that contradict each other
+# ---- Checks of the lines about two calls that contradict each other
 
 STATES = {"present": True, "absent": False}
 STATE, CALL = "(present|absent)", r"thread (\d+) (\w+) (\d+) (true|false), (\d+) to (\d+)"
@@ -235,7 +235,7 @@ def test_the_verdict_and_its_lines_are_right(program, few, seed):
     assert found["without a clash"] <= (found["by a moment"] + found["left wrong"]) // 10, found
 
 
-# ---- texts that arrive in pieces
+# ---- Tests of texts that arrive in pieces
 
 def in_pieces(program, text, size):
     """Runs `judge` on a text that is written in pieces of this many bytes."""

@@ -26,7 +26,7 @@ def printed_within(kilobytes, program, *words, text=b""):
     return done.stdout
 
 
-# ---- long recordings
+# ---- The memory of `judge` for long recordings
 
 CALLS, KEYS = 800_000, 120
 
@@ -44,7 +44,7 @@ def test_judge_keeps_no_completed_call(program, room, threads, at_once):
         assert printed_within(LITTLE, program, "judge", *words, text=given).startswith(b"ok %d calls\n" % CALLS)
 
 
-# ---- events
+# ---- The memory of commands for many events
 
 OPENING, WALKS = 2_000, 100
 
@@ -78,7 +78,7 @@ def test_no_command_keeps_its_events(program, words):
     assert [it for it in due[words.split()[0]] if it not in said] == []
 
 
-# ---- rounds
+# ---- The memory of `run` for the replies of its rounds
 
 CALLS_OF_RUN, LIVES = 10_000, 100  # the maximum numbers; a reply has 8 bytes
 
@@ -89,7 +89,7 @@ def test_run_keeps_only_the_replies_of_one_round(program):
     assert said.startswith(b"calls %d\n" % (CALLS_OF_RUN * LIVES))
 
 
-# ---- a server
+# ---- The memory of a server for its sessions
 
 SEATS, CALLS_AT_ONCE = 4, 2_000
 FEW, MANY, LONG_LINES = 90, 450, 9  # rounds of sessions before and after the first measurement; and sessions with a long line

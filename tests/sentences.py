@@ -51,7 +51,7 @@ class Sentences:
             case.met[holds.__name__] += 1
 
 
-# ---- all orders of the calls of a set with several keys, a quota and ceilings
+# ---- The search of all orders, for calls of a set with several keys, a quota and ceilings
 
 
 def is_reply(word, key, reply):
@@ -85,7 +85,7 @@ def left_by_orders(calls, opening, quota):
     return left
 
 
-# ---- a report
+# ---- Random reports, and the properties of the lines of `check`
 
 
 def drawn_calls(rng, quota, opening):
@@ -241,7 +241,7 @@ def test_each_line_of_check_about_a_report_is_true(program, cases, few, seed):
     assert few or len(met) >= 5, met
 
 
-# ---- a picture of a report
+# ---- The properties of the lines in a picture of a report
 
 of_show = Sentences()
 
@@ -446,7 +446,7 @@ def test_each_line_of_show_about_a_report_is_true(program, cases, few, seed):
     assert few or len(met) >= 15, met
 
 
-# ---- a run: its trace, its picture and its report
+# ---- Comparisons of the trace, the picture and the report of a run
 
 
 def ends_of_trace(trace):

@@ -29,7 +29,7 @@ BEYOND = 100_000
 LATE = 3
 
 
-# ---- many clients at the same time
+# ---- Tests of many clients at the same time
 
 
 class Sharing:
@@ -112,7 +112,7 @@ def test_clients_at_once_receive_right_answers(program, kind):
         server.ends(CLIENTS + 1, calls, calls, keys)
 
 
-# ---- more clients than seats
+# ---- Tests of more clients than seats
 
 
 def test_more_clients_than_seats_are_served(program):
@@ -135,7 +135,7 @@ def test_more_clients_than_seats_are_served(program):
         server.ends(sessions, 6 * len(served) + faulty, 6 * len(served) + 3 * faulty, served)
 
 
-# ---- one seat
+# ---- Tests of a server with one seat
 
 
 def test_many_connections_one_after_another_are_served(program):
@@ -212,7 +212,7 @@ def test_a_server_listens_on_the_port_in_its_arguments(program):
         server.ends(1, 1, 1, [])
 
 
-# ---- lines in groups
+# ---- Tests of clients that send lines in groups
 
 
 @pytest.mark.parametrize("group", [1, 1023, 6000])
@@ -257,7 +257,7 @@ def test_a_silent_client_keeps_its_session(program):
         server.ends(1, 2, 2, [7])
 
 
-# ---- a client that does not read its answers
+# ---- Tests of a client that does not read its answers
 
 
 def sends_until_stuck(connection):
@@ -289,7 +289,7 @@ def test_a_client_that_reads_no_answer_holds_only_its_seat(program):
         server.ends(5, 4 + 1, 4 + lines, [key])
 
 
-# ---- bytes after the end of a session
+# ---- Tests of bytes after the end of a session
 
 
 def test_answers_arrive_if_bytes_follow_the_last_line(program):

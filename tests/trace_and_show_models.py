@@ -141,7 +141,7 @@ def test_trace_and_pictures_match_the_model(program, schedule):
             looked.picture(picture, (None, None, width))
 
 
-# ---- pictures of reports, and of what broken lists do with schedules
+# ---- Pictures of reports, and traces and pictures of broken lists
 
 
 def compare_report(looked, report):

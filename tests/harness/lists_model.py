@@ -12,7 +12,7 @@ from harness.programs import TOP
 TAIL_KEY = 4294967297
 REGISTERS = ["pred", "curr", "succ", "node", "pkey", "ckey"]
 
-# ---- the five step tables, from docs/TABLES.md
+# ---- The five step tables, read from docs/TABLES.md
 
 Table = collections.namedtuple("Table", "rows begin add remove leave")
 PAGE = re.split(r"^## ", (TOP / "docs/TABLES.md").read_text(encoding="utf-8"), flags=re.M)
@@ -95,7 +95,7 @@ TESTS = {
     "success but for a mark": lambda it, s, key, old: s // 2 == old // 2,
 }
 
-# ---- the list
+# ---- The words and threads of a list
 
 Call = collections.namedtuple("Call", "number thread word key begun")
 

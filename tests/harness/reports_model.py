@@ -12,7 +12,7 @@ from harness.set_model import CHANGES, SetModel
 Report = collections.namedtuple("Report", "kind threads quota opening calls ends order keys")
 HEADER = 4  # lines
 
-# ---- reading
+# ---- Reads reports
 
 
 def read_report(text):
@@ -30,7 +30,7 @@ def read_report(text):
     return report
 
 
-# ---- the errors of an order
+# ---- Finds the errors of an order
 
 
 def faults_of(report):
@@ -82,7 +82,7 @@ def first_fault(report):
     return next(faults_of(report), None)
 
 
-# ---- the picture
+# ---- Makes the picture of a report
 
 
 class Sets:
@@ -112,7 +112,7 @@ def picture_of_report(it):
     return Picture(it.kind, it.threads, it.quota, None, it.calls, it.ends, places, Sets(it, places), it.keys, refusal, None)
 
 
-# ---- moments that are far apart, and damaged reports
+# ---- Spreads the moments of a report, and damages reports
 
 
 def spread(it):
