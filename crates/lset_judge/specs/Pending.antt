@@ -33,7 +33,7 @@ abbrev pub end_or : ℕ → Option (ℕ × Reply) → ℕ
 end_or moment None = moment
 end_or moment (Some e) = e.0
 
--- `next` is the pending call with the earliest end, which is before the moment. `new` are the other calls.
+-- `next` is the pending call with the earliest end, and this end is before the moment. `new` are the other calls.
 pub record IsNext (moment : ℕ) (old : List Pending) (next : Pending) (new : List Pending) : Type 0 where
   pub early : next.end < moment
   pub is : IsPermutation old (next ∷ new)
