@@ -1,5 +1,5 @@
-//! LazyList: a node is marked before it is unlinked. A call walks without locks, locks the two nodes at which the walk
-//! has stopped, and checks that they are still neighbours.
+//! LazyList: a node is marked before it is unlinked. A call walks without locks, locks the two nodes at which it stops,
+//! and checks that they are still neighbours.
 ghost use Rattle.lset_steps.specs.ReadRows.{first_row};
 ghost use Rattle.std.specs.Prelude.{◌≡◌, IfSome};
 ghost use Rattle.lset_lazy.specs.Lazy.{lazy};

@@ -27,7 +27,7 @@ impl OwnSlots {
         }
     }
 
-    /// Returns the part of the registers that is kept after a call.
+    /// Returns the part of the registers that a thread keeps after a call.
     pub(crate) fn of(local: &Local) -> OwnSlots
         ensures { result ≡ slots_of local.now }
     {
