@@ -12,8 +12,8 @@ fn past_the_walk(local: Local) -> Local {
     }
 }
 
-/// Returns a thread's state after a step of the list that does not traverse the list a second time: its validation
-/// checks only that `pred` links to `curr`.
+/// Returns a thread's state after a step of the list that does not traverse the list a second time. Its validation only
+/// checks that `pred` links to `curr`.
 pub(crate) fn fed_without_walk(local: &Local, seen: u64) -> Fed
     requires { IsSmall local.now }
 {
