@@ -1,4 +1,4 @@
--- Finding a pending call by its end or by its thread, among many calls that are stored by their ends.
+-- Finding a pending call by its end or by its thread in a hash table that is indexed by ends.
 use Rattle.std.proofs.Common.{◌≡◌, ◌≢◌, ℕ, ◌<◌, ◌≤◌, Bool, true, false, List, [], ◌∷◌, refl, sym, ap, ◌∙◌, arith, subst, inl, inr, length, get_or, map, cond}
 use Rattle.std.specs.Prelude.{◌==◌, nat_lt, if◌then◌else◌, All, Contains, Option, Some, None, IfSome, MatchOption, is_some, not}
 use Rattle.std.specs.Bool.{nat_eq}
@@ -66,7 +66,7 @@ pub look_told : (b : ℕ) (es : Entries) (r : Bool) → r ≡ found b es
 look_told b es true is = (λ t. absurd (true≢false (sym t)), λ all. absurd (some_ends b es (sym is) all))
 look_told b es false is = (λ t. All-map (λ (p : Pending). p.end ≢ b) pending_at es (none_at b es (sym is)), λ all. refl)
 
--- ---- Lemmas about calls that do not end when another call begins or ends
+-- ---- Lemmas about calls that do not end when another call starts or ends
 
 abbrev Apart : ℕ → Option (ℕ × Reply) → Pending → Type 0
 Apart begun ended p = (p.end ≢ begun) × IfSome ended (λ (e : ℕ × Reply). p.end ≢ e.0)
@@ -108,7 +108,7 @@ module _ (last : ℕ → ℕ) (thread begun : ℕ) (es : Entries) (known : All (
   free_other other only ne = free_by (λ i d inside own is.
       absurd (ne (ap (λ (x : StreamCall). x.thread) (sym (only i d inside (sym is))) ∙ own)))
 
--- If a call that ends later is found at the thread's last end, the thread has a pending call.
+-- If the table has a call at the thread's last end, and this end is later than `begun`, the thread has a pending call.
 not_free : (thread begun end : ℕ) (other : StreamCall) (es : Entries) → Contains es (end, other) → other.thread ≡ thread → begun < end
     → All (Free thread begun) (map pending_at es) → ⊥
 not_free thread begun end other es has own later free =
@@ -243,7 +243,7 @@ pub many_with : (old now : Entries) (p : Pending) (before : Option StreamCall) �
 many_with old now p None e is apart = IsPermutation-map pending_at ((p.end, p.call) ∷ old) now is
 many_with old now p (Some c) e is apart = absurd (some_ends p.end old (sym (ap is_some e)) apart)
 
--- The last end of each thread is right after call p was inserted.
+-- The stored last end of each thread is still correct after call p was inserted.
 module _ (es : Entries) (last more : ℕ → ℕ) (p : Pending)
     (free : All (λ (q : Pending). q.call.thread ≢ p.call.thread) (map pending_at es))
     (known : All (λ (e : ℕ × StreamCall). last e.1.thread ≡ e.0) es)

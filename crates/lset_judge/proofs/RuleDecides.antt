@@ -31,9 +31,9 @@ use Rattle.lset_judge.specs.Rule.{may_leave}
 use Rattle.lset_judge.proofs.TimelineFromOrder.{rule_refutes}
 use Rattle.lset_judge.proofs.OrderFromRule.{order_found, linearizes}
 
--- ---- If a thread's quota covers all its `add`s, the quota is not used up before the last of them is in the order
+-- ---- If a thread's quota covers all its `add`s, it is not used up before the last of them is in the order
 
--- Returns how many keys a call adds for its thread: 1 or 0. `own` says whether it is a call of this thread.
+-- Returns how many keys a call adds for a thread: 1 or 0. `own` says whether the call is made by this thread.
 
 abbrev adds : Bool → Call → Reply → ℕ
 adds own (Add j) True = if own then 1 else 0

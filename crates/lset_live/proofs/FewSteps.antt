@@ -77,7 +77,6 @@ module _ (T : Table) (law : Lawful T) (reads : BoundedReads T) (key : Key) (v : 
   busy : (local_of (state_at T w.shape es (length before)) w.thread).pc ≢ 0
   busy = (subst (λ e. Enabled S e) last_is (run.enabled n (omega arith))).1
 
-  -- The record after the last step of the call.
   rooted : root v.past ≡ w.thread
   rooted = sym (ap root m.past) ∙ m.stands.of_thread
 

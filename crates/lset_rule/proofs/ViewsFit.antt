@@ -1,5 +1,5 @@
--- Lemmas about changing one view of a table of views, and about adding one: the facts about each view afterwards, and
--- which view has each thread.
+-- Lemmas about changing or adding a view in a table of views: what is then true of each view, and which view has each
+-- thread.
 use Rattle.std.proofs.Common.{◌≡◌, ◌≢◌, ⊎_elim, ℕ, zero, suc, ◌<◌, true, false, List, [], ◌∷◌, ◌++◌, length, set, refl, sym, ap, ◌∙◌, subst}
 use Rattle.std.proofs.lemmas.Bool.{false≢true}
 use mathlib.Core.Option.{some, some-injective, some-ne-none}
@@ -16,7 +16,7 @@ use Rattle.lset_rule.specs.Runs.{StartsWith, end_of, IsRunOf}
 use Rattle.lset_rule.specs.Rule.{Holds, MatchesLog, StandsIn}
 use Rattle.lset_rule.specs.Views.{HasThread}
 
--- Lemmas about a list whose entry with index j satisfies P j, when an entry is changed or added.
+-- Lemmas about changing or adding an entry in a list whose entry j satisfies P j, for each index j.
 module _ {A : Type 0} (P : ℕ → A → Type 0) where
   abbrev pub Each : List A → Type 0
   Each l = (j : ℕ) (x : A) → get_elem? l j ≡ some x → P j x
@@ -68,7 +68,8 @@ pub stands_last : (views : List View) (t : ℕ) (w : View) → w.spent ≡ false
     StandsIn (views ++ w ∷ []) (length views) t
 stands_last views t w alive has = (w, at_last views w (length views) refl, alive, has)
 
--- What the rule states of each view: if it is in use, it matches the events, and what it has seen is a prefix of them.
+-- What the rule (the invariant) states about view j: if the view is in use, it matches the events, and what it has seen
+-- is a prefix of them.
 abbrev pub Fits : Table → Opening → List Event → (ℕ → ℕ) → ℕ → View → Type 0
 Fits m k log so j v = (v.spent ≡ false → MatchesLog m k log so j v) × StartsWith log v.seen
 
