@@ -1,4 +1,4 @@
-//! Implements the steps of two broken OptimisticLists whose validation checks too little.
+//! Implements the steps of two broken OptimisticLists whose check of the two locked nodes (validation) is too weak.
 ghost use Rattle.lset_steps.specs.Rows.{IsSmall};
 
 use lset_optimistic::fed_by;

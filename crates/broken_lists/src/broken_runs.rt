@@ -1,4 +1,4 @@
-//! Creates broken lists on which schedules can be run.
+//! Creates broken lists (lists with one check removed) for running schedules.
 ghost use Rattle.lset_schedule.specs.Plan.{opening_in, view};
 ghost use Rattle.lset_words.specs.Words.{Opens};
 

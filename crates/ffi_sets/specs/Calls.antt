@@ -21,7 +21,7 @@ HasCalledOf T set (Some old) c None None = Unit {0}
 HasCalledOf T set None c None None = Unit {0}
 HasCalledOf T set old c r new = ⊥
 
--- Returns the number that C functions return for a reply, and 255 for no reply.
+-- Converts a reply to the number that C functions return. Without a reply, the number is 255.
 abbrev pub code_of : Option Reply → ℕ
 code_of (Some reply.False) = 0
 code_of (Some reply.True) = 1

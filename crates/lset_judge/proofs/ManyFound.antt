@@ -118,7 +118,7 @@ not_free thread begun end other es has own later free =
 module _ {S : Type 0} (last : ℕ → ℕ) (thread begun : ℕ) (m : HashMap ℕ StreamCall S)
     (known : All (λ (e : ℕ × StreamCall). last e.1.thread ≡ e.0) m.entries) (unique : IsUnique nat_eq m)
     (end : ℕ) (other : StreamCall) (at : last thread ≡ end) (is : get nat_eq m end ≡ Some other) (later : begun < end) where
-  -- At most one call has this end.
+  -- `other` is the only call in the table that ends at `end`.
   only_at : (i : ℕ) (d : ℕ × StreamCall) → i < length m.entries → (get_or m.entries i d).0 ≡ end → (get_or m.entries i d).1 ≡ other
   only_at i d low e =
       let here = hash_map_get_place nat_eq_equiv m i (get_or m.entries i d).0 (get_or m.entries i d).1 unique (slice_get-get_or m.entries i d low) in

@@ -156,7 +156,7 @@ timeline_turns b false m gt st e gp gk sp sk l h =
     further true y = let f = fewer sp gp (l.lists true) in omega (arith, y, f)
     further false y = let t = taken_length e sp h in let f = fewer sp gp (l.lists true) in omega (arith, t, f)
 
--- The state after the rule has let a change take effect. It still does at least as well as the timeline.
+-- The rule has let one change take effect. Its new state still does at least as well as the timeline.
 pub record Turns (m : ℕ) (g s : State) : Type 0 where
   pub state : State
   pub is : turned_if m g (options g) ≡ Some state
@@ -227,7 +227,7 @@ asked m (looks w since) g s l t f =
     ]
 asked m v g s l t f = absurd (true≢false f)
 
--- The state that the rule finds for an event. It still does at least as well as the timeline.
+-- The rule has found a state for the event. This state still does at least as well as the timeline.
 pub record Settles (n m : ℕ) (v : Event) (g s : State) : Type 0 where
   pub state : State
   pub is : settled n m v (Some g) ≡ Some state

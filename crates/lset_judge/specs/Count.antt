@@ -91,7 +91,8 @@ CountsExcludeOrders = (h : HistoryValue) (keys : List ℕ) (key : ℕ) (there : 
     (since until : Option ℕ) (counted : List CallRecord) → IsHistory h.opening.threads h.calls → has_key key h.opening.keys ≡ is_there there
     → IfSome left (λ (l : Presence). has_key key keys ≡ is_there l) → IsCountOf h.calls key there left was since until counted → IsUnexplained h keys
 
--- What `find_count` returns is a count, and its `backs` are all calls that can change the key back.
+-- The result of `find_count` is a count: calls that are too many for any order. Its `backs` are all calls that can
+-- change the key back.
 pub record IsCount (calls : List CallRecord) (there : Presence) (left : Option Presence) (c : Count) : Type 0 where
   pub count : IsCountOf calls c.key.0 there left c.was c.since c.until (records c.calls.items)
   pub backs : records c.backs.items ≡ turning_in c.key.0 (other c.was) c.since c.until calls

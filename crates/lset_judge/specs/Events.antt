@@ -68,7 +68,7 @@ event_at last k (x ∷ xs) m =
     else (if ends_at m x.ended then end_event (kind_if x.call x.ended) x.begun else event_at last k xs m)
     ) else event_at last k xs m
 
--- Returns whether the judge's rule succeeds for key k of a history and its final state. `last` is the last moment.
+-- Returns whether the judge's rule succeeds for key k of a history with these final keys. `last` is the last moment.
 abbrev pub rule_explains : ℕ → HistoryValue → List ℕ → ℕ → Bool
 rule_explains last h keys k = may_leave (event_at last k h.calls) (has_key k h.opening.keys) (has_key k keys) last
 

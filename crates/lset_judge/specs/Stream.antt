@@ -25,11 +25,11 @@ use Rattle.lset_judge.specs.Code.{state_of}
 use Rattle.lset_judge.specs.Events.{kind_if, until_if, end_event, event_at}
 use Rattle.lset_judge.specs.Verdict.{IsPlain, IsExplained, IsUnexplained, IsRefusedBy, is_plain, with_quota}
 
--- Returns a call of a recording as a call of a history.
+-- Converts a recorded call to a call in a history.
 abbrev pub record_of : StreamCall → CallRecord
 record_of x = record { thread = x.thread; call = x.call; begun = x.begun; ended = x.ended }
 
--- Returns a call of a history as a call of a recording.
+-- Converts a call in a history to a recorded call.
 abbrev pub call_of : CallRecord → StreamCall
 call_of x = record { thread = x.thread; call = x.call; begun = x.begun; ended = x.ended }
 
@@ -69,7 +69,7 @@ pending_of x = record {
 abbrev pub key_in : Pending → ℕ
 key_in p = (key_of p.call.call).0
 
--- Returns the event of a pending call's end.
+-- Returns the event when a pending call ends.
 abbrev pub event_of : Pending → Event
 event_of p = end_event (kind_if p.call.call p.call.ended) p.call.begun
 

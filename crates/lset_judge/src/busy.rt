@@ -12,9 +12,9 @@ const LOW: u32 = 65_536;
 /// For each thread that has made a call, the end of its last call.
 #[derive(Drop)]
 pub(crate) struct Busy {
-    /// The end of the last call of each thread below `LOW`, indexed by thread. 0 for a thread without calls.
+    /// For each thread below `LOW`, the end of its last call, or 0 if it has made no call.
     pub(crate) low: Vec<u64>,
-    /// The end of the last call of every other thread that has made a call.
+    /// For every other thread that has made a call, the end of its last call.
     pub(crate) high: HashMap<u32, u64>,
 }
 

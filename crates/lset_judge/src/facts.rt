@@ -1,4 +1,4 @@
-//! Facts about the calls of a key. From these facts the judge finds a clash: two calls of the key that rule out every
+//! Facts about the calls on a key. From these facts the judge finds a clash: two calls on the key that rule out every
 //! order.
 
 ghost use Rattle.std.specs.Prelude.{◌≡◌, IfSome, IsTrue, Some};

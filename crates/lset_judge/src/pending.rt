@@ -82,7 +82,7 @@ fn nearest_place(few: &[Pending]) -> usize
     place
 }
 
-/// Returns the index of the call with the earliest end after `pending` is appended.
+/// Returns which index the call with the earliest end has once `pending` is appended.
 fn next_with(few: &[Pending], next: usize, pending: Pending) -> usize
     requires { IsFirst next few.now }
     ensures { IsFirst result (few.now ++ pending ∷ []) }
@@ -185,7 +185,7 @@ impl PendingCalls {
         self.many.insert(pending)
     }
 
-    /// Returns how many of the pending calls overlap a change of their key, after `moment`.
+    /// Returns how many calls that are pending after `moment` overlap a change of their key.
     pub(crate) fn overlapping(&self, states: &HashMap<u32, KeyState>, moment: u64) -> u64 {
         let mut count: u64 = 0;
         for pending in &self.few {

@@ -17,7 +17,7 @@ use crate::stream::StreamCall;
 use lset_words::Presence;
 use std::alloc::{AllocError, Global};
 
-/// The kind of the kept call of a key: a completed call that left the key in the state `was`.
+/// The kind of a key's kept call, which is a completed call that left the key in the state `was`.
 #[derive(Clone, Copy)]
 pub(crate) enum Kept {
     /// No call: the key was in the state `was` when the set opened.

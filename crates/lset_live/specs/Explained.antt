@@ -16,7 +16,7 @@ use Rattle.lset_words.specs.Records.{Record, Names, Keeps, called, calls_by, thr
 use Rattle.lset_live.specs.Seats.{SeatValue, SetValue}
 use Rattle.lset_words.specs.Words.{Opening}
 
--- Call c of thread t has ended with reply r. The thread had seen the events `before` when the call began. It has now
+-- Call c of thread t has ended with reply r. The thread had seen the events `before` when the call started. It has now
 -- seen the events `after`, which end with the call's last step.
 pub record IsAnswered (T : Table) (k : Opening) (t : ℕ) (c : Call) (r : Reply) (before after : List Event) : Type 0 where
   pub others : List Event

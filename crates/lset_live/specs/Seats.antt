@@ -27,7 +27,7 @@ pub record SeatValue : Type 0 where
   pub held : ℕ
   pub events : List Event
 
--- A receipt in contracts: its set, and the events that a seat had seen when it made the receipt.
+-- A receipt in contracts: its set, and the events that a seat had seen when it issued the receipt.
 pub record ReceiptValue : Type 0 where
   pub set : SetValue
   pub events : List Event

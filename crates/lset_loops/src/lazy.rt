@@ -61,7 +61,7 @@ fn validate<P: Pause>(
     Some(Node::behind(after))
 }
 
-/// Adds the key, removes it, or only replies, between the two locked nodes at which the walk has stopped.
+/// Adds or removes the key between the two locked nodes at which the walk has stopped, or only replies.
 fn act<P: Pause>(
     caller: &Caller<LazyList, P>,
     place: &mut TableSeat,

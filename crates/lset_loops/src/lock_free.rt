@@ -51,7 +51,7 @@ fn find<P: Pause, N: Rounds>(
     None
 }
 
-/// Adds the key, removes it, or only replies, between the two nodes at which the walk has stopped. Returns `None` if a
+/// Adds or removes the key between the two nodes at which the walk has stopped, or only replies. Returns `None` if a
 /// link has changed since the walk.
 fn attempt<P: Pause>(
     caller: &Caller<LockFreeList, P>,

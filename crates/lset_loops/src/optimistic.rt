@@ -99,7 +99,7 @@ fn validate<P: Pause, N: Rounds>(
     Some(true)
 }
 
-/// Adds the key, removes it, or only replies, between the two locked nodes at which the walk has stopped.
+/// Adds or removes the key between the two locked nodes at which the walk has stopped, or only replies.
 fn act<P: Pause>(
     caller: &Caller<OptimisticList, P>,
     place: &mut TableSeat,

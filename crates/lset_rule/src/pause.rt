@@ -12,8 +12,9 @@ pub trait Pause {
     /// Called after a step that succeeded without ending the call. `thread` is the number of the calling thread.
     fn moved(&self, thread: u32);
 
-    /// Called after a step that failed without ending the call. Such a step is an exchange that found another value
-    /// than expected, for example because a lock is held. `thread` is the number of the calling thread.
+    /// Called after a step that failed without ending the call. Such a step is a compare-and-exchange that found
+    /// another value than the expected one, for example because a lock is held. `thread` is the number of the calling
+    /// thread.
     fn failed(&self, thread: u32);
 
     /// Called instead of `moved` when a call takes a lock that it has waited for. The loops of the four lists with
