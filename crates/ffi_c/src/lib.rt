@@ -16,9 +16,9 @@ use ffi_sets::CSeat;
 use std::alloc::Global;
 
 /// Opens a set of the list `kind` (0 coarse, 1 fine, 2 optimistic, 3 lazy, 4 lock-free) with 1 to 64 `seats`, a `quota`
-/// of 0 to 16,384, and at most 1,048,576 `keys` in strictly increasing order. Stores a seat in `out`, which must be
-/// empty. All other seats can be split off this seat. No other open set may have the same `number`, because
-/// `listset_gather` uses it to compare the sets of two seats.
+/// of 0 to 16,384, and at most 1,048,576 `keys` in strictly increasing order. Stores a seat (the right to call as one
+/// thread) in `out`, which must be empty. All other seats can be split off this seat. No other open set may have the
+/// same `number`, because `listset_gather` uses it to compare the sets of two seats.
 ///
 /// Returns `DONE`. On an error, changes nothing and returns `IS_SEAT` if `out` is not empty, `BAD_KIND`, `BAD_SEATS`,
 /// `BAD_QUOTA`, `BAD_KEYS`, or `OUT_OF_MEMORY` if an allocation failed. Does not block.

@@ -110,15 +110,16 @@ begun_by (looks w since) f = f
 begun_by (leaves w) f = f
 begun_by idle f = f
 
--- States that the facts `new` have `call` as their kept call: it left the key in the state `was`. The moments by which
--- changes end are those of the facts `old`.
+-- States that the facts `new` have `call` as their kept call: a completed call that left the key in the state `was`.
+-- The moments by which changes end are those of the facts `old`.
 pub record IsKept (call : StreamCall) (old new : Facts) : Type 0 where
   pub first : first_of (key_of call.call).0 new ≡ Some call
   pub leaves : leaves_if call.call call.ended ≡ Some new.was
   pub puts : new.puts_until ≡ old.puts_until
   pub takes : new.takes_until ≡ old.takes_until
 
--- States how the end of a call changes the facts: they do not change, or the call becomes the kept call.
+-- States how the end of a call changes the facts: they do not change, or the call replaces the one call that they store
+-- (the kept call).
 abbrev pub IsEnded : StreamCall → Facts → Facts → Type 0
 IsEnded call old new = (new ≡ old) ⊎ IsKept call old new
 
@@ -155,8 +156,8 @@ pub record IsStreamKept (threads : ℕ) (opening : List ℕ) (calls : List CallR
 
 -- ---- Definitions that only one contract uses
 
--- States that each call that can change the key to a state other than `was` has ended when the kept call starts. If
--- there is no kept call, states that no such call has started.
+-- States that each call that can change the key to a state other than `was` has ended when the kept call (the one that
+-- the facts store) starts. If there is no kept call, states that no such call has started.
 abbrev pub IsStanding : ℕ → Facts → Type 0
 IsStanding key f = until_of (other f.was) f ≤ since_of (record_if (first_of key f))
 
@@ -178,7 +179,8 @@ abbrev pub ComesAfter : Facts → Option StreamCall → StreamCall → Type 0
 ComesAfter f None second = Unit {0}
 ComesAfter f (Some x) second = Precedes (record_of x) (record_of second) ⊎ ClashTurned f x second
 
--- States that, according to the facts, `call` clashes with the kept call, or with the key's opening state.
+-- States that, according to the facts, `call` clashes with the call that they store (the kept call), or with the key's
+-- opening state.
 pub record IsClashing (f : Facts) (call : StreamCall) : Type 0 where
   pub needs : needs_if call.call call.ended ≡ Some (other f.was)
   pub standing : IsStanding (key_of call.call).0 f
@@ -192,8 +194,8 @@ pub record IsFound (f : Facts) (call : StreamCall) (c : Clash) : Type 0 where
   pub is : c ≡ clash_with (key_of call.call).0 f (Some call)
   pub clashing : IsClashing f call
 
--- States that, according to the facts, the kept call (or the key's opening state) clashes with the final state `left`
--- of the key. `c` is this clash.
+-- States that, according to the facts, the call that they store (or the key's opening state) clashes with the final
+-- state `left` of the key. `c` is this clash.
 pub record IsFoundLeft (key : ℕ) (f : Facts) (left : Presence) (c : Clash) : Type 0 where
   pub is : c ≡ clash_with key f None
   pub is_other : left ≡ other f.was
@@ -224,7 +226,7 @@ abbrev pub clash_met : Option Failed → Option Clash → Option Clash
 clash_met None clash = None
 clash_met (Some f) clash = clash
 
--- States that c is a clash on the key that the refusal names, whatever calls the stream has judged.
+-- States that c is a clash on the key that the reason (`refusal`) names, whatever calls the stream has judged.
 abbrev pub ClashesStream : List ℕ → Refusal → Option Presence → Stream → Clash → Type 0
 ClashesStream opening refusal left s c = (threads : ℕ) (calls : List CallRecord) → IsStreamKept threads opening calls s
     → IsClash calls refusal.key.0 (presence (has_key refusal.key.0 opening)) left c.was (record_if c.first) (record_if c.second)

@@ -19,8 +19,8 @@ IsJudgeOf threads opening calls j = IsStreamKept threads opening calls j.stream
 
 -- ---- The meaning of a verdict
 
--- Returns the final state of a key. Returns None if a refusal has a moment: the refusal is then not about the final
--- keys.
+-- Returns the final state of a key. Returns None if the reason for a verdict (the refusal) has a moment: the reason is
+-- then not about the final keys.
 abbrev pub left_by : List ℕ → ℕ → Option ℕ → Option Presence
 left_by keys key (Some moment) = None
 left_by keys key None = Some (presence (has_key key keys))
@@ -31,8 +31,8 @@ abbrev pub ClashesIn : List ℕ → List CallRecord → ℕ → Option Presence 
 ClashesIn opening calls key left c =
     IsClash calls key (presence (has_key key opening)) left c.was (record_if c.first) (record_if c.second)
 
--- States that a verdict is correct. If the verdict includes a clash, the clash is on the refusal's key, and involves
--- the final state only if the refusal is about the final keys.
+-- States that a verdict is correct. If the verdict includes a clash, the clash is on the key that the reason (the
+-- refusal) names, and involves the final state only if the reason is about the final keys.
 abbrev pub IsVerdict : ℕ → List ℕ → List CallRecord → List ℕ → Verdict → Type 0
 IsVerdict threads opening calls keys verdict.Linearizable = IsStreamVerdict (stream_history threads opening calls) keys Linearizable
 IsVerdict threads opening calls keys (verdict.NotLinearizable refusal clash) =

@@ -142,8 +142,8 @@ FailsFirst h key None = (k m : ℕ) → HasFailed h k m → ⊥
 FailsFirst h key (Some moment) = HasFailed h key moment × ((k m : ℕ) → HasFailed h k m → moment ≤ m)
 
 -- States that a verdict is correct. Linearizable: some order explains the calls and leaves the keys. NotLinearizable:
--- no order does, with any quota; the calls on the key that the refusal names suffice to show it (`IsRefusedBy`), and
--- the judge's rule fails first for this key, at the refusal's moment.
+-- no order does, with any quota; the calls on the key that the reason (the refusal) names suffice to show it
+-- (`IsRefusedBy`), and the judge's rule fails first for this key, at the reason's moment.
 abbrev pub IsStreamVerdict : HistoryValue → List ℕ → StreamVerdict → Type 0
 IsStreamVerdict h keys Linearizable = IsExplained h keys
 IsStreamVerdict h keys (NotLinearizable refusal) =
@@ -184,7 +184,7 @@ verdict_of_key None = Linearizable
 verdict_of_key (Some k) = NotLinearizable (record { key = record { 0 = k }; moment = None })
 
 -- States that the verdict reports the failure of the judge's rule, if the rule has failed. If the rule has not failed,
--- a refusal has no moment.
+-- the reason for NotLinearizable has no moment.
 abbrev pub IsToldBy : Option Failed → StreamVerdict → Type 0
 IsToldBy None Linearizable = Unit {0}
 IsToldBy None (NotLinearizable refusal) = refusal.moment ≡ None

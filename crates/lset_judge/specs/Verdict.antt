@@ -58,7 +58,7 @@ with_quota quota h = record {
   calls = h.calls;
 }
 
--- ---- The meaning of a refusal
+-- ---- The meaning of a refusal: the reason why no order explains the calls
 
 -- Returns the calls on a key that start by a moment, with their ends and replies.
 abbrev pub calls_by : ℕ → ℕ → List CallRecord → List CallRecord
@@ -75,9 +75,9 @@ of_key key moment h = record {
   calls = calls_by key moment h.calls;
 }
 
--- States that the reason of a refusal is correct, with any quota. With a moment: no order explains the calls on the key
--- that start by this moment, whatever keys the order leaves. Without a moment: no order explains all calls on the key
--- and leaves the key's final state.
+-- States that the reason why no order explains the calls (the refusal) is correct, with any quota. With a moment: no
+-- order explains the calls on the key that start by this moment, whatever keys the order leaves. Without a moment: no
+-- order explains all calls on the key and leaves the key's final state.
 abbrev pub IsRefusedBy : HistoryValue → List ℕ → ℕ → Option ℕ → Type 0
 IsRefusedBy h keys key (Some moment) = (quota : ℕ) (left : List ℕ) → IsUnexplained (of_key key moment (with_quota quota h)) left
 IsRefusedBy h keys key None = (quota : ℕ) (left : List ℕ) → has_key key left ≡ has_key key keys

@@ -102,8 +102,8 @@ impl KeyState {
         }
     }
 
-    /// Returns whether each call that can change the key to a state other than `was` has ended when the kept call
-    /// `first` starts. If there is no kept call, returns whether no such call has started.
+    /// Returns whether each call that can change the key to a state other than `was` has ended when the stored call
+    /// `first` starts. If `first` is `None`, returns whether no such call has started.
     fn is_standing(&self, first: Option<StreamCall>, key: Key) -> bool
         requires { first ≡ first_of key.0 (facts_of self.now) }
         ensures { IsTrue result → IsStanding key.0 (facts_of self.now) }
@@ -137,7 +137,8 @@ impl KeyState {
             && ends_by(first, second)
     }
 
-    /// Returns the clash of the kept call with the call `second`, which ends now, if these facts show one.
+    /// Returns the clash of the stored call (the kept call) with the call `second`, which ends now, if these facts show
+    /// one.
     pub(crate) fn clash_of(&self, second: StreamCall) -> Option<Clash>
         ensures { IfSome result (IsFound (facts_of self.now) second) }
     {
@@ -156,15 +157,15 @@ impl KeyState {
         })
     }
 
-    /// Stores the clash of the kept call with the call `second`, which ends now, if these facts show one. A separate
-    /// function, so that the ends of other calls need no stack space for a `Clash`.
+    /// Stores the clash of the kept call with the call `second`, which ends now, in `clash`, if these facts show one. A
+    /// separate function, so that the ends of other calls need no stack space for a `Clash`.
     pub(crate) fn store_clash(&self, second: StreamCall, clash: &mut Option<Clash>)
         ensures { IfSome clash.new (IsFound (facts_of self.now) second) }
     {
         *clash = self.clash_of(second);
     }
 
-    /// Returns the clash of the kept call with the key's final state `left`, if these facts show one.
+    /// Returns the clash of the stored call (the kept call) with the key's final state `left`, if these facts show one.
     pub(crate) fn clash_left(&self, key: Key, left: Presence) -> Option<Clash>
         ensures { IfSome result (IsFoundLeft key.0 (facts_of self.now) left) }
     {
@@ -187,7 +188,7 @@ impl KeyState {
         until <= begun && !(self.was == was && until <= self.begun)
     }
 
-    /// Records that a call ends: the call replaces the kept call, or nothing changes.
+    /// Records that a call ends: the call replaces the stored call (the kept call), or nothing changes.
     pub(crate) fn keep(&mut self, call: StreamCall)
         ensures state { state_of self.new ≡ state_of self.old }
         ensures ended { IsEnded call (facts_of self.old) (facts_of self.new) }

@@ -36,7 +36,8 @@ pub struct Judge {
     stream: Stream,
 }
 
-/// Returns the final state of the key that the refusal names if the refusal is about the final keys, else `None`.
+/// Returns the final state of the key that the reason (`refusal`) names if the reason is about the final keys, else
+/// `None`.
 fn left_as(keys: &[u32], refusal: Refusal) -> Option<Presence>
     requires { IsStrictlyIncreasing keys.now }
     ensures { result ≡ left_by keys.now refusal.key.0 refusal.moment }
@@ -47,7 +48,7 @@ fn left_as(keys: &[u32], refusal: Refusal) -> Option<Presence>
     }
 }
 
-/// Returns the two calls behind a refusal that clash, if the judge found them.
+/// Returns the two clashing calls on the key that the reason (`refusal`) names, if the judge found them.
 fn clash_for(stream: &Stream, refusal: Refusal, left: Option<Presence>) -> Option<Clash>
     requires { IsToldBy stream.now.failed (NotLinearizable refusal) }
     ensures { IfSome result (λ c. (opening : List ℕ) → ClashesStream opening refusal left stream.now c) }

@@ -15,9 +15,9 @@ pub(crate) struct Stretch {
     from: u64,
     /// The changes in the stretch have ended by this moment.
     upto: u64,
-    /// A call that saw the key in the state `was`, and counts as a call before the changes.
+    /// A call that saw the key in the state `was`. It counts as a call before the changes.
     pub(crate) first: Option<StreamCall>,
-    /// A call that saw the key in the other state, and counts as a call after the changes.
+    /// A call that saw the key in the state other than `was`. It counts as a call after the changes.
     pub(crate) last: Option<StreamCall>,
     /// The start of the stretch. `None` if the set opened with the key in the state `was`, which counts as a call.
     pub(crate) since: Option<u64>,

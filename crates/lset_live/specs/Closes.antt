@@ -29,7 +29,7 @@ pub record IsLast (c : LastWords) : Type 0 where
 abbrev pub HasKeys : LastWords → List ℕ → Type 0
 HasKeys c keys = IsContent (view c.sizes c.words (λ t. 0)) keys
 
--- Returns the maximum number of keys in a set: one for each slot of each thread, plus the opening keys.
+-- Returns the maximum number of keys in a set: the opening keys, plus as many keys as all threads together can add.
 abbrev pub most_keys : Sizes → ℕ
 most_keys s = s.threads * s.quota + s.opening
 

@@ -25,7 +25,7 @@ use lset_words::{Call, Reply};
 pub trait Bounded: Machine {
     /// Makes a call of any kind, with at most `N::MOST` rounds in each loop. (A `contains` of LazyList and LockFreeList
     /// makes as many rounds as it needs.) `place` is an idle seat on the words `table`, and `slots` are the slots of
-    /// its thread. Returns the slots after the call, and the reply.
+    /// its thread (nodes for keys that it adds). Returns the slots after the call, and the reply.
     ///
     /// Returns `None` if a loop has made all its rounds. The call is then still pending and holds its locks, and the
     /// seat can make no other call.

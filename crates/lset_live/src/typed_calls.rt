@@ -15,7 +15,7 @@ use std::sync::Wait;
 #[derive(Clone, Copy, Debug, PartialEq, Eq)]
 #[must_use]
 pub enum Added {
-    /// The key was absent and has been added. It uses one slot of the seat's thread. The reply is `True`.
+    /// The key was absent and has been added. It counts against the quota of the seat's thread. The reply is `True`.
     New,
     /// The key was already present. Nothing changed. The reply is `False`.
     Already,
@@ -27,8 +27,8 @@ impl<M: Running> Seat<M> {
     /// Adds `key` to `set`. Returns whether the key was added, was already present, or would exceed the quota. This
     /// seat must belong to `set`.
     ///
-    /// Appends the call with its reply to the seat's record, as `LiveSet::add` does. Removing a key does not free its
-    /// slot. Can block while another thread holds a lock that the call needs. Does not allocate.
+    /// Appends the call with its reply to the seat's record, as `LiveSet::add` does. A removed key still counts against
+    /// the quota. Can block while another thread holds a lock that the call needs. Does not allocate.
     ///
     /// For example:
     ///

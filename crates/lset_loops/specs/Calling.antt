@@ -83,7 +83,8 @@ slot_stores own word x = (key_index (slot own), word) ∷ (link_index (slot own)
 abbrev pub put_stores : OwnSlots → ℕ → ℕ → ℕ → List (ℕ × ℕ)
 put_stores own word p x = (key_index (slot own), word) ∷ (link_index (slot own), 2 * x) ∷ (link_index p, 2 * slot own) ∷ []
 
--- Call b has not started yet. Its seat s has no pending call, and the seat's thread has the slots `own`.
+-- Call b has not started yet. Its seat s has no pending call, and the seat's thread has the slots `own` (nodes for keys
+-- that it adds).
 pub record MayBegin (m : Table) (b : Begun) (own : OwnSlots) (s : TableSeat) : Type 0 where
   pub now : b ≡ begun_at b.call s
   pub may : MayCall m b.table_id b.me.0.shape own s
@@ -157,10 +158,11 @@ abbrev pub Decides : Call → OwnSlots → ℕ → Decision → Type 0
 Decides c own word d = (t : Targets) (l : Local) → l.call ≡ c → l.used ≡ own.used → l.quota ≡ own.quota →
     decided_on t word l ≡ done t d l
 
--- Returns the slots of a thread after it has used one more.
+-- Returns the slots of a thread (nodes for keys that it adds) after it has used one more.
 abbrev pub one_more : OwnSlots → OwnSlots
 one_more own = record own { used = own.used + 1 }
 
--- States that call b has ended. `answer` has the thread's slots after the call, and the reply.
+-- States that call b has ended. `answer` has the thread's slots (nodes for keys that it adds) after the call, and the
+-- reply.
 abbrev pub HasAnswered : Table → Begun → OwnSlots × Reply → TableSeat → Type 0
 HasAnswered m b answer s = (l : Local) × Answered m b answer.1 l s × (answer.0 ≡ slots_of l)

@@ -44,8 +44,8 @@ fn reply_by_mark(link: u64) -> Reply
 /// the mark of its node. This is Herlihy and Shavit's wait-free `contains`.
 ///
 /// `place` is an idle seat (the right to call as one thread) on the words `table`, and `slots` are the slots of its
-/// thread. Returns the slots and the reply. `pause` is called after each step that does not end the call. Does not
-/// block, and always returns.
+/// thread (nodes for keys that it adds). Returns the slots and the reply. `pause` is called after each step that does
+/// not end the call. Does not block, and always returns.
 pub fn contains_on<M: ReadsByRows, P: Pause>(
     table: &Words<M>,
     place: &mut TableSeat,

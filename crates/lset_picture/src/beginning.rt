@@ -28,9 +28,9 @@ fn first_begun(calls: &[CallRecord], key: u32) -> Option<u32> {
     None
 }
 
-/// Returns the moment at which the picture of a rejected order should start: when the call that the refusal names
-/// starts. If the refusal names two calls, the one that had ended counts. If the final keys are wrong, the first call
-/// on the smallest differing key counts.
+/// Returns the moment at which the picture of a rejected order should start: when the call that the refusal (the
+/// reason) names starts. If it names two calls, the one that had ended counts. If the final keys are wrong, the first
+/// call on the smallest differing key counts.
 pub(crate) fn clash_begins(picture: &Picture) -> Option<u32> {
     let calls = picture.history.calls();
     match &picture.refusal {

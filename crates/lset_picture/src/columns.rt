@@ -61,8 +61,9 @@ impl Drawing {
         self.before || self.after
     }
 
-    /// Returns a range of moments that starts at the call that the refusal names. Returns `None` if no refusal names a
-    /// call in the history, if all moments were drawn, or if `window` excludes some moments.
+    /// Returns a range of moments that starts at the call for which the order was rejected. Returns `None` if the order
+    /// is accepted or its error names no call in the history, if all moments were drawn, or if `window` excludes some
+    /// moments.
     pub fn window_of_clash(&self, picture: &Picture, window: Window) -> Option<Window> {
         if !(self.after && window.is_whole()) {
             return None;

@@ -90,8 +90,8 @@ fn side_of(standing: Standing, drawing: &Drawing) -> Option<Side> {
     }
 }
 
-/// Returns whether to print an entry whose call is not in the history: only if all moments are drawn or the refusal
-/// names the call.
+/// Returns whether to print an entry whose call is not in the history: only if all moments are drawn or the order was
+/// rejected for this call.
 fn is_told(picture: &Picture, drawing: &Drawing, place: Placed) -> bool {
     match &picture.refusal {
         _ if !drawing.is_cut() => true,

@@ -57,7 +57,8 @@ fn missing(history: &History, call: u32) -> Option<Refusal> {
     })
 }
 
-/// Finds the first entry after `call` in the order whose call had ended before `call` started. Returns it as a refusal.
+/// Finds the first entry after `call` in the order whose call had ended before `call` started. Returns it as the reason
+/// to reject the order.
 fn too_early(history: &History, order: &[Placed], call: u32) -> Option<Refusal> {
     let begun = record_of(history, call)?.begun;
     let place = place_from(order, 0, call)?;

@@ -253,8 +253,8 @@ fn put_below(out: &mut String, threads: u32, below: &str) -> Result<(), AllocErr
 /// Draws a picture as an SVG. It shows the moments in `window`, counted from 1, but at most the first 64 at which
 /// something happens.
 ///
-/// If `window` includes all moments and they do not fit, the drawing of a rejected order starts at the call that the
-/// refusal names. A call is a line in its thread's colour: dashed if it is pending, thick if it contradicts the order
+/// If `window` includes all moments and they do not fit, the drawing of a rejected order starts at the call for which
+/// it was rejected. A call is a line in its thread's colour: dashed if it is pending, thick if it contradicts the order
 /// (`is_clash`). A linearization point is a circle, filled if the call changes the set, with a thin line down to the
 /// set. The order is below, as text. The style sheet has a dark background for readers who prefer one. The SVG has no
 /// script and no external references. Returns `AllocError` if an allocation fails.

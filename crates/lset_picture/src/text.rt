@@ -219,8 +219,8 @@ fn put_drawn_rows(
 ///
 /// The picture shows the moments `window.from` to `window.to`, counted from 1. It is limited to the first 64 at which
 /// something happens, and to those that fit into rows of `width` characters, but shows at least one. If `window`
-/// includes all moments and they do not fit, the drawing of a rejected order starts at the call that the refusal names.
-/// Returns `AllocError` if an allocation fails. (Pictures with bars and points are due to Herlihy and Wing.)
+/// includes all moments and they do not fit, the drawing of a rejected order starts at the call for which it was
+/// rejected. Returns `AllocError` if an allocation fails. (Pictures with bars and points are due to Herlihy and Wing.)
 pub fn write_picture(
     alloc: Global,
     picture: &Picture,

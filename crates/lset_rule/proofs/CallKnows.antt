@@ -121,7 +121,8 @@ reached_first m law c low v l st idle is =
     occurs m v (v.seen ++ Begin v.thread c ∷ []) l (subst (IsAt m v.shape (v.seen ++ Begin v.thread c ∷ []) v.thread) (sym is)
     (begun_at m law v st c low idle))
 
--- The registers after the start of a call depend only on the thread's slots, and not on its other registers.
+-- The registers after the start of a call depend only on the thread's slots (nodes for keys that it adds), and not on
+-- its other registers.
 pub begun_from_slots : (m : Table) → Lawful m → (c : Call) (v : View) (s : OwnSlots) (r l : Local) → s ≡ slots_of v.local →
     r ≡ resting s → l ≡ m.begin c r → l ≡ m.begin c v.local
 begun_from_slots m law c v s r l same rest is = is ∙ (ap (m.begin c) (rest ∙ ap resting same) ∙ sym (law.begins c v.local).alike)

@@ -34,18 +34,19 @@ use Rattle.lset_rule.proofs.RecordsOfRuns.{after_root, after_apart, after_in, af
 abbrev pub IsAt : Table → Opening → List Event → ℕ → Local → Type 0
 IsAt m k es t l = UnderWay m k (event_at es) (length es) t × (local_of (end_of m k es) t ≡ l)
 
--- Returns view v after event e, which is made by the view's own thread and changes its registers, pending call and
--- record.
+-- Returns view v (what a seat knows) after event e. The seat's own thread makes this event, which changes its
+-- registers, pending call and record.
 abbrev pub later : View → List Event → Event → Local → Option PendingCall → Past → View
 later v log e l u r = record v { local = l; under = u; past = r; seen = log ++ e ∷ [] }
 
 module _ (m : Table) where
-  -- Later events do not change the state of a view's threads, because threads of other views make them.
+  -- Later events do not change the state of the threads in a view (what a seat knows), because threads in other views
+  -- make them.
   pub still : (k : Opening) (log : List Event) (so : ℕ → ℕ) (j : ℕ) (v : View) (f : MatchesLog m k log so j v) (t : ℕ) → HasThread v t →
       at_end m k log t ≡ at_end m k v.seen t
   still k log so j v f t h = ap (λ l. at_end m k l t) f.is ∙ still_quiet m k v v.seen f.rest t h f.quiet
 
-  -- A view still matches the events after one more event, if another view's thread makes this event.
+  -- A view (what a seat knows) still matches the events after one more event if another view's thread makes this event.
   pub others_fit : (k : Opening) (log : List Event) (so : ℕ → ℕ) (j : ℕ) (v : View) (e : Event) → ¬ (HasThread v (thread_of e)) →
       MatchesLog m k log so j v → MatchesLog m k (log ++ e ∷ []) so j v
   others_fit k log so j v e other f = record {
@@ -157,8 +158,8 @@ module _ (m : Table) where
       pub is_at : IsAt m v.shape h.log v.thread v.local
       is_at = (record { run = h.ran; thread = small; open_call = busy }, local_stood)
 
-      -- The call of view v makes the step at its current row. The rule (the invariant of the shared words and all
-      -- seats) still holds.
+      -- The seat with view v makes the step at the current row of its call. The rule (the invariant of the shared words
+      -- and all seats) still holds.
       pub steps : let a = m.next v.local in
           let n = slice_index s.words (word_named a) in
           let w = gone_view m h.log (found a n) v in
@@ -306,7 +307,7 @@ module _ (m : Table) (law : Lawful m) (v : View) (st : Stands m v) where
     ap (λ (x : Here). x.local) st.own,
   )
 
-  -- After the start of call c and before its first step, the view's own thread has these registers.
+  -- After the start of call c and before its first step, the seat's own thread has these registers.
   pub begun_at : (c : Call) → target c < tail_word → IsIdle v → IsAt m v.shape (v.seen ++ Begin v.thread c ∷ []) v.thread
       (m.begin c v.local)
   begun_at c low is_idle =

@@ -67,7 +67,8 @@ abbrev pub steps_of : Option PendingCall → ℕ
 steps_of None = 0
 steps_of (Some u) = u.steps
 
--- States that the views v and w can only differ in the registers, the pending call, the record and the events seen.
+-- States that the views v and w (what a seat knows) can only differ in the registers, the pending call, the record and
+-- the events seen.
 abbrev pub Same : View → View → Type 0
 Same v w = (w.spent ≡ v.spent) × (w.shape ≡ v.shape) × (w.thread ≡ v.thread) × (w.others ≡ v.others)
     × (w.ours ≡ v.ours) × (w.theirs ≡ v.theirs)

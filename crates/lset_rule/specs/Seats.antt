@@ -25,7 +25,7 @@ abbrev pub IsSeat : TableSeat → TableSeat → Type 0
 IsSeat s s' = (s'.table_id ≡ s.table_id) × (s'.id ≡ s.id) × (s'.me.1 ≡ s.me.1)
 
 -- What a call requires of seat s: s belongs to the shared words z, and its thread has no pending call and the slots
--- `own`.
+-- `own` (nodes for keys that it adds).
 pub record MayCall (m : Table) (z : TableId) (k : Opening) (own : OwnSlots) (s : TableSeat) : Type 0 where
   pub place : IsOf z k s
   pub idle : IsIdle s.me.0
@@ -33,7 +33,7 @@ pub record MayCall (m : Table) (z : TableId) (k : Opening) (own : OwnSlots) (s :
   pub slots : own ≡ slots_of s.me.0.local
 
 -- Call c changed the seat from s to s', and exactly this call with its reply was added to the seat's record. `answer`
--- has the thread's slots after the call, and the reply.
+-- has the thread's slots (nodes for keys that it adds) after the call, and the reply.
 pub record HasCalled (m : Table) (c : Call) (s : TableSeat) (answer : OwnSlots × Reply) (s' : TableSeat) : Type 0 where
   pub place : IsSeat s s'
   pub slots : answer.0 ≡ slots_of s'.me.0.local
