@@ -68,7 +68,7 @@ empty_or_not : (xs : List ℕ) → (xs ≡ []) ⊎ ((u : ℕ) × (has_key u xs �
 empty_or_not [] = inl refl
 empty_or_not (x ∷ xs) = inr (x, has_head x xs)
 
--- ---- Lemmas about acts (the effects of a count's calls on the key): the key must change back between any two of them
+-- ---- Lemmas about acts (effects of calls on the key) in a count: the key must change back between any two of them
 
 abbrev Needs : Bool → Kind → Type 0
 Needs b k = (s : Bool) → suits s k → s ≡ not b
@@ -105,8 +105,8 @@ turns_or_not false s (changes false) h = inr (let a = against_so false false ref
 turns_or_not b s (sees w) h = inr (omega arith)
 turns_or_not b s nothing h = inr (omega arith)
 
--- `Earlier`: an act in the count starts before act t ends, or the opening state counts as an act. `Later`: an act in
--- the count ends after act a starts, or the final state counts as an act. `us` are the ends of the acts in the count.
+-- `Earlier`: an act (the effect of a counted call) starts before act t ends, or the opening state counts as an act.
+-- `Later`: an act ends after act a starts, or the final state counts as an act. `us` are the ends of the counted acts.
 abbrev Earlier : Option ℕ → List ℕ → List Act → Act → Type 0
 Earlier o us ys t = ((a : Act) × In a ys × (has_key a.until us ≡ true) × (a.until ≢ t.until) × (a.begun < t.until)) ⊎ (o ≡ None)
 
@@ -393,7 +393,7 @@ module _ (threads : ℕ) (calls : List CallRecord) (history : IsHistory threads 
     ]
   ]
 
-  -- A change back between two counted calls overlaps the time of the count.
+  -- A change back between two counted calls overlaps the time that the count covers.
   overlaps : (a : Act) → In a ys → a.does ≡ changes (not b) → Earlier since us ys a → Later til us ys a → has_key a.until zs ≡ true
   overlaps a i d e l =
       let t = (one_of (IsAct (λ m. event_at last k calls m) last) a ys acts i).told (not b) d in
@@ -463,7 +463,8 @@ module _ (threads : ℕ) (calls : List CallRecord) (history : IsHistory threads 
           let from = count_from b finally til (is_there there) since us zs ys turns pairs due in
           let f = c.fewer in let zero_more : also since ≡ 0 = ap also e in let m = long in let s = short in omega (arith, from, f, zero_more, m, s)
 
--- If some calls in a history are a count, no order explains the history with its quota and leaves these final keys.
+-- If some calls in a history are a count (they are too many for any order), no order explains the history with its
+-- quota and leaves these final keys.
 pub count_refutes : (h : HistoryValue) (keys : List ℕ) (k : ℕ) (there : Presence) (left : Option Presence) (was : Presence) (since til : Option ℕ)
     (counted : List CallRecord) → IsHistory h.opening.threads h.calls → has_key k h.opening.keys ≡ is_there there
     → IfSome left (λ (l : Presence). has_key k keys ≡ is_there l) → IsCountOf h.calls k there left was since til counted → IsUnexplained h keys
@@ -532,7 +533,8 @@ is_count_if calls there left c counted listed backs known begin until opens clos
       backs = same;
     }
 
--- If some calls on a key are a count, no order explains the calls on the key, with any quota.
+-- If some calls on a key are a count (they are too many for any order), no order explains the calls on the key, with
+-- any quota.
 pub count_has_none : (threads key : ℕ) (there : Presence) (left : Option Presence) (was : Presence) (since til : Option ℕ) (counted calls : List CallRecord)
     → IsHistory threads calls → IsCountOf calls key there left was since til counted → HaveNone threads key there left calls
 count_has_none threads key there left was since til counted calls history c quota keys leaves =

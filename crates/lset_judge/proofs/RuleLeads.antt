@@ -100,8 +100,8 @@ once b = if b then 1 else 0
 abbrev pub at : Bool → ℕ → List ℕ → List ℕ → State
 at b t ps ks = record { there = b; turned = t; puts = ps; takes = ks }
 
--- States that the timeline (state s) has fewer changes left than the rule (state g) that would change the key in the
--- rule's state.
+-- Of the pending changes that would change the rule's state of the key, states that the timeline (state s) has fewer
+-- left than the rule (state g).
 abbrev pub IsFurther : State → State → Type 0
 IsFurther g s = length (changes_to (not g.there) s) < length (options g)
 

@@ -50,8 +50,8 @@ pub record NeedTurn (was : Presence) (x y : CallRecord) : Type 0 where
   pub needs : needs_if y.call y.ended ≡ Some (other was)
   pub either : Precedes x y ⊎ ((leaves_if y.call y.ended ≡ Some was) × (needs_if x.call x.ended ≡ Some (other was)))
 
--- `begins_by` returns whether a call that starts at `begun` starts before the end of the count. `turns_in` returns
--- whether a call overlaps the count's time and changed the key to the state `there`, or is pending and can do so.
+-- `begins_by` returns whether a call that starts at `begun` starts by the time `until`. `turns_in` returns whether a
+-- call overlaps the time from `since` to `until`, and changed the key to the state `there` or is pending and can do so.
 abbrev pub begins_by : ℕ → Option ℕ → Bool
 begins_by begun None = true
 begins_by begun (Some until) = nat_lt begun until
@@ -67,7 +67,8 @@ turns_in key there since until x =
 abbrev pub turning_in : ℕ → Presence → Option ℕ → Option ℕ → List CallRecord → List CallRecord
 turning_in key there since until calls = filter (turns_in key there since until) calls
 
--- Returns how often the key must change back in a count of `counted` calls.
+-- Returns how often the key must change back if `counted` calls each need the key in one state and leave it in the
+-- other.
 abbrev pub turns_of : ℕ → Option ℕ → Option ℕ → ℕ
 turns_of counted since until = counted + also since + also until - 1
 
@@ -84,8 +85,8 @@ pub record IsCountOf (calls : List CallRecord) (key : ℕ) (there : Presence) (l
   pub turns : AllPairs (NeedTurn was) counted
   pub fewer : length (turning_in key (other was) since until calls) < turns_of (length counted) since until
 
--- States that no order explains a history and leaves these keys if some calls in the history are a count, whatever all
--- other calls did.
+-- States that no order explains a history and leaves these keys if some calls in the history are a count (too many for
+-- any order), whatever all other calls did.
 abbrev pub CountsExcludeOrders : Type 0
 CountsExcludeOrders = (h : HistoryValue) (keys : List ℕ) (key : ℕ) (there : Presence) (left : Option Presence) (was : Presence)
     (since until : Option ℕ) (counted : List CallRecord) → IsHistory h.opening.threads h.calls → has_key key h.opening.keys ≡ is_there there

@@ -27,11 +27,11 @@ pub struct Count {
     /// All calls that can change the key back in between: they returned true or are pending, and overlap the time from
     /// `since` to `until`.
     pub backs: Vec<StreamCall>,
-    /// No call of the count starts before this moment. `None` if the opening state counts as a first call: the set
-    /// opened with the key in the state `was`.
+    /// No counted call starts before this moment. `None` if the opening state counts as a first call: the set opened
+    /// with the key in the state `was`.
     pub since: Option<u64>,
-    /// All calls of the count have ended by this moment. `None` if the final state counts as a last call: the key's
-    /// final state is not `was`.
+    /// All counted calls have ended by this moment. `None` if the final state counts as a last call: the key's final
+    /// state is not `was`.
     pub until: Option<u64>,
 }
 
@@ -44,8 +44,8 @@ impl Count {
     }
 }
 
-/// Lemma: if some calls in a history are a count, no order explains the history and leaves these keys. Does nothing at
-/// run time.
+/// Lemma: if some calls in a history are a count (the key would have to change back between them more often than it
+/// can), no order explains the history and leaves these keys. Does nothing at run time.
 pub fn counts_exclude_orders()
     ensures { CountsExcludeOrders }
 {}
@@ -60,7 +60,7 @@ fn also(bound: Option<u64>) -> usize
     }
 }
 
-// ---- Tests whether calls are a count
+// ---- Tests whether calls are a count (too many for any order)
 
 fn begins_in(call: StreamCall, was: Presence, since: Option<u64>) -> bool
     ensures { IsTrue result → BeginsIn was since (record_of call) }
@@ -213,8 +213,8 @@ fn turning_in(
         .collect(alloc)
 }
 
-/// Returns whether `count` is a count of these calls on its key. Its `backs` must be all calls that can change the key
-/// back. `there` is the key's opening state, `left` its final state, if known.
+/// Returns whether `count` has calls that are too many for any order of these calls on its key. Its `backs` must be all
+/// calls that can change the key back. `there` is the key's opening state, `left` its final state, if known.
 fn is_count(calls: &[StreamCall], there: Presence, left: Option<Presence>, count: &Count) -> bool
     requires { count.now.backs.items ≡ filter (λ x. turns_in count.now.key.0 (other count.now.was) count.now.since count.now.until (record_of x)) calls.now }
     ensures { IsTrue result → IsCount (records calls.now) there left count.now }
@@ -239,7 +239,7 @@ fn is_count(calls: &[StreamCall], there: Presence, left: Option<Presence>, count
     need_turns(counted, was) && count.backs.len() < count.turns()
 }
 
-/// Returns the calls in a stretch of time that make up the count, ordered by start.
+/// Returns the calls in a stretch of time that can be too many for any order, ordered by start.
 fn counted_in(
     alloc: Global,
     calls: &[StreamCall],

@@ -46,7 +46,7 @@ pub const LAST_MOMENT: u64 = (1 << 63) - 1;
 /// The smallest number that is greater than every moment.
 pub(crate) const BEHIND_ALL: u64 = 1 << 63;
 
-/// The reason why a call cannot come next. If several reasons apply, the first in this order is returned.
+/// The reason why a call cannot come next. If several reasons apply, the first one below is returned.
 #[derive(Clone, Copy, Debug, PartialEq, Eq, Error)]
 pub enum StreamFault {
     /// The call starts at moment 0 or no later than an earlier call, or one of its moments is above `LAST_MOMENT`.
@@ -269,7 +269,7 @@ fn note_end(states: &mut HashMap<u32, KeyState>, call: StreamCall) -> Option<Cla
     None
 }
 
-/// What the end of a call showed.
+/// The result of processing the end of a call.
 #[derive(Clone, Copy)]
 struct EndMet {
     /// Whether the judge's rule succeeds at this end.

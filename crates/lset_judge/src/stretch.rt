@@ -141,7 +141,7 @@ impl Best {
 }
 
 impl Steps {
-    /// Returns the starts and ends that matter to a count whose changes leave the key in the state `was`.
+    /// Returns the starts and ends that matter to counts whose changes leave the key in the state `was`.
     fn of(alloc: Global, calls: &[StreamCall], was: Presence) -> Result<Steps, AllocError> {
         let mut all = Steps {
             steps: Vec::new(alloc),

@@ -35,8 +35,8 @@ impl<M: Machine> Model for Receipt<M> {
 }
 
 impl<M: Machine> LiveSet<M> {
-    /// Returns a receipt for the events that `seat` has seen, including the events seen by the seats that it gathered
-    /// and the receipts that it took. `seat` must belong to this set, and does not change. Does not block or allocate.
+    /// Returns a receipt for the events that `seat` has seen, including the events seen by the seats merged into it and
+    /// by the receipts that it took. `seat` must belong to this set, and does not change. Does not block or allocate.
     pub fn receipt(&self, seat: &mut Seat<M>) -> Receipt<M>
         requires { seat.old.set ≡ self.now }
         ensures seat { seat.new ≡ seat.old }

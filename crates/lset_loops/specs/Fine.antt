@@ -23,6 +23,6 @@ abbrev pub StopsAt : Begun → OwnSlots → Found → TableSeat → Type 0
 StopsAt b own f s = (j : Rest) × Holds fine b (decided_on targets f.word (row own b.call 4 None f.pred.number f.curr.number j)) s
 
 -- States that the call is about to release the locks of the nodes f and then to end. `answer` has the thread's slots
--- after the call, and the reply.
+-- (nodes for keys that it adds) after the call, and the reply.
 abbrev pub Leaves : Begun → Found → OwnSlots × Reply → TableSeat → Type 0
 Leaves b f answer s = (j : Rest) × Holds fine b (row answer.0 b.call 12 (Some answer.1) f.pred.number f.curr.number j) s

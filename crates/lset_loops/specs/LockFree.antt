@@ -25,8 +25,8 @@ StopsAt b own f s = (j : Rest)
 abbrev pub AtHead : Begun → OwnSlots → TableSeat → Type 0
 AtHead b own s = (p : ℕ) × (x : ℕ) × (j : Rest) × Holds lock_free b (row own b.call 1 None p x j) s
 
--- States the result of an attempt to add, remove or reply: the call has ended with `answer`, or is about to start over
--- if the attempt returned None.
+-- States the result of an attempt to add, remove or reply: the call has ended (`answer` has the thread's slots and the
+-- reply), or is about to start over if the attempt returned None.
 abbrev pub HasTried : Begun → OwnSlots → Option (OwnSlots × Reply) → TableSeat → Type 0
 HasTried b own (Some answer) s = HasAnswered lock_free b answer s
 HasTried b own None s = AtHead b own s

@@ -38,7 +38,7 @@ use Rattle.lset_replay.proofs.FollowedRuns.{TellsKeys, shown, account_then, low_
 use Rattle.lset_replay.proofs.EventLists.{as_many}
 use Rattle.lset_schedule.specs.Plan.{Plan, opening_in}
 
--- ---- Lemmas: the calls, sorted by linearization point, are in the order of [Placement]
+-- ---- Lemmas: the calls, sorted by linearization point, are in the order that the definition [Placement] requires
 
 abbrev moment_of : Option Linearized → Option ℕ
 moment_of None = None

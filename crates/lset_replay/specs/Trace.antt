@@ -22,8 +22,8 @@ use Rattle.lset_replay.specs.declared.recorder.Recorder.{Recorder}
 
 -- ---- The reply of a pending call
 
--- Returns whether the key must be present, rather than absent, for this reply of a call that changes nothing to be
--- correct. Always true for a ceiling, since `shows` tests its whole reply.
+-- A call that changed nothing returned this reply. Returns true if the reply is correct while the key is present, and
+-- false if it is correct while the key is absent. Always true for a ceiling, since `shows` tests its whole reply.
 abbrev pub needs_key : Call → Reply → Bool
 needs_key (call.Add k) reply.False = true
 needs_key (call.Contains k) reply.True = true

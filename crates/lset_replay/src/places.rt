@@ -11,8 +11,8 @@ pub(crate) struct OpenCall {
     pub begun: u32,
 }
 
-/// Returns whether the call's key must be present, rather than absent, for this reply of a call that changes nothing to
-/// be correct. Returns `true` for every `ceiling`.
+/// Returns `true` if the reply of a call that changed nothing is correct while its key is present, and `false` if it is
+/// correct while the key is absent. Returns `true` for every `ceiling`.
 pub(crate) fn needs_key(call: Call, reply: Reply) -> bool
     ensures { result ≡ needs_key call reply }
 {

@@ -12,7 +12,8 @@ use std::alloc::AllocError;
 /// A list or a broken list during a run (its world): its shared words and its threads' local states. Events can be made
 /// in it.
 pub trait Steps {
-    /// Specifies what an event does in this world. By default, as for a broken list, an event can do anything.
+    /// Specifies what an event does to a list or a broken list. By default, as for a broken list, an event can do
+    /// anything.
     ghost makes: { Self → Event → Result Told Cause → Self → Type 0 } = { λ world event made after. Unit {0} };
 
     /// Returns the local state of thread `t`, or `None` if there is no such thread.

@@ -43,8 +43,9 @@ pub struct TracedRun<W: Steps + Drop> {
 
 impl<W: Steps + Drop> TracedRun<W> {
     /// Creates the run of a schedule. No event may have been made in `world` before. If `chains` is true, each event
-    /// that changes the list's nodes or marks is reported with the new chain of nodes. This costs a walk along the
-    /// nodes at each event that writes a node's key or link. Returns `AllocError` if an allocation fails.
+    /// that changes which nodes are in the list, or their marks, is reported with the new list of nodes. This costs a
+    /// walk along the nodes at each event that writes a node's key or link. Returns `AllocError` if an allocation
+    /// fails.
     pub fn opened(
         alloc: Global,
         schedule: &Schedule,
@@ -121,8 +122,8 @@ impl<W: Steps + Drop> TracedRun<W> {
         })
     }
 
-    /// Returns the chain of nodes after an event, if chains were requested and the chain differs from the one returned
-    /// last.
+    /// Returns the list's nodes from head to tail after an event, if they were requested and have changed since they
+    /// were last returned.
     fn changed_chain(&mut self, deed: Deed) -> Result<Option<Vec<ChainKey>>, AllocError> {
         let Some(told) = &mut self.chain else {
             return Ok(None);

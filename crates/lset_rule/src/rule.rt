@@ -90,8 +90,8 @@ impl Join<View> for TakeReceipt {
     ghost spent = { nobody };
 }
 
-/// What a seat learns from the first load after it gathered another seat or took a receipt: the events that it has seen
-/// include those that either of the two had seen.
+/// What a seat learns from its first load after another seat was merged into it or it took a receipt: the events that
+/// it has seen include those that either of the two had seen.
 pub struct Learn<M> {
     machine: PhantomData<M>,
 }

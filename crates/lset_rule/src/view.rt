@@ -91,8 +91,9 @@ pub struct View {
     pub past: Past,
     /// The events that the seat has seen, oldest first.
     pub seen: LinkedList<Event>,
-    /// The events that this seat had seen when it gathered another seat or took a receipt.
+    /// The events that this seat had seen when another seat was merged into it or it took a receipt.
     pub ours: LinkedList<Event>,
-    /// The events that the other seat or the receipt had seen when this seat gathered or took it.
+    /// The events that the other seat had seen when it was merged into this seat, or the receipt when this seat took
+    /// it.
     pub theirs: LinkedList<Event>,
 }
