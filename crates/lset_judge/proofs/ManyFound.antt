@@ -31,7 +31,7 @@ first_of_all x xs = (0, omega arith, refl)
 map_back : {X Y : Type 0} (P : X → Type 0) (f : Y → X) (ys : List Y) → All P (map f ys) → All (λ y. P (f y)) ys
 map_back P f ys all i d low = subst P (get_or-map f ys i d (f d) low) (all i (f d) (let l = length-map ys f in omega (arith, l, low)))
 
--- ---- Lemmas about finding whether a call ends at a moment
+-- ---- Lemmas about deciding whether a call ends at a moment
 
 abbrev pub found : ℕ → Entries → Bool
 found b es = is_some (lookup (nat_eq b) es)

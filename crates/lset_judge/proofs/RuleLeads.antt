@@ -100,7 +100,7 @@ once b = if b then 1 else 0
 abbrev pub at : Bool → ℕ → List ℕ → List ℕ → State
 at b t ps ks = record { there = b; turned = t; puts = ps; takes = ks }
 
--- Of the pending changes that would change the rule's state of the key, states that the timeline (state s) has fewer
+-- States that, of the pending changes that would change the rule's state of the key, the timeline (state s) has fewer
 -- left than the rule (state g).
 abbrev pub IsFurther : State → State → Type 0
 IsFurther g s = length (changes_to (not g.there) s) < length (options g)
@@ -188,8 +188,8 @@ rule_turns false m t (x ∷ xs) gk s l f =
     lists false = l.lists false
 rule_turns b m t gp gk s l f = absurd (omega (arith, f))
 
--- If the key is present according to the rule and absent according to the timeline, or the reverse, the timeline has
--- fewer changes left that would change the key in the rule's state.
+-- If the key is present according to the rule and absent according to the timeline, or the reverse, then of the pending
+-- changes that would change the rule's state of the key, the timeline has fewer left.
 apart : (b c : Bool) (m gt st : ℕ) (gp gk sp sk : List ℕ) → Leads m (at b gt gp gk) (at c st sp sk) → (b ≡ c → ⊥)
     → IsFurther (at b gt gp gk) (at c st sp sk)
 apart true false m gt st gp gk sp sk l n = let y = l.balance in let f = fewer sp gp (l.lists true) in omega (arith, y, f)

@@ -50,8 +50,8 @@ pub record NeedTurn (was : Presence) (x y : CallRecord) : Type 0 where
   pub needs : needs_if y.call y.ended ≡ Some (other was)
   pub either : Precedes x y ⊎ ((leaves_if y.call y.ended ≡ Some was) × (needs_if x.call x.ended ≡ Some (other was)))
 
--- `begins_by` returns whether a call that starts at `begun` starts by the time `until`. `turns_in` returns whether a
--- call overlaps the time from `since` to `until`, and changed the key to the state `there` or is pending and can do so.
+-- `begins_by` returns whether a call starts before `until`. `turns_in` returns whether a call overlaps the time from
+-- `since` to `until`, and changed the key to the state `there` or is pending and can do so.
 abbrev pub begins_by : ℕ → Option ℕ → Bool
 begins_by begun None = true
 begins_by begun (Some until) = nat_lt begun until

@@ -80,7 +80,7 @@ is_call Change = true
 is_call Refused = true
 is_call Look = true
 
--- Returns the kept call, which left the key in the state `was`, or None if the key opened in this state.
+-- Returns the kept call, which left the key in the state `was`, or None if the set opened with the key in this state.
 abbrev pub first_of : ℕ → Facts → Option StreamCall
 first_of key f = if is_call f.kept then Some (call_kept key f) else None
 

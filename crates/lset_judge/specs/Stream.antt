@@ -59,7 +59,7 @@ state_or (Some s) = state_of s
 abbrev pub state_for : States → ℕ → State
 state_for states k = state_or (get nat_eq states k)
 
--- Returns a call as a pending call, with the moment before which it takes effect.
+-- Converts a call to a pending call, with the moment before which it takes effect.
 abbrev pub pending_of : CallRecord → Pending
 pending_of x = record {
   end = until_if behind_all x.begun x.ended;

@@ -36,15 +36,15 @@ pub(crate) enum Kept {
 pub(crate) struct KeyState {
     pub(crate) changes: KeyChanges,
     turned: u64,
-    /// When the kept call started.
+    /// When the stored completed call (the kept call) started.
     pub(crate) begun: u64,
-    /// When the kept call ended.
+    /// When the stored completed call (the kept call) ended.
     pub(crate) ended: u64,
-    /// The thread of the kept call.
+    /// The thread of the stored completed call (the kept call).
     pub(crate) thread: u32,
     pub(crate) kept: Kept,
-    /// The state (present or absent) in which the kept call left the key. If there is no kept call, the key's opening
-    /// state.
+    /// The state (present or absent) in which the stored call (the kept call) left the key. If no call is stored, the
+    /// key's opening state.
     pub(crate) was: Presence,
     there: Presence,
 }

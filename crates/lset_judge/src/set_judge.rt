@@ -25,8 +25,8 @@ pub enum Verdict {
     NotLinearizable(Refusal, Option<Clash>),
 }
 
-/// A judge of the calls on a set, which must come ordered by start. `close` and `close_cut_off` return whether some
-/// order explains all calls.
+/// A judge for the calls on a set. The calls must be added in the order in which they start. `close` and
+/// `close_cut_off` return whether some order explains all calls.
 ///
 /// A judge stores the state of each key with at most one completed call, the pending calls, and the end of each
 /// thread's last call. Its memory grows with the numbers of keys, threads and pending calls, but not with the number of

@@ -11,9 +11,9 @@ use std::alloc::{AllocError, Global};
 pub(crate) struct Stretch {
     /// The state (present or absent) in which the changes in the stretch leave the key.
     pub(crate) was: Presence,
-    /// The changes in the stretch start at this moment or later.
+    /// The changes in this stretch of time start at this moment or later.
     from: u64,
-    /// The changes in the stretch have ended by this moment.
+    /// The changes in this stretch of time have ended by this moment.
     upto: u64,
     /// A call that saw the key in the state `was`. It counts as a call before the changes.
     pub(crate) first: Option<StreamCall>,
@@ -141,7 +141,8 @@ impl Best {
 }
 
 impl Steps {
-    /// Returns the starts and ends that matter to counts whose changes leave the key in the state `was`.
+    /// Returns the starts and ends of calls that matter to stretches of time in which changes leave the key in the
+    /// state `was`.
     fn of(alloc: Global, calls: &[StreamCall], was: Presence) -> Result<Steps, AllocError> {
         let mut all = Steps {
             steps: Vec::new(alloc),

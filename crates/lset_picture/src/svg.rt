@@ -16,7 +16,7 @@ use std::alloc::{AllocError, Global};
 const LEGEND: &str =
     "filled: changes the set    open: changes nothing, its reply fits there    dashed: still open";
 
-/// The sheet is made as wide as its longest line of text, but counts at most this many characters.
+/// The sheet is as wide as its longest line of text, up to this number of characters.
 const MOST_CHARACTERS: usize = 255;
 
 /// The two lines above the rows: the heading, and the reason if the order is rejected (otherwise empty).
