@@ -12,7 +12,7 @@ use std::alloc::{AllocError, Global};
 use std::collections::HashMap;
 use std::marker::Model;
 
-/// The maximum number of pending calls in the vector, which is searched one by one.
+/// The maximum number of pending calls in the vector. They are searched one by one.
 const FEW: usize = 32;
 
 /// The pending calls in a recording. Up to `FEW` of them are in a vector and searched one by one, which is fastest. The

@@ -60,9 +60,9 @@ abbrev pub NamedIn : ℕ → List Record → Type 0
 NamedIn u [] = ⊥
 NamedIn u (r ∷ rs) = Names u r ⊎ NamedIn u rs
 
--- A legal order of exactly the calls in the records, which leaves these keys. In each record, the order agrees with the
--- order of the seat's calls, and with when other seats were merged into it. It need not keep real-time order between
--- seats. In short: the calls are sequentially consistent.
+-- A legal order of exactly the calls in the records, which leaves these keys. The order agrees with each record: with
+-- the order of the seat's calls, and with when other seats were merged into it. It need not keep real-time order
+-- between seats. In short: the calls are sequentially consistent.
 pub record IsOneLegalOrder (k : Opening) (records : List Record) (keys : List ℕ) : Type 0 where
   pub order : List Answered
   pub legal : IsLegal k.quota (opening_set k) order
@@ -74,7 +74,7 @@ pub record IsOneLegalOrder (k : Opening) (records : List Record) (keys : List �
 -- A legal order of exactly the calls in the records that also linearizes the history of these events: if a call ended
 -- before another one started, it comes first. In the contracts, the events start with all events that the seats had
 -- seen. A seat that takes a receipt has then seen all events that the issuer had seen. Therefore the order respects
--- receipts in the same way as merged seats.
+-- receipts in the same way as the merging of seats.
 pub record IsOneOrderInTime (T : Table) (k : Opening) (events : List Event) (records : List Record) (keys : List ℕ) : Type 0 where
   pub run : IsRunOf T k events
   pub placed : List Placed

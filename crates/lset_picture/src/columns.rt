@@ -62,8 +62,7 @@ impl Drawing {
     }
 
     /// Returns a range of moments that starts at the call for which the order was rejected. Returns `None` if the order
-    /// is accepted or its error names no call in the history, if all moments were drawn, or if `window` excludes some
-    /// moments.
+    /// is accepted or the history has no such call, if all moments were drawn, or if `window` excludes some moments.
     pub fn window_of_clash(&self, picture: &Picture, window: Window) -> Option<Window> {
         if !(self.after && window.is_whole()) {
             return None;

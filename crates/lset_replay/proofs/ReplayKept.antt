@@ -32,7 +32,7 @@ pub record IsWatched (log : Log) (contents : Contents) (counts : Counts) (k t : 
   pub steady : has_changed log t k ≡ false → (m : ℕ) → o.begun ≤ m → m ≤ k → counts m t ≡ counts k t
 
 -- States that p is the linearization point of a call: its change or, for a completed call without a change, the first
--- moment at which its reply is correct.
+-- moment of the call at which its reply is correct.
 abbrev pub PlaceBy : ℕ → Contents → Counts → TracedCall → Option ℕ → Option (ℕ × Reply) → Option Linearized → Type 0
 PlaceBy q contents counts x (Some m) ended p = p ≡ Some (changed_at m)
 PlaceBy q contents counts x None None p = p ≡ None

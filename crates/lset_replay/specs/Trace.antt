@@ -56,8 +56,9 @@ fit changes o reply last = first_passing (needs_key o.call reply) (shows changes
 abbrev pub changed_at : ℕ → Linearized
 changed_at moment = record { moment = moment; reply = reply.True; change = true }
 
--- Returns the linearization point of a call that changes nothing: the first moment at which its reply is correct. Each
--- call on a list has such a moment. If a call on a broken list has none, its linearization point is its end.
+-- Returns the linearization point of a call that changes nothing: the first moment of the call at which its reply is
+-- correct. Each call on a list has such a moment. If a call on a broken list has none, its linearization point is its
+-- end.
 abbrev pub read_at : Option ℕ → ℕ → Reply → Linearized
 read_at None end reply = record { moment = end; reply = reply; change = false }
 read_at (Some moment) end reply = record { moment = moment; reply = reply; change = false }

@@ -26,7 +26,7 @@ use lset_steps::laws::{has_account, listed_content};
 use lset_text::{Cause, LineFault};
 use std::alloc::Global;
 
-/// Converts the error at which a replay stopped. The last arm is never reached by a run of a list.
+/// Converts the error at which a replay stopped. A run of a list never reaches the last arm.
 fn refusal(stopped: LineFault) -> ReplayFault
     ensures { (T : Table) (op : Opening) (events : List LineEvent) → IsStopped T op events stopped → IsRefusal T op events result }
 {
@@ -128,8 +128,8 @@ impl Task for Replaying<'_> {
 /// calls and opening keys.
 ///
 /// A call that changed the set takes effect at the event of its change, even if the call is pending. Any other
-/// completed call takes effect at the first moment at which its reply is correct. (Linearizability is due to Herlihy
-/// and Wing.)
+/// completed call takes effect at the first moment between its start and its end at which its reply is correct.
+/// (Linearizability is due to Herlihy and Wing.)
 ///
 /// Example, from `crates/first_program`:
 ///
