@@ -60,8 +60,8 @@ goes_on s false (changes true) e n = absurd (n refl)
 goes_on s b (sees w) e n = e
 goes_on s b nothing e n = e
 
--- Act t finds the key in the state b if the key starts in this state and no act that starts before the end of t changes
--- it to the other state.
+-- Act t (the effect of a call) finds the key in the state b if the key starts in this state and no act that starts
+-- before the end of t changes it to the other state.
 stays : (left s b : Bool) (t : Act) (ys : List Act) → s ≡ b → TakeTurns left s ys → Pairs Apart ys → In t ys
     → ((a : Act) → In a ys → a.does ≡ changes (not b) → a.begun < t.until → ⊥) → suits b t.does
 stays left s b t [] e turns pairs i n = absurd i
@@ -69,7 +69,8 @@ stays left s b t (p ∷ ys) e turns pairs (inl q) n = subst (λ (a : Act). suits
 stays left s b t (p ∷ ys) e turns pairs (inr i) n = stays left (becomes s p.does) b t ys
     (goes_on s b p.does e (λ d. n p (inl refl) d (one_of (Apart p) t ys pairs.0 i).in_time)) turns.1 pairs.1 i (λ a j. n a (inr j))
 
--- The key's final state is b if the key starts in this state and no act changes it to the other state.
+-- The key's final state is b if the key starts in this state and no act (the effect of a call) changes it to the other
+-- state.
 stays_left : (left s b : Bool) (ys : List Act) → s ≡ b → TakeTurns left s ys → ((a : Act) → In a ys → a.does ≡ changes (not b) → ⊥) → b ≡ left
 stays_left left s b [] e turns n = sym e ∙ turns
 stays_left left s b (p ∷ ys) e turns n = stays_left left (becomes s p.does) b ys (goes_on s b p.does e (n p (inl refl))) turns.1 (λ a j. n a (inr j))
@@ -77,8 +78,8 @@ stays_left left s b (p ∷ ys) e turns n = stays_left left (becomes s p.does) b 
 abbrev pub Leaves : Bool → Kind → Type 0
 Leaves b k = (s : Bool) → suits s k → becomes s k ≡ b
 
--- Act t finds the key in the state b if an earlier act x leaves it in this state and no act that can come between x and
--- t changes it.
+-- Act t (the effect of a call) finds the key in the state b if an earlier act x leaves it in this state and no act that
+-- can come between x and t changes it.
 after : (left s b : Bool) (x t : Act) (ys : List Act) → TakeTurns left s ys → Pairs Apart ys → Before x t ys → Leaves b x.does
     → ((a : Act) → In a ys → a.does ≡ changes (not b) → x.begun < a.until → a.begun < t.until → ⊥) → suits b t.does
 after left s b x t [] turns pairs i l n = absurd i

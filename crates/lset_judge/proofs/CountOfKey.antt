@@ -119,11 +119,11 @@ record Due (b left : Bool) (o c : Option ℕ) (us zs : List ℕ) (ys : List Act)
   closes : c ≡ None → left ≡ not b
   leave : (a : Act) → In a ys → has_key a.until us ≡ true → Later c us ys a → Leaves b a.does
   need : (t : Act) → In t ys → has_key t.until us ≡ true → Earlier o us ys t → Needs b t.does
-  -- Each change back between two counted acts is in `zs`.
+  -- Each change back between two acts (effects of counted calls) is in `zs`.
   back : (a : Act) → In a ys → a.does ≡ changes (not b) → Earlier o us ys a → Later c us ys a → has_key a.until zs ≡ true
 
 module _ (b left : Bool) (c : Option ℕ) where
-  -- `Due` still holds for the remaining acts after the first act was removed.
+  -- `Due` still holds for the remaining acts (effects of calls) after the first act was removed.
   due_on : (o p : Option ℕ) (us zs : List ℕ) (a : Act) (ys : List Act) → (p ≡ None → (has_key a.until us ≡ true) ⊎ (o ≡ None))
       → AllByRecursion (Apart a) ys → Due b left o c us zs (a ∷ ys) → Due b left p c (take_out a.until us) (take_out a.until zs) ys
   due_on o p us zs a ys from apart d = record {
@@ -152,7 +152,8 @@ module _ (b left : Bool) (c : Option ℕ) where
         | inr q ↦ inr q
       ]
 
-  -- Either another counted act (or the final state, if it counts) follows act a, or a was the last.
+  -- Either another counted act (the effect of a call), or the final state if it counts, follows act a, or a was the
+  -- last.
   later_or_last : (p : Option ℕ) (us vs : List ℕ) (a : Act) (ys : List Act) → AllByRecursion (Apart a) ys → Due b left p c (take_out a.until us) vs ys
       → Later c us (a ∷ ys) a ⊎ ((take_out a.until us ≡ []) × (also c ≡ 0))
   later_or_last p us vs a ys apart d = by c refl
@@ -165,7 +166,8 @@ module _ (b left : Bool) (c : Option ℕ) where
             inl (inl (i.0, inr i.1, left_in i.0.until a.until us (subst (λ v. has_key v (take_out a.until us) ≡ true) (sym i.2) u.1), r.other, r.in_time)))
       ]
 
-  -- If the opening state or an earlier act counts, there are at most as many counted acts as changes back.
+  -- If the opening state or an earlier act (the effect of a call) counts, there are at most as many counted acts as
+  -- changes back.
   count_on : (s : Bool) (o : Option ℕ) (us zs : List ℕ) (ys : List Act) → o ≡ None → TakeTurns left s ys → Pairs Apart ys → Due b left o c us zs ys
       → length us + also c ≤ length zs + against b s
   count_on s o (u ∷ us) zs [] none turns pairs d = absurd (d.stand u (has_head u us)).1
@@ -199,7 +201,8 @@ module _ (b left : Bool) (c : Option ℕ) where
         ])
       ]
 
-  -- If neither the opening state nor an earlier act counts, there is at most one more counted act than changes back.
+  -- If neither the opening state nor an earlier act (the effect of a call) counts, there is at most one more counted
+  -- act than changes back.
   count_from : (s : Bool) (o : Option ℕ) (us zs : List ℕ) (ys : List Act) → TakeTurns left s ys → Pairs Apart ys → Due b left o c us zs ys
       → length us + also c ≤ suc (length zs)
   count_from s o (u ∷ us) zs [] turns pairs d = absurd (d.stand u (has_head u us)).1

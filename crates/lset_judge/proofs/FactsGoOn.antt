@@ -1,5 +1,5 @@
--- Proof: the facts about the calls on each key (from which a clash is found) are correct when the set opens, and stay
--- correct when a call starts or ends.
+-- Proof: the facts about the calls on each key (from which the judge finds two calls that rule out every order) are
+-- correct when the set opens, and stay correct when a call starts or ends.
 use Rattle.std.proofs.Common.{inl, inr, ◌≡◌, ◌≢◌, ◌⊎◌, ℕ, suc, ◌-◌, ◌<◌, ◌≤◌, true, false, List, [], ◌∷◌, ◌++◌, refl, sym, ap, ◌∙◌, arith, subst, length, get_or}
 use Rattle.std.proofs.Common.{append_assoc, append-nil}
 use Rattle.std.specs.Prelude.{Option, Some, None, IfSome, IsSomeAnd, All, Contains, is_some, nat_lt}
@@ -45,7 +45,7 @@ first_facts opening k f e = subst (AreFacts opening [] k) (sym e) (record {
   over = λ there i d low. absurd (omega (arith, low));
 })
 
--- ---- Two calls clash if they do so according to the facts
+-- ---- If two calls clash according to the facts, they rule out every order
 
 ended_since : (since begun : ℕ) (o : Option (ℕ × Reply)) → until_if behind_all begun o ≤ since → since < behind_all → has_ended since o ≡ true
 ended_since since begun None low bound = absurd (omega (arith, low, bound))
@@ -334,7 +334,7 @@ module _ (opening : List ℕ) (calls : List CallRecord) (x : CallRecord) where
         → AreKnownBy opening calls s.moment s.states s.failed s.clash → AreKnownBy opening with_x t.moment t.states t.failed t.clash
     begin_known met kept same known = subst (AreKnownBy opening with_x t.moment t.states t.failed) (sym same) (begin_at s.failed t.failed met kept known)
 
--- ---- The clash according to the facts after the last call
+-- ---- The clash (two calls that rule out every order) according to the facts after the last call
 
 pub clash_of_met : (s : Stream) (refusal : Refusal) → IsToldBy s.failed (NotLinearizable refusal) → (clash : Option Clash) → clash ≡ clash_met s.failed s.clash
     → IfSome clash (λ (c : Clash). (opening : List ℕ) → ClashesStream opening refusal None s c)

@@ -139,7 +139,7 @@ module _ {S : Type 0} (last : ℕ → ℕ) (thread begun : ℕ) (m : HashMap ℕ
 
 -- ---- Lemmas about removing a call that ends
 
--- An end without a call can be removed from the heap.
+-- If no call in the table has the earliest end, this end can be removed from the heap.
 pub held_without : (end : ℕ) (ends rest : List ℕ) (es : Entries) → ends ≡ end ∷ rest → found end es ≡ false
     → All (λ (e : ℕ × StreamCall). Contains ends e.0) es → All (λ (e : ℕ × StreamCall). Contains rest e.0) es
 held_without end ends rest es is none held i d low =

@@ -108,8 +108,9 @@ IsFurther g s = length (changes_to (not g.there) s) < length (options g)
 abbrev NoFewer : List ℕ → List ℕ → Type 0
 NoFewer ss gs = (d : ℕ) → not_before d ss ≤ not_before d gs
 
--- The rule's state g of a key does at least as well as the state s of a correct timeline, after the event at moment m:
--- it has at least as many pending changes left, and they end at least as late.
+-- The rule's state g of a key does at least as well as the state s of a correct timeline (which says when each change
+-- takes effect), after the event at moment m: it has at least as many pending changes left, and they end at least as
+-- late.
 pub record Leads (m : ℕ) (g s : State) : Type 0 where
   pub lists : (w : Bool) → NoFewer (changes_to w s) (changes_to w g)
   pub balance : length g.puts + once g.there + length s.takes ≡ length s.puts + once s.there + length g.takes
@@ -156,7 +157,8 @@ timeline_turns b false m gt st e gp gk sp sk l h =
     further true y = let f = fewer sp gp (l.lists true) in omega (arith, y, f)
     further false y = let t = taken_length e sp h in let f = fewer sp gp (l.lists true) in omega (arith, t, f)
 
--- The rule has let one change take effect. Its new state still does at least as well as the timeline.
+-- The rule has let one change take effect. Its new state still does at least as well as the timeline (which says when
+-- each change takes effect).
 pub record Turns (m : ℕ) (g s : State) : Type 0 where
   pub state : State
   pub is : turned_if m g (options g) ≡ Some state
@@ -227,7 +229,8 @@ asked m (looks w since) g s l t f =
     ]
 asked m v g s l t f = absurd (true≢false f)
 
--- The rule has found a state for the event. This state still does at least as well as the timeline.
+-- The rule has found a state for the event. This state still does at least as well as the timeline (which says when
+-- each change takes effect).
 pub record Settles (n m : ℕ) (v : Event) (g s : State) : Type 0 where
   pub state : State
   pub is : settled n m v (Some g) ≡ Some state

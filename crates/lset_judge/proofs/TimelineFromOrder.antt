@@ -305,7 +305,7 @@ module _ (threads : ℕ) (calls : List CallRecord) (history : IsHistory threads 
                 is ∙ ap (λ q. begin_event q (until last (x_ p.call))) kd;
           })
 
-      -- For each completed call on the key, the order has its act.
+      -- The order contains the act (the effect) of each completed call on the key.
       pub stands : (n : ℕ) (e : ℕ × Reply) → n < length calls → (x_ n).ended ≡ Some e → (key_of (x_ n).call).0 ≡ k
           → In (act (x_ n).begun e.0 (kind (x_ n))) (map act_of order)
       stands n e known s own =

@@ -61,9 +61,9 @@ abbrev pub HasToBe : List CallRecord → ℕ → Option Presence → Presence �
 HasToBe calls key left need None = left ≡ Some need
 HasToBe calls key left need (Some y) = IsOf calls key y × (needs_if y.call y.ended ≡ Some need)
 
--- Returns the moment at which the first call of a clash starts, or 0 if the opening state replaces this call. The time
--- between the two calls runs from this moment to the end of the second call. It has no end if the second call is
--- pending, or if the final state replaces it.
+-- Returns the moment at which the first of two clashing calls starts, or 0 if the key's opening state replaces this
+-- call. The time between the two calls runs from this moment to the end of the second call. It has no end if the second
+-- call is pending, or if the key's final state replaces it.
 abbrev pub since_of : Option CallRecord → ℕ
 since_of None = 0
 since_of (Some x) = x.begun

@@ -137,7 +137,7 @@ pub record AreFacts (opening : List ℕ) (calls : List CallRecord) (key : ℕ) (
   pub was : WasSo calls key (presence (has_key key opening)) f.was (record_if (first_of key f))
   pub over : (there : Presence) → AreOverBy calls key there (until_of there f)
 
--- States that c is a clash of calls on the key, whatever calls start after the moment.
+-- States that c is a clash of calls on the key (no order can have both), whatever calls start after the moment.
 abbrev pub IsClashBy : List ℕ → List CallRecord → ℕ → ℕ → Clash → Type 0
 IsClashBy opening calls moment key c = (later : List CallRecord) → All (λ (z : CallRecord). moment < z.begun) later
     → IsClash (calls ++ later) key (presence (has_key key opening)) None c.was (record_if c.first) (record_if c.second)
@@ -179,8 +179,8 @@ abbrev pub ComesAfter : Facts → Option StreamCall → StreamCall → Type 0
 ComesAfter f None second = Unit {0}
 ComesAfter f (Some x) second = Precedes (record_of x) (record_of second) ⊎ ClashTurned f x second
 
--- States that, according to the facts, `call` clashes with the call that they store (the kept call), or with the key's
--- opening state.
+-- States that, according to the facts, `call` and the call that they store (the kept call) rule out every order. The
+-- key's opening state can take the place of the kept call.
 pub record IsClashing (f : Facts) (call : StreamCall) : Type 0 where
   pub needs : needs_if call.call call.ended ≡ Some (other f.was)
   pub standing : IsStanding (key_of call.call).0 f
@@ -189,7 +189,7 @@ pub record IsClashing (f : Facts) (call : StreamCall) : Type 0 where
 abbrev pub clash_with : ℕ → Facts → Option StreamCall → Clash
 clash_with key f second = record { was = f.was; first = first_of key f; second = second }
 
--- States that, according to the facts, `c` is a clash whose second call is `call`.
+-- States that, according to the facts, `c` is a clash (two calls that no order can have) whose second call is `call`.
 pub record IsFound (f : Facts) (call : StreamCall) (c : Clash) : Type 0 where
   pub is : c ≡ clash_with (key_of call.call).0 f (Some call)
   pub clashing : IsClashing f call
@@ -226,7 +226,8 @@ abbrev pub clash_met : Option Failed → Option Clash → Option Clash
 clash_met None clash = None
 clash_met (Some f) clash = clash
 
--- States that c is a clash on the key that the reason (`refusal`) names, whatever calls the stream has judged.
+-- States that the two calls in c rule out every order (clash), whatever calls the stream has judged. Both are on the
+-- key that the reason (`refusal`) names.
 abbrev pub ClashesStream : List ℕ → Refusal → Option Presence → Stream → Clash → Type 0
 ClashesStream opening refusal left s c = (threads : ℕ) (calls : List CallRecord) → IsStreamKept threads opening calls s
     → IsClash calls refusal.key.0 (presence (has_key refusal.key.0 opening)) left c.was (record_if c.first) (record_if c.second)

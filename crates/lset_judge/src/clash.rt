@@ -23,8 +23,8 @@ pub struct Clash {
     pub second: Option<StreamCall>,
 }
 
-/// A search for a clash: the key whose calls are searched, whether the set opened with it, and its final state, if
-/// known.
+/// A search for two calls that rule out every order: the key whose calls are searched, whether the set opened with it,
+/// and its final state, if known.
 #[derive(Clone, Copy)]
 struct Asked {
     key: Key,
@@ -211,7 +211,7 @@ fn in_order(calls: &[StreamCall], asked: Asked, clash: Clash) -> bool
     first.begun != second.begun && clashes(calls, asked, turned)
 }
 
-/// Returns whether `clash` is a clash of these calls.
+/// Returns whether the two calls in `clash` are among these calls and rule out every order.
 fn is_clash(calls: &[StreamCall], asked: Asked, clash: Clash) -> bool
     ensures { IsTrue result → IsClash (records calls.now) asked.key.0 asked.there asked.left clash.was (record_if clash.first) (record_if clash.second) }
 {
@@ -229,8 +229,8 @@ fn last_before(calls: &[StreamCall], was: Presence, moment: u64) -> Option<Strea
     last
 }
 
-/// Returns a clash whose second call is `second`, if it finds one. Its first call is `None` if `second` clashes with
-/// the key's opening state.
+/// Searches for a call that, followed by `second`, rules out every order. The result has no `first` if the key's
+/// opening state takes the place of this call.
 fn clash_with(calls: &[StreamCall], asked: Asked, second: StreamCall) -> Option<Clash>
     ensures { IfSome result (λ c. IsClash (records calls.now) asked.key.0 asked.there asked.left c.was (record_if c.first) (record_if c.second)) }
 {
@@ -257,7 +257,8 @@ fn clash_with(calls: &[StreamCall], asked: Asked, second: StreamCall) -> Option<
     None
 }
 
-/// Searches these calls for a clash. If it finds several, returns the one whose second call starts last.
+/// Searches these calls for two that rule out every order (a clash). If it finds several such pairs, returns the one
+/// whose second call starts last.
 fn last_clash(calls: &[StreamCall], asked: Asked) -> Option<Clash>
     ensures { IfSome result (λ c. IsClash (records calls.now) asked.key.0 asked.there asked.left c.was (record_if c.first) (record_if c.second)) }
 {

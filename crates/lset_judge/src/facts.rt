@@ -137,8 +137,8 @@ impl KeyState {
             && ends_by(first, second)
     }
 
-    /// Returns the clash of the stored call (the kept call) with the call `second`, which ends now, if these facts show
-    /// one.
+    /// Returns the clash of the stored call (the kept call) with the call `second`, which ends now, if according to
+    /// these facts no order can have both.
     pub(crate) fn clash_of(&self, second: StreamCall) -> Option<Clash>
         ensures { IfSome result (IsFound (facts_of self.now) second) }
     {
@@ -165,7 +165,8 @@ impl KeyState {
         *clash = self.clash_of(second);
     }
 
-    /// Returns the clash of the stored call (the kept call) with the key's final state `left`, if these facts show one.
+    /// Returns the clash of the stored call (the kept call) with the key's final state `left`, if according to these
+    /// facts no order can have both.
     pub(crate) fn clash_left(&self, key: Key, left: Presence) -> Option<Clash>
         ensures { IfSome result (IsFoundLeft key.0 (facts_of self.now) left) }
     {

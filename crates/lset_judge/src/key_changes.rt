@@ -141,8 +141,8 @@ impl KeyChanges {
         }
     }
 
-    /// Returns how many changes with an end are pending after the moment `before`, and when the last change that is no
-    /// longer pending ended.
+    /// Returns how many changes with an end are pending after the moment `before`, and when the last completed change
+    /// ended.
     pub(crate) fn counts(&self, before: u64) -> Changes {
         if let Held::Many(many) = &self.held {
             return many.counts;

@@ -468,7 +468,7 @@ impl Stream {
         Ok(())
     }
 
-    /// Forgets the two calls that clash. A separate function, so that the ends of calls need no stack space for a
+    /// Forgets the two clashing calls. A separate function, so that the ends of calls need no stack space for a
     /// `Clash`.
     fn forget_clash(&mut self)
         ensures { self.new ≡ record self.old { clash = None } }

@@ -282,7 +282,8 @@ fn smaller_stretch(
     Ok(best)
 }
 
-/// Returns the stretch of time whose calls form the smallest count of a key, or `None` if no stretch has one.
+/// Returns the smallest stretch of time found in which the key would have to change back more often than it can, or
+/// `None` if none is found.
 pub(crate) fn smallest_stretch(
     alloc: Global,
     calls: &[StreamCall],
