@@ -1,5 +1,5 @@
-//! Implements the steps of two broken FineLists: the `remove` of one locks only one node, the traversals of the other
-//! release a lock before they take the next one.
+//! Implements the steps of two broken FineLists: in one, `remove` locks only one node; in the other, traversals release
+//! a lock before they take the next one.
 ghost use Rattle.lset_steps.specs.Rows.{IsSmall};
 
 use lset_fine::fed_by;

@@ -1,5 +1,5 @@
-//! Implements the steps of two broken LockFreeLists: the `add` of one also replaces a marked link, the `remove` of the
-//! other never marks a node.
+//! Implements the steps of two broken LockFreeLists: in one, `add` also replaces a marked link; in the other, `remove`
+//! never marks a node.
 ghost use Rattle.lset_steps.specs.Rows.{IsSmall};
 
 use lset_lock_free::{effect_of, fed_by, next_action};
@@ -8,7 +8,7 @@ use lset_steps::rows::{link_index, own_slot};
 use lset_steps::{Action, Fed, Local};
 use lset_words::{Key, Reply};
 
-/// Returns a link word that points to `node` and has the mark that the thread read before and keeps in `pkey`.
+/// Returns a link word that points to `node` and keeps the mark that the thread read before and stored in `pkey`.
 fn marked_as_seen(node: u64, local: &Local) -> u64 {
     node.wrapping_mul(2).wrapping_add(local.pkey)
 }

@@ -1,4 +1,4 @@
-//! Implements the steps of two broken OptimisticLists whose validation checks too little.
+//! Implements the steps of two broken OptimisticLists whose check of the two locked nodes (validation) is too weak.
 ghost use Rattle.lset_steps.specs.Rows.{IsSmall};
 
 use lset_optimistic::fed_by;
@@ -12,8 +12,8 @@ fn past_the_walk(local: Local) -> Local {
     }
 }
 
-/// Returns a thread's state after a step of the list that does not traverse the list a second time: its validation
-/// checks only that `pred` links to `curr`.
+/// Returns a thread's state after a step of the list that does not traverse the list a second time. Its validation only
+/// checks that `pred` links to `curr`.
 pub(crate) fn fed_without_walk(local: &Local, seen: u64) -> Fed
     requires { IsSmall local.now }
 {

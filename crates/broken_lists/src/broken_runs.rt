@@ -1,4 +1,4 @@
-//! Creates broken lists on which schedules can be run.
+//! Creates broken lists (lists with one check removed) for running schedules.
 ghost use Rattle.lset_schedule.specs.Plan.{opening_in, view};
 ghost use Rattle.lset_words.specs.Words.{Opens};
 
@@ -8,9 +8,9 @@ use lset_schedule::Schedule;
 use lset_words::layout_opening;
 use std::alloc::{AllocError, Global};
 
-/// Creates a broken list for a schedule, before the first event. Ignores the list that the schedule names.
+/// Creates a broken list for a schedule, before the first event. Ignores which list the schedule names.
 ///
-/// `lset_replay::calls_of` collects the calls of the run and an order of them. If `check_order` refuses this order,
+/// `lset_replay::calls_of` collects the calls of the run and an order of them. If `check_order` rejects this order,
 /// another order can still explain the calls. `schedule` must be within the limits, as every schedule from
 /// `read_schedule` is. Returns `AllocError` if an allocation fails.
 pub fn broken_world_of(

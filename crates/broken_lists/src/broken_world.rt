@@ -19,7 +19,7 @@ pub struct BrokenWorld {
     locals: Vec<Local>,
 }
 
-/// Returns `true` if all numbers in a thread's local state are within their limits. Computing with them then cannot
+/// Returns whether all numbers in a thread's local state are within their limits, so that computing with them cannot
 /// overflow.
 fn is_small(local: &Local) -> bool
     ensures { IsTrue result → IsSmall local.now }
@@ -33,7 +33,7 @@ fn is_small(local: &Local) -> bool
         && local.node < MOST_NODES
 }
 
-/// Returns the value that `action` reads or writes: for a store the stored value, otherwise the current value of the
+/// Returns the value that `action` reads or writes: the stored value for a store, otherwise the current value of the
 /// word. Returns `None` if the list has no such word.
 fn sight(words: &[u64], action: Action) -> Option<u64> {
     let (Action::Load(word) | Action::Exchange(word, _, _) | Action::Store(word, _)) = action;
@@ -78,7 +78,7 @@ impl BrokenWorld {
         })
     }
 
-    /// Begins a call. Returns `NoThread` if the thread does not exist, `Busy` if the thread already has a pending call.
+    /// Starts a call. Returns `NoThread` if the thread does not exist, `Busy` if the thread already has a pending call.
     fn begin(&mut self, thread: u32, call: Call) -> Result<Told, Cause> {
         let broken = self.broken;
         let local = self.locals.get_mut(thread as usize).ok_or(Cause::NoThread)?;

@@ -1,5 +1,5 @@
-//! Walks along the links of a broken list, beginning at the head. The words are arbitrary: a broken list can lose its
-//! chain.
+//! Walks along the links of a broken list from the head. The words can have any values, since a broken list can lose
+//! its nodes.
 
 ghost use Rattle.std.specs.Prelude.{◌<◌, ◌^◌, IsTrue};
 
@@ -8,7 +8,7 @@ use lset_words::{key_index, link_index};
 use std::alloc::{AllocError, Global};
 use std::collections::BTreeSet;
 
-/// An invalid node number. No list has this many nodes, so a walk ends at this number.
+/// An invalid node number. No list has this many nodes, so a walk stops here.
 const NO_NODE: u64 = 1 << 32;
 
 /// A node that a walk reached: its key, its mark, and the number of the next node.
@@ -18,12 +18,12 @@ struct Met {
     next: u64,
 }
 
-/// Returns the word with this index; 0 if the list has fewer words.
+/// Returns the word with this index, or 0 if the list has fewer words.
 fn word_at(words: &[u64], index: u64) -> u64 {
     words.get(index as usize).copied().unwrap_or(0)
 }
 
-/// Returns `true` if the list has this node and the node is neither the head nor the tail.
+/// Returns whether the list has this node and the node is neither the head nor the tail.
 fn is_met(words: &[u64], node: u64) -> bool
     ensures { IsTrue result → node < 2 ^ 32 }
 {
@@ -45,8 +45,8 @@ fn met_at(words: &[u64], node: u64) -> Option<Met> {
     })
 }
 
-/// Walks the chain and returns the key and the mark of each node between head and tail. The walk also ends at a link to
-/// a node that the list does not have.
+/// Walks along the links and returns the key and the mark of each node between head and tail. Also stops at a link to a
+/// node that the list does not have.
 ///
 /// The links of a broken list can form a cycle. Therefore the walk visits at most `words.len() / 3` nodes. Returns
 /// `AllocError` if an allocation fails.

@@ -2,7 +2,7 @@
 //! the intact list.
 //!
 //! Steps are defined for every thread state with small numbers (`IsSmall`), even if no run leads to that state. `seen`
-//! is the value that a load or a store used, or the value that the word had before a compare-and-exchange.
+//! is the value that a load read or a store wrote, or the value that a compare-and-exchange found.
 ghost use Rattle.lset_steps.specs.Rows.{IsSmall};
 
 use crate::lists::BrokenList;
@@ -26,7 +26,7 @@ fn without_mark(row: u8, local: &Local, seen: u64) -> u64 {
     }
 }
 
-/// Begins `call` as the intact list does.
+/// Starts `call` as the intact list does.
 pub fn begun(broken: BrokenList, call: Call, local: &Local) -> Local {
     match broken {
         Lock | SecondLock | HandOverHand | SecondWalk | SameNode => begun_at(1, call, local),

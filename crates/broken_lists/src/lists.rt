@@ -1,6 +1,6 @@
 use lset_words::Kind;
 
-/// A broken list, named by the check that was removed.
+/// A broken list, named after the check that was removed.
 #[derive(Clone, Copy, Debug, PartialEq, Eq)]
 pub enum BrokenList {
     /// CoarseList: a call continues even if it did not get the lock.
@@ -86,7 +86,7 @@ impl BrokenList {
     }
 }
 
-/// Returns the broken list with this name; `None` if no broken list has it.
+/// Returns the broken list with this name, or `None` if there is none.
 pub fn named(name: &[u8]) -> Option<BrokenList> {
     for broken in &ALL {
         if broken.name().as_bytes() == name {

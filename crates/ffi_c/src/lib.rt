@@ -16,9 +16,9 @@ use ffi_sets::CSeat;
 use std::alloc::Global;
 
 /// Opens a set of the list `kind` (0 coarse, 1 fine, 2 optimistic, 3 lazy, 4 lock-free) with 1 to 64 `seats`, a `quota`
-/// of 0 to 16,384, and at most 1,048,576 `keys` in strictly increasing order. Stores a seat in `out`, which must be
-/// empty. All other seats can be split off this seat. No other open set may have the same `number`, because
-/// `listset_gather` uses it to compare the sets of two seats.
+/// of 0 to 16,384, and at most 1,048,576 `keys` in strictly increasing order. Stores a seat (the right to call as one
+/// thread) in `out`, which must be empty. All other seats can be split off this seat. No other open set may have the
+/// same `number`, because `listset_gather` uses it to compare the sets of two seats.
 ///
 /// Returns `DONE`. On an error, changes nothing and returns `IS_SEAT` if `out` is not empty, `BAD_KIND`, `BAD_SEATS`,
 /// `BAD_QUOTA`, `BAD_KEYS`, or `OUT_OF_MEMORY` if an allocation failed. Does not block.
@@ -35,7 +35,7 @@ pub extern "C" fn listset_open(
     ffi_sets::open_set(alloc, kind, seats, quota, number, keys, out)
 }
 
-/// Splits a seat off `seat` and stores it in `out`, which must be empty.
+/// Splits a seat (the right to call as one thread) off `seat` and stores it in `out`, which must be empty.
 ///
 /// Returns `DONE`. On an error, changes nothing and returns the first that applies: `IS_SEAT` if `out` is not empty,
 /// `NO_SEAT` if `seat` is empty, `NO_MORE` if no seat can be split off it, or it is a receipt or a closed set,
@@ -105,8 +105,8 @@ pub extern "C" fn listset_most_reads(seats: u32, quota: u32, opening: u32) -> u6
     ffi_sets::most_reads(seats, quota, opening)
 }
 
-/// Stores a receipt in `out`, which must be empty. The receipt covers everything that `seat` has seen: its own
-/// calls, and everything seen by the seats that it gathered and the receipts that it accepted. `seat` does not change.
+/// Stores a receipt in `out`, which must be empty. The receipt covers everything that `seat` has seen: its own calls,
+/// and everything seen by the seats merged into it and by the receipts that it accepted. `seat` does not change.
 ///
 /// Returns `DONE`. On an error, changes nothing and returns the first that applies: `IS_SEAT` if `out` is not empty,
 /// `NO_SEAT` if `seat` is empty, a receipt or a closed set, `OUT_OF_MEMORY` if an allocation failed. Does not block.
@@ -121,8 +121,8 @@ pub extern "C" fn listset_receipt_of(alloc: Global, seat: &mut CSeat, out: &mut 
 /// `given` is empty afterwards. The caller must ensure that a seat and a receipt with the same list and number belong
 /// to the same set.
 ///
-/// Returns `DONE`. On an error, changes nothing and returns `NO_SEAT` if one of them is empty, or `NO_GATHER` if they
-/// are not a seat and a receipt with the same list and number. Does not block or allocate.
+/// Returns `DONE`. On an error, changes nothing and returns `NO_SEAT` if `seat` or `given` is empty, or `NO_GATHER` if
+/// they are not a seat and a receipt with the same list and number. Does not block or allocate.
 #[unsafe(no_mangle)]
 pub extern "C" fn listset_after(alloc: Global, seat: &mut CSeat, given: &mut CSeat) -> u8
     requires { GathersAt seat.old.full seat.old.held given.old.full given.old.held }
@@ -141,8 +141,8 @@ pub extern "C" fn listset_seats_within(alloc: Global, seat: &mut CSeat, all: &mu
 /// Merges the seat `from`, including all seats that it contains, into `into`. `from` is empty afterwards. The caller
 /// must ensure that two seats with the same list and number belong to the same set.
 ///
-/// Returns `DONE`. On an error, changes nothing and returns `NO_SEAT` if one of them is empty, or `NO_GATHER` if they
-/// are not two seats with the same list and number. Does not block or allocate.
+/// Returns `DONE`. On an error, changes nothing and returns `NO_SEAT` if `into` or `from` is empty, or `NO_GATHER` if
+/// they are not two seats with the same list and number. Does not block or allocate.
 #[unsafe(no_mangle)]
 pub extern "C" fn listset_gather(alloc: Global, into: &mut CSeat, from: &mut CSeat) -> u8
     requires { GathersAt into.old.full into.old.held from.old.full from.old.held }
@@ -150,10 +150,10 @@ pub extern "C" fn listset_gather(alloc: Global, into: &mut CSeat, from: &mut CSe
     ffi_sets::gather_seats(alloc, into, from)
 }
 
-/// Closes the set. `seat` must contain all seats of the set. Afterwards it is a closed set with the final keys.
+/// Closes the set. `seat` must contain all seats of the set. Afterwards, `seat` is a closed set with the final keys.
 ///
 /// Returns `DONE`. On an error, changes nothing and returns `NO_SEAT` if `seat` is empty, a receipt or a closed set,
-/// `SEATS_OUT` if it lacks some of the seats, or `OUT_OF_MEMORY` if an allocation failed. Does not block.
+/// `SEATS_OUT` if it does not contain all seats of the set, or `OUT_OF_MEMORY` if an allocation failed. Does not block.
 #[unsafe(no_mangle)]
 pub extern "C" fn listset_close(alloc: Global, seat: &mut CSeat) -> u8 {
     ffi_sets::close_set(alloc, seat)

@@ -1,5 +1,5 @@
--- Definitions for proofs at the level of the machine: the machine values of a seat of C, and of a box (its pointer).
--- Assumes `Logic`.
+-- Definitions for proofs at machine level: the machine values of a handle that C holds (`CSeat`), and of a box (its
+-- pointer). Assumes `Logic`.
 pub use Rattle.std.proofs.Common.{◌≡◌, List, [], ◌∷◌, ◌++◌, refl, sym, ap, ◌∙◌, subst, ℕ, zero, suc, lit<}
 pub use mathlib.Core.Bool.{Bool, true, false, ◌&&◌}
 pub use mir.Syntax.{Fn, a_type, dcons, dnil, Ty, ty_ptr, ty_bool, ty_struct, impl, tcons, tnil}
@@ -83,7 +83,7 @@ slot_at k [] = plain (λ _. unit)
 slot_at zero (s ∷ ss) = s
 slot_at (suc k) (s ∷ ss) = slot_at k ss
 
--- Returns a struct type with these fields and no name. What a struct owns does not depend on its name.
+-- Returns a struct type with these fields and no name. A struct owns the same whatever its name is.
 abbrev pub plainly : List RattleType → RattleType
 plainly Rs = Struct (record { name = []; args = []; types = []; fields = Rs })
 
@@ -110,7 +110,7 @@ pub seat_typed : (t : Bool) (p : Ptr) → Good seat_ty (seat_val t p)
 seat_typed t (block_ptr b o) = (tt, (tt, (tt, tt)))
 seat_typed t null_ptr = (tt, (tt, (record { fits = lit< tt }, tt)))
 
--- The box of a seat of C, taken apart into its pointer and its allocator.
+-- The box that a C handle owns, taken apart into its pointer and its allocator.
 abbrev pub Freed : RattleType
 Freed = Loose held.the_row HP.the_row HL.the_row_laws GI.ghosts
 

@@ -1,4 +1,4 @@
--- The effect of a call from C: how it changes the value of its seat, and which number it returns.
+-- The effect of a call from C: how it changes the value that the handle (`CSeat`) owns, and which number it returns.
 use Rattle.std.specs.Prelude.{◌≡◌, ℕ, Bool, true, false, Option, Some, None}
 use Rattle.lset_words.specs.declared.Call.{Call}
 use Rattle.lset_words.specs.declared.Reply.{Reply}
@@ -13,15 +13,15 @@ use Rattle.lset_live.specs.Explained.{HasAnswered, HasMadeAtMost}
 use Rattle.ffi_sets.specs.declared.held.Held.{Held}
 use Rattle.ffi_sets.specs.Sets.{table_in, set_in, seat_in, spare_in, keys_in, number_in, receipt_in, SameSet}
 
--- The effect of call c on a seat of a set: the call was made and replied r, or it gave up and the seat is lost, or the
--- seat had already been lost.
+-- The effect of call c from a seat of a set: the call was made and returned r, or it gave up and the seat is lost, or
+-- the seat was already lost.
 abbrev pub HasCalledOf : Table → SetValue → Option SeatValue → Call → Option Reply → Option SeatValue → Type 0
 HasCalledOf T set (Some old) c (Some r) (Some new) = HasAnswered T set old c r new
 HasCalledOf T set (Some old) c None None = Unit {0}
 HasCalledOf T set None c None None = Unit {0}
 HasCalledOf T set old c r new = ⊥
 
--- Returns the number that C functions return for a reply, and 255 for no reply.
+-- Converts a reply to the number that C functions return. Without a reply, the number is 255.
 abbrev pub code_of : Option Reply → ℕ
 code_of (Some reply.False) = 0
 code_of (Some reply.True) = 1
@@ -34,15 +34,15 @@ abbrev pub CallsIn : Option Table → Option SetValue → Option SeatValue → C
 CallsIn (Some T) (Some set) old c r new = HasCalledOf T set old c r new
 CallsIn T set old c r new = r ≡ None
 
--- The effect of call c on the value of a seat of C. The list, the set, its number, and the seats that can be split off
--- do not change. A receipt or a closed set makes no call.
+-- The effect of call c on the value that a C handle owns. The list, the set, its number, and the seats that can be
+-- split off do not change. A receipt or a closed set makes no call.
 pub record HasCalledHeld (h : Held) (c : Call) (r : Option Reply) (h' : Held) : Type 0 where
   pub same : SameSet h h'
   pub spare : spare_in h' ≡ spare_in h
   pub keys : keys_in h' ≡ keys_in h
   pub called : CallsIn (table_in h) (set_in h) (seat_in h) c r (seat_in h')
 
--- States that the last call of a seat of a set, a `contains`, has made at most `most_reads` steps.
+-- States that the last call from a seat of a set was a `contains` that took at most `most_reads` steps.
 abbrev pub HasReadOf : SetValue → Option SeatValue → Option SeatValue → Type 0
 HasReadOf set (Some old) (Some new) = HasMadeAtMost (most_reads (sizes set.shape)) (thread_of old.past) new.events
 HasReadOf set old new = ⊥
@@ -51,18 +51,18 @@ abbrev pub ReadsIn : Option SetValue → Option SeatValue → Option SeatValue �
 ReadsIn (Some set) old new = HasReadOf set old new
 ReadsIn None old new = ⊥
 
--- States that the last call of a seat of C, a `contains`, has made at most `most_reads` steps.
+-- States that the last call through a seat held by C code was a `contains` that took at most `most_reads` steps.
 abbrev pub HasReadHeld : Held → Held → Type 0
 HasReadHeld h h' = ReadsIn (set_in h) (seat_in h) (seat_in h')
 
--- States that call c from a seat of C returned n. The seat is empty or full (the first argument). An empty seat stays
--- empty, and n is 255.
+-- States that call c through a C handle returned n. The first argument says whether the handle was full. If it was
+-- empty, it stays empty, and n is 255.
 abbrev pub HasMade : Bool → Held → Call → ℕ → Bool → Held → Type 0
 HasMade true h c n true h' = (r : Option Reply) × (n ≡ code_of r) × HasCalledHeld h c r h'
 HasMade false h c n false h' = n ≡ 255
 HasMade full h c n full' h' = ⊥
 
--- States that the `ceiling` c from a seat of C returned n and changed the key at the pointer from a to a'. If the reply
+-- States that a `ceiling` through a C handle returned n and changed the key at the pointer from a to a'. If the reply
 -- is At k, a' is k. Otherwise a' is a.
 abbrev pub at_of : Option Reply → ℕ → ℕ
 at_of (Some (reply.At k)) a = k.0
@@ -73,12 +73,13 @@ HasCeiling true h c n a a' true h' = (r : Option Reply) × (n ≡ code_of r) × 
 HasCeiling false h c n a a' false h' = (n ≡ 255) × (a' ≡ a)
 HasCeiling full h c n a a' full' h' = ⊥
 
--- States that a seat of a set made this receipt: it has the seat's set, and the events that the seat has seen.
+-- States that a seat of a set issued this receipt: it names the seat's set, and contains the events that the seat has
+-- seen.
 abbrev pub HasNotedOf : Option SeatValue → Option ReceiptValue → Type 0
 HasNotedOf (Some s) (Some given) = given ≡ record { set = s.set; events = s.events }
 HasNotedOf s given = ⊥
 
--- The value h of a seat of C has made the receipt `given`, which has the number of the seat's set. h does not change.
+-- The value h of a C handle has issued the receipt `given`, with the number of its set. h does not change.
 pub record HasNotedHeld (h given h' : Held) : Type 0 where
   pub same : SameSet h h'
   pub spare : spare_in h' ≡ spare_in h

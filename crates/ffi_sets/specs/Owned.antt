@@ -1,4 +1,4 @@
--- What a seat of C owns in memory: a full seat owns a box with its value, and an empty seat owns nothing.
+-- What a C handle (`CSeat`) owns in memory: a full handle owns a box with its value, and an empty one owns nothing.
 use Rattle.std.specs.Prelude.{Bool, true, false}
 use base.Fml.{Fml, ftrue}
 use denote.RawPtr.{Ptr}

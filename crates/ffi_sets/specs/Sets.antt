@@ -1,5 +1,5 @@
--- The parts of the value of a seat of C: its list, its set, the number of the set, and its seats, its receipt or its
--- keys.
+-- The parts of the value that a C handle owns: its list, its set, the number of the set, and its seats, its receipt or
+-- its keys.
 use Rattle.std.specs.Prelude.{Bool, true, ◌≡◌, ◌+◌, ℕ, List, [], Option, Some, None, length}
 use Rattle.std.specs.Arc.{arc_value}
 use Rattle.lset_steps.specs.Steps.{Table}
@@ -30,7 +30,8 @@ receipt_in (LazyReceipt o) = Some o.receipt
 receipt_in (LockFreeReceipt o) = Some o.receipt
 receipt_in h = None
 
--- Returns the set of a seat or a receipt, else None. `number_in` returns the number that the caller gave the set.
+-- `set_in` returns the set of a seat or a receipt, else None. `number_in` returns the number that the caller gave the
+-- set.
 abbrev pub set_in : Held → Option SetValue
 set_in (Coarse o) = Some (arc_value o.set)
 set_in (Fine o) = Some (arc_value o.set)
@@ -57,7 +58,7 @@ number_in (LazyReceipt o) = Some o.number
 number_in (LockFreeReceipt o) = Some o.number
 number_in h = None
 
--- Returns the seat that makes the calls, else None. `spare_in` returns the seats that can be split off it.
+-- `seat_in` returns the seat that makes the calls, else None. `spare_in` returns the seats that can be split off it.
 abbrev pub seat_in : Held → Option SeatValue
 seat_in (Coarse o) = o.seat
 seat_in (Fine o) = o.seat
@@ -78,23 +79,23 @@ abbrev pub keys_in : Held → Option (List ℕ)
 keys_in (Closed keys) = Some keys.items
 keys_in h = None
 
--- Two values of seats of C have the same list, set and number.
+-- The values of two C handles have the same list, set and number.
 pub record SameSet (h h' : Held) : Type 0 where
   pub table : table_in h' ≡ table_in h
   pub set : set_in h' ≡ set_in h
   pub number : number_in h' ≡ number_in h
 
--- States that two values with the same number have the same set. A caller ensures this if each open set has its own
--- number.
+-- States that the two values belong to the same set if they have the same number. A caller ensures this by giving each
+-- open set its own number.
 abbrev pub Gathers : Held → Held → Type 0
 Gathers h h' = number_in h ≡ number_in h' → set_in h ≡ set_in h'
 
--- States `Gathers` of the values of two seats of C, if both are full.
+-- States `Gathers` for the values of two C handles, if both are full.
 abbrev pub GathersAt : Bool → Held → Bool → Held → Type 0
 GathersAt true h true h' = Gathers h h'
 GathersAt into h from h' = Unit {0}
 
--- States that a seat, with the seats that can be split off it, holds all seats of the set.
+-- States that a seat holds all seats of the set, if the seats that can be split off it are included.
 abbrev pub IsWhole : SetValue → Option SeatValue → List SeatValue → Type 0
 IsWhole set (Some seat) spare = seat.held + length spare ≡ set.shape.threads
 IsWhole set None spare = ⊥

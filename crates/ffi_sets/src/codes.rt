@@ -21,17 +21,17 @@ pub const BAD_KIND: u8 = 14;
 /// A `CSeat` that must be empty is not.
 pub const IS_SEAT: u8 = 15;
 
-/// The seat has not gathered all seats of its set.
+/// The seat does not contain all seats of its set.
 pub const SEATS_OUT: u8 = 16;
 
 /// No seat can be split off this seat.
 pub const NO_MORE: u8 = 17;
 
-/// The arguments are not two seats, or a seat and a receipt, that have the same list and number.
+/// The arguments are neither two seats nor a seat and a receipt with the same list and number.
 pub const NO_GATHER: u8 = 18;
 
 /// A `contains` on this list can block.
 pub const MAY_BLOCK: u8 = 254;
 
-/// The `CSeat` is empty, a receipt or a closed set, and no seat.
+/// The `CSeat` contains no seat: it is empty, a receipt or a closed set.
 pub const NO_SEAT: u8 = 255;

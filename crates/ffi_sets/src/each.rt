@@ -1,4 +1,4 @@
-//! Functions on a `Held` (what a seat of C owns), for any of the five lists.
+//! Functions on a `Held` (the value that a C handle owns), for any of the five lists.
 ghost use Rattle.lset_words.specs.declared.Call.TheVariants.{Contains};
 ghost use Rattle.std.specs.Prelude.{◌≤◌, Some, IfNone, IfSome, IfOk, IfErr};
 ghost use Rattle.ffi_sets.specs.Sets.{Gathers};
@@ -62,7 +62,7 @@ pub fn read_held(held: &mut Held, key: Key) -> Result<Reply, u8>
     reply.ok_or(NO_SEAT)
 }
 
-/// Returns a receipt of everything that the seat in `held` has seen, or `None` if `held` has no seat.
+/// Returns a receipt for everything that the seat in `held` has seen, or `None` if `held` has no seat.
 pub fn receipt_held(held: &mut Held) -> Option<Held>
     ensures { IfSome result (λ given. HasNotedHeld held.old given held.new) }
 {
@@ -76,8 +76,8 @@ pub fn receipt_held(held: &mut Held) -> Option<Held>
     })
 }
 
-/// Passes the receipt `given` to the seat in `into`. Returns `None` on success. Otherwise changes nothing and returns
-/// `given`: the two are not a seat and a receipt with the same list and number.
+/// Passes the receipt `given` to the seat in `into`. Returns `None` on success. If the two are not a seat and a receipt
+/// with the same list and number, changes nothing and returns `given`.
 pub fn heed_held(into: &mut Held, given: Held) -> Option<Held>
     requires { Gathers into.old given }
     ensures { IfNone result (HasHeededHeld into.old given into.new) }
@@ -94,8 +94,8 @@ pub fn heed_held(into: &mut Held, given: Held) -> Option<Held>
     })
 }
 
-/// Returns how many seats of its set `held` contains, and how many seats the set has. Returns 0 and 0 if `held` has no
-/// seat.
+/// Returns how many seats of its set `held` contains, and how many seats the set has in all. Returns 0 and 0 if `held`
+/// has no seat.
 pub fn counts_held(held: &Held) -> (u64, u32) {
     match held {
         Held::Coarse(of) => of.counts(),
@@ -120,7 +120,7 @@ pub fn has_spare(held: &Held) -> bool {
 }
 
 /// Splits a seat off the seat in `held`. Returns the error `NO_MORE` if no seat can be split off, or `OUT_OF_MEMORY` if
-/// the set has too many owners for another one.
+/// the set's counter of owners is full.
 pub fn split_held(held: &mut Held, alloc: Global) -> Result<Held, u8> {
     Ok(match held {
         Held::Coarse(of) => Held::Coarse(of.split(alloc)?),
@@ -132,8 +132,8 @@ pub fn split_held(held: &mut Held, alloc: Global) -> Result<Held, u8> {
     })
 }
 
-/// Merges the seat in `from` into the seat in `into`. Returns `None` on success. Otherwise changes nothing and returns
-/// `from`: the two are not seats with the same list and number.
+/// Merges the seat in `from` into the seat in `into`. Returns `None` on success. If the two are not seats with the same
+/// list and number, changes nothing and returns `from`.
 pub fn gather_held(alloc: Global, into: &mut Held, from: Held) -> Option<Held>
     requires { Gathers into.old from }
 {
@@ -150,8 +150,8 @@ pub fn gather_held(alloc: Global, into: &mut Held, from: Held) -> Option<Held>
 }
 
 /// Closes the set in `held` and returns its final keys. On an error, returns `held`, unchanged, and the number of the
-/// error: `NO_SEAT` if `held` has no seat, `SEATS_OUT` if it does not have all seats of the set, `OUT_OF_MEMORY` if an
-/// allocation failed.
+/// error: `NO_SEAT` if `held` has no seat, `SEATS_OUT` if it does not contain all seats of the set, `OUT_OF_MEMORY` if
+/// an allocation failed.
 pub fn close_held(alloc: Global, held: Held) -> Result<Vec<u32>, (Held, u8)> {
     match held {
         Held::Coarse(of) => match of.close(alloc) {
@@ -178,7 +178,7 @@ pub fn close_held(alloc: Global, held: Held) -> Result<Vec<u32>, (Held, u8)> {
     }
 }
 
-/// Copies `keys` to the first places of `room` if they fit. Returns the number of keys in any case.
+/// Copies `keys` to the start of `room` if they fit. Returns the number of keys in any case.
 fn put_keys(keys: &[u32], room: &mut [u32]) -> usize {
     let count = keys.len();
     if count <= room.len() {
@@ -187,8 +187,8 @@ fn put_keys(keys: &[u32], room: &mut [u32]) -> usize {
     count
 }
 
-/// Copies the keys of the closed set in `held` to the first places of `room` if they fit. Returns the number of keys in
-/// any case, or `usize::MAX` if `held` is not a closed set.
+/// Copies the keys of the closed set in `held` to the start of `room` if they fit. Returns the number of keys in any
+/// case, or `usize::MAX` if `held` is not a closed set.
 pub fn keys_held(held: &Held, room: &mut [u32]) -> usize {
     match held {
         Held::Closed(keys) => put_keys(keys, room),

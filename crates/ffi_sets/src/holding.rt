@@ -38,7 +38,7 @@ pub fn open_of<M: Bounded>(
     })
 }
 
-/// Merges all seats in `spare` into `seat`, and returns it. All must belong to `set`.
+/// Merges all seats in `spare` into `seat`, and returns `seat`. All must belong to `set`.
 fn gathered<M: Bounded>(set: &LiveSet<M>, seat: Seat<M>, spare: Vec<Seat<M>>) -> Seat<M>
     requires seat { seat.set ≡ set.now }
     requires spare { AreOf set.now spare.items }
@@ -52,7 +52,7 @@ fn gathered<M: Bounded>(set: &LiveSet<M>, seat: Seat<M>, spare: Vec<Seat<M>>) ->
     into
 }
 
-/// Closes the set and returns its final keys in `room`. `seat` and `spare` must be all seats of the set.
+/// Closes the set and returns its final keys in `room`. `seat` and `spare` must contain all seats of the set.
 fn keys_left<M: Bounded>(
     set: LiveSet<M>,
     seat: Seat<M>,
@@ -86,7 +86,7 @@ impl<M: Bounded> SeatOfSet<M> {
     }
 
     /// Splits a seat off this one. Returns the error `NO_MORE` if no seat can be split off, or `OUT_OF_MEMORY` if the
-    /// set has too many owners for another one.
+    /// set's counter of owners is full.
     pub fn split(&mut self, alloc: Global) -> Result<SeatOfSet<M>, u8> {
         if self.spare.is_empty() {
             return Err(NO_MORE);
@@ -106,8 +106,8 @@ impl<M: Bounded> SeatOfSet<M> {
         })
     }
 
-    /// Merges `from`, and all seats that can be split off it, into this seat. Returns `None` on success. Otherwise
-    /// changes nothing and returns `from`: the numbers differ, or one of the two seats was lost.
+    /// Merges `from`, and all seats that can be split off it, into this seat. Returns `None` on success. If the numbers
+    /// differ, or one of the two seats was lost, changes nothing and returns `from`.
     pub fn gather(&mut self, alloc: Global, from: SeatOfSet<M>) -> Option<SeatOfSet<M>>
         requires { self.old.number ≡ from.number → arc_value self.old.set ≡ arc_value from.set }
     {
@@ -130,7 +130,7 @@ impl<M: Bounded> SeatOfSet<M> {
         None
     }
 
-    /// Returns a receipt of everything that this seat has seen, or `None` if the seat was lost.
+    /// Returns a receipt for everything that this seat has seen, or `None` if the seat was lost.
     pub fn receipt(&mut self) -> Option<ReceiptOfSet<M>>
         ensures set { arc_value self.new.set ≡ arc_value self.old.set }
         ensures number { self.new.number ≡ self.old.number }
@@ -148,7 +148,7 @@ impl<M: Bounded> SeatOfSet<M> {
     }
 
     /// Passes a receipt to this seat, which has then seen everything that the receipt covers. Returns `None` on
-    /// success. Otherwise changes nothing and returns `given`: the numbers differ, or the seat was lost.
+    /// success. If the numbers differ, or the seat was lost, changes nothing and returns `given`.
     pub fn after(&mut self, given: ReceiptOfSet<M>) -> Option<ReceiptOfSet<M>>
         requires { self.old.number ≡ given.number → arc_value self.old.set ≡ given.receipt.set }
         ensures set { arc_value self.new.set ≡ arc_value self.old.set }
@@ -168,8 +168,8 @@ impl<M: Bounded> SeatOfSet<M> {
         None
     }
 
-    /// Returns how many seats of the set this one contains, and how many the set has. A seat contains itself, the seats
-    /// that it gathered, and those that can be split off it.
+    /// Returns how many seats of the set this one contains, and how many the set has in all. A seat contains itself,
+    /// the seats merged into it, and those that can be split off it.
     pub fn counts(&self) -> (u64, u32) {
         let spare = self.spare.len() as u64;
         let held = match &self.seat {
@@ -193,8 +193,8 @@ impl<M: Bounded> SeatOfSet<M> {
     }
 
     /// Closes the set and returns its final keys. On an error, returns this seat and the number of the error:
-    /// `SEATS_OUT` if other seats were not gathered, `OUT_OF_MEMORY` if the space for the set's maximum number of keys
-    /// cannot be allocated. (`OUT_OF_MEMORY` is also returned if the set has another owner, which no run reaches.)
+    /// `SEATS_OUT` if this seat does not contain all seats, `OUT_OF_MEMORY` if no vector for the set's maximum number
+    /// of keys can be allocated. (`OUT_OF_MEMORY` is also returned if the set has another owner, which no run reaches.)
     pub fn close(self, alloc: Global) -> Result<Vec<u32>, (SeatOfSet<M>, u8)> {
         if !self.has_all() {
             return Err((self, SEATS_OUT));

@@ -1,8 +1,8 @@
-//! Running sets for C: functions on seats that C keeps. The crate `ffi_c` exports them.
+//! Running sets for C: functions on handles that C code keeps. The crate `ffi_c` exports them.
 //!
-//! A seat of C (`CSeat`) is a handle: it is empty, or owns a seat of a set (the right to call as one thread), a
-//! receipt, or the keys of a closed set. Each function accepts all arguments that its types allow, with one exception:
-//! seats and receipts with the same list and number must belong to the same set. `codes` has the numbers of errors.
+//! A `CSeat` is a handle: it is empty, or owns a seat of a set (the right to call as one thread), a receipt, or the
+//! keys of a closed set. Each function accepts all arguments that its types allow, with one exception: seats and
+//! receipts with the same list and number must belong to the same set. `codes` has the numbers of errors.
 //!
 //! A call from a seat gives up after 2^64 - 1 rounds of a loop (`lset_live::Bounded`), since a C function has no
 //! runtime with which it could wait forever. The seat is then lost, and each later call from it returns 255.
@@ -40,9 +40,9 @@ use std::alloc::Global;
 use std::mem::replace;
 
 /// Opens a set of the list `kind` (0 coarse, 1 fine, 2 optimistic, 3 lazy, 4 lock-free) with 1 to 64 `seats`, a `quota`
-/// of 0 to 16,384, and at most 1,048,576 `keys` in strictly increasing order. Stores a seat in `out`, which must be
-/// empty. All other seats can be split off this seat. No other open set may have the same `number`, because
-/// `gather_seats` uses it to compare the sets of two seats.
+/// of 0 to 16,384, and at most 1,048,576 `keys` in strictly increasing order. Stores a seat (the right to call as one
+/// thread) in `out`, which must be empty. All other seats can be split off this seat. No other open set may have the
+/// same `number`, because `gather_seats` uses it to compare the sets of two seats.
 ///
 /// Returns `DONE`. On an error, changes nothing and returns `IS_SEAT` if `out` is not empty, `BAD_KIND`, `BAD_SEATS`,
 /// `BAD_QUOTA`, `BAD_KEYS`, or `OUT_OF_MEMORY` if an allocation failed. Does not block.
@@ -66,7 +66,7 @@ pub fn open_set(
     }
 }
 
-/// Splits a seat off `seat` and stores it in `out`, which must be empty.
+/// Splits a seat (the right to call as one thread) off `seat` and stores it in `out`, which must be empty.
 ///
 /// Returns `DONE`. On an error, changes nothing and returns the first that applies: `IS_SEAT` if `out` is not empty,
 /// `NO_SEAT` if `seat` is empty, `NO_MORE` if no seat can be split off it, or it is a receipt or a closed set,
@@ -83,7 +83,7 @@ pub fn split_seat(alloc: Global, seat: &mut CSeat, out: &mut CSeat) -> u8 {
         put(seat, held);
         return NO_MORE;
     }
-    // The box is allocated first. Otherwise a seat would be lost if the allocation failed.
+    // The box is allocated first, because a seat would be lost if the allocation failed later.
     let Ok(mut made) = Box::new(alloc, Held::Nothing) else {
         put(seat, held);
         return OUT_OF_MEMORY;
@@ -173,8 +173,8 @@ pub fn most_reads(seats: u32, quota: u32, opening: u32) -> u64
     }
 }
 
-/// Stores a receipt in `out`, which must be empty. The receipt covers everything that `seat` has seen: its own
-/// calls, and everything seen by the seats that it gathered and the receipts that it accepted. `seat` does not change.
+/// Stores a receipt in `out`, which must be empty. The receipt covers everything that `seat` has seen: its own calls,
+/// and everything seen by the seats merged into it and by the receipts that it accepted. `seat` does not change.
 ///
 /// Returns `DONE`. On an error, changes nothing and returns the first that applies: `IS_SEAT` if `out` is not empty,
 /// `NO_SEAT` if `seat` is empty, a receipt or a closed set, `OUT_OF_MEMORY` if an allocation failed. Does not block.
@@ -200,8 +200,8 @@ pub fn give_receipt(alloc: Global, seat: &mut CSeat, out: &mut CSeat) -> u8
 /// `given` is empty afterwards. The caller must ensure that a seat and a receipt with the same list and number belong
 /// to the same set.
 ///
-/// Returns `DONE`. On an error, changes nothing and returns `NO_SEAT` if one of them is empty, or `NO_GATHER` if they
-/// are not a seat and a receipt with the same list and number. Does not block or allocate.
+/// Returns `DONE`. On an error, changes nothing and returns `NO_SEAT` if `seat` or `given` is empty, or `NO_GATHER` if
+/// they are not a seat and a receipt with the same list and number. Does not block or allocate.
 pub fn take_receipt(alloc: Global, seat: &mut CSeat, given: &mut CSeat) -> u8
     requires { GathersAt seat.old.full seat.old.held given.old.full given.old.held }
     ensures { result ≡ 0 → HasHeeded seat.old.full seat.old.held given.old.full given.old.held seat.new.full seat.new.held }
@@ -241,8 +241,8 @@ pub fn count_seats(alloc: Global, seat: &mut CSeat, all: &mut u32) -> u64 {
 /// Merges the seat `from`, including all seats that it contains, into `into`. `from` is empty afterwards. The caller
 /// must ensure that two seats with the same list and number belong to the same set.
 ///
-/// Returns `DONE`. On an error, changes nothing and returns `NO_SEAT` if one of them is empty, or `NO_GATHER` if they
-/// are not two seats with the same list and number. Does not block or allocate.
+/// Returns `DONE`. On an error, changes nothing and returns `NO_SEAT` if `into` or `from` is empty, or `NO_GATHER` if
+/// they are not two seats with the same list and number. Does not block or allocate.
 pub fn gather_seats(alloc: Global, into: &mut CSeat, from: &mut CSeat) -> u8
     requires { GathersAt into.old.full into.old.held from.old.full from.old.held }
 {
@@ -263,10 +263,10 @@ pub fn gather_seats(alloc: Global, into: &mut CSeat, from: &mut CSeat) -> u8
     NO_GATHER
 }
 
-/// Closes the set. `seat` must contain all seats of the set. Afterwards it is a closed set with the final keys.
+/// Closes the set. `seat` must contain all seats of the set. Afterwards, `seat` is a closed set with the final keys.
 ///
 /// Returns `DONE`. On an error, changes nothing and returns `NO_SEAT` if `seat` is empty, a receipt or a closed set,
-/// `SEATS_OUT` if it lacks some of the seats, or `OUT_OF_MEMORY` if an allocation failed. Does not block.
+/// `SEATS_OUT` if it does not contain all seats of the set, or `OUT_OF_MEMORY` if an allocation failed. Does not block.
 pub fn close_set(alloc: Global, seat: &mut CSeat) -> u8 {
     let Some(mut held) = take(alloc, seat) else {
         return NO_SEAT;

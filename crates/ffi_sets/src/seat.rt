@@ -1,4 +1,4 @@
-//! A seat of C: a handle that owns a box, or is empty.
+//! A handle that C code keeps. It owns a box, or is empty.
 ghost use Rattle.std.specs.Prelude.{◌≡◌, true, false, MatchOption};
 ghost use Rattle.ffi_sets.specs.Owned.{seat_owns};
 ghost use Rattle.ffi_sets.specs.declared.held.Held.{Held};
@@ -10,7 +10,7 @@ use std::alloc::Global;
 use std::marker::Model;
 use std::mem::replace;
 
-/// A seat as C keeps it: a handle. A full seat owns a box with the value `held`. Only an empty seat may be dropped.
+/// A handle that C code keeps. If it is full, it owns a box with the value `held`. Only an empty handle may be dropped.
 #[derive(Drop)]
 #[repr(C)]
 pub struct CSeat {
@@ -24,7 +24,7 @@ impl Model for CSeat {
 }
 
 impl CSeat {
-    /// Returns an empty seat.
+    /// Returns an empty handle.
     pub fn none() -> CSeat
         ensures { result.full ≡ false }
     {
@@ -34,7 +34,7 @@ impl CSeat {
         }
     }
 
-    /// Returns a full seat that owns this box.
+    /// Returns a full handle that owns this box.
     fn of_loose(held: Loose<Held, Global>) -> CSeat
         ensures { (result.full ≡ true) × (result.held ≡ held.value) }
     {
@@ -45,7 +45,7 @@ impl CSeat {
         }
     }
 
-    /// Returns the box of a full seat, or `None` if the seat is empty.
+    /// Returns the box that the handle owns, or `None` if the handle is empty.
     fn into_loose(self, alloc: Global) -> Option<Loose<Held, Global>>
         ensures { MatchOption result (self.full ≡ false) (λ l. (self.full ≡ true) × (l.value ≡ self.held)) }
     {

@@ -1,4 +1,4 @@
--- Proof: the judge's state stays correct when a call begins.
+-- Proof: the judge's state stays correct when a call starts.
 use Rattle.std.proofs.Common.{◌≡◌, ◌≢◌, ℕ, suc, ◌+◌, ◌-◌, ◌<◌, ◌≤◌, true, List, [], ◌∷◌, ◌++◌, refl, sym, ap, ◌∙◌, arith, subst, inl, inr}
 use Rattle.std.proofs.Common.{length, get_or, length-append}
 use Rattle.std.specs.Prelude.{Option, Some, None, IfSome, IsSomeAnd, All, Contains}
@@ -68,7 +68,7 @@ end_met threads opening calls s t moment p rest upto next pending at met is =
           (subst (λ (q : Pending). IsMetBy s.states (key_in q) q.end (event_of q) t.states s.failed t.failed) (sym own) met) is.judged);
     }
 
--- ---- Proof that the judge's state stays correct when call x begins
+-- ---- Proof that the judge's state stays correct when call x starts
 
 module _ (threads : ℕ) (opening : List ℕ) (calls : List CallRecord) (s : Stream) (is : IsStreamOf threads opening calls s) (x : CallRecord)
     (may : MayCome s.pending s.moment x) (met : All (λ (p : Pending). x.begun ≤ p.end) s.pending) where
@@ -137,7 +137,7 @@ module _ (threads : ℕ) (opening : List ℕ) (calls : List CallRecord) (s : Str
   long : length more ≡ length calls + 1
   long = length-append calls (x ∷ [])
 
-  -- No earlier call that is pending ends at the moment at which the new call ends.
+  -- No pending call ends at the moment at which the new call ends.
   ends_apart : (k : ℕ) (d : Pending) → k < length s.pending → (get_or s.pending k d).end ≢ (pending_of x).end
   ends_apart k d low z = elim (none_or_some x.ended) [
     | inr e ↦ (
@@ -166,7 +166,6 @@ module _ (threads : ℕ) (opening : List ℕ) (calls : List CallRecord) (s : Str
     | inl none ↦ (let v : (pending_of x).end ≡ behind_all + x.begun = ap (until_if behind_all x.begun) none in omega (arith, v))
   ]
 
-  -- No pending call ends at the moment at which the new call ends.
   pub begins_apart : All (λ (p : Pending). p.end ≢ (pending_of x).end) s.pending
   begins_apart k d low = ends_apart k d low
 

@@ -60,7 +60,8 @@ goes_on s false (changes true) e n = absurd (n refl)
 goes_on s b (sees w) e n = e
 goes_on s b nothing e n = e
 
--- If no act that begins before the end of act t changes the key from b to the other state, act t finds the state b.
+-- Act t (the effect of a call) finds the key in the state b if the key starts in this state and no act that starts
+-- before the end of t changes it to the other state.
 stays : (left s b : Bool) (t : Act) (ys : List Act) → s ≡ b → TakeTurns left s ys → Pairs Apart ys → In t ys
     → ((a : Act) → In a ys → a.does ≡ changes (not b) → a.begun < t.until → ⊥) → suits b t.does
 stays left s b t [] e turns pairs i n = absurd i
@@ -68,7 +69,8 @@ stays left s b t (p ∷ ys) e turns pairs (inl q) n = subst (λ (a : Act). suits
 stays left s b t (p ∷ ys) e turns pairs (inr i) n = stays left (becomes s p.does) b t ys
     (goes_on s b p.does e (λ d. n p (inl refl) d (one_of (Apart p) t ys pairs.0 i).in_time)) turns.1 pairs.1 i (λ a j. n a (inr j))
 
--- If no act changes the key from b to the other state, the final state is b.
+-- The key's final state is b if the key starts in this state and no act (the effect of a call) changes it to the other
+-- state.
 stays_left : (left s b : Bool) (ys : List Act) → s ≡ b → TakeTurns left s ys → ((a : Act) → In a ys → a.does ≡ changes (not b) → ⊥) → b ≡ left
 stays_left left s b [] e turns n = sym e ∙ turns
 stays_left left s b (p ∷ ys) e turns n = stays_left left (becomes s p.does) b ys (goes_on s b p.does e (n p (inl refl))) turns.1 (λ a j. n a (inr j))
@@ -76,7 +78,8 @@ stays_left left s b (p ∷ ys) e turns n = stays_left left (becomes s p.does) b 
 abbrev pub Leaves : Bool → Kind → Type 0
 Leaves b k = (s : Bool) → suits s k → becomes s k ≡ b
 
--- If act x leaves the key in the state b, and no act that can be between x and t changes it, act t finds the state b.
+-- Act t (the effect of a call) finds the key in the state b if an earlier act x leaves it in this state and no act that
+-- can come between x and t changes it.
 after : (left s b : Bool) (x t : Act) (ys : List Act) → TakeTurns left s ys → Pairs Apart ys → Before x t ys → Leaves b x.does
     → ((a : Act) → In a ys → a.does ≡ changes (not b) → x.begun < a.until → a.begun < t.until → ⊥) → suits b t.does
 after left s b x t [] turns pairs i l n = absurd i
@@ -93,7 +96,7 @@ after_left left s b x (p ∷ ys) turns pairs (inl e) l n = stays_left left (beco
     (λ a j d. n a (inr j) d (subst (λ (q : Act). q.begun < a.until) e (one_of (Apart p) a ys pairs.0 j).in_time))
 after_left left s b x (p ∷ ys) turns pairs (inr i) l n = after_left left (becomes s p.does) b x ys turns.1 pairs.1 i l (λ a j. n a (inr j))
 
--- ---- Lemmas about the states of a key that calls leave and need
+-- ---- Lemmas about the states in which calls leave a key, and those that they need
 
 some_same : (p q : Presence) → Some p ≡ Some q → p ≡ q
 some_same p q e = cc
@@ -163,7 +166,8 @@ module _ (threads : ℕ) (calls : List CallRecord) (history : IsHistory threads 
   positive : (a : Act) → In a ys → 0 < a.until
   positive a i = let l = (is_act a i).ends_later in omega (arith, l)
 
-  -- If no call can change the key to the other state after `since` and before the second call, no act does.
+  -- If no call can change the key to the other state after `since` and before the second call, then no act (the effect
+  -- of a call on the key) does.
   none : (p : Presence) (since : ℕ) (second : Option CallRecord) → NothingTurns calls k (other p) since second
       → (a : Act) → In a ys → a.does ≡ changes (not (is_there p)) → since < a.until → is_before a.begun second ≡ true → ⊥
   none p since second n a i d s b =
@@ -215,7 +219,7 @@ module _ (threads : ℕ) (calls : List CallRecord) (history : IsHistory threads 
         ]
       ]
 
--- If two calls of a history clash, no order explains the history with its quota and leaves these final keys.
+-- If two calls in a history clash, no order explains the history with its quota and leaves these final keys.
 pub clash_refutes : (h : HistoryValue) (keys : List ℕ) (k : ℕ) (there : Presence) (left : Option Presence) (was : Presence) (first second : Option CallRecord)
     → IsHistory h.opening.threads h.calls → has_key k h.opening.keys ≡ is_there there → IfSome left (λ (l : Presence). has_key k keys ≡ is_there l)
     → IsClash h.calls k there left was first second → IsUnexplained h keys
@@ -229,7 +233,7 @@ clash_refutes h keys k there left was first second history opens leaves c order 
     (subst (λ b. TakeTurns (has_key k keys) b acts) opens r.take_turns) r.pairs r.acts
     (stands h.opening.threads h.calls history last upto k h.opening.quota (opening_set h.opening) order ex.linearizes) was first second c
 
--- If two calls of a key clash, no order explains the calls of this key, with any quota.
+-- If two calls on a key clash, no order explains the calls on this key, with any quota.
 pub clash_has_none : (threads key : ℕ) (there : Presence) (left : Option Presence) (was : Presence) (first second : Option CallRecord) (calls : List CallRecord)
     → IsHistory threads calls → IsClash calls key there left was first second → HaveNone threads key there left calls
 clash_has_none threads key there left was first second calls history c quota keys leaves =

@@ -1,4 +1,4 @@
--- The verdict after all events of the recorded calls.
+-- Proof that the verdict is correct once all events of the recorded calls have been processed.
 use Rattle.std.proofs.Common.{◌≡◌, ◌≢◌, ℕ, ◌-◌, ◌<◌, ◌≤◌, Bool, false, List, [], ◌∷◌, sym, ap, ◌∙◌, arith, inl, inr, zero, suc, true, refl, subst, length, get_or}
 use Rattle.std.specs.Prelude.{◌==◌, ◌&&◌, nat_le, None, IfSome, ◌||◌, Option, Some, is_some, MatchOption, All}
 use Rattle.std.specs.List.{AllByRecursion}
@@ -32,7 +32,7 @@ use Rattle.lset_judge.proofs.PlacedCalls.{same_flips}
 use Rattle.lset_judge.proofs.RuleLeads.{at_once, no_state, settled_none}
 use Rattle.lset_judge.proofs.StreamSteps.{same_some, until_end}
 
--- ---- Up to a moment, the rule has the same result for the calls that begin by this moment as for all calls
+-- ---- Up to a moment, the rule has the same result for the calls that start by this moment as for all calls
 
 abbrev EndsLater : CallRecord → Type 0
 EndsLater x = IfSome x.ended (λ (e : ℕ × Reply). x.begun < e.0)
@@ -40,7 +40,7 @@ EndsLater x = IfSome x.ended (λ (e : ℕ × Reply). x.begun < e.0)
 abbrev is_by : ℕ → ℕ → CallRecord → Bool
 is_by k M x = (key_of x.call).0 == k && nat_le x.begun M
 
--- Up to moment M, the calls that begin by M have all events of the key.
+-- Up to moment M, the calls that start by M cause all events of the key.
 event_by : (last k M m : ℕ) (xs : List CallRecord) → m ≤ M → AllByRecursion EndsLater xs → event_at last k (calls_by k M xs) m ≡ event_at last k xs m
 event_by last k M m xs low later = event_filter last k m (is_by k M) xs (silent xs later)
   where

@@ -68,13 +68,12 @@ empty_or_not : (xs : List ℕ) → (xs ≡ []) ⊎ ((u : ℕ) × (has_key u xs �
 empty_or_not [] = inl refl
 empty_or_not (x ∷ xs) = inr (x, has_head x xs)
 
--- ---- Lemmas about acts (effects of calls on the key) of a count's calls: the key must change back between any two of
--- them.
+-- ---- Lemmas about acts (effects of calls on the key) in a count: the key must change back between any two of them
 
 abbrev Needs : Bool → Kind → Type 0
 Needs b k = (s : Bool) → suits s k → s ≡ not b
 
--- Returns 1 if the key is not in the state b, else 0.
+-- Returns 0 if the key is in the state b, else 1.
 abbrev against : Bool → Bool → ℕ
 against b s = if same b s then 0 else 1
 
@@ -96,8 +95,8 @@ against_so true false e = absurd (true≢false (sym e))
 against_so false true e = absurd (true≢false e)
 against_so false false e = refl
 
--- An act (the effect of a call on the key) changes the key away from the state b, or does not bring the key closer to
--- the other state.
+-- An act (the effect of a call on the key) either changes the key to the state other than b, or does not move it away
+-- from b.
 turns_or_not : (b s : Bool) (k : Kind) → suits s k → (k ≡ changes (not b)) ⊎ (against b (becomes s k) ≤ against b s)
 turns_or_not true s (changes true) h = inr (let a = against_so true true refl in omega (arith, a))
 turns_or_not true s (changes false) h = inl refl
@@ -106,8 +105,8 @@ turns_or_not false s (changes false) h = inr (let a = against_so false false ref
 turns_or_not b s (sees w) h = inr (omega arith)
 turns_or_not b s nothing h = inr (omega arith)
 
--- `Earlier`: an act of the count begins before act t ends, or the opening counts as an act. `Later`: an act of the
--- count ends after act a begins, or the final state counts as an act. `us` are the ends of the count's acts.
+-- `Earlier`: an act (the effect of a counted call) starts before act t ends, or the opening state counts as an act.
+-- `Later`: an act ends after act a starts, or the final state counts as an act. `us` are the ends of the counted acts.
 abbrev Earlier : Option ℕ → List ℕ → List Act → Act → Type 0
 Earlier o us ys t = ((a : Act) × In a ys × (has_key a.until us ≡ true) × (a.until ≢ t.until) × (a.begun < t.until)) ⊎ (o ≡ None)
 
@@ -120,11 +119,11 @@ record Due (b left : Bool) (o c : Option ℕ) (us zs : List ℕ) (ys : List Act)
   closes : c ≡ None → left ≡ not b
   leave : (a : Act) → In a ys → has_key a.until us ≡ true → Later c us ys a → Leaves b a.does
   need : (t : Act) → In t ys → has_key t.until us ≡ true → Earlier o us ys t → Needs b t.does
-  -- Each change back between two counted acts is one of `zs`.
+  -- Each change back between two acts (effects of counted calls) is in `zs`.
   back : (a : Act) → In a ys → a.does ≡ changes (not b) → Earlier o us ys a → Later c us ys a → has_key a.until zs ≡ true
 
 module _ (b left : Bool) (c : Option ℕ) where
-  -- `Due` is true of the remaining acts after the first act was removed.
+  -- `Due` still holds for the remaining acts (effects of calls) after the first act was removed.
   due_on : (o p : Option ℕ) (us zs : List ℕ) (a : Act) (ys : List Act) → (p ≡ None → (has_key a.until us ≡ true) ⊎ (o ≡ None))
       → AllByRecursion (Apart a) ys → Due b left o c us zs (a ∷ ys) → Due b left p c (take_out a.until us) (take_out a.until zs) ys
   due_on o p us zs a ys from apart d = record {
@@ -153,7 +152,8 @@ module _ (b left : Bool) (c : Option ℕ) where
         | inr q ↦ inr q
       ]
 
-  -- After act a, another counted act (or the final state) follows, or a was the last.
+  -- Either another counted act (the effect of a call), or the final state if it counts, follows act a, or a was the
+  -- last.
   later_or_last : (p : Option ℕ) (us vs : List ℕ) (a : Act) (ys : List Act) → AllByRecursion (Apart a) ys → Due b left p c (take_out a.until us) vs ys
       → Later c us (a ∷ ys) a ⊎ ((take_out a.until us ≡ []) × (also c ≡ 0))
   later_or_last p us vs a ys apart d = by c refl
@@ -166,7 +166,8 @@ module _ (b left : Bool) (c : Option ℕ) where
             inl (inl (i.0, inr i.1, left_in i.0.until a.until us (subst (λ v. has_key v (take_out a.until us) ≡ true) (sym i.2) u.1), r.other, r.in_time)))
       ]
 
-  -- The number of counted acts is bounded by that of changes back, if the opening or an earlier act counts.
+  -- If the opening state or an earlier act (the effect of a call) counts, there are at most as many counted acts as
+  -- changes back.
   count_on : (s : Bool) (o : Option ℕ) (us zs : List ℕ) (ys : List Act) → o ≡ None → TakeTurns left s ys → Pairs Apart ys → Due b left o c us zs ys
       → length us + also c ≤ length zs + against b s
   count_on s o (u ∷ us) zs [] none turns pairs d = absurd (d.stand u (has_head u us)).1
@@ -200,7 +201,8 @@ module _ (b left : Bool) (c : Option ℕ) where
         ])
       ]
 
-  -- If neither the opening nor an earlier act counts, the number of counted acts can be greater by one.
+  -- If neither the opening state nor an earlier act (the effect of a call) counts, there is at most one more counted
+  -- act than changes back.
   count_from : (s : Bool) (o : Option ℕ) (us zs : List ℕ) (ys : List Act) → TakeTurns left s ys → Pairs Apart ys → Due b left o c us zs ys
       → length us + also c ≤ suc (length zs)
   count_from s o (u ∷ us) zs [] turns pairs d = absurd (d.stand u (has_head u us)).1
@@ -280,7 +282,7 @@ module _ (f : CallRecord → ℕ) where
     no_twice_mapped xs p.1,
   )
 
--- ---- Lemmas about the calls in a count: calls of a key that are too many for any order
+-- ---- Lemmas about the calls in a count: calls on a key that are too many for any order
 
 until_is : (last : ℕ) (x : CallRecord) (e : ℕ × Reply) → x.ended ≡ Some e → until last x ≡ e.0
 until_is last x e is = rw is refl
@@ -350,7 +352,7 @@ module _ (threads : ℕ) (calls : List CallRecord) (history : IsHistory threads 
       let t : x.begun ≡ y.begun = ap (λ (z : CallRecord). z.begun) s in let l = n.later in omega (arith, t, l))
       (ap (until last) (numbered x p) ∙ q ∙ sym (ap (until last) (numbered y r)))
 
-  -- The act of a counted call, with the call's begin, end and effect.
+  -- The act of a counted call, with the call's start, end and effect.
   record IsDue (a : Act) : Type 0 where
     x : CallRecord
     counts : In x counted
@@ -394,7 +396,7 @@ module _ (threads : ℕ) (calls : List CallRecord) (history : IsHistory threads 
     ]
   ]
 
-  -- A change back between two counted calls is one of those that overlap the time of the count.
+  -- A change back between two counted calls overlaps the time that the count covers.
   overlaps : (a : Act) → In a ys → a.does ≡ changes (not b) → Earlier since us ys a → Later til us ys a → has_key a.until zs ≡ true
   overlaps a i d e l =
       let t = (one_of (IsAct (λ m. event_at last k calls m) last) a ys acts i).told (not b) d in
@@ -464,7 +466,8 @@ module _ (threads : ℕ) (calls : List CallRecord) (history : IsHistory threads 
           let from = count_from b finally til (is_there there) since us zs ys turns pairs due in
           let f = c.fewer in let zero_more : also since ≡ 0 = ap also e in let m = long in let s = short in omega (arith, from, f, zero_more, m, s)
 
--- If calls of a history are a count, no order explains the history with its quota and leaves these final keys.
+-- If some calls in a history are a count (they are too many for any order), no order explains the history with its
+-- quota and leaves these final keys.
 pub count_refutes : (h : HistoryValue) (keys : List ℕ) (k : ℕ) (there : Presence) (left : Option Presence) (was : Presence) (since til : Option ℕ)
     (counted : List CallRecord) → IsHistory h.opening.threads h.calls → has_key k h.opening.keys ≡ is_there there
     → IfSome left (λ (l : Presence). has_key k keys ≡ is_there l) → IsCountOf h.calls k there left was since til counted → IsUnexplained h keys
@@ -506,7 +509,7 @@ filter_as_records p (x ∷ xs) = let r = filter_as_records p xs in elim (cases_B
   | inr f ↦ rw f r
 ]
 
--- If all tests of the code succeed, the calls are a count.
+-- If all tests in `is_count` succeed, the calls are a count: they are too many for any order.
 pub is_count_if : (calls : List StreamCall) (there : Presence) (left : Option Presence) (c : Count) (counted : List StreamCall) → counted ≡ c.calls.items
     → c.backs.items ≡ filter (λ (x : StreamCall). turns_in c.key.0 (other c.was) c.since c.until (record_of x)) calls
     → All (λ (x : StreamCall). IsOf (records calls) c.key.0 (record_of x)) counted
@@ -533,7 +536,8 @@ is_count_if calls there left c counted listed backs known begin until opens clos
       backs = same;
     }
 
--- If calls of a key are a count, no order explains the key's calls, with any quota.
+-- If some calls on a key are a count (they are too many for any order), no order explains the calls on the key, with
+-- any quota.
 pub count_has_none : (threads key : ℕ) (there : Presence) (left : Option Presence) (was : Presence) (since til : Option ℕ) (counted calls : List CallRecord)
     → IsHistory threads calls → IsCountOf calls key there left was since til counted → HaveNone threads key there left calls
 count_has_none threads key there left was since til counted calls history c quota keys leaves =

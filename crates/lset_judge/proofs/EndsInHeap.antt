@@ -1,4 +1,5 @@
--- The ends of pending changes. The code keeps them in a heap. Contracts have them in increasing order.
+-- The ends of pending changes. The code stores them in a heap, and contracts describe them as a list in increasing
+-- order.
 use Rattle.std.proofs.Common.{◌≡◌, ℕ, suc, ◌+◌, ◌-◌, ◌<◌, ◌≤◌, List, [], ◌∷◌, Bool, true, false, inl, inr, refl, sym, ap, ◌∙◌, arith, subst, length}
 use Rattle.std.specs.Prelude.{◌==◌, nat_lt, slice_index_or, slice_get, if◌then◌else◌, Option, Some, None, All, MatchOption}
 use Rattle.std.specs.BinaryHeap.{IsUpperBound}
@@ -18,7 +19,7 @@ use Rattle.lset_judge.proofs.RuleLeads.{counts, counts_one, counts_not, at_most_
 
 -- ---- Lemmas about lists of moments in increasing order
 
--- States that no moment of the list is before d.
+-- States that no moment in the list is before d.
 abbrev NoneBefore : ℕ → List ℕ → Type 0
 NoneBefore d xs = not_before d xs ≡ length xs
 
@@ -55,7 +56,7 @@ increasing_with e (x ∷ xs) up = elim (cases_Bool (nat_lt e x)) [
       rw f (let here : NoneBefore x (put_in e xs) = omega (arith, o, n, s, all) in (here, increasing_with e xs up.1)))
 ]
 
--- Two increasing lists are equal if, for each d, they have the same number of moments from d on.
+-- Two increasing lists are equal if, for each d, they have the same number of moments that are d or later.
 same_increasing : (xs ys : List ℕ) → IsIncreasing xs → IsIncreasing ys → ((d : ℕ) → not_before d xs ≡ not_before d ys) → xs ≡ ys
 same_increasing [] [] up high h = refl
 same_increasing [] (y ∷ ys) up high h = let a = h 0 in let b = all_from_zero (y ∷ ys) in absurd (omega (arith, a, b))
@@ -110,7 +111,7 @@ popped x old new p top =
       first_nearest x.0 (increasing_of new) none,
     )
 
--- The top of the heap decides whether all ends are later than the moment after m.
+-- All ends are later than m + 1 if and only if the top of the heap is.
 pub due_told : (m e : ℕ) (x : Reverse ℕ) (xs : List (Reverse ℕ)) → 0 < length xs → x ≡ slice_index_or xs 0 x → IsUpperBound later_first x xs → e ≡ x.0 - 1
     → nat_lt m e ≡ (not_before (suc (suc m)) (increasing_of xs) == length (increasing_of xs))
 due_told m e x [] low is top less = absurd (omega (arith, low))
@@ -160,7 +161,7 @@ first_popped end moment old new (Some e) first all early is =
     let h : Some e ≡ Some end = subst (λ (xs : List ℕ). slice_get xs 0 ≡ Some end) is.0 first in let same : end ≡ e = cc in
     (is.0, subst (λ (n : ℕ). n < moment) same early, subst (λ (n : ℕ). All (λ (o : ℕ). n ≤ o) old) same all)
 
--- ---- Lemmas about the loop of the code, in which one pending change takes effect after another
+-- ---- Lemmas about the loop in which one pending change takes effect after another
 
 pub put_turned : (m t end : ℕ) (b : Bool) (ps ks rest : List ℕ) → b ≡ false → ps ≡ end ∷ rest → nearest end rest ≡ end
     → turned_if m (at b t ps ks) (options (at b t ps ks)) ≡ Some (at true m rest ks)
@@ -193,7 +194,8 @@ one_fewer m true t ps (x ∷ xs) g e =
     omega (arith, l, n)
 one_fewer m b t ps ks g e = no_state g e _
 
--- If the state is not right for the event, the rule lets one change take effect and continues from the new state.
+-- If the event is not possible in the current state, the rule lets one change take effect and continues from the new
+-- state.
 pub settles_on : (m : ℕ) (v : Event) (s g : State) → fits (suc m) v s ≡ false → turned_if m s (options s) ≡ Some g
     → settled (open_changes s) m v (Some s) ≡ settled (open_changes g) m v (Some g)
 settles_on m v s g f e =

@@ -1,4 +1,4 @@
--- The events of a key, and the calls whose begins and ends they are.
+-- The events of a key, and the calls that start or end at them.
 use Rattle.std.proofs.Common.{◌≡◌, ◌≢◌, ◌⊎◌, ℕ, zero, suc, ◌<◌, ◌≤◌, List, [], ◌∷◌, Bool, true, false, inl, inr, refl, sym, ap, ◌∙◌, arith}
 use Rattle.std.proofs.Common.{subst, length, get_or}
 use Rattle.std.specs.Prelude.{◌==◌, if◌then◌else◌, Option, Some, None, AllPairs, IfSome, filter}
@@ -35,7 +35,7 @@ end_below [] n d e l s = absurd (omega arith)
 end_below (x ∷ xs) zero d e l s = let a : moment_of x.ended ≡ e.0 = ap moment_of s in omega (arith, a)
 end_below (x ∷ xs) (suc n) d e l s = let rest = end_below xs n d e (omega arith) s in omega (arith, rest)
 
--- ---- The call whose begin or end is the event of a key
+-- ---- The call that starts or ends at an event of a key
 
 pub record Begins (last k m : ℕ) (xs : List CallRecord) (v : Event) : Type 0 where
   pub number : ℕ
@@ -96,7 +96,7 @@ pub for_some : (P : ℕ × Reply → Type 0) (o : Option (ℕ × Reply)) → ((e
 for_some P None h = tt
 for_some P (Some e) h = h e refl
 
--- ---- Lemmas about the event of a call's begin
+-- ---- Lemmas about the event when a call starts
 
 pub ends_not : (m : ℕ) (o : Option (ℕ × Reply)) → IfSome o (λ (e : ℕ × Reply). e.0 ≢ m) → ends_at m o ≡ false
 ends_not m None h = refl
@@ -106,7 +106,7 @@ pub opens_so : (there : Bool) (k : ℕ) → has_key k (if there then k ∷ [] el
 opens_so true k = rw (equal_test k k refl) refl
 opens_so false k = refl
 
--- States that a call neither begins nor ends at moment m, or is not of key k.
+-- States that a call neither starts nor ends at moment m, or is not on key k.
 abbrev pub IsSilent : ℕ → ℕ → CallRecord → Type 0
 IsSilent k m x = ((key_of x.call).0 == k) ≡ true → ((x.begun == m) ≡ false) × (ends_at m x.ended ≡ false)
 
@@ -124,7 +124,7 @@ pub event_none : (last k m : ℕ) (xs : List CallRecord) → AllByRecursion (IsS
 event_none last k m [] a = refl
 event_none last k m (x ∷ xs) a = passed_over last k m x xs a.0 ∙ event_none last k m xs a.1
 
--- The calls that satisfy a test have the same event at moment m as all calls, if the other calls cause no event then.
+-- The calls that satisfy a test cause the same event at moment m as all calls, if the other calls cause no event then.
 pub event_filter : (last k m : ℕ) (test : CallRecord → Bool) (xs : List CallRecord)
     → AllByRecursion (λ (x : CallRecord). test x ≡ false → IsSilent k m x) xs → event_at last k (filter test xs) m ≡ event_at last k xs m
 event_filter last k m test [] a = refl
@@ -159,7 +159,7 @@ begins_at last k (suc n) (x ∷ xs) l pairs own =
     passed_over last k y.begun x xs (λ t. (unequal_test x.begun y.begun (omega (arith, low)), ends_not y.begun x.ended f.begins_alone))
     ∙ begins_at last k n xs (omega arith) (pairs_tail Follows x xs pairs) own
 
--- ---- Lemmas about the event of a call's end
+-- ---- Lemmas about the event when a call ends
 
 no_end : (m : ℕ) (o : Option (ℕ × Reply)) → IfSome o (λ (e : ℕ × Reply). m ≢ e.0) → ends_at m o ≡ false
 no_end m None h = refl

@@ -1,5 +1,5 @@
--- Proof of locality: the judge's rule has the same result for a key in its part and in the whole history. Therefore
--- some order explains the history if and only if some order explains each part.
+-- Proof of locality: the judge's rule has the same result for a key in its part as in the whole history. Therefore some
+-- order explains the history if and only if some order explains each part.
 use Rattle.std.proofs.Common.{◌≡◌, ℕ, true, false, List, sym, ap, ◌∙◌, ◌<◌, ◌≤◌, Bool, refl, arith, inl, inr}
 use Rattle.std.specs.Prelude.{◌==◌, ◌&&◌, cond, not, IfSome}
 use Rattle.std.specs.List.Sorted.{IsStrictlyIncreasing}
@@ -25,7 +25,7 @@ use Rattle.lset_judge.proofs.StatesAfter.{left_alike, idle_key}
 use Rattle.lset_judge.proofs.RuleDecides.{explained}
 use Rattle.lset_judge.proofs.TimelineFromOrder.{rule_refutes}
 
--- ---- A key has the same events in the calls of its part as in all calls
+-- ---- The calls in a key's part cause the same events of the key as all calls
 
 keys_by : (part : ℕ → ℕ) (i k : ℕ) (b : Bool) → ((j : ℕ) → (j == k) ≡ true → (part j == i) ≡ b) → (xs : List ℕ)
     → has_key k (keys_in part i xs) ≡ (b && has_key k xs)

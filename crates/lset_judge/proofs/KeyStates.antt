@@ -36,7 +36,7 @@ each_more P xs i low before here k has = elim (cases_Bool (has_key k (take i xs)
   ]
 ]
 
--- The states after one more opening key was stored.
+-- After the loop has stored one more opening key, the states are correct for the opening keys up to this one.
 pub seen_more : {A : Type 0} (see : Option KeyState → A) (opens : Bool → A) (m n : States) (keys : List ℕ) (i : ℕ) (w : KeyState) → i < length keys
     → see (Some w) ≡ opens true → UpdatesBy nat_eq (nat_eq (get_or keys i 0)) m n (Some w) → ((k : ℕ) → see (get nat_eq m k) ≡ opens (has_key k (take i keys)))
     → (k : ℕ) → see (get nat_eq n k) ≡ opens (has_key k (take (i + 1) keys))

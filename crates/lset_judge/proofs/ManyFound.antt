@@ -1,4 +1,4 @@
--- Finding a pending call by its end or by its thread, among many calls that are stored by their ends.
+-- Finding a pending call by its end or by its thread in a hash table that is indexed by ends.
 use Rattle.std.proofs.Common.{◌≡◌, ◌≢◌, ℕ, ◌<◌, ◌≤◌, Bool, true, false, List, [], ◌∷◌, refl, sym, ap, ◌∙◌, arith, subst, inl, inr, length, get_or, map, cond}
 use Rattle.std.specs.Prelude.{◌==◌, nat_lt, if◌then◌else◌, All, Contains, Option, Some, None, IfSome, MatchOption, is_some, not}
 use Rattle.std.specs.Bool.{nat_eq}
@@ -31,7 +31,7 @@ first_of_all x xs = (0, omega arith, refl)
 map_back : {X Y : Type 0} (P : X → Type 0) (f : Y → X) (ys : List Y) → All P (map f ys) → All (λ y. P (f y)) ys
 map_back P f ys all i d low = subst P (get_or-map f ys i d (f d) low) (all i (f d) (let l = length-map ys f in omega (arith, l, low)))
 
--- ---- Lemmas about finding whether a call ends at a moment
+-- ---- Lemmas about deciding whether a call ends at a moment
 
 abbrev pub found : ℕ → Entries → Bool
 found b es = is_some (lookup (nat_eq b) es)
@@ -66,7 +66,7 @@ pub look_told : (b : ℕ) (es : Entries) (r : Bool) → r ≡ found b es
 look_told b es true is = (λ t. absurd (true≢false (sym t)), λ all. absurd (some_ends b es (sym is) all))
 look_told b es false is = (λ t. All-map (λ (p : Pending). p.end ≢ b) pending_at es (none_at b es (sym is)), λ all. refl)
 
--- ---- Lemmas about calls that do not end when another call begins or ends
+-- ---- Lemmas about calls that do not end when another call starts or ends
 
 abbrev Apart : ℕ → Option (ℕ × Reply) → Pending → Type 0
 Apart begun ended p = (p.end ≢ begun) × IfSome ended (λ (e : ℕ × Reply). p.end ≢ e.0)
@@ -108,7 +108,7 @@ module _ (last : ℕ → ℕ) (thread begun : ℕ) (es : Entries) (known : All (
   free_other other only ne = free_by (λ i d inside own is.
       absurd (ne (ap (λ (x : StreamCall). x.thread) (sym (only i d inside (sym is))) ∙ own)))
 
--- If a call that ends later is found at the thread's last end, the thread has a pending call.
+-- If the table has a call at the thread's last end, and this end is later than `begun`, the thread has a pending call.
 not_free : (thread begun end : ℕ) (other : StreamCall) (es : Entries) → Contains es (end, other) → other.thread ≡ thread → begun < end
     → All (Free thread begun) (map pending_at es) → ⊥
 not_free thread begun end other es has own later free =
@@ -118,7 +118,7 @@ not_free thread begun end other es has own later free =
 module _ {S : Type 0} (last : ℕ → ℕ) (thread begun : ℕ) (m : HashMap ℕ StreamCall S)
     (known : All (λ (e : ℕ × StreamCall). last e.1.thread ≡ e.0) m.entries) (unique : IsUnique nat_eq m)
     (end : ℕ) (other : StreamCall) (at : last thread ≡ end) (is : get nat_eq m end ≡ Some other) (later : begun < end) where
-  -- At most one call has this end.
+  -- `other` is the only call in the table that ends at `end`.
   only_at : (i : ℕ) (d : ℕ × StreamCall) → i < length m.entries → (get_or m.entries i d).0 ≡ end → (get_or m.entries i d).1 ≡ other
   only_at i d low e =
       let here = hash_map_get_place nat_eq_equiv m i (get_or m.entries i d).0 (get_or m.entries i d).1 unique (slice_get-get_or m.entries i d low) in
@@ -139,7 +139,7 @@ module _ {S : Type 0} (last : ℕ → ℕ) (thread begun : ℕ) (m : HashMap ℕ
 
 -- ---- Lemmas about removing a call that ends
 
--- An end without a call can be removed from the heap.
+-- If no call in the table has the earliest end, this end can be removed from the heap.
 pub held_without : (end : ℕ) (ends rest : List ℕ) (es : Entries) → ends ≡ end ∷ rest → found end es ≡ false
     → All (λ (e : ℕ × StreamCall). Contains ends e.0) es → All (λ (e : ℕ × StreamCall). Contains rest e.0) es
 held_without end ends rest es is none held i d low =
@@ -243,7 +243,7 @@ pub many_with : (old now : Entries) (p : Pending) (before : Option StreamCall) �
 many_with old now p None e is apart = IsPermutation-map pending_at ((p.end, p.call) ∷ old) now is
 many_with old now p (Some c) e is apart = absurd (some_ends p.end old (sym (ap is_some e)) apart)
 
--- The last end of each thread is right after call p was inserted.
+-- The stored last end of each thread is still correct after call p was inserted.
 module _ (es : Entries) (last more : ℕ → ℕ) (p : Pending)
     (free : All (λ (q : Pending). q.call.thread ≢ p.call.thread) (map pending_at es))
     (known : All (λ (e : ℕ × StreamCall). last e.1.thread ≡ e.0) es)

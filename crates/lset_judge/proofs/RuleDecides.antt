@@ -31,9 +31,9 @@ use Rattle.lset_judge.specs.Rule.{may_leave}
 use Rattle.lset_judge.proofs.TimelineFromOrder.{rule_refutes}
 use Rattle.lset_judge.proofs.OrderFromRule.{order_found, linearizes}
 
--- ---- If a thread's quota covers all its `add`s, the quota is not used up before the last of them is in the order
+-- ---- If a thread's quota covers all its `add`s, it is not used up before the last of them is in the order
 
--- Returns how many keys a call adds for its thread: 1 or 0. `own` says whether it is a call of this thread.
+-- Returns how many keys a call adds for a thread: 1 or 0. `own` says whether the call is made by this thread.
 
 abbrev adds : Bool → Call → Reply → ℕ
 adds own (Add j) True = if own then 1 else 0
@@ -183,7 +183,8 @@ within xs ys h k c = has_from k ys (sym (h k) ∙ has_true k xs c)
 same_keys : (xs ys : List ℕ) → IncreasesFrom 0 xs → IncreasesFrom 0 ys → ((k : ℕ) → has_key k xs ≡ has_key k ys) → xs ≡ ys
 same_keys xs ys r s h = same_increasing 0 0 xs ys r s (within xs ys h) (within ys xs (λ k. sym (h k)))
 
--- If the rule succeeds for each key, some order explains a history that the judge decides, and leaves these keys.
+-- If the rule succeeds for each key, some order explains the history and leaves these keys. The judge must decide the
+-- history.
 pub explained_so : (last : ℕ) (h : HistoryValue) (left : ℕ → Bool) → latest_moment h.calls ≤ last → IsHistory h.opening.threads h.calls
     → IsStrictlyIncreasing h.opening.keys → IsJudged h
     → ((k : ℕ) → may_leave (event_at last k h.calls) (has_key k h.opening.keys) (left k) last ≡ true)

@@ -44,12 +44,12 @@ idle_key ev was left last quiet =
     as_was false true = refl
     as_was false false = refl
 
--- Two keys with the same events have the same states.
+-- The judge's rule has the same result for two keys with the same events.
 pub left_alike : (ev other : ℕ → Event) (b left : Bool) (last : ℕ) → ((j : ℕ) → j ≤ last → ev j ≡ other j)
     → may_leave ev b left last ≡ may_leave other b left last
 left_alike ev other b left last same = ap (λ (o : Option State). is_some (stepped last (leaves left) o)) (same_after ev other b last same)
 
--- ---- Lemmas about the calls of a key and a moment after which no call begins or ends
+-- ---- Lemmas about the calls on a key, and a moment after which no call starts or ends
 
 module _ (calls : List CallRecord) (T : ℕ) (behind : latest_moment calls ≤ T) (k : ℕ) (opens : Bool) where
   abbrev event : ℕ → Event

@@ -1,5 +1,5 @@
--- The events of the recorded calls between two begins: those up to the next end of a pending call, at this end, and at
--- the begin of the next call.
+-- The events of the recorded calls between the starts of two calls: those before the next end of a pending call, at
+-- this end, and at the next start.
 use Rattle.std.proofs.Common.{◌≡◌, ◌≢◌, ℕ, suc, ◌+◌, ◌-◌, ◌<◌, ◌≤◌, List, [], ◌∷◌, ◌++◌, refl, sym, ap, ◌∙◌, arith, subst}
 use Rattle.std.proofs.Common.{◌⊎◌, Bool, zero, inl, inr, length, get_or}
 use Rattle.std.specs.Prelude.{◌==◌, if◌then◌else◌, Option, Some, None, IfSome, All, AllPairs, Contains}
@@ -46,7 +46,7 @@ event_before last k j [] x low later = passed_over last k j x [] (λ t. (
 ))
 event_before last k j (y ∷ ys) x low later = one_before last k j y (ys ++ x ∷ []) ys (event_before last k j ys x low later)
 
--- The begin of a call is the only event at its moment, and belongs to the key of the call.
+-- No other event happens at the moment at which a call starts, and the start is an event of the call's key.
 pub event_begun : (last k : ℕ) (xs : List CallRecord) (x : CallRecord)
     → AllByRecursion (λ (y : CallRecord). (y.begun ≢ x.begun) × IfSome y.ended (λ (e : ℕ × Reply). e.0 ≢ x.begun)) xs
     → event_at last k (xs ++ x ∷ []) x.begun
@@ -72,8 +72,8 @@ module _ (opening : List ℕ) (calls : List CallRecord) where
         ap (λ (u : Event). stepped n u (state_after (event k) (has_key k opening) n)) is
         ∙ ap (stepped n w) (quiet_until (event k) (has_key k opening) (n - m) m n (omega (arith, up)) (λ j l h. quiet j l h k) ∙ so)
 
-    -- If the rule has not failed by moment m and has failed by moment i, and nothing happens from m to n, then i is
-    -- after n.
+    -- If the rule has not failed by moment m, has failed by moment i, and nothing happens from m to n, then i is after
+    -- n.
     not_yet : (k i : ℕ) (s : State) → state_after (event k) (has_key k opening) m ≡ Some s → state_after (event k) (has_key k opening) i ≡ None
         → suc n ≤ i
     not_yet k i s so fails = elim (below_or_not i (suc n)) [
@@ -139,7 +139,7 @@ first_or_later x xs y (suc k, low, is) = inr (k, omega (arith, low), is)
 pub later_too : {X : Type 0} (x : X) (xs : List X) (y : X) → Contains xs y → Contains (x ∷ xs) y
 later_too x xs y (k, low, is) = (suc k, omega (arith, low), is)
 
--- ---- Lemmas about the pending calls after moment m
+-- ---- Lemmas about the calls that are pending after moment m
 
 module _ (threads : ℕ) (calls : List CallRecord) (history : IsHistory threads calls) (before : All IsBefore calls) (m : ℕ)
     (begun : All (λ (x : CallRecord). x.begun ≤ m) calls) (pending : List Pending) (are : ArePending calls m pending) where
@@ -167,7 +167,7 @@ module _ (threads : ℕ) (calls : List CallRecord) (history : IsHistory threads 
           let u : d.end ≡ e.end.0 = until_end behind_all (call e.number).begun (call e.number).ended e.end e.ended in
           omega (arith, f, g, u, a))
 
-  -- A pending call whose end is below `behind_all` has this end in the history, too.
+  -- A pending call whose end is below `behind_all` has the same end in the history.
   ended_at : (n : ℕ) → n < length calls → (pending_of (call n)).end < behind_all → (e : ℕ × Reply) × ((call n).ended ≡ Some e) × (e.0 ≡ (pending_of (call n)).end)
   ended_at n low early = elim (none_or_some (call n).ended) [
     | inl e ↦ absurd (let u : (pending_of (call n)).end ≡ behind_all + (call n).begun = ap (until_if behind_all (call n).begun) e in omega (arith, u, early))
@@ -257,7 +257,7 @@ module _ (threads : ℕ) (calls : List CallRecord) (history : IsHistory threads 
             omega (arith, up, differs);
       }
 
--- If a call may come next, it still may after some pending calls have ended.
+-- If a call can come next, it still can after some pending calls have ended.
 pub may_still : (old new : List Pending) (m n : ℕ) (x : CallRecord) → MayCome old m x → All (Contains old) new → n < x.begun → MayCome new n x
 may_still old new m n x may some begins = record {
   begins = begins;

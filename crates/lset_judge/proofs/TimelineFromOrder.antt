@@ -223,7 +223,7 @@ module _ (threads : ℕ) (calls : List CallRecord) (history : IsHistory threads 
       not_left = λ i w e. never_left (ev i) i w e (told last k i calls);
     }
 
-    -- ---- The acts (effects of calls on the key) that an order determines
+    -- ---- The acts (effects of calls on the key), in an order of the calls
     all_map : (Q : Act → Type 0) (ps : List Placed) → All (λ p. Q (act_of p)) ps → AllByRecursion Q (map act_of ps)
     all_map Q ps h = recursion_from_All Q (map act_of ps) (All-map Q act_of ps h)
 
@@ -261,7 +261,7 @@ module _ (threads : ℕ) (calls : List CallRecord) (history : IsHistory threads 
         (one.0, subst (λ b. TakeTurns left b (map act_of ps)) one.1 (turns_map quota left ps next l.1 e))
 
     module _ (quota : ℕ) (start : SetState) (order : List Placed) (l : Linearizes quota start calls order) where
-      -- The reply of a completed call in the order is the one in the history.
+      -- In the order, a completed call has the same reply as in the history.
       same_reply : (i : ℕ) (d : Placed) (e : ℕ × Reply) → i < length order → (x_ (get_or order i d).call).ended ≡ Some e
           → (get_or order i d).reply ≡ e.1
       same_reply i d e low s =
@@ -305,7 +305,7 @@ module _ (threads : ℕ) (calls : List CallRecord) (history : IsHistory threads 
                 is ∙ ap (λ q. begin_event q (until last (x_ p.call))) kd;
           })
 
-      -- The acts of the order include that of each completed call of the key.
+      -- The order contains the act (the effect) of each completed call on the key.
       pub stands : (n : ℕ) (e : ℕ × Reply) → n < length calls → (x_ n).ended ≡ Some e → (key_of (x_ n).call).0 ≡ k
           → In (act (x_ n).begun e.0 (kind (x_ n))) (map act_of order)
       stands n e known s own =

@@ -1,5 +1,5 @@
--- Proof: if the acts on one key have an order, its events have a correct timeline, which says when each change takes
--- effect. An act is the effect of a call on the key.
+-- Proof: if the acts on one key (the effects of its calls) have an order, the key has a correct timeline, which says
+-- when each change takes effect.
 use Rattle.std.proofs.Common.{◌≡◌, ◌≢◌, ℕ, zero, suc, ◌<◌, ◌≤◌, ◌⊎◌, List, [], ◌∷◌, Bool, true, false, inl, inr, refl, sym, ap, ◌∙◌, arith}
 use Rattle.std.proofs.Common.{subst, length}
 use Rattle.std.specs.Prelude.{◌==◌, ◌||◌, not, nat_lt, Some, is_some}
@@ -132,7 +132,7 @@ abbrev pub TakeTurns : Bool → Bool → List Act → Type 0
 TakeTurns left b [] = b ≡ left
 TakeTurns left b (a ∷ ys) = suits b a.does × TakeTurns left (becomes b a.does) ys
 
--- Act p comes before act r in the order: r does not end before p begins.
+-- Act p (the effect of a call) can come before act r: r does not end before p starts.
 pub record Apart (p r : Act) : Type 0 where
   pub in_time : p.begun < r.until
   pub other : p.until ≢ r.until
@@ -143,7 +143,7 @@ pub record IsAct (ev : ℕ → Event) (last : ℕ) (a : Act) : Type 0 where
   pub ends_later : a.begun < a.until
   pub told : (w : Bool) → a.does ≡ changes w → ev a.begun ≡ begins w a.until
 
--- The events of a key: each change begins at one moment only, and no event at a moment is `leaves`.
+-- Each change starts at one moment only, and no event of the key is `leaves`.
 pub record AreEvents (ev : ℕ → Event) : Type 0 where
   pub once : (i j : ℕ) (v w : Bool) (u : ℕ) → ev i ≡ begins v u → ev j ≡ begins w u → i ≡ j
   pub not_left : (i : ℕ) (w : Bool) → ev i ≡ leaves w → ⊥
@@ -166,7 +166,8 @@ same_self true b e = e
 same_self false b e = rw e refl
 
 module _ (ev : ℕ → Event) (last : ℕ) (left : Bool) (are : AreEvents ev) where
-  -- The invariant of one of the two lists of pending changes.
+  -- How one of the two lists of pending changes relates to the events so far and to the acts that have not taken
+  -- effect.
   pub record Lists (w : Bool) (m : ℕ) (xs : List ℕ) (ys : List Act) : Type 0 where
     pub from_event : (u : ℕ) → has_key u xs ≡ true → (i : ℕ) × (i ≤ m) × (ev i ≡ begins w u)
     pub needed : (u : ℕ) → has_key u xs ≡ true → u ≤ last → (i : ℕ) × In (act i u (changes w)) ys
@@ -182,7 +183,7 @@ module _ (ev : ℕ → Event) (last : ℕ) (left : Bool) (are : AreEvents ev) wh
     pub looks_to_come : (j : ℕ) (w : Bool) (i : ℕ) → ev j ≡ looks w i → m < j → j ≤ last
         → In (act i j (sees w)) ys ⊎ ((i ≤ m) × ((s.there ≡ w) ⊎ (i ≤ s.turned)))
 
-  -- ---- Lemmas about the next act of the order, which takes effect
+  -- ---- Lemmas about the next act in the order, which takes effect
   not_first : (p a : Act) (ys : List Act) → In a (p ∷ ys) → (p ≡ a → ⊥) → In a ys
   not_first p a ys (inl e) n = absurd (n e)
   not_first p a ys (inr i) n = i
@@ -276,7 +277,7 @@ module _ (ev : ℕ → Event) (last : ℕ) (left : Bool) (are : AreEvents ev) wh
       lists false true to r = lists_taken true m ps p ys r.pairs.0 (r.lists true)
       lists false false to r = lists_kept false m ks p ys (λ e. true≢false (changes_apart true false (sym to ∙ e))) (r.lists false)
 
-  -- ---- Lemmas about an event at which no act is due: the next act begins later
+  -- ---- Lemmas about an event before which no further act takes effect: the next act starts later
   abbrev Waits : ℕ → List Act → Type 0
   Waits m [] = Unit {0}
   Waits m (p ∷ ys) = m < p.begun
@@ -359,7 +360,7 @@ module _ (ev : ℕ → Event) (last : ℕ) (left : Bool) (are : AreEvents ev) wh
       lists true = lists_past true m v s s.puts ys e r (r.lists true)
       lists false = lists_past false m v s s.takes ys e r (r.lists false)
 
-  -- The state of the key is right for the event of a change's end.
+  -- When a change ends, the event is possible in the key's state.
   none_due : (w : Bool) (m : ℕ) (xs : List ℕ) (ys : List Act) → suc m ≤ last → Waits m ys → AllByRecursion (IsAct ev last) ys → Pairs Apart ys
       → Lists w m xs ys → not_before (suc (suc m)) xs ≡ length xs
   none_due w m xs ys low waits acts pairs l = all_late (suc (suc m)) xs (λ u h. elim (below_or_not u (suc (suc m))) [
@@ -408,7 +409,8 @@ module _ (ev : ℕ → Event) (last : ℕ) (left : Bool) (are : AreEvents ev) wh
   ]
 
   module _ (b : Bool) (first : List Act) (ready : Ready 0 (opened b) first) where
-    -- The judge's rule succeeds up to each moment, and has at least as many pending changes left as the timeline.
+    -- Up to each moment, the judge's rule succeeds, and has at least as many pending changes left as the timeline
+    -- (which says when each change takes effect).
     goes_on : (m : ℕ) → m ≤ last → (g s : State) × (ys : List Act) × (state_after ev b m ≡ Some g) × Leads m g s × Ready m s ys
     goes_on zero low = (opened b, opened b, first, refl, leads_at_first b, ready)
     goes_on (suc m) low =
@@ -427,7 +429,8 @@ module _ (ev : ℕ → Event) (last : ℕ) (left : Bool) (are : AreEvents ev) wh
     none_left s [] r w = r.take_turns
     none_left s (p ∷ ys) r w = absurd (let low = r.acts.0.inside in omega (arith, low, w))
 
-    -- If a key has a correct timeline, the judge's rule succeeds for this key.
+    -- If a key has a correct timeline (which says when each change takes effect), the judge's rule succeeds for this
+    -- key.
     pub succeeds : may_leave ev b left last ≡ true
     succeeds =
         let was = goes_on last (omega arith) in let now = place_now last was.0 was.2 was.1 was.4 was.5 in

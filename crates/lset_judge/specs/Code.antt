@@ -1,4 +1,4 @@
--- The judge's state of a key and its events, as the definitions in Rule.antt have them.
+-- Converts the state of a key and its events from the judge's code to the definitions in Rule.antt.
 use Rattle.std.specs.Prelude.{◌≡◌, ℕ, Bool, true, false, List, [], ◌∷◌}
 use Rattle.lset_words.specs.Effects.{is_there}
 use Rattle.lset_judge.specs.declared.key_changes.Held.{Held}
@@ -9,8 +9,8 @@ use Rattle.lset_judge.specs.declared.event.Event.{Event as MomentEvent}
 use Rattle.lset_judge.specs.declared.event.Event.TheVariants.{Begins, Ends, Looks, Idle}
 use Rattle.lset_judge.specs.Rule.{State, Event, begins, ends, looks, idle}
 
--- Returns the ends of the key's pending `add`s that have not taken effect; `takes_held` those of `remove`s. `until` is
--- the end of a change that is stored without a heap.
+-- `puts_held` returns the ends of the key's pending `add`s that have not taken effect, and `takes_held` the ends of
+-- such `remove`s. If the key has no heaps, its only pending change ends at `until`.
 abbrev pub puts_held : ℕ → Held → List ℕ
 puts_held until Nothing = []
 puts_held until Put = until ∷ []

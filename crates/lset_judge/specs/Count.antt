@@ -1,4 +1,4 @@
--- Counts: calls of a key that are too many for any order, because the key would have to change back more often than it
+-- Counts: calls on a key that are too many for any order, because the key would have to change back more often than it
 -- can.
 use Rattle.std.specs.Prelude.{◌≡◌, ℕ, ◌+◌, ◌-◌, ◌<◌, ◌≤◌, ◌==◌, ◌⊎◌, ◌&&◌, not, nat_lt, Bool, true, List, length, filter, Option, Some, None, All, AllPairs, IfSome}
 use Rattle.lset_words.specs.declared.Reply.{Reply}
@@ -15,9 +15,9 @@ use Rattle.lset_judge.specs.Events.{kind_if}
 use Rattle.lset_judge.specs.Rest.{has_ended, turns_to}
 use Rattle.lset_judge.specs.Clash.{records, other, leaves_if, needs_if, IsOf}
 
--- A count has a start `since` and an end `until`. If `since` is None, the opening counts as a first call: the key then
--- has the state `was`. If `until` is None, the final keys count as a last call: the key then has the other state.
--- `also` returns how many calls that adds.
+-- A count covers the time from `since` to `until`. If `since` is None, the opening state counts as a first call, and is
+-- `was`. If `until` is None, the final state counts as a last call, and is not `was`. `also` returns how many calls
+-- that adds.
 abbrev pub also : Option ℕ → ℕ
 also None = 1
 also (Some moment) = 0
@@ -30,14 +30,14 @@ abbrev pub LeftOtherwise : Option Presence → Presence → Option ℕ → Type 
 LeftOtherwise left was None = left ≡ Some (other was)
 LeftOtherwise left was (Some until) = Unit {0}
 
--- States that a call begins at the count's start or later. If the opening counts as a call, states that the call needs
--- the other state.
+-- States that a call starts at `since` or later. If `since` is None, states instead that the call needs the state other
+-- than `was`.
 abbrev pub BeginsIn : Presence → Option ℕ → CallRecord → Type 0
 BeginsIn was None x = needs_if x.call x.ended ≡ Some (other was)
 BeginsIn was (Some since) x = since ≤ x.begun
 
--- States that a call has ended by the count's end. If the final keys count as a call, states that the call leaves the
--- key in the state `was`.
+-- States that a call has ended by `until`. If `until` is None, states instead that the call leaves the key in the state
+-- `was`.
 abbrev pub EndsIn : Presence → Option ℕ → CallRecord → Type 0
 EndsIn was None x = leaves_if x.call x.ended ≡ Some was
 EndsIn was (Some until) x = has_ended until x.ended ≡ true
@@ -50,9 +50,8 @@ pub record NeedTurn (was : Presence) (x y : CallRecord) : Type 0 where
   pub needs : needs_if y.call y.ended ≡ Some (other was)
   pub either : Precedes x y ⊎ ((leaves_if y.call y.ended ≡ Some was) × (needs_if x.call x.ended ≡ Some (other was)))
 
--- Returns whether a call that begins at `begun` begins before the count's end. `turns_in` returns whether a call can
--- change the key to the state `there` between the count's start and end: it returned true or is pending, and overlaps
--- this time.
+-- `begins_by` returns whether a call starts before `until`. `turns_in` returns whether a call overlaps the time from
+-- `since` to `until`, and changed the key to the state `there` or is pending and can do so.
 abbrev pub begins_by : ℕ → Option ℕ → Bool
 begins_by begun None = true
 begins_by begun (Some until) = nat_lt begun until
@@ -68,13 +67,14 @@ turns_in key there since until x =
 abbrev pub turning_in : ℕ → Presence → Option ℕ → Option ℕ → List CallRecord → List CallRecord
 turning_in key there since until calls = filter (turns_in key there since until) calls
 
--- Returns how often the key must change back in a count with this many calls.
+-- Returns how often the key must change back if `counted` calls each need the key in one state and leave it in the
+-- other.
 abbrev pub turns_of : ℕ → Option ℕ → Option ℕ → ℕ
 turns_of counted since until = counted + also since + also until - 1
 
--- The calls `counted` of a key are a count. The key must change back between any two of them. It must also do so before
--- the first of them if the opening counts as a call, and after the last if the final keys count as a call. The calls
--- that can change the key back in this time are fewer.
+-- The calls `counted` on a key are too many for any order (a count). The key must change back between any two of them.
+-- It must also change back before the first of them if the opening state counts as a call, and after the last if the
+-- final state does. Fewer calls than that can change it back in this time.
 pub record IsCountOf (calls : List CallRecord) (key : ℕ) (there : Presence) (left : Option Presence) (was : Presence) (since until : Option ℕ)
     (counted : List CallRecord) : Type 0 where
   pub known : All (IsOf calls key) counted
@@ -85,14 +85,15 @@ pub record IsCountOf (calls : List CallRecord) (key : ℕ) (there : Presence) (l
   pub turns : AllPairs (NeedTurn was) counted
   pub fewer : length (turning_in key (other was) since until calls) < turns_of (length counted) since until
 
--- States that no order explains a history and leaves these keys if calls of the history are a count, whatever all other
--- calls did.
+-- States that no order explains a history and leaves these keys if some calls in the history are a count (too many for
+-- any order), whatever all other calls did.
 abbrev pub CountsExcludeOrders : Type 0
 CountsExcludeOrders = (h : HistoryValue) (keys : List ℕ) (key : ℕ) (there : Presence) (left : Option Presence) (was : Presence)
     (since until : Option ℕ) (counted : List CallRecord) → IsHistory h.opening.threads h.calls → has_key key h.opening.keys ≡ is_there there
     → IfSome left (λ (l : Presence). has_key key keys ≡ is_there l) → IsCountOf h.calls key there left was since until counted → IsUnexplained h keys
 
--- What `find_count` returns is a count, and its `backs` are all calls that can change the key back.
+-- The result of `find_count` is a count: calls that are too many for any order. Its `backs` are all calls that can
+-- change the key back.
 pub record IsCount (calls : List CallRecord) (there : Presence) (left : Option Presence) (c : Count) : Type 0 where
   pub count : IsCountOf calls c.key.0 there left c.was c.since c.until (records c.calls.items)
   pub backs : records c.backs.items ≡ turning_in c.key.0 (other c.was) c.since c.until calls

@@ -1,4 +1,5 @@
--- The events of one key in a history: the begins and ends of its calls, one at each moment.
+-- The events of one key in a history: the start and the end of each of its calls. At most one event happens at each
+-- moment.
 use Rattle.std.specs.Prelude.{◌≡◌, ℕ, ◌+◌, ◌==◌, Bool, true, false, if◌then◌else◌, List, [], ◌∷◌, Option, Some, None}
 use Rattle.lset_words.specs.declared.Call.{Call}
 use Rattle.lset_words.specs.declared.Call.TheVariants.{Add, Remove}
@@ -12,8 +13,8 @@ use Rattle.lset_words.specs.Words.{key_of}
 use Rattle.lset_history.specs.History.{HistoryValue}
 use Rattle.lset_judge.specs.Rule.{Event, begins, ends, looks, idle, may_leave}
 
--- What a call can do to its key: it changes the key to present (`true`) or absent, it sees the key present or absent,
--- or it does nothing that matters.
+-- What a call can do to its key: it makes the key present (`changes true`) or absent, it sees the key present or
+-- absent, or it does nothing that matters to the judge.
 pub data Kind : Type 0 where
   changes : Bool → Kind
   sees : Bool → Kind
@@ -27,8 +28,8 @@ kind_as Other = nothing
 abbrev pub kind_of : Call → Reply → Kind
 kind_of c r = kind_as (effect_of c r)
 
--- Returns what a pending call can do to its key. A pending `add` or `remove` can change it. A pending read has seen
--- nothing.
+-- Returns what a pending call can do to its key. A pending `add` or `remove` can change the key. A pending read has not
+-- returned what it saw.
 abbrev pub open_kind : Call → Kind
 open_kind (Add k) = changes true
 open_kind (Remove k) = changes false
@@ -38,8 +39,8 @@ abbrev pub kind_if : Call → Option (ℕ × Reply) → Kind
 kind_if c None = open_kind c
 kind_if c (Some e) = kind_of c e.1
 
--- Returns the moment before which a call takes effect, which is its end. A pending call has a moment after all others,
--- which is different for each begin.
+-- Returns the moment before which a call takes effect, which is its end. For a pending call, this is a moment after all
+-- others. Calls that start at different moments get different moments.
 abbrev pub until_if : ℕ → ℕ → Option (ℕ × Reply) → ℕ
 until_if last begun None = last + begun
 until_if last begun (Some e) = e.0
@@ -67,7 +68,7 @@ event_at last k (x ∷ xs) m =
     else (if ends_at m x.ended then end_event (kind_if x.call x.ended) x.begun else event_at last k xs m)
     ) else event_at last k xs m
 
--- Returns whether the judge's rule succeeds for key k of a history and its final state. `last` is the last moment.
+-- Returns whether the judge's rule succeeds for key k of a history with these final keys. `last` is the last moment.
 abbrev pub rule_explains : ℕ → HistoryValue → List ℕ → ℕ → Bool
 rule_explains last h keys k = may_leave (event_at last k h.calls) (has_key k h.opening.keys) (has_key k keys) last
 

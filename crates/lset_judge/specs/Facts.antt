@@ -1,4 +1,4 @@
--- Facts about the calls of a key. From these facts the judge finds a clash: two calls of the key that rule out every
+-- Facts about the calls on a key. From these facts the judge finds a clash: two calls on the key that rule out every
 -- order.
 use Rattle.std.specs.Prelude.{◌≡◌, ◌≢◌, ℕ, ◌<◌, ◌≤◌, ◌⊎◌, max, if◌then◌else◌, Bool, true, false, List, ◌++◌, All, Option, Some, None, IfSome, IsSomeAnd}
 use Rattle.std.specs.Bool.{nat_eq}
@@ -29,10 +29,10 @@ use Rattle.lset_judge.specs.Rest.{turns_to}
 use Rattle.lset_judge.specs.Stream.{States, behind_all, record_of, IsStreamOf}
 use Rattle.lset_judge.specs.Clash.{record_if, other, leaves_if, needs_if, since_of, WasSo, IsClash}
 
--- The facts about the calls of a key. The key was in the state `was`, at the opening (`kept` is `Opening`) or after a
--- completed call, which is called the kept call. `kept` is the kind of the kept call; `thread`, `begun` and `ended` are
--- its thread, its begin and its end. All changes of the key to present end by `puts_until`, all changes to absent by
--- `takes_until`. A pending change counts as ending after all moments.
+-- What the judge knows about the calls on a key. The key was in the state `was`, either when the set opened (`kept` is
+-- `Opening`) or after one completed call, called the kept call. `kept` is the kind of the kept call; `thread`, `begun`
+-- and `ended` are its thread, start and end. All changes that make the key present end by `puts_until`, all changes
+-- that make it absent by `takes_until`. A pending change counts as ending after all moments.
 pub record Facts : Type 0 where
   pub was : Presence
   pub kept : Kept
@@ -53,7 +53,8 @@ facts_of s = record {
   takes_until = s.changes.takes_until;
 }
 
--- Returns the call of this kind that leaves the key in the state `was`. `reply_kept` returns its reply.
+-- `word_kept` returns the kept call, which is of this kind and leaves the key in the state `was`. `reply_kept` returns
+-- its reply.
 abbrev pub word_kept : Kept → Presence → Key → Call
 word_kept Look was key = Contains key
 word_kept kept Present key = Add key
@@ -79,11 +80,11 @@ is_call Change = true
 is_call Refused = true
 is_call Look = true
 
--- Returns the kept call, which left the key in the state `was`, or None if the key had this state at the opening.
+-- Returns the kept call, which left the key in the state `was`, or None if the set opened with the key in this state.
 abbrev pub first_of : ℕ → Facts → Option StreamCall
 first_of key f = if is_call f.kept then Some (call_kept key f) else None
 
--- Returns a moment by which all changes of the key to this state end.
+-- Returns a moment by which all calls that change the key to this state have ended.
 abbrev pub until_of : Presence → Facts → ℕ
 until_of Present f = f.puts_until
 until_of Absent f = f.takes_until
@@ -98,8 +99,7 @@ facts_or (Some s) = facts_of s
 abbrev pub facts_for : States → ℕ → Facts
 facts_for states k = facts_or (get nat_eq states k)
 
--- Returns the facts after the event of a call's begin. Only the begin of a change alters the facts. The end of a call
--- can alter them, too: see `IsEnded`.
+-- Returns the facts after a call starts. Only the start of a change alters them. For the end of a call, see `IsEnded`.
 abbrev pub begun_by : Event → Facts → Facts
 begun_by (begins w end) f = record f {
   puts_until = if w then max f.puts_until end else f.puts_until;
@@ -110,39 +110,40 @@ begun_by (looks w since) f = f
 begun_by (leaves w) f = f
 begun_by idle f = f
 
--- States that `call` leaves the key in the state `was` of the facts `new`, and is their kept call. The moments by which
--- changes end are those of `old`.
+-- States that the facts `new` have `call` as their kept call: a completed call that left the key in the state `was`.
+-- The moments by which changes end are those of the facts `old`.
 pub record IsKept (call : StreamCall) (old new : Facts) : Type 0 where
   pub first : first_of (key_of call.call).0 new ≡ Some call
   pub leaves : leaves_if call.call call.ended ≡ Some new.was
   pub puts : new.puts_until ≡ old.puts_until
   pub takes : new.takes_until ≡ old.takes_until
 
--- States how the end of a call changes the facts: they stay as they are, or the call becomes the kept call.
+-- States how the end of a call changes the facts: they do not change, or the call replaces the one call that they store
+-- (the kept call).
 abbrev pub IsEnded : StreamCall → Facts → Facts → Type 0
 IsEnded call old new = (new ≡ old) ⊎ IsKept call old new
 
 -- ---- The meaning of the facts
 
--- States that all changes of the key to the state `there` end by `moment`. A pending change counts as ending after all
--- moments.
+-- States that all calls that change the key to the state `there` end by `moment`. A pending change counts as ending
+-- after all moments.
 abbrev pub AreOverBy : List CallRecord → ℕ → Presence → ℕ → Type 0
 AreOverBy calls key there moment = All (λ (x : CallRecord). (key_of x.call).0 ≡ key → turns_to there (kind_if x.call x.ended) ≡ true
     → until_if behind_all x.begun x.ended ≤ moment) calls
 
--- States that the facts about a key are correct: the key was in the state `was`, at the opening or after the kept call,
--- which is one of its calls. The changes of the key to each state end by the moment that the facts have for it.
+-- States that the facts about a key are correct. The key was in the state `was`, either when the set opened or after
+-- the kept call, which is one of its calls. The changes to each state end by the moment in the facts.
 pub record AreFacts (opening : List ℕ) (calls : List CallRecord) (key : ℕ) (f : Facts) : Type 0 where
   pub was : WasSo calls key (presence (has_key key opening)) f.was (record_if (first_of key f))
   pub over : (there : Presence) → AreOverBy calls key there (until_of there f)
 
--- States that c is a clash of the key's calls, whatever calls begin after the moment.
+-- States that c is a clash of calls on the key (no order can have both), whatever calls start after the moment.
 abbrev pub IsClashBy : List ℕ → List CallRecord → ℕ → ℕ → Clash → Type 0
 IsClashBy opening calls moment key c = (later : List CallRecord) → All (λ (z : CallRecord). moment < z.begun) later
     → IsClash (calls ++ later) key (presence (has_key key opening)) None c.was (record_if c.first) (record_if c.second)
 
--- States that the facts about each key are correct. After the judge's rule has failed for a key, only the facts about
--- this key must be correct, until a clash is found. The clash must then be one of this key.
+-- States that the facts about each key are correct. Once the judge's rule has failed for a key, only the facts about
+-- this key must be correct, and only until a clash is found. The clash must then be on this key.
 abbrev pub AreKnownBy : List ℕ → List CallRecord → ℕ → States → Option Failed → Option Clash → Type 0
 AreKnownBy opening calls moment states None clash = (k : ℕ) → AreFacts opening calls k (facts_for states k)
 AreKnownBy opening calls moment states (Some f) None = AreFacts opening calls f.key.0 (facts_for states f.key.0)
@@ -155,16 +156,17 @@ pub record IsStreamKept (threads : ℕ) (opening : List ℕ) (calls : List CallR
 
 -- ---- Definitions that only one contract uses
 
--- States that each call that can change the key from the state `was` has ended by the begin of the kept call. Without a
--- kept call, states that no such call has begun.
+-- States that each call that can change the key to a state other than `was` has ended when the kept call (the one that
+-- the facts store) starts. If there is no kept call, states that no such call has started.
 abbrev pub IsStanding : ℕ → Facts → Type 0
 IsStanding key f = until_of (other f.was) f ≤ since_of (record_if (first_of key f))
 
--- States that both calls have ended, and the first has ended first or at the same moment.
+-- States that both calls have ended, the first no later than the second.
 abbrev pub EndsBy : Option (ℕ × Reply) → Option (ℕ × Reply) → Type 0
 EndsBy first second = IsSomeAnd first (λ (d : ℕ × Reply). IsSomeAnd second (λ (e : ℕ × Reply). d.0 ≤ e.0))
 
--- States that the facts show that two calls also clash in the opposite order: `y` first, then `x`.
+-- States that, according to the facts, two calls also clash if they take effect in the opposite order: `y` first, then
+-- `x`.
 pub record ClashTurned (f : Facts) (x y : StreamCall) : Type 0 where
   pub apart : x.begun ≢ y.begun
   pub left : Presence
@@ -177,7 +179,8 @@ abbrev pub ComesAfter : Facts → Option StreamCall → StreamCall → Type 0
 ComesAfter f None second = Unit {0}
 ComesAfter f (Some x) second = Precedes (record_of x) (record_of second) ⊎ ClashTurned f x second
 
--- States that the facts show that `call` clashes with the kept call, or with the state at the opening.
+-- States that, according to the facts, `call` and the call that they store (the kept call) rule out every order. The
+-- key's opening state can take the place of the kept call.
 pub record IsClashing (f : Facts) (call : StreamCall) : Type 0 where
   pub needs : needs_if call.call call.ended ≡ Some (other f.was)
   pub standing : IsStanding (key_of call.call).0 f
@@ -186,19 +189,19 @@ pub record IsClashing (f : Facts) (call : StreamCall) : Type 0 where
 abbrev pub clash_with : ℕ → Facts → Option StreamCall → Clash
 clash_with key f second = record { was = f.was; first = first_of key f; second = second }
 
--- States that the facts show the clash `c`, whose second call is `call`.
+-- States that, according to the facts, `c` is a clash (two calls that no order can have) whose second call is `call`.
 pub record IsFound (f : Facts) (call : StreamCall) (c : Clash) : Type 0 where
   pub is : c ≡ clash_with (key_of call.call).0 f (Some call)
   pub clashing : IsClashing f call
 
--- States that the facts show the clash `c` of the kept call (or the state at the opening) with the final state `left`
--- of the key.
+-- States that, according to the facts, the call that they store (or the key's opening state) clashes with the final
+-- state `left` of the key. `c` is this clash.
 pub record IsFoundLeft (key : ℕ) (f : Facts) (left : Presence) (c : Clash) : Type 0 where
   pub is : c ≡ clash_with key f None
   pub is_other : left ≡ other f.was
   pub standing : IsStanding key f
 
--- States how the begin of a call changes the facts.
+-- States how the start of a call changes the facts.
 abbrev pub BeginIsKnown : States → ℕ → Event → States → Option Failed → Option Clash → Type 0
 BeginIsKnown before key event after None clash = (facts_for after key ≡ begun_by event (facts_for before key))
     × ((k : ℕ) → k ≢ key → facts_for after k ≡ facts_for before k)
@@ -206,8 +209,8 @@ BeginIsKnown before key event after (Some f) None = (facts_for after f.key.0 ≡
     ⊎ ((facts_for after f.key.0 ≡ facts_for before f.key.0) × (f.key.0 ≢ key))
 BeginIsKnown before key event after (Some f) (Some c) = Unit {0}
 
--- States how the end of a call changes the facts about its key. If a clash is found, the facts before the end show it,
--- and the call is its second call.
+-- States how the end of a call changes the facts about its key. If a clash is found, it follows from the facts before
+-- the end, and the call is its second call.
 pub record EndIsKept (before : States) (call : StreamCall) (after : States) (clash : Option Clash) : Type 0 where
   pub facts : IsEnded call (facts_for before (key_of call.call).0) (facts_for after (key_of call.call).0)
   pub found : IfSome clash (IsFound (facts_for before (key_of call.call).0) call)
@@ -223,7 +226,8 @@ abbrev pub clash_met : Option Failed → Option Clash → Option Clash
 clash_met None clash = None
 clash_met (Some f) clash = clash
 
--- States that c is a clash of the refusal's key, whatever calls the stream has judged.
+-- States that the two calls in c rule out every order (clash), whatever calls the stream has judged. Both are on the
+-- key that the reason (`refusal`) names.
 abbrev pub ClashesStream : List ℕ → Refusal → Option Presence → Stream → Clash → Type 0
 ClashesStream opening refusal left s c = (threads : ℕ) (calls : List CallRecord) → IsStreamKept threads opening calls s
     → IsClash calls refusal.key.0 (presence (has_key refusal.key.0 opening)) left c.was (record_if c.first) (record_if c.second)

@@ -13,25 +13,26 @@ use Rattle.lset_judge.specs.declared.clash.Clash.{Clash}
 use Rattle.lset_judge.specs.Clash.{record_if, IsClash}
 use Rattle.lset_judge.specs.Facts.{IsStreamKept}
 
--- States that judge j has judged these calls, of a set that opened with these keys.
+-- States that judge j has judged these calls, on a set that opened with these keys.
 abbrev pub IsJudgeOf : ℕ → List ℕ → List CallRecord → Judge → Type 0
 IsJudgeOf threads opening calls j = IsStreamKept threads opening calls j.stream
 
 -- ---- The meaning of a verdict
 
--- Returns the final state of a refusal's key if the refusal is about the final keys, else None.
+-- Returns the final state of a key. Returns None if the reason for a verdict (the refusal) has a moment: the reason is
+-- then not about the final keys.
 abbrev pub left_by : List ℕ → ℕ → Option ℕ → Option Presence
 left_by keys key (Some moment) = None
 left_by keys key None = Some (presence (has_key key keys))
 
--- States that two calls of a key clash: they rule out every order. A call can also clash with the key's state at the
--- opening, or with its final state.
+-- States that two calls on a key clash: they rule out every order. A call can also clash with the key's opening state,
+-- or with its final state.
 abbrev pub ClashesIn : List ℕ → List CallRecord → ℕ → Option Presence → Clash → Type 0
 ClashesIn opening calls key left c =
     IsClash calls key (presence (has_key key opening)) left c.was (record_if c.first) (record_if c.second)
 
--- States that a verdict is correct. If it has a clash, this is a clash of the refusal's key, and involves the final
--- state only if the refusal is about the final keys.
+-- States that a verdict is correct. If the verdict includes a clash, the clash is on the key that the reason (the
+-- refusal) names, and involves the final state only if the reason is about the final keys.
 abbrev pub IsVerdict : ℕ → List ℕ → List CallRecord → List ℕ → Verdict → Type 0
 IsVerdict threads opening calls keys verdict.Linearizable = IsStreamVerdict (stream_history threads opening calls) keys Linearizable
 IsVerdict threads opening calls keys (verdict.NotLinearizable refusal clash) =

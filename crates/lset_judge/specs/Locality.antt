@@ -1,4 +1,4 @@
--- The parts of a recording. Each key belongs to one part, and each part has the calls of its keys.
+-- Splits a recording into parts. Each key belongs to one part, and each part has the calls on its keys.
 use Rattle.std.specs.Prelude.{◌↔◌, ℕ, ◌<◌, ◌==◌, List, filter}
 use Rattle.std.specs.List.Sorted.{IsStrictlyIncreasing}
 use Rattle.lset_words.specs.declared.history.CallRecord.{CallRecord}
@@ -22,8 +22,8 @@ part_of part i h = record {
   calls = calls_in part i h.calls;
 }
 
--- Locality: some order explains a history that the judge decides if and only if, for each part, some order explains the
--- part with its final keys.
+-- Locality: some order explains a history that the judge decides if and only if, for each part of it, some order
+-- explains the part and leaves the part's final keys.
 abbrev pub KeysAreApart : Type 0
 KeysAreApart = (h : HistoryValue) (keys : List ℕ) (part : ℕ → ℕ) (parts : ℕ)
     → IsHistory h.opening.threads h.calls → IsStrictlyIncreasing h.opening.keys → IsStrictlyIncreasing keys → IsJudged h

@@ -1,4 +1,4 @@
--- The pending calls as the judge stores them: a few in a vector, the others in a hash table by their ends.
+-- The pending calls as the judge stores them: a few in a vector, the others in a hash table indexed by their ends.
 use Rattle.std.specs.Prelude.{◌≡◌, ℕ, ◌<◌, nat_lt, if◌then◌else◌, ◌≤◌, List, ◌∷◌, length, Option, Some, None, All, Contains, slice_index_or}
 use Rattle.std.specs.Bool.{nat_eq}
 use Rattle.std.specs.HashMap.{get}
@@ -24,7 +24,7 @@ or_zero (Some n) = n
 abbrev pub last_end : Busy → ℕ → ℕ
 last_end b t = if nat_lt t 65536 then slice_index_or b.low.items t 0 else or_zero (get nat_eq b.high t)
 
--- Each call in the hash table has its end in the heap, and its end is the last end of its thread.
+-- For each call in the hash table, the heap contains its end, and this end is the last end of its thread.
 pub record AreHeld (calls : List (ℕ × StreamCall)) (ends : List ℕ) (busy : Busy) : Type 0 where
   pub known : All (λ (e : ℕ × StreamCall). last_end busy e.1.thread ≡ e.0) calls
   pub held : All (λ (e : ℕ × StreamCall). Contains ends e.0) calls
@@ -33,7 +33,7 @@ abbrev pub end_or : ℕ → Option (ℕ × Reply) → ℕ
 end_or moment None = moment
 end_or moment (Some e) = e.0
 
--- `next` is the pending call with the earliest end, which is before the moment. `new` are the other calls.
+-- `next` is the pending call with the earliest end, and this end is before the moment. `new` are the other calls.
 pub record IsNext (moment : ℕ) (old : List Pending) (next : Pending) (new : List Pending) : Type 0 where
   pub early : next.end < moment
   pub is : IsPermutation old (next ∷ new)

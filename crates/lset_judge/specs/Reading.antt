@@ -1,7 +1,7 @@
--- Calls as the judge reads them, with replies that it knows. A `ceiling` that returned a key is read as a `contains` of
--- this key that returned true. A `ceiling` that found no key, and an `add` that returned full, are read as a `contains`
--- of their own key that returned false. A pending call is read as it is. The call that is read requires no more than
--- the call itself: if no order explains the calls as read, no order explains the calls themselves.
+-- Calls as the judge reads them, all with replies that it can judge. A `ceiling` that returned a key is read as a
+-- `contains` of this key that returned true. A `ceiling` that found no key, and an `add` that returned full, are read
+-- as a `contains` of their own key that returned false. A pending call is read as it is. A call as read requires no
+-- more than the call itself: if no order explains the calls as read, no order explains the calls themselves.
 use Rattle.std.specs.Prelude.{ℕ, List, map, Option, Some, None}
 use Rattle.lset_words.specs.declared.Call.{Call}
 use Rattle.lset_words.specs.declared.Call.TheVariants.{Add, Contains, Ceiling}
@@ -38,9 +38,9 @@ abbrev pub read_as : CallRecord → CallRecord
 read_as x = record { thread = x.thread; call = call_if x.call x.ended; begun = x.begun; ended = end_as x.call x.ended }
 
 -- States that a verdict on a history is correct. Linearizable: some order explains the history without a quota and
--- leaves the keys. NotLinearizable: no order does, with any quota, and the refusal is correct for the calls as the
--- judge reads them. Undecided: some order explains the calls as the judge reads them, but a completed call is a
--- `ceiling` or returned neither true nor false.
+-- leaves the keys. NotLinearizable: no order does, with any quota, and the reason is correct for the calls as the judge
+-- reads them. Undecided: some order explains the calls as the judge reads them, but a completed call is a `ceiling` or
+-- returned neither true nor false.
 abbrev pub IsJudged : HistoryValue → List ℕ → Judged → Type 0
 IsJudged h keys judged.Linearizable = IsExplained (without_quota h) keys
 IsJudged h keys (judged.NotLinearizable refusal clash) = ((quota : ℕ) → IsUnexplained (with_quota quota h) keys)

@@ -1,10 +1,11 @@
--- The judge's rule for one key: which event is at each moment, and which pending change takes effect.
+-- The judge's rule for one key: what happens to the key at each moment, and which pending change takes effect.
 use Rattle.std.specs.Prelude.{ℕ, zero, suc, ◌+◌, ◌==◌, ◌||◌, min, nat_lt, Bool, true, false, not, if◌then◌else◌, List, [], ◌∷◌}
 use Rattle.std.specs.Prelude.{length, Option, Some, None, is_some}
 
--- An event of a key, at a moment; `true` means present. `begins`: a change to this state begins, with its end (after
--- all moments if it stays pending). `ends`: a change to this state ends. `looks`: a read ends, which saw this state and
--- began at this moment. `leaves`: this is the key's final state. `idle`: nothing happens to the key.
+-- What happens to a key at a moment; `true` means present. `begins`: a change to this state starts; the second field is
+-- its end (after all moments if it stays pending). `ends`: a change to this state ends. `looks`: a read that saw this
+-- state ends; the second field is when it started. `leaves`: this is the key's final state. `idle`: nothing happens to
+-- the key.
 pub data Event : Type 0 where
   begins : Bool → ℕ → Event
   ends : Bool → Event
@@ -20,7 +21,7 @@ pub record State : Type 0 where
   pub puts : List ℕ
   pub takes : List ℕ
 
--- Returns the state of a key at the opening. b says whether the key is present.
+-- Returns the state of a key when the set opens. b says whether the key is present.
 abbrev pub opened : Bool → State
 opened b = record { there = b; turned = 0; puts = []; takes = [] }
 
@@ -35,14 +36,14 @@ changes_to w s = if w then s.puts else s.takes
 abbrev pub options : State → List ℕ
 options s = changes_to (not s.there) s
 
--- Returns how many moments of a list are d or later.
+-- Returns how many moments in a list are d or later.
 abbrev pub not_before : ℕ → List ℕ → ℕ
 not_before d [] = 0
 not_before d (x ∷ xs) = (if nat_lt x d then 0 else 1) + not_before d xs
 
--- Returns whether a key in state s is right for the event at moment m. If a change ends, each change of its kind that
--- ends by now must have taken effect. If a read ends, the key must have the state that the read saw, or must have
--- changed since the read began. A final state must be the state now.
+-- Returns whether the event at moment m is possible for a key in state s. When a change ends, each change to the same
+-- state that ends by now must have taken effect. When a read ends, the key must be in the state that the read saw, or
+-- must have changed since the read started. A final state must be the state now.
 abbrev pub fits : ℕ → Event → State → Bool
 fits m (begins w end) s = true
 fits m (ends w) s = not_before (suc m) (changes_to w s) == length (changes_to w s)
@@ -55,7 +56,7 @@ abbrev pub put_in : ℕ → List ℕ → List ℕ
 put_in e [] = e ∷ []
 put_in e (x ∷ xs) = if nat_lt e x then e ∷ x ∷ xs else x ∷ put_in e xs
 
--- Returns the ends of the pending changes to a state after an event. xs are those before.
+-- Returns the ends of the pending changes to the state w after an event. xs are the ends before it.
 abbrev pub entering : Bool → Event → List ℕ → List ℕ
 entering w (begins v end) xs = if same w v then put_in end xs else xs
 entering w (ends v) xs = xs
@@ -79,8 +80,8 @@ turned_by m e s = record {
   takes = if s.there then take_out e s.takes else s.takes;
 }
 
--- The rule: a change takes effect only when an event needs it, and then the pending change with the earliest end.
--- `nearest` returns this end, and `turned_if` the state after the change.
+-- The rule: a change takes effect only when an event needs it. The pending change with the earliest end then takes
+-- effect. `nearest` returns this end, and `turned_if` the state after the change.
 abbrev pub nearest : ℕ → List ℕ → ℕ
 nearest x [] = x
 nearest x (y ∷ ys) = min x (nearest y ys)
@@ -89,8 +90,8 @@ abbrev pub turned_if : ℕ → State → List ℕ → Option State
 turned_if m s [] = None
 turned_if m s (x ∷ xs) = Some (turned_by m (nearest x xs) s)
 
--- Lets up to n pending changes take effect, until the key's state is right for the event. Returns this state, or None
--- if no state is right.
+-- Lets up to n pending changes take effect, until the event is possible in the key's state. Returns this state, or None
+-- if the event is possible in none.
 abbrev pub settled : ℕ → ℕ → Event → Option State → Option State
 settled n m v None = None
 settled zero m v (Some s) = if fits (suc m) v s then Some s else None
@@ -106,7 +107,7 @@ abbrev pub entered : Event → Option State → Option State
 entered v None = None
 entered v (Some t) = Some (enters v t)
 
--- Returns the state of a key after the event v, which is at the moment after m. None means that the rule has failed.
+-- Returns the state of a key after the event v, which happens at the moment after m. Returns None if the rule fails.
 abbrev pub stepped : ℕ → Event → Option State → Option State
 stepped m v None = None
 stepped m v (Some s) = entered v (found m v s)

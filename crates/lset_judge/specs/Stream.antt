@@ -1,5 +1,5 @@
--- A stream: the calls of a recording, which are judged one after another. This file has its state and the meaning of
--- its verdict.
+-- A stream: the calls of a recording, judged one after another. This file defines the state of a stream and the meaning
+-- of its verdict.
 use Rattle.std.specs.Prelude.{◌≡◌, ◌≢◌, ℕ, ◌<◌, ◌≤◌, ◌^◌, ◌⊎◌, true, false, List, length, Option, Some, None, All}
 use Rattle.std.specs.Prelude.{AllPairs, Contains, IfSome, ◌-◌}
 use Rattle.std.specs.List.Sorted.{IsStrictlyIncreasing}
@@ -25,15 +25,16 @@ use Rattle.lset_judge.specs.Code.{state_of}
 use Rattle.lset_judge.specs.Events.{kind_if, until_if, end_event, event_at}
 use Rattle.lset_judge.specs.Verdict.{IsPlain, IsExplained, IsUnexplained, IsRefusedBy, is_plain, with_quota}
 
--- Returns a call of a recording as a call of a history.
+-- Converts a recorded call to a call in a history.
 abbrev pub record_of : StreamCall → CallRecord
 record_of x = record { thread = x.thread; call = x.call; begun = x.begun; ended = x.ended }
 
--- Returns a call of a history as a call of a recording.
+-- Converts a call in a history to a recorded call.
 abbrev pub call_of : CallRecord → StreamCall
 call_of x = record { thread = x.thread; call = x.call; begun = x.begun; ended = x.ended }
 
--- Returns the history of the recorded calls, for a set without a quota: the quota is the number of calls.
+-- Returns the history of recorded calls on a set without a quota. (The quota is set to the number of calls, which is
+-- never used up.)
 abbrev pub stream_history : ℕ → List ℕ → List CallRecord → HistoryValue
 stream_history threads opening calls = record {
   opening = record { threads = threads; quota = length calls; keys = opening };
@@ -46,7 +47,7 @@ stream_history threads opening calls = record {
 abbrev pub behind_all : ℕ
 behind_all = 2 ^ 63
 
--- The state of each key that has one.
+-- The states of the keys. A key without calls has none.
 abbrev pub States : Type 0
 States = HashMap ℕ KeyState (BuildHasherDefault FoldHasher)
 
@@ -58,7 +59,7 @@ state_or (Some s) = state_of s
 abbrev pub state_for : States → ℕ → State
 state_for states k = state_or (get nat_eq states k)
 
--- Returns a call as a pending call: with the moment before which it takes effect.
+-- Converts a call to a pending call, with the moment before which it takes effect.
 abbrev pub pending_of : CallRecord → Pending
 pending_of x = record {
   end = until_if behind_all x.begun x.ended;
@@ -68,7 +69,7 @@ pending_of x = record {
 abbrev pub key_in : Pending → ℕ
 key_in p = (key_of p.call.call).0
 
--- Returns the event of a pending call's end.
+-- Returns the event when a pending call ends.
 abbrev pub event_of : Pending → Event
 event_of p = end_event (kind_if p.call.call p.call.ended) p.call.begun
 
@@ -76,7 +77,7 @@ event_of p = end_event (kind_if p.call.call p.call.ended) p.call.begun
 abbrev pub IsOver : ℕ → CallRecord → Type 0
 IsOver moment x = (end : ℕ × Reply) × (x.ended ≡ Some end) × (end.0 ≤ moment)
 
--- States that a call begins, and ends if it does, at moments that a recording can have.
+-- States that a call starts, and ends if it does, at moments that a recording can have.
 abbrev pub IsBefore : CallRecord → Type 0
 IsBefore x = (x.begun < behind_all) × IfSome x.ended (λ (end : ℕ × Reply). end.0 < behind_all)
 
@@ -87,8 +88,8 @@ pub record ArePending (calls : List CallRecord) (moment : ℕ) (pending : List P
   pub apart : AllPairs (λ (p q : Pending). p.end ≢ q.end) pending
   pub later : All (λ (p : Pending). moment < p.end) pending
 
--- States that the states of the keys after a moment are those of the judge's rule. If the rule has failed by then (f),
--- states instead that it has failed for the key of f by the moment of f, and for no key earlier.
+-- States that the states of the keys after a moment are those of the judge's rule. If the rule has failed by then (Some
+-- f), states instead that it failed for the key of f by the moment of f, and for no key earlier.
 abbrev pub IsJudgedTo : List ℕ → List CallRecord → ℕ → States → Option Failed → Type 0
 IsJudgedTo opening calls moment states None =
     (k : ℕ) → state_after (event_at behind_all k calls) (has_key k opening) moment ≡ Some (state_for states k)
@@ -96,7 +97,8 @@ IsJudgedTo opening calls moment states (Some f) = (f.moment ≤ moment)
     × (state_after (event_at behind_all f.key.0 calls) (has_key f.key.0 opening) f.moment ≡ None)
     × ((k m : ℕ) → state_after (event_at behind_all k calls) (has_key k opening) m ≡ None → f.moment ≤ m)
 
--- The stream has judged these calls, of a set that opens with these keys. No call begins after the stream's moment.
+-- The stream has judged these calls, on a set that opened with these keys. No call starts after the stream's current
+-- moment.
 pub record IsStreamOf (threads : ℕ) (opening : List ℕ) (calls : List CallRecord) (s : Stream) : Type 0 where
   pub opens : IsStrictlyIncreasing opening
   pub history : IsHistory threads calls
@@ -107,7 +109,7 @@ pub record IsStreamOf (threads : ℕ) (opening : List ℕ) (calls : List CallRec
   pub pending : ArePending calls s.moment s.pending
   pub judged : IsJudgedTo opening calls s.moment s.states s.failed
 
--- Two fields of a stream, for the contracts of other files.
+-- Returns the current moment of a stream. `pending_in` returns its pending calls.
 abbrev pub moment_of : Stream → ℕ
 moment_of s = s.moment
 
@@ -121,9 +123,9 @@ pub record MayCome (pending : List Pending) (moment : ℕ) (x : CallRecord) : Ty
   pub ends : IfSome x.ended (λ (end : ℕ × Reply). x.begun < end.0)
   pub before : IsBefore x
   pub plain : IfSome x.ended (λ (end : ℕ × Reply). is_plain x.call end.1 ≡ true)
-  -- No pending call ends when this call begins or ends.
+  -- No pending call ends at the moment when this call starts or ends.
   pub apart : All (λ (p : Pending). (p.end ≢ x.begun) × IfSome x.ended (λ (end : ℕ × Reply). p.end ≢ end.0)) pending
-  -- When this call begins, no other call of its thread is pending.
+  -- When this call starts, no other call of its thread is pending.
   pub free : All (λ (p : Pending). p.call.thread ≡ x.thread → p.end ≤ x.begun) pending
 
 -- ---- The meaning of a verdict
@@ -140,8 +142,8 @@ FailsFirst h key None = (k m : ℕ) → HasFailed h k m → ⊥
 FailsFirst h key (Some moment) = HasFailed h key moment × ((k m : ℕ) → HasFailed h k m → moment ≤ m)
 
 -- States that a verdict is correct. Linearizable: some order explains the calls and leaves the keys. NotLinearizable:
--- no order does, with any quota. The reason is about the calls of the refusal's key (`IsRefusedBy`). The judge's rule
--- fails first for this key, at the refusal's moment.
+-- no order does, with any quota; the calls on the key that the reason (the refusal) names suffice to show it
+-- (`IsRefusedBy`), and the judge's rule fails first for this key, at the reason's moment.
 abbrev pub IsStreamVerdict : HistoryValue → List ℕ → StreamVerdict → Type 0
 IsStreamVerdict h keys Linearizable = IsExplained h keys
 IsStreamVerdict h keys (NotLinearizable refusal) =
@@ -159,8 +161,8 @@ IsStreamVerdictCutOff h (NotLinearizable refusal) = (keys : List ℕ) → IsStre
 abbrev pub no_pending : Pending
 no_pending = record { end = 0; call = call_of no_call }
 
--- States how an event of a key at a moment changes the states of the keys, and whether the judge's rule fails. After it
--- has failed, nothing is stated about the states.
+-- States how an event of a key at a moment changes the states of the keys, and whether the judge's rule fails. Once the
+-- rule has failed, says nothing about the states.
 abbrev pub IsMetBy : States → ℕ → ℕ → Event → States → Option Failed → Option Failed → Type 0
 IsMetBy before key moment event after (Some f) failed = failed ≡ Some f
 IsMetBy before key moment event after None None =
@@ -181,8 +183,8 @@ abbrev pub verdict_of_key : Option ℕ → StreamVerdict
 verdict_of_key None = Linearizable
 verdict_of_key (Some k) = NotLinearizable (record { key = record { 0 = k }; moment = None })
 
--- States that a verdict reports the failure of the judge's rule if the rule has failed. Otherwise, a refusal has no
--- moment.
+-- States that the verdict reports the failure of the judge's rule, if the rule has failed. If the rule has not failed,
+-- the reason for NotLinearizable has no moment.
 abbrev pub IsToldBy : Option Failed → StreamVerdict → Type 0
 IsToldBy None Linearizable = Unit {0}
 IsToldBy None (NotLinearizable refusal) = refusal.moment ≡ None

@@ -24,13 +24,12 @@ is_truth True = true
 is_truth False = true
 is_truth r = false
 
--- Returns whether a completed call is one that the judge decides: it is no `ceiling`, and its reply is true or false.
+-- Returns whether the judge decides a completed call: the call is no `ceiling`, and its reply is true or false.
 abbrev pub is_plain : Call → Reply → Bool
 is_plain (Ceiling k) r = false
 is_plain c r = is_truth r
 
--- Returns whether a call of this kind is an `add` that returned true or is pending. The kind says what a call can do to
--- its key.
+-- Returns whether a call of this kind is an `add` that returned true or is pending.
 abbrev pub puts_in : Kind → Bool
 puts_in (changes w) = w
 puts_in (sees w) = false
@@ -47,8 +46,8 @@ adds_of thread calls = count_by (λ (x : CallRecord). may_add x.call x.ended && 
 abbrev pub IsPlain : List CallRecord → Type 0
 IsPlain calls = All (λ (x : CallRecord). IfSome x.ended (λ (e : ℕ × Reply). is_plain x.call e.1 ≡ true)) calls
 
--- The judge decides a history if each completed call returned true or false and is no `ceiling`, and each thread's
--- quota is at least the number of its `add`s that returned true or are pending.
+-- The judge decides a history if each completed call returned true or false and is no `ceiling`, and no thread has more
+-- `add`s that returned true or are pending than its quota allows.
 pub record IsJudged (h : HistoryValue) : Type 0 where
   pub plain : IsPlain h.calls
   pub room : (thread : ℕ) → adds_of thread h.calls ≤ h.opening.quota
@@ -59,13 +58,13 @@ with_quota quota h = record {
   calls = h.calls;
 }
 
--- ---- The meaning of a refusal
+-- ---- The meaning of a refusal: the reason why no order explains the calls
 
--- Returns the calls of a key that begin by a moment, with their ends and replies.
+-- Returns the calls on a key that start by a moment, with their ends and replies.
 abbrev pub calls_by : ℕ → ℕ → List CallRecord → List CallRecord
 calls_by key moment calls = filter (λ (x : CallRecord). (key_of x.call).0 == key && nat_le x.begun moment) calls
 
--- Returns the history of the calls of a key that begin by a moment. The set opens with the key if the key was present.
+-- Returns the history of the calls on a key that start by a moment. The set opens with the key if h does.
 abbrev pub of_key : ℕ → ℕ → HistoryValue → HistoryValue
 of_key key moment h = record {
   opening = record {
@@ -76,14 +75,14 @@ of_key key moment h = record {
   calls = calls_by key moment h.calls;
 }
 
--- States that a refusal is correct, with any quota. If it has a moment, no order explains the calls of the key that
--- begin by this moment, whatever keys the order leaves. Otherwise, no order explains all calls of the key and leaves
--- the key's final state.
+-- States that the reason why no order explains the calls (the refusal) is correct, with any quota. With a moment: no
+-- order explains the calls on the key that start by this moment, whatever keys the order leaves. Without a moment: no
+-- order explains all calls on the key and leaves the key's final state.
 abbrev pub IsRefusedBy : HistoryValue → List ℕ → ℕ → Option ℕ → Type 0
 IsRefusedBy h keys key (Some moment) = (quota : ℕ) (left : List ℕ) → IsUnexplained (of_key key moment (with_quota quota h)) left
 IsRefusedBy h keys key None = (quota : ℕ) (left : List ℕ) → has_key key left ≡ has_key key keys
     → IsUnexplained (of_key key (latest_moment h.calls) (with_quota quota h)) left
 
--- Returns the history as if its set had no quota: the quota is the number of calls.
+-- Returns the history with a quota that is never used up: the number of calls.
 abbrev pub without_quota : HistoryValue → HistoryValue
 without_quota h = with_quota (length h.calls) h

@@ -1,4 +1,4 @@
-//! The end of the last call of each thread.
+//! The moment at which the last call of each thread ends.
 
 ghost use Rattle.std.specs.Prelude.{◌≡◌, ◌==◌, ◌≤◌, ◌<◌, ◌^◌, ℕ, length, slice_index_or, OnOk, OnErr, if◌then◌else◌};
 ghost use Rattle.lset_judge.specs.Pending.{last_end};
@@ -6,19 +6,19 @@ ghost use Rattle.lset_judge.specs.Pending.{last_end};
 use std::alloc::{AllocError, Global};
 use std::collections::HashMap;
 
-/// The last ends of threads below this number are in a vector, those of all other threads in a hash table.
+/// For threads below this number, the end of the last call is in a vector. All other threads are in a hash table.
 const LOW: u32 = 65_536;
 
-/// The end of the last call of each thread that has made one.
+/// For each thread that has made a call, the end of its last call.
 #[derive(Drop)]
 pub(crate) struct Busy {
-    /// The end of the last call of each thread below `LOW`, indexed by thread. 0 for a thread without calls.
+    /// For each thread below `LOW`, the end of its last call, or 0 if it has made no call.
     pub(crate) low: Vec<u64>,
-    /// The end of the last call of every other thread that has made a call.
+    /// For every other thread that has made a call, the end of its last call.
     pub(crate) high: HashMap<u32, u64>,
 }
 
-/// Appends zeros until the vector has at least length `len`.
+/// Appends zeros until the vector has at least `len` items.
 fn lengthen(ends: &mut Vec<u64>, len: usize) -> Result<(), AllocError>
     ensures same { (i : ℕ) → slice_index_or ends.new.items i 0 ≡ slice_index_or ends.old.items i 0 }
     ensures long { OnOk result (len ≤ length ends.new.items) }
@@ -41,7 +41,7 @@ fn store(ends: &mut Vec<u64>, place: usize, end: u64) -> Result<(), AllocError>
 }
 
 impl Busy {
-    /// Returns the value for threads that have made no calls. Does not allocate.
+    /// Returns the value for threads without calls. Does not allocate.
     pub(crate) fn new(alloc: Global) -> Busy {
         Busy {
             low: Vec::new(alloc),

@@ -1,4 +1,4 @@
-//! Clashes: two calls of a key that rule out every order, whatever all other calls did.
+//! Clashes: two calls on a key that rule out every order, whatever all other calls did.
 
 ghost use Rattle.std.specs.Prelude.{◌≡◌, ℕ, All, Contains, IfSome, IsTrue, true};
 ghost use Rattle.lset_words.specs.History.{IsHistory};
@@ -10,21 +10,21 @@ ghost use Rattle.lset_judge.specs.Rest.{has_ended, turns_to};
 use crate::stream::StreamCall;
 use lset_words::{Effect, Key, Presence};
 
-/// Two calls of a key that clash. The first leaves the key in one state, and the second needs the other state. From the
-/// begin of the first to the end of the second, no call is pending that could change the state. The second call comes
+/// Two calls on a key that clash. The first leaves the key in one state, and the second needs the other state. From the
+/// start of the first to the end of the second, no call is pending that could change the state. The second call comes
 /// after the first in real time, or the two also clash in the opposite order.
 #[derive(Clone, Copy, Debug, PartialEq, Eq)]
 pub struct Clash {
     /// The state (present or absent) in which the first call leaves the key.
     pub was: Presence,
-    /// The first call. `None` if the key had the state `was` at the opening.
+    /// The first call. `None` if the key was in the state `was` when the set opened.
     pub first: Option<StreamCall>,
-    /// The second call. `None` if the key's final state is the other state, so that the final keys clash with the first
-    /// call.
+    /// The second call. `None` if the first call clashes with the final keys, since the key's final state is not `was`.
     pub second: Option<StreamCall>,
 }
 
-/// A key whose calls are searched for a clash, its presence at the opening, and its final presence, if known.
+/// A search for two calls that rule out every order: the key whose calls are searched, whether the set opened with it,
+/// and its final state, if known.
 #[derive(Clone, Copy)]
 struct Asked {
     key: Key,
@@ -32,7 +32,7 @@ struct Asked {
     left: Option<Presence>,
 }
 
-/// Lemma: if two calls of a history clash, no order explains the history and leaves these keys. Does nothing at run
+/// Lemma: if two calls in a history clash, no order explains the history and leaves these keys. Does nothing at run
 /// time.
 pub fn clashes_exclude_orders()
     ensures { ClashesExcludeOrders }
@@ -211,14 +211,14 @@ fn in_order(calls: &[StreamCall], asked: Asked, clash: Clash) -> bool
     first.begun != second.begun && clashes(calls, asked, turned)
 }
 
-/// Returns whether `clash` is a clash of these calls.
+/// Returns whether the two calls in `clash` are among these calls and rule out every order.
 fn is_clash(calls: &[StreamCall], asked: Asked, clash: Clash) -> bool
     ensures { IsTrue result → IsClash (records calls.now) asked.key.0 asked.there asked.left clash.was (record_if clash.first) (record_if clash.second) }
 {
     clashes(calls, asked, clash) && in_order(calls, asked, clash)
 }
 
-/// Returns the call that began last, of those that had ended by `moment` and left the key in the state `was`.
+/// Returns the call that started last among those that ended by `moment` and left the key in the state `was`.
 fn last_before(calls: &[StreamCall], was: Presence, moment: u64) -> Option<StreamCall> {
     let mut last = None;
     for call in calls {
@@ -229,8 +229,8 @@ fn last_before(calls: &[StreamCall], was: Presence, moment: u64) -> Option<Strea
     last
 }
 
-/// Returns a clash whose second call is `second`, if one is found. Its first call is `None` if `second` clashes with
-/// the key's state at the opening.
+/// Searches for a call that, followed by `second`, rules out every order. The result has no `first` if the key's
+/// opening state takes the place of this call.
 fn clash_with(calls: &[StreamCall], asked: Asked, second: StreamCall) -> Option<Clash>
     ensures { IfSome result (λ c. IsClash (records calls.now) asked.key.0 asked.there asked.left c.was (record_if c.first) (record_if c.second)) }
 {
@@ -257,7 +257,8 @@ fn clash_with(calls: &[StreamCall], asked: Asked, second: StreamCall) -> Option<
     None
 }
 
-/// Returns a clash of these calls, if one is found: that whose second call begins last.
+/// Searches these calls for two that rule out every order (a clash). If it finds several such pairs, returns the one
+/// whose second call starts last.
 fn last_clash(calls: &[StreamCall], asked: Asked) -> Option<Clash>
     ensures { IfSome result (λ c. IsClash (records calls.now) asked.key.0 asked.there asked.left c.was (record_if c.first) (record_if c.second)) }
 {
@@ -278,8 +279,8 @@ fn last_clash(calls: &[StreamCall], asked: Asked) -> Option<Clash>
     None
 }
 
-/// Returns two calls of `key` that clash, if they are found. `there` is the key's presence at the opening, `left` its
-/// final presence, if known. If a clash is returned, no order explains these calls, whatever all other calls did.
+/// Searches for two calls on `key` that clash. `there` says whether the set opened with the key; `left` is the key's
+/// final state, if known. If a clash is returned, no order explains these calls, whatever all other calls did.
 pub fn find_clash(
     calls: &[StreamCall],
     key: Key,

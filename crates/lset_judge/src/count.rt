@@ -1,5 +1,4 @@
-//! Counts: proofs that no order explains some calls of a key, because the key would have to change back more often than
-//! it can.
+//! Counts: calls on a key that no order explains, because the key would have to change back more often than it can.
 
 ghost use Rattle.std.specs.Prelude.{◌≡◌, ℕ, ◌<◌, All, AllPairs, IfOk, IfSome, IsTrue, length, filter, true};
 ghost use Rattle.lset_words.specs.History.{IsHistory, Precedes};
@@ -13,25 +12,25 @@ use crate::stretch::{Stretch, smallest_stretch};
 use lset_words::{Key, Presence};
 use std::alloc::{AllocError, Global};
 
-/// A count: calls of a key that no order explains, because they are too many. Whichever of two of the calls comes
-/// first, it leaves the key in the state `was`, and the other call needs the key in the other state. The key must
-/// therefore change back between any two of them. But fewer calls can change it back.
+/// A count: calls on a key that no order explains, because they are too many. Whichever of two of the calls comes
+/// first, it leaves the key in the state `was`, and the other call needs the other state. The key must therefore change
+/// back between any two of them. But fewer calls can change it back.
 #[derive(Debug, Drop)]
 pub struct Count {
     /// The key.
     pub key: Key,
-    /// The state (present or absent) in which each of the calls but the last leaves the key. Each of them but the first
+    /// The state (present or absent) in which each call except the last leaves the key. Each call except the first
     /// needs the other state.
     pub was: Presence,
-    /// The calls, sorted by when they began.
+    /// The calls, ordered by start.
     pub calls: Vec<StreamCall>,
-    /// All calls that can change the key back between the others: they returned true or are pending, and overlap the
-    /// time from `since` to `until`.
+    /// All calls that can change the key back in between: they returned true or are pending, and overlap the time from
+    /// `since` to `until`.
     pub backs: Vec<StreamCall>,
-    /// No call of the count begins before this moment. `None` if the opening counts as a first call: the key had the
-    /// state `was`.
+    /// No counted call starts before this moment. `None` if the opening state counts as a first call: the set opened
+    /// with the key in the state `was`.
     pub since: Option<u64>,
-    /// All calls of the count have ended by this moment. `None` if the final keys count as a last call: the key's final
+    /// All counted calls have ended by this moment. `None` if the final state counts as a last call: the key's final
     /// state is not `was`.
     pub until: Option<u64>,
 }
@@ -45,13 +44,13 @@ impl Count {
     }
 }
 
-/// Lemma: if calls of a history are a count, no order explains the history and leaves these keys. Does nothing at run
-/// time.
+/// Lemma: if some calls in a history are a count (the key would have to change back between them more often than it
+/// can), no order explains the history and leaves these keys. Does nothing at run time.
 pub fn counts_exclude_orders()
     ensures { CountsExcludeOrders }
 {}
 
-/// Returns 1 if the opening (or the final keys) counts as a call, which `None` means, else 0.
+/// Returns 1 if `bound` is `None`, else 0. `None` means that the opening state (or the final state) counts as a call.
 fn also(bound: Option<u64>) -> usize
     ensures { result ≡ also bound }
 {
@@ -61,7 +60,7 @@ fn also(bound: Option<u64>) -> usize
     }
 }
 
-// ---- Tests whether calls are a count
+// ---- Tests whether calls are a count (too many for any order)
 
 fn begins_in(call: StreamCall, was: Presence, since: Option<u64>) -> bool
     ensures { IsTrue result → BeginsIn was since (record_of call) }
@@ -108,8 +107,8 @@ fn has_ended_before(first: StreamCall, second: StreamCall) -> bool
     }
 }
 
-/// Returns whether the key must change back between two calls, whichever of them is first: either leaves the key in the
-/// state `was`, and the other needs the other state.
+/// Returns whether the key must change back between two calls, in each order that real time allows: whichever call
+/// comes first leaves the key in the state `was`, and the other call needs the other state.
 fn need_turn(first: StreamCall, second: StreamCall, was: Presence) -> bool
     ensures { IsTrue result → NeedTurn was (record_of first) (record_of second) }
 {
@@ -214,8 +213,8 @@ fn turning_in(
         .collect(alloc)
 }
 
-/// Returns whether `count` is a count of these calls of its key. Its `backs` must be all calls that can change the key
-/// back. `there` is the state of the key at the opening, `left` its final state, if known.
+/// Returns whether `count` has calls that are too many for any order of these calls on its key. Its `backs` must be all
+/// calls that can change the key back. `there` is the key's opening state, `left` its final state, if known.
 fn is_count(calls: &[StreamCall], there: Presence, left: Option<Presence>, count: &Count) -> bool
     requires { count.now.backs.items ≡ filter (λ x. turns_in count.now.key.0 (other count.now.was) count.now.since count.now.until (record_of x)) calls.now }
     ensures { IsTrue result → IsCount (records calls.now) there left count.now }
@@ -240,7 +239,7 @@ fn is_count(calls: &[StreamCall], there: Presence, left: Option<Presence>, count
     need_turns(counted, was) && count.backs.len() < count.turns()
 }
 
-/// Returns the calls of the count that a stretch of time makes, in the order of their begins.
+/// Returns the calls in a stretch of time that can be too many for any order, ordered by start.
 fn counted_in(
     alloc: Global,
     calls: &[StreamCall],
@@ -261,7 +260,7 @@ fn counted_in(
     Ok(counted)
 }
 
-/// Returns the begin of the first of these calls as the new start of the count, unless the opening counts as a call.
+/// Returns the start of the first of these calls, or `None` if the opening state counts as a call.
 fn since_first(counted: &[StreamCall], since: Option<u64>) -> Option<u64> {
     match (since, counted.first()) {
         (Some(_), Some(first)) => Some(first.begun),
@@ -269,10 +268,10 @@ fn since_first(counted: &[StreamCall], since: Option<u64>) -> Option<u64> {
     }
 }
 
-/// Returns the smallest count of the calls of `key` that is found, if any. `calls` must be in the order of their
-/// begins. `there` is the state of the key at the opening, `left` its final state, if known.
+/// Returns the smallest count of calls on `key` that it finds, if any. `calls` must be ordered by start. `there` is the
+/// key's opening state, `left` its final state, if known.
 ///
-/// If a count is returned, no order explains the calls. The time is quadratic in the number of calls. Fails only if an
+/// If a count is returned, no order explains the calls. Takes quadratic time in the number of calls. Fails only if an
 /// allocation fails.
 pub fn find_count(
     alloc: Global,

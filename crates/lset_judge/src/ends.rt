@@ -1,4 +1,4 @@
-//! A heap of the ends of calls. Returns the earliest end in constant time. Inserting and removing an end needs
+//! A heap of the ends of calls. Reading the earliest end takes constant time. Inserting or removing an end takes
 //! logarithmic time.
 
 ghost use Rattle.std.specs.Prelude.{◌≡◌, ◌==◌, ◌<◌, ◌≤◌, ◌∷◌, [], suc, length, slice_get, All, IsTrue, MatchOption, Some, OnOk, OnErr};
@@ -43,7 +43,7 @@ impl Ends {
         self.heap.is_empty()
     }
 
-    /// Returns whether all ends are later than the moment after `before`.
+    /// Returns whether all ends are later than `before` + 1.
     pub(crate) fn none_due(&self, before: u64) -> bool
         ensures { result ≡ (not_before (suc (suc before)) self.now == length self.now) }
     {

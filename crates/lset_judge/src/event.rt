@@ -1,4 +1,4 @@
-//! Events of a key: the begins and ends of its calls, as the judge sees them.
+//! Events of a key: the starts and ends of its calls, as the judge sees them.
 
 ghost use Rattle.std.specs.Prelude.{◌≡◌};
 ghost use Rattle.lset_judge.specs.Code.{event_as};
@@ -6,20 +6,20 @@ ghost use Rattle.lset_judge.specs.Events.{kind_as, open_kind, begin_event, end_e
 
 use lset_words::{Call, Effect, Presence};
 
-/// An event of a key at some moment: what the begin or end of a call means for the key.
+/// What the start or the end of a call means for its key.
 #[derive(Clone, Copy, Debug, PartialEq, Eq)]
 pub(crate) enum Event {
-    /// A change begins: the state to which it changes the key, and the moment before which it takes effect.
+    /// A change starts: the state to which it changes the key, and the moment before which it takes effect.
     Begins(Presence, u64),
     /// A change ends: the state to which it changed the key.
     Ends(Presence),
-    /// A read ends: the state of the key that it saw, and when the call began.
+    /// A read ends: the state in which it saw the key, and when the read started.
     Looks(Presence, u64),
-    /// An event that does not matter to the judge.
+    /// The call does not matter to the judge.
     Idle,
 }
 
-/// Returns the effect that a call without an end can have on its key.
+/// Returns the effect that a pending call can have on its key.
 pub(crate) fn open_effect(call: Call) -> Effect
     ensures { kind_as result ≡ open_kind call }
 {
@@ -30,7 +30,7 @@ pub(crate) fn open_effect(call: Call) -> Effect
     }
 }
 
-/// Returns the event of a call's begin. `until` is the moment before which the call takes effect.
+/// Returns the event when a call starts. `until` is the moment before which the call takes effect.
 pub(crate) fn begin_event(effect: Effect, until: u64) -> Event
     ensures { event_as result ≡ begin_event (kind_as effect) until }
 {
@@ -40,7 +40,7 @@ pub(crate) fn begin_event(effect: Effect, until: u64) -> Event
     }
 }
 
-/// Returns the event of a call's end. `begun` is when the call began.
+/// Returns the event when a call ends. `begun` is when the call started.
 pub(crate) fn end_event(effect: Effect, begun: u64) -> Event
     ensures { event_as result ≡ end_event (kind_as effect) begun }
 {

@@ -1,4 +1,4 @@
-//! Facts about the calls of a key. From these facts the judge finds a clash: two calls of the key that rule out every
+//! Facts about the calls on a key. From these facts the judge finds a clash: two calls on the key that rule out every
 //! order.
 
 ghost use Rattle.std.specs.Prelude.{◌≡◌, IfSome, IsTrue, Some};
@@ -41,7 +41,7 @@ fn kept_as(call: Call, reply: Reply) -> Option<(Presence, Kept)>
     }
 }
 
-/// Returns the `add`, `remove` or `contains` that a kept call of this kind was. It left `key` in the state `was`.
+/// Returns the call (`add`, `remove` or `contains`) that is of this kind and left `key` in the state `was`.
 fn word_kept(kept: Kept, was: Presence, key: Key) -> Call
     ensures { result ≡ word_kept kept was key }
 {
@@ -52,7 +52,7 @@ fn word_kept(kept: Kept, was: Presence, key: Key) -> Call
     }
 }
 
-/// Returns the reply of a kept call of this kind, which left its key in the state `was`.
+/// Returns the reply of a call that is of this kind and left its key in the state `was`.
 fn reply_kept(kept: Kept, was: Presence) -> Reply
     ensures { result ≡ reply_kept kept was }
 {
@@ -74,8 +74,8 @@ impl KeyState {
         }
     }
 
-    /// Returns the kept call of `key`, which has this state: a completed call that left the key in the state `was`.
-    /// Returns `None` if the key had this state at the opening.
+    /// Returns the kept call of `key`: a completed call that left the key in the state `was`. Returns `None` if the key
+    /// was in this state when the set opened.
     fn first(&self, key: Key) -> Option<StreamCall>
         ensures { result ≡ first_of key.0 (facts_of self.now) }
     {
@@ -90,8 +90,8 @@ impl KeyState {
         })
     }
 
-    /// Records the begin of a call after the judge has found that no order exists. Only the moments by which changes
-    /// end are raised, since the pending changes no longer matter.
+    /// Records the start of a call after the judge has found that no order exists. Only raises the moments by which
+    /// changes end, since the pending changes no longer matter.
     pub(crate) fn note_begin(&mut self, event: Event)
         ensures { facts_of self.new ≡ begun_by (event_as event) (facts_of self.old) }
     {
@@ -102,8 +102,8 @@ impl KeyState {
         }
     }
 
-    /// Returns whether each call that can change the key from the state `was` has ended by the begin of the kept call
-    /// `first`. Without a kept call, returns whether no such call has begun.
+    /// Returns whether each call that can change the key to a state other than `was` has ended when the stored call
+    /// `first` starts. If `first` is `None`, returns whether no such call has started.
     fn is_standing(&self, first: Option<StreamCall>, key: Key) -> bool
         requires { first ≡ first_of key.0 (facts_of self.now) }
         ensures { IsTrue result → IsStanding key.0 (facts_of self.now) }
@@ -116,7 +116,7 @@ impl KeyState {
     }
 
     /// Returns whether the second call comes after the first in real time, or the two calls also clash in the opposite
-    /// order, as far as the facts show this. Returns true if `first` is `None`.
+    /// order according to these facts. Returns true if `first` is `None`.
     fn comes_after(&self, first: Option<StreamCall>, second: StreamCall) -> bool
         ensures { IsTrue result → ComesAfter (facts_of self.now) first second }
     {
@@ -137,7 +137,8 @@ impl KeyState {
             && ends_by(first, second)
     }
 
-    /// Returns the kept call and the call `second`, which ends, if the facts show that the two clash.
+    /// Returns the clash of the stored call (the kept call) with the call `second`, which ends now, if according to
+    /// these facts no order can have both.
     pub(crate) fn clash_of(&self, second: StreamCall) -> Option<Clash>
         ensures { IfSome result (IsFound (facts_of self.now) second) }
     {
@@ -156,15 +157,16 @@ impl KeyState {
         })
     }
 
-    /// Stores the kept call and the call `second`, which ends, if the facts show that the two clash. A separate
-    /// function, so that other ends need no stack space for a `Clash`.
+    /// Stores the clash of the kept call with the call `second`, which ends now, in `clash`, if these facts show one. A
+    /// separate function, so that the ends of other calls need no stack space for a `Clash`.
     pub(crate) fn store_clash(&self, second: StreamCall, clash: &mut Option<Clash>)
         ensures { IfSome clash.new (IsFound (facts_of self.now) second) }
     {
         *clash = self.clash_of(second);
     }
 
-    /// Returns the kept call, if the facts show that it clashes with `left` as the final state of the key.
+    /// Returns the clash of the stored call (the kept call) with the key's final state `left`, if according to these
+    /// facts no order can have both.
     pub(crate) fn clash_left(&self, key: Key, left: Presence) -> Option<Clash>
         ensures { IfSome result (IsFoundLeft key.0 (facts_of self.now) left) }
     {
@@ -179,15 +181,15 @@ impl KeyState {
         })
     }
 
-    /// Returns whether a completed call that began at `begun` and left the key in the state `was` replaces the kept
-    /// call. Each change to the other state must have ended by `begun`. A kept call with the same state stays if each
-    /// such change had ended by its own begin.
+    /// Returns whether a completed call replaces the kept call. The call started at `begun` and left the key in the
+    /// state `was`. All changes to the other state must have ended by `begun`. A kept call that left the same state
+    /// stays if all such changes had ended when it started.
     fn is_to_be_kept(&self, begun: u64, was: Presence) -> bool {
         let until = self.until(other(was));
         until <= begun && !(self.was == was && until <= self.begun)
     }
 
-    /// Records that a call ends: the call replaces the kept call, or the facts stay as they are.
+    /// Records that a call ends: the call replaces the stored call (the kept call), or nothing changes.
     pub(crate) fn keep(&mut self, call: StreamCall)
         ensures state { state_of self.new ≡ state_of self.old }
         ensures ended { IsEnded call (facts_of self.old) (facts_of self.new) }

@@ -51,7 +51,7 @@ fn adds_of(calls: &[CallRecord], thread: u32) -> usize
         .count()
 }
 
-/// Returns whether each thread's quota is at least the number of its `add`s that returned true or are pending.
+/// Returns whether no thread has more `add`s that returned true or are pending than its quota allows.
 fn has_room(history: &History) -> bool
     ensures { IsTrue result ↔ ((thread : ℕ) → adds_of thread history.now.calls ≤ history.now.opening.quota) }
 {
@@ -67,17 +67,18 @@ fn has_room(history: &History) -> bool
 
 /// Returns whether each completed call of a history returned true or false and is no `ceiling`. Does not allocate.
 ///
-/// The judge decides such a history if each thread's quota is at least the number of its `add`s.
+/// The judge decides such a history if no thread has more `add`s that returned true or are pending than its quota
+/// allows.
 pub fn is_plain(history: &History) -> bool
     ensures { IsTrue result ↔ IsPlain history.now.calls }
 {
     all_plain(history.calls())
 }
 
-/// Returns whether `judge` decides a history, and does not return `Undecided`. Does not allocate.
+/// Returns whether `judge` decides a history, so that it does not return `Undecided`. Does not allocate.
 ///
-/// Each completed call must have returned true or false and be no `ceiling`. Each thread's quota must be at least the
-/// number of its `add`s that returned true or are pending.
+/// Each completed call must have returned true or false and be no `ceiling`. No thread can have more `add`s that
+/// returned true or are pending than its quota allows.
 pub fn is_judged(history: &History) -> bool
     ensures { IsTrue result ↔ IsJudged history.now }
 {

@@ -20,11 +20,11 @@ use std::alloc::{AllocError, Global};
 pub enum Judged {
     /// Some order explains the calls, from the opening keys, and leaves the final keys.
     Linearizable,
-    /// No order explains the calls and leaves the final keys. Contains the reason, and two calls that clash, if they
-    /// were found.
+    /// No order explains the calls and leaves the final keys. Contains the reason, and two calls that clash, if the
+    /// judge found them.
     NotLinearizable(Refusal, Option<Clash>),
     /// Not decided: a completed call is a `ceiling`, or returned neither true nor false. Some order explains the calls
-    /// after each such call was replaced by one that the judge knows.
+    /// if each such call is replaced by one that the judge can decide.
     Undecided,
 }
 
@@ -70,7 +70,8 @@ fn read_as(call: &CallRecord) -> StreamCall
     }
 }
 
-/// Adds the next call of the history, which must be allowed to come next. Fails only if an allocation fails.
+/// Adds the next call of the history. The caller must know that this call can come next. Fails only if an allocation
+/// fails.
 fn add_next(judge: &mut Judge, call: StreamCall) -> Result<(), AllocError>
     requires { MayCome (pending_in judge.old.stream) (moment_of judge.old.stream) (record_of call) }
     ensures added { OnOk result ((threads : ℕ) (opening : List ℕ) (calls : List RecordedCall) → call.thread < threads
@@ -93,7 +94,7 @@ fn add_next(judge: &mut Judge, call: StreamCall) -> Result<(), AllocError>
     }
 }
 
-/// Decides whether some order linearizes the calls of a history from its opening keys and leaves `keys`, for a set
+/// Decides whether some order linearizes the calls in a history from its opening keys and leaves `keys`, for a set
 /// without a quota. `keys` must be in increasing order.
 ///
 /// The answer is exact if each completed call returned true or false and is no `ceiling`. For any other history, the

@@ -1,4 +1,4 @@
-//! The changes of a key that have begun: `add`s and `remove`s that returned true or are pending.
+//! The changes of a key that have started: `add`s and `remove`s that returned true or are pending.
 
 ghost use Rattle.std.specs.Prelude.{◌≡◌, ◌==◌, ◌≤◌, ◌∷◌, [], suc, length, max, true, false, IsTrue, MatchOption, OnOk};
 ghost use Rattle.lset_judge.specs.Code.{puts_in, takes_in, is_many, AreSame};
@@ -10,8 +10,8 @@ use crate::stream::BEHIND_ALL;
 use lset_words::Presence;
 use std::alloc::{AllocError, Global};
 
-/// The changes of a key in heaps: the ends of pending `add`s and `remove`s that have not taken effect, and how many
-/// changes are pending.
+/// The pending changes of a key in heaps: the ends of the `add`s and of the `remove`s that have not taken effect, and
+/// how many changes are pending.
 #[derive(Drop)]
 pub(crate) struct ManyChanges {
     puts: Ends,
@@ -22,33 +22,32 @@ pub(crate) struct ManyChanges {
 /// The pending changes of a key that have not taken effect.
 ///
 /// A key needs no heaps, and no allocation, as long as its changes do not overlap, `add`s and `remove`s alternate, and
-/// each has an end.
+/// no change is pending at the end of the recording.
 #[derive(Drop)]
 pub(crate) enum Held {
-    /// No change is pending that has not taken effect.
+    /// Every pending change has taken effect.
     Nothing,
-    /// A single pending `add`, which ends at `puts_until`.
+    /// Only one pending change has not taken effect: an `add` that ends at `puts_until`.
     Put,
-    /// A single pending `remove`, which ends at `takes_until`.
+    /// Only one pending change has not taken effect: a `remove` that ends at `takes_until`.
     Take,
     /// Any number of changes, in heaps.
     Many(Box<ManyChanges>),
 }
 
-/// The changes of a key that have begun: a moment by which they end, and the ends of those that are pending and have
-/// not taken effect. A change without an end counts as ending after all moments.
+/// The changes of a key that have started: a moment by which all of them end, and the ends of those that have not taken
+/// effect. A change without an end counts as ending after all moments.
 #[derive(Drop)]
 pub(crate) struct KeyChanges {
-    /// The latest end of the `add`s of the key that have begun, and are pending or returned true. 0 without such calls.
+    /// The latest end of the key's `add`s that have started and returned true or are pending. 0 if the key has none.
     pub(crate) puts_until: u64,
-    /// The latest end of the `remove`s of the key that have begun, and are pending or returned true. 0 without such
-    /// calls.
+    /// The latest end of the key's `remove`s that have started and returned true or are pending. 0 if the key has none.
     pub(crate) takes_until: u64,
     held: Held,
 }
 
 impl KeyChanges {
-    /// Returns the changes of a key before its first change. Does not allocate.
+    /// Returns the value for a key without changes. Does not allocate.
     pub(crate) fn none() -> KeyChanges
         ensures puts { puts_in result ≡ [] }
         ensures takes { takes_in result ≡ [] }
@@ -84,8 +83,7 @@ impl KeyChanges {
         }
     }
 
-    /// Returns whether each pending `add` of the key that has not taken effect ends later than at the moment after
-    /// `before`.
+    /// Returns whether each pending `add` of the key that has not taken effect ends later than at `before` + 1.
     pub(crate) fn no_put_is_due(&self, before: u64) -> bool
         ensures { result ≡ (not_before (suc (suc before)) (puts_in self.now) == length (puts_in self.now)) }
     {
@@ -96,8 +94,7 @@ impl KeyChanges {
         }
     }
 
-    /// Returns whether each pending `remove` of the key that has not taken effect ends later than at the moment after
-    /// `before`.
+    /// Returns whether each pending `remove` of the key that has not taken effect ends later than at `before` + 1.
     pub(crate) fn no_take_is_due(&self, before: u64) -> bool
         ensures { result ≡ (not_before (suc (suc before)) (takes_in self.now) == length (takes_in self.now)) }
     {
@@ -108,7 +105,7 @@ impl KeyChanges {
         }
     }
 
-    /// Removes the `add` with the earliest end from the pending `add`s that have not taken effect. Returns its end.
+    /// Of the pending `add`s that have not taken effect, removes the one with the earliest end and returns this end.
     pub(crate) fn pop_put(&mut self) -> Option<u64>
         ensures popped { MatchOption result (puts_in self.old ≡ [])
             (λ end. (puts_in self.old ≡ end ∷ puts_in self.new) × (nearest end (puts_in self.new) ≡ end)) }
@@ -126,8 +123,7 @@ impl KeyChanges {
         }
     }
 
-    /// Removes the `remove` with the earliest end from the pending `remove`s that have not taken effect. Returns its
-    /// end.
+    /// Of the pending `remove`s that have not taken effect, removes the one with the earliest end and returns this end.
     pub(crate) fn pop_take(&mut self) -> Option<u64>
         ensures popped { MatchOption result (takes_in self.old ≡ [])
             (λ end. (takes_in self.old ≡ end ∷ takes_in self.new) × (nearest end (takes_in self.new) ≡ end)) }
@@ -145,13 +141,13 @@ impl KeyChanges {
         }
     }
 
-    /// Returns how many changes with an end are pending after the moment `before`, and when the last of the other
-    /// changes ended.
+    /// Returns how many changes with an end are pending after the moment `before`, and when the last completed change
+    /// ended.
     pub(crate) fn counts(&self, before: u64) -> Changes {
         if let Held::Many(many) = &self.held {
             return many.counts;
         }
-        // Without heaps, changes do not overlap: only the one with the latest end can be pending.
+        // Without heaps, changes do not overlap, so only the one with the latest end can be pending.
         let last = self.puts_until.max(self.takes_until);
         if before < last {
             Changes::one(self.puts_until.min(self.takes_until))
@@ -169,8 +165,8 @@ impl KeyChanges {
         }
     }
 
-    /// Returns whether a change to the state `to` needs no heap, if it begins at the moment after `before` and ends at
-    /// `end`: it has an end, each earlier change has ended by `before`, and the last of them was to the other state.
+    /// Returns whether a change to the state `to`, from moment `before` + 1 to `end`, needs no heap: it has an end,
+    /// each earlier change has ended by `before`, and the last of them was to the other state.
     fn is_alone(&self, to: Presence, before: u64, end: u64) -> bool
         ensures alone { IsTrue result → is_many self.now.held ≡ false }
         ensures puts { IsTrue result → (puts_in self.now ≡ []) × (takes_in self.now ≡ []) }
@@ -246,8 +242,8 @@ impl KeyChanges {
         }
     }
 
-    /// Raises `puts_until` to at least `end`. Without heaps, this also moves the end of a pending `add`. Call this
-    /// function only if the changes are in heaps, or after the judge has found that no order exists.
+    /// Raises `puts_until` to at least `end`. Without heaps, this also moves the end of a pending `add`. Call it only
+    /// if the changes are in heaps, or after the judge has found that no order exists.
     pub(crate) fn raise_puts(&mut self, end: u64)
         ensures puts { is_many self.old.held ≡ true → puts_in self.new ≡ puts_in self.old }
         ensures takes { takes_in self.new ≡ takes_in self.old }
@@ -257,8 +253,8 @@ impl KeyChanges {
         self.puts_until = self.puts_until.max(end);
     }
 
-    /// Raises `takes_until` to at least `end`. Without heaps, this also moves the end of a pending `remove`. Call this
-    /// function only if the changes are in heaps, or after the judge has found that no order exists.
+    /// Raises `takes_until` to at least `end`. Without heaps, this also moves the end of a pending `remove`. Call it
+    /// only if the changes are in heaps, or after the judge has found that no order exists.
     pub(crate) fn raise_takes(&mut self, end: u64)
         ensures puts { puts_in self.new ≡ puts_in self.old }
         ensures takes { is_many self.old.held ≡ true → takes_in self.new ≡ takes_in self.old }
@@ -268,8 +264,8 @@ impl KeyChanges {
         self.takes_until = self.takes_until.max(end);
     }
 
-    /// Records an `add` that begins at the moment after `before` and ends at `end`. An `add` without an end has an
-    /// `end` after all moments.
+    /// Records an `add` that starts at moment `before` + 1 and ends at `end`. For an `add` without an end, `end` is
+    /// after all moments.
     pub(crate) fn begin_put(
         &mut self,
         alloc: Global,
@@ -294,8 +290,8 @@ impl KeyChanges {
         Ok(())
     }
 
-    /// Records a `remove` that begins at the moment after `before` and ends at `end`. A `remove` without an end has an
-    /// `end` after all moments.
+    /// Records a `remove` that starts at moment `before` + 1 and ends at `end`. For a `remove` without an end, `end` is
+    /// after all moments.
     pub(crate) fn begin_take(
         &mut self,
         alloc: Global,

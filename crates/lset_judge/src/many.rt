@@ -1,5 +1,5 @@
-//! Many pending calls, in a hash table by their ends. Adding and removing a call needs a few look-ups, and time
-//! logarithmic in the number of calls.
+//! Many pending calls, in a hash table indexed by their ends. Adding or removing a call takes a few look-ups, plus
+//! logarithmic time in the number of calls.
 
 ghost use Rattle.std.specs.Prelude.{◌≡◌, ◌≢◌, ◌↔◌, ◌<◌, ◌≤◌, ◌∷◌, [], IsTrue, All, Contains, IfSome, MatchOption, OnOk, length};
 ghost use Rattle.std.specs.List.Sorted.{IsPermutation};
@@ -35,7 +35,7 @@ impl Model for ManyCalls {
     ghost invariant = { λ c. AreHeld c.calls.entries c.ends c.busy };
 }
 
-/// Returns the moment at which a call ends, or its begin if it has no end.
+/// Returns the moment at which a call ends, or its start if it has no end.
 pub(crate) fn end_or_begin(call: StreamCall) -> u64
     ensures { result ≡ end_or call.begun call.ended }
 {
@@ -53,7 +53,7 @@ fn pop_before(calls: &mut HashMap<u64, StreamCall>, ends: &mut Ends, moment: u64
         (λ p. (p.end < moment) × IsPermutation calls.old.entries ((p.end, p.call) ∷ calls.new.entries)
         × All (λ e. p.end ≤ e.0) calls.old.entries) }
 {
-    // If the allocation for a call has failed, its end is in the heap without the call.
+    // After a failed allocation, the heap can contain an end whose call is not in the table.
     while let Some(end) = ends.pop_before(moment) {
         if let Some(call) = calls.remove(&end) {
             return Some(Pending { end, call });
@@ -96,7 +96,7 @@ impl ManyCalls {
         !self.calls.contains_key(&moment)
     }
 
-    /// Returns whether no call in the table ends when `call` begins or ends.
+    /// Returns whether no call in the table ends when `call` starts or ends.
     pub(crate) fn are_apart(&self, call: StreamCall) -> bool
         ensures { IsTrue result
             ↔ All (λ p. (p.end ≢ call.begun) × IfSome call.ended (λ end. p.end ≢ end.0)) self.now }
@@ -104,7 +104,7 @@ impl ManyCalls {
         self.none_ends_at(call.begun) && self.none_ends_at(end_or_begin(call))
     }
 
-    /// Returns whether the thread of `call` has no call in the table that is pending when `call` begins.
+    /// Returns whether the thread of `call` has no pending call in the table when `call` starts.
     pub(crate) fn are_free(&self, call: StreamCall) -> bool
         ensures { IsTrue result ↔ All (λ p. p.call.thread ≡ call.thread → p.end ≤ call.begun) self.now }
     {
@@ -129,7 +129,7 @@ impl ManyCalls {
         pop_before(&mut self.calls, &mut self.ends, moment)
     }
 
-    /// Inserts a call. Its thread and its end must differ from those of each call in the table.
+    /// Inserts a call. No call in the table can have the same thread or the same end.
     pub(crate) fn insert(&mut self, pending: Pending) -> Result<(), AllocError>
         requires { All (λ p. p.call.thread ≢ pending.call.thread) self.old }
         ensures { OnOk result (All (λ p. p.end ≢ pending.end) self.old → IsPermutation (pending ∷ self.old) self.new) }

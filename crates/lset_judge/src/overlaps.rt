@@ -1,9 +1,8 @@
-//! Counts the calls that overlap a change of their key. If only few calls do, it says little that some order explains
-//! all calls.
+//! Counts the calls that overlap a change of their key. If only few calls do, the verdict `Linearizable` says little.
 
 use crate::stream::BEHIND_ALL;
 
-/// The changes of a key that have an end: how many are pending, and when the last of the others ended.
+/// The changes of a key that have an end: how many are pending, and when the last completed one ended.
 #[derive(Clone, Copy)]
 pub(crate) struct Changes {
     pending: u64,
@@ -11,8 +10,7 @@ pub(crate) struct Changes {
 }
 
 impl Changes {
-    /// Returns the value for one pending change. The last of the others ended at `last_end`, or 0 if the key has no
-    /// others.
+    /// Returns the value for one pending change. The last completed change ended at `last_end`, or 0 if there is none.
     pub(crate) fn one(last_end: u64) -> Changes {
         Changes {
             pending: 1,
@@ -20,7 +18,7 @@ impl Changes {
         }
     }
 
-    /// Returns the value for changes that have all ended, the last of them at `last_end`, or 0 if the key has none.
+    /// Returns the value for a key without pending changes. The last change ended at `last_end`, or 0 if there is none.
     pub(crate) fn ended(last_end: u64) -> Changes {
         Changes {
             pending: 0,
@@ -28,7 +26,7 @@ impl Changes {
         }
     }
 
-    /// Records that a change begins, which takes effect before `until`. If `until` is at least `BEHIND_ALL`, the change
+    /// Records the start of a change that takes effect before `until`. If `until` is at least `BEHIND_ALL`, the change
     /// has no end and is not counted.
     pub(crate) fn begin(&mut self, until: u64) {
         if until < BEHIND_ALL {
@@ -42,8 +40,8 @@ impl Changes {
         self.last_end = moment;
     }
 
-    /// Returns whether a pending call of the key overlaps a change other than itself. `is_change` says whether the call
-    /// is a change with an end, `begun` is when it began.
+    /// Returns whether a pending call overlaps a change of its key other than itself. `is_change` says whether the call
+    /// is a change with an end; `begun` is when it started.
     pub(crate) fn overlap(self, is_change: bool, begun: u64) -> bool {
         self.pending > u64::from(is_change) || begun < self.last_end
     }

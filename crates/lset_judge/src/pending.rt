@@ -1,4 +1,4 @@
-//! The pending calls of a recording that is judged call by call.
+//! The pending calls in a recording that is judged call by call.
 
 ghost use Rattle.std.specs.Prelude.{◌≡◌, ◌≢◌, ◌<◌, ◌≤◌, ◌∷◌, ◌++◌, [], ◌^◌, ◌-◌, All, IfSome, MatchOption, OnOk, length, slice_index_or};
 ghost use Rattle.std.specs.List.Sorted.{IsPermutation};
@@ -12,11 +12,11 @@ use std::alloc::{AllocError, Global};
 use std::collections::HashMap;
 use std::marker::Model;
 
-/// The maximum number of pending calls that are kept in a vector and searched one by one.
+/// The maximum number of pending calls in the vector. They are searched one by one.
 const FEW: usize = 32;
 
-/// The pending calls of a recording. Up to `FEW` of them are searched one by one, which is fastest. The others are in a
-/// hash table, and a call needs time logarithmic in their number.
+/// The pending calls in a recording. Up to `FEW` of them are in a vector and searched one by one, which is fastest. The
+/// others are in a hash table, where inserting or removing a call takes logarithmic time.
 #[derive(Drop)]
 pub(crate) struct PendingCalls {
     few: Vec<Pending>,
@@ -38,8 +38,8 @@ impl Model for PendingCalls {
     ghost invariant = { λ c. IsFirst c.next c.few.items };
 }
 
-/// Returns why `call` cannot begin while the calls `few` are pending, or `None` if it can. It cannot if one of them
-/// ends at the begin or the end of `call`, or is a pending call of the same thread.
+/// Returns why `call` cannot start while the calls `few` are pending, or `None` if it can. It cannot if one of them
+/// ends when `call` starts or ends, or is a pending call of the same thread.
 fn clash(few: &[Pending], call: StreamCall) -> Option<StreamFault>
     ensures { MatchOption result
         (All (λ p. (p.end ≢ call.begun) × IfSome call.ended (λ end. p.end ≢ end.0)) few.now
@@ -64,7 +64,7 @@ fn clash(few: &[Pending], call: StreamCall) -> Option<StreamFault>
     }
 }
 
-/// Returns the index of the call with the earliest end, or 0 without calls.
+/// Returns the index of the call with the earliest end, or 0 if there are no calls.
 fn nearest_place(few: &[Pending]) -> usize
     ensures { IsFirst result few.now }
 {
@@ -82,7 +82,7 @@ fn nearest_place(few: &[Pending]) -> usize
     place
 }
 
-/// Returns the index of the call with the earliest end after `pending` is appended.
+/// Returns which index the call with the earliest end has once `pending` is appended.
 fn next_with(few: &[Pending], next: usize, pending: Pending) -> usize
     requires { IsFirst next few.now }
     ensures { IsFirst result (few.now ++ pending ∷ []) }
@@ -94,7 +94,7 @@ fn next_with(few: &[Pending], next: usize, pending: Pending) -> usize
     }
 }
 
-/// Returns the earliest end, or `u64::MAX` without calls.
+/// Returns the earliest end, or `u64::MAX` if there are no calls.
 fn end_of_few(few: &[Pending], next: usize) -> u64
     requires { IsFirst next few.now }
     ensures smallest { All (λ p. result ≤ p.end) few.now }
@@ -130,8 +130,8 @@ impl PendingCalls {
         }
     }
 
-    /// Returns why `call` cannot begin while these calls are pending, or `None` if it can. It cannot if one of them
-    /// ends at the begin or the end of `call`, or is a pending call of the same thread.
+    /// Returns why `call` cannot start while these calls are pending, or `None` if it can. It cannot if one of them
+    /// ends when `call` starts or ends, or is a pending call of the same thread.
     pub(crate) fn clash(&self, call: StreamCall) -> Option<StreamFault>
         ensures { MatchOption result
             (All (λ p. (p.end ≢ call.begun) × IfSome call.ended (λ end. p.end ≢ end.0)) self.now
@@ -171,7 +171,7 @@ impl PendingCalls {
         None
     }
 
-    /// Inserts a call. Its thread and its end must differ from those of each pending call.
+    /// Inserts a call. No pending call can have the same thread or the same end.
     pub(crate) fn insert(&mut self, pending: Pending) -> Result<(), AllocError>
         requires { All (λ p. p.call.thread ≢ pending.call.thread) self.old }
         ensures { OnOk result (All (λ p. p.end ≢ pending.end) self.old → IsPermutation (pending ∷ self.old) self.new) }
@@ -185,7 +185,7 @@ impl PendingCalls {
         self.many.insert(pending)
     }
 
-    /// Returns how many of the pending calls overlap a change of their key, after `moment`.
+    /// Returns how many calls that are pending after `moment` overlap a change of their key.
     pub(crate) fn overlapping(&self, states: &HashMap<u32, KeyState>, moment: u64) -> u64 {
         let mut count: u64 = 0;
         for pending in &self.few {

@@ -1,4 +1,4 @@
-//! The judge's rule for one key: which pending change of the key takes effect, and when it must.
+//! The judge's rule for one key: which pending change takes effect, and when it must.
 
 ghost use Rattle.std.specs.Prelude.{◌≡◌, suc, true, IfOk, IfSome, OnOk, Some, None};
 ghost use Rattle.std.specs.Prelude.{if◌then◌else◌};
@@ -17,10 +17,10 @@ use crate::stream::StreamCall;
 use lset_words::Presence;
 use std::alloc::{AllocError, Global};
 
-/// The kind of the kept call of a key: a completed call that left the key in the state `was`.
+/// The kind of a key's kept call, which is a completed call that left the key in the state `was`.
 #[derive(Clone, Copy)]
 pub(crate) enum Kept {
-    /// No call: the key had the state `was` at the opening.
+    /// No call: the key was in the state `was` when the set opened.
     Opening,
     /// An `add` or a `remove` that returned true.
     Change,
@@ -30,27 +30,27 @@ pub(crate) enum Kept {
     Look,
 }
 
-/// The state of a key: whether it is present, since when, its changes, and its kept call. The kept call is a completed
-/// call that a later call can clash with. (64 bytes.)
+/// The state of a key: whether it is present, since when, its changes, and its kept call, which is the completed call
+/// with which a later call can clash. (64 bytes.)
 #[derive(Drop)]
 pub(crate) struct KeyState {
     pub(crate) changes: KeyChanges,
     turned: u64,
-    /// The begin of the kept call.
+    /// When the stored completed call (the kept call) started.
     pub(crate) begun: u64,
-    /// The end of the kept call.
+    /// When the stored completed call (the kept call) ended.
     pub(crate) ended: u64,
-    /// The thread of the kept call.
+    /// The thread of the stored completed call (the kept call).
     pub(crate) thread: u32,
     pub(crate) kept: Kept,
-    /// The state (present or absent) in which the kept call left the key. Without a kept call, the state at the
-    /// opening.
+    /// The state (present or absent) in which the stored call (the kept call) left the key. If no call is stored, the
+    /// key's opening state.
     pub(crate) was: Presence,
     there: Presence,
 }
 
 impl KeyState {
-    /// Returns the state of a key without calls. `there` is its presence at the opening. Does not allocate.
+    /// Returns the state of a key without calls. `there` says whether the set opens with the key. Does not allocate.
     pub(crate) fn opened(there: Presence) -> KeyState
         ensures state { state_of result ≡ opened (is_there there) }
         ensures facts { facts_of result ≡ facts_opened there }
@@ -130,8 +130,8 @@ impl KeyState {
         }
     }
 
-    /// Lets pending changes take effect just after the moment `before`, until the key has the state that `event` (at
-    /// the next moment) needs. Returns whether such a state is reached.
+    /// Lets pending changes take effect just after the moment `before`, until the key is in a state in which `event`
+    /// (at the next moment) is possible. Returns whether it reaches such a state.
     pub(crate) fn settle(&mut self, before: u64, event: Event) -> bool
         ensures found { found before (event_as event) (state_of self.old) ≡ (if result then Some (state_of self.new) else None) }
         ensures facts { facts_of self.new ≡ facts_of self.old }

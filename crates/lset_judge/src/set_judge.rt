@@ -1,4 +1,5 @@
-//! The judge of a recording whose calls come one after another. It returns a reason if no order explains the calls.
+//! The judge of a recording whose calls come one after another. If no order explains the calls, the judge returns the
+//! reason.
 
 ghost use Rattle.std.specs.Prelude.{◌≡◌, ◌<◌, ◌++◌, ◌∷◌, ◌≢◌, [], ℕ, IfErr, IfOk, IfSome, List, OnOk};
 ghost use Rattle.std.specs.List.Sorted.{IsStrictlyIncreasing};
@@ -19,22 +20,24 @@ use std::alloc::{AllocError, Global};
 pub enum Verdict {
     /// Some order explains the calls, from the opening keys, and leaves the final keys.
     Linearizable,
-    /// No order explains the calls and leaves the final keys. Contains the reason, and two calls that clash, if they
-    /// were found.
+    /// No order explains the calls and leaves the final keys. Contains the reason, and two calls that clash, if the
+    /// judge found them.
     NotLinearizable(Refusal, Option<Clash>),
 }
 
-/// A judge of the calls of a set, which come one after another in the order of their begins. `close` and
+/// A judge for the calls on a set. The calls must be added in the order in which they start. `close` and
 /// `close_cut_off` return whether some order explains all calls.
 ///
-/// A judge keeps the state of each key with at most one completed call, the pending calls, and the end of each thread's
-/// last call. Its memory grows with the numbers of keys, threads and pending calls, but not with the number of calls.
+/// A judge stores the state of each key with at most one completed call, the pending calls, and the end of each
+/// thread's last call. Its memory grows with the numbers of keys, threads and pending calls, but not with the number of
+/// calls.
 #[derive(Drop)]
 pub struct Judge {
     stream: Stream,
 }
 
-/// Returns the final state of the refusal's key if the refusal is about the final keys, else `None`.
+/// Returns the final state of the key that the reason (`refusal`) names if the reason is about the final keys, else
+/// `None`.
 fn left_as(keys: &[u32], refusal: Refusal) -> Option<Presence>
     requires { IsStrictlyIncreasing keys.now }
     ensures { result ≡ left_by keys.now refusal.key.0 refusal.moment }
@@ -45,7 +48,7 @@ fn left_as(keys: &[u32], refusal: Refusal) -> Option<Presence>
     }
 }
 
-/// Returns the two calls that clash in a refusal, if they were found.
+/// Returns the two clashing calls on the key that the reason (`refusal`) names, if the judge found them.
 fn clash_for(stream: &Stream, refusal: Refusal, left: Option<Presence>) -> Option<Clash>
     requires { IsToldBy stream.now.failed (NotLinearizable refusal) }
     ensures { IfSome result (λ c. (opening : List ℕ) → ClashesStream opening refusal left stream.now c) }
@@ -67,14 +70,14 @@ impl Judge {
         Ok(Judge { stream })
     }
 
-    /// Adds a call, which must begin after all calls added before.
+    /// Adds a call, which must start after all calls added before.
     ///
-    /// An error other than `Memory` is the reason why this call cannot come next. Nothing has changed then. After
-    /// `Memory`, the judge can no longer be used.
+    /// An error other than `Memory` is the reason why this call cannot come next; nothing changes then. After `Memory`,
+    /// the judge can no longer be used.
     pub fn add(&mut self, call: StreamCall) -> Result<(), StreamFault>
         ensures added { OnOk result ((threads : ℕ) (opening : List ℕ) (calls : List RecordedCall) → call.thread < threads
             → IsJudgeOf threads opening calls self.old → IsJudgeOf threads opening (calls ++ record_of call ∷ []) self.new) }
-        // The judge has advanced to the moment at which the call begins.
+        // The judge has advanced to the moment at which the call starts.
         ensures moment { OnOk result (moment_of self.new.stream ≡ call.begun) }
         ensures refused { IfErr result (λ fault. fault ≢ StreamFault.Memory
             → (MayCome (pending_in self.old.stream) (moment_of self.old.stream) (record_of call) → ⊥) × (self.new ≡ self.old)) }
@@ -82,7 +85,7 @@ impl Judge {
         self.stream.add(call)
     }
 
-    /// Returns how many calls overlap another call of the same key that is an `add` or a `remove` and returned true.
+    /// Returns how many calls overlap another call on the same key that is an `add` or a `remove` and returned true.
     /// The number can be wrong if no order explains the calls.
     pub fn overlapped(&self) -> u64 {
         self.stream.overlapped()

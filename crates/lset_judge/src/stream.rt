@@ -1,5 +1,4 @@
-//! A stream: the calls of a recording, which are judged one after another. Keeps the state of each key and the pending
-//! calls.
+//! A stream: the calls of a recording, judged one after another. Keeps the state of each key and the pending calls.
 
 ghost use Rattle.std.specs.Prelude.{◌≡◌, ◌≢◌, ◌↔◌, ◌<◌, ◌≤◌, ◌+◌, ◌++◌, ◌∷◌, [], ℕ, IsTrue, All, List, length, false, true, None, Some, IfOk, OnOk, IfErr, IfSome, MatchOption, if◌then◌else◌, ◌⊎◌};
 ghost use Rattle.std.specs.Prelude.{Contains, IsSome, slice_index_or, ◌==◌, ◌&&◌};
@@ -30,7 +29,7 @@ use std::alloc::{AllocError, Global};
 use std::collections::HashMap;
 use thiserror::Error;
 
-/// A call of a recording. `thread` is any number. `begun` is the moment at which the call begins, from 1 to
+/// A call of a recording. `thread` is any number. `begun` is the moment at which the call starts, from 1 to
 /// `LAST_MOMENT`. `ended` is the moment at which the call ends, later and at most `LAST_MOMENT`, and its reply. A call
 /// without an end is pending when the recording ends.
 #[derive(Clone, Copy, Debug, PartialEq, Eq)]
@@ -47,22 +46,22 @@ pub const LAST_MOMENT: u64 = (1 << 63) - 1;
 /// The smallest number that is greater than every moment.
 pub(crate) const BEHIND_ALL: u64 = 1 << 63;
 
-/// The reason why a call cannot come next. If several reasons apply, the first in this order is returned.
+/// The reason why a call cannot come next. If several reasons apply, the first one below is returned.
 #[derive(Clone, Copy, Debug, PartialEq, Eq, Error)]
 pub enum StreamFault {
-    /// The call begins at moment 0 or no later than an earlier call, or one of its moments is above `LAST_MOMENT`.
+    /// The call starts at moment 0 or no later than an earlier call, or one of its moments is above `LAST_MOMENT`.
     #[error("it begins at moment 0 or no later than a call before it, or a moment is too large")]
     Early,
-    /// The call ends no later than it begins.
+    /// The call ends no later than it starts.
     #[error("it does not end after its begin")]
     Ends,
     /// The call is a completed `ceiling`, or its reply is neither true nor false.
     #[error("it is a ceiling that ended, or its reply is not true or false")]
     NotPlain,
-    /// An earlier call ends at the moment at which this call begins or ends.
+    /// An earlier call ends at the moment at which this call starts or ends.
     #[error("a call before it ends at one of its moments")]
     Taken,
-    /// The thread already has a pending call when this call begins.
+    /// The thread already has a pending call when this call starts.
     #[error("its thread has a call pending")]
     Busy,
     /// An allocation failed.
@@ -93,9 +92,9 @@ pub(crate) enum StreamVerdict {
 pub struct Refusal {
     /// The key that rules out every order.
     pub key: Key,
-    /// No order explains the calls of the key that begin by this moment, with all their replies, whatever keys the
+    /// No order explains the calls on the key that start by this moment, with all their replies, whatever keys the
     /// order leaves. This is the first moment at which the judge's rule fails for any key. `None` if the rule fails for
-    /// no key, but no order explains all calls of this key and leaves its final state.
+    /// no key, but no order explains all calls on this key and leaves its final state.
     pub moment: Option<u64>,
 }
 
@@ -185,7 +184,7 @@ impl Pending {
         self.call.call.key().0
     }
 
-    /// Returns the event of the call's end.
+    /// Returns the event when the call ends.
     pub(crate) fn event(self) -> Event
         ensures { event_as result ≡ event_of self }
     {
@@ -193,7 +192,7 @@ impl Pending {
     }
 }
 
-/// Processes `event`, at the moment after `before`, of a key that has no state yet. Returns whether the judge's rule
+/// Processes `event` at the moment after `before`, for a key that has no state yet. Returns whether the judge's rule
 /// still succeeds. A separate function, so that other events need no stack space for a new state.
 fn meet_new_key(
     states: &mut HashMap<u32, KeyState>,
@@ -215,7 +214,7 @@ fn meet_new_key(
     Ok(goes_on)
 }
 
-/// Processes `event` of a key, at the moment after `before`. Returns whether the judge's rule still succeeds.
+/// Processes `event` of a key at the moment after `before`. Returns whether the judge's rule still succeeds.
 fn meet_key(
     states: &mut HashMap<u32, KeyState>,
     alloc: Global,
@@ -237,7 +236,7 @@ fn meet_key(
     Ok(goes_on)
 }
 
-/// Records the begin of a call of a key for which the judge's rule has failed.
+/// Records the start of a call on a key for which the judge's rule has failed.
 fn note_begin(
     states: &mut HashMap<u32, KeyState>,
     alloc: Global,
@@ -256,8 +255,8 @@ fn note_begin(
     Ok(())
 }
 
-/// Records the end of a call of a key for which the judge's rule has failed. Returns a clash of this call, if one is
-/// found.
+/// Records the end of a call on a key for which the judge's rule has failed. Returns a clash that involves this call,
+/// if the facts show one.
 fn note_end(states: &mut HashMap<u32, KeyState>, call: StreamCall) -> Option<Clash>
     ensures { EndIsKept states.old call states.new result }
 {
@@ -270,7 +269,7 @@ fn note_end(states: &mut HashMap<u32, KeyState>, call: StreamCall) -> Option<Cla
     None
 }
 
-/// The outcome of the end of a call.
+/// The result of processing the end of a call.
 #[derive(Clone, Copy)]
 struct EndMet {
     /// Whether the judge's rule succeeds at this end.
@@ -279,7 +278,7 @@ struct EndMet {
     overlaps: bool,
 }
 
-/// Processes the end of a call, at the moment after `before`, whose key has no state yet. If the judge's rule fails,
+/// Processes the end of a call at the moment after `before`, if its key has no state yet. If the judge's rule fails,
 /// searches for a call that clashes with this one.
 fn meet_new_key_end(
     states: &mut HashMap<u32, KeyState>,
@@ -308,7 +307,7 @@ fn meet_new_key_end(
     })
 }
 
-/// Processes the end of a call, at the moment after `before`. If the judge's rule fails, searches for a call that
+/// Processes the end of a call at the moment after `before`. If the judge's rule fails, searches for a call that
 /// clashes with this one.
 fn meet_key_end(
     states: &mut HashMap<u32, KeyState>,
@@ -370,7 +369,7 @@ fn smallest(key: u32, other: Option<u32>) -> u32
     }
 }
 
-/// Returns the verdict, if `key` is a key whose final state is impossible, or `None` if each final state is possible.
+/// Returns the verdict. `key` is a key whose final state is impossible, or `None` if every final state is possible.
 fn verdict_of_key(key: Option<u32>) -> StreamVerdict
     ensures { result ≡ verdict_of_key key }
 {
@@ -383,12 +382,12 @@ fn verdict_of_key(key: Option<u32>) -> StreamVerdict
     }
 }
 
-/// A stream: the calls of a recording, which are judged one after another in the order of their begins. Keeps the state
-/// of each key, the pending calls, and the end of each thread's last call. Its memory grows with the numbers of keys,
-/// threads and pending calls, but not with the number of calls.
+/// A stream: the calls of a recording, ordered by start and judged one after another. Stores the state of each key, the
+/// pending calls, and the end of each thread's last call. Its memory grows with the numbers of keys, threads and
+/// pending calls, but not with the number of calls.
 ///
 /// `verdict` and `verdict_cut_off` return whether some order explains all calls. The judge's rule looks at the moments
-/// of each key only once and in order. No moment has to be stored.
+/// of each key once and in order, so no past moment must be stored.
 #[derive(Drop)]
 pub(crate) struct Stream {
     alloc: Global,
@@ -396,7 +395,7 @@ pub(crate) struct Stream {
     pending: PendingCalls,
     moment: u64,
     failed: Option<Failed>,
-    /// Two calls that clash, of the key for which the judge's rule has failed, if they were found.
+    /// Two calls that clash, on the key for which the judge's rule has failed, if they were found.
     clash: Option<Clash>,
     /// The number of completed calls that overlap a change of their key.
     overlapped: u64,
@@ -469,7 +468,8 @@ impl Stream {
         Ok(())
     }
 
-    /// Forgets the two calls that clash. A separate function, so that ends of calls need no stack space for a `Clash`.
+    /// Forgets the two clashing calls. A separate function, so that the ends of calls need no stack space for a
+    /// `Clash`.
     fn forget_clash(&mut self)
         ensures { self.new ≡ record self.old { clash = None } }
     {
@@ -546,7 +546,7 @@ impl Stream {
         Ok(())
     }
 
-    /// Processes the begin of a call. All ends before this begin must have been processed.
+    /// Processes the start of a call. All earlier ends must have been processed.
     fn begin(&mut self, call: StreamCall) -> Result<(), AllocError>
         requires may { MayCome self.old.pending self.old.moment (record_of call) }
         requires met { All (λ p. call.begun ≤ p.end) self.old.pending }
@@ -575,14 +575,14 @@ impl Stream {
         Ok(())
     }
 
-    /// Adds a call, which must begin after all calls added before.
+    /// Adds a call, which must start after all calls added before.
     ///
-    /// An error other than `Memory` is the reason why this call cannot come next. Nothing has changed then. After
-    /// `Memory`, the stream can no longer be used.
+    /// An error other than `Memory` is the reason why this call cannot come next; nothing changes then. After `Memory`,
+    /// the stream can no longer be used.
     pub fn add(&mut self, call: StreamCall) -> Result<(), StreamFault>
         ensures added { OnOk result ((threads : ℕ) (opening : List ℕ) (calls : List RecordedCall) → call.thread < threads
             → IsStreamKept threads opening calls self.old → IsStreamKept threads opening (calls ++ record_of call ∷ []) self.new) }
-        // The stream has advanced to the moment at which the call begins.
+        // The stream has advanced to the moment at which the call starts.
         ensures moment { OnOk result (moment_of self.new ≡ call.begun) }
         ensures refused { IfErr result (λ fault. fault ≢ StreamFault.Memory
             → (MayCome (pending_in self.old) (moment_of self.old) (record_of call) → ⊥) × (self.new ≡ self.old)) }
@@ -594,8 +594,8 @@ impl Stream {
         Ok(())
     }
 
-    /// Returns the smallest key whose final state is impossible, of the keys that have a state. Returns `None` if all
-    /// their final states are possible. `keys` are the final keys.
+    /// Of the keys that have a state, returns the smallest whose final state is impossible. Returns `None` if all their
+    /// final states are possible. `keys` are the final keys.
     fn wrongly_left(&self, keys: &[u32]) -> Option<u32>
         requires { IsStrictlyIncreasing keys.now }
         ensures { MatchOption result
@@ -611,7 +611,7 @@ impl Stream {
         wrong
     }
 
-    /// Returns one of the final keys that has no state, or `None` if all have one.
+    /// Returns one of the final keys that has no state, or `None` if all of them have one.
     fn unknown_left(&self, keys: &[u32]) -> Option<u32>
         ensures { MatchOption result
             ((k : ℕ) → has_key k keys.now ≡ true → get nat_eq self.now.states k ≢ None)
@@ -636,7 +636,7 @@ impl Stream {
         }
     }
 
-    /// Returns how many calls overlap another call of their key that is a change with an end. The number can be wrong
+    /// Returns how many calls overlap another call on their key that is a change with an end. The number can be wrong
     /// if the judge's rule has failed.
     pub(crate) fn overlapped(&self) -> u64 {
         self.overlapped
@@ -683,7 +683,7 @@ impl Stream {
         }
     }
 
-    /// Returns two calls that clash, of the key for which the judge's rule has failed, if they were found.
+    /// Returns two calls that clash, on the key for which the judge's rule has failed, if they were found.
     pub(crate) fn clash_met(&self) -> Option<Clash>
         ensures { result ≡ clash_met self.now.failed self.now.clash }
     {
@@ -693,7 +693,7 @@ impl Stream {
         }
     }
 
-    /// Returns a call of `key` that clashes with the key's final state `left`, if one is found. Returns `None` if the
+    /// Returns a call on `key` that clashes with the key's final state `left`, if one is found. Returns `None` if the
     /// judge's rule has failed.
     pub(crate) fn clash_left(&self, key: u32, left: Presence) -> Option<Clash>
         ensures { IfSome result (λ c. (self.now.failed ≡ None) × IsFoundLeft key (facts_for self.now.states key) left c) }

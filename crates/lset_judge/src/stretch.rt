@@ -1,46 +1,46 @@
-//! Searches for a stretch of time in which a key would have to change back more often than it can. The count that a
-//! stretch makes is checked afterwards. No contract mentions stretches.
+//! Searches for a period of time (a stretch) in which a key would have to change back more often than it can. The count
+//! that a stretch yields is checked afterwards. No contract mentions stretches.
 
 use crate::clash::{has_ended, other};
 use crate::stream::StreamCall;
 use lset_words::{Effect, Presence};
 use std::alloc::{AllocError, Global};
 
-/// A stretch of time. The calls in it make a count: calls of a key that are too many for any order.
+/// A stretch of time. The calls in it form a count: calls on a key that are too many for any order.
 #[derive(Clone, Copy)]
 pub(crate) struct Stretch {
     /// The state (present or absent) in which the changes in the stretch leave the key.
     pub(crate) was: Presence,
-    /// The changes in the stretch begin at this moment or later.
+    /// The changes in this stretch of time start at this moment or later.
     from: u64,
-    /// The changes in the stretch have ended by this moment.
+    /// The changes in this stretch of time have ended by this moment.
     upto: u64,
-    /// A call that saw the key in the state `was`, and comes before the changes.
+    /// A call that saw the key in the state `was`. It counts as a call before the changes.
     pub(crate) first: Option<StreamCall>,
-    /// A call that saw the key in the other state, and comes after the changes.
+    /// A call that saw the key in the state other than `was`. It counts as a call after the changes.
     pub(crate) last: Option<StreamCall>,
-    /// The start of the stretch. `None` if the key had the state `was` at the opening, which counts as a call.
+    /// The start of the stretch. `None` if the set opened with the key in the state `was`, which counts as a call.
     pub(crate) since: Option<u64>,
-    /// The end of the stretch. `None` if the key's final state is the other state, which counts as a call.
+    /// The end of the stretch. `None` if the key's final state is not `was`, which counts as a call.
     pub(crate) until: Option<u64>,
 }
 
-/// The smallest stretch of time that was found, if any. Its size is the number of its calls, and of the calls that can
-/// change the key back.
+/// The smallest stretch of time found so far, if any. Its size is the number of its calls plus the number of calls that
+/// can change the key back.
 #[derive(Clone, Copy)]
 struct Best {
     found: Option<Stretch>,
     size: usize,
 }
 
-/// The begin or the end of a call, as far as the search for stretches needs it.
+/// The start or the end of a call, with what the search for stretches needs.
 #[derive(Clone, Copy)]
 enum Step {
-    /// A call that can change the key back begins. The value is when it ends.
+    /// A call that can change the key back starts. The value is when it ends.
     Back(u64),
-    /// A change to the state `was` ends. The value is when it began.
+    /// A change to the state `was` ends. The value is when it started.
     Change(u64),
-    /// A call that saw the other state begins. The value is its index in `looks`.
+    /// A call that saw the other state starts. The value is its index in `looks`.
     Begins(usize),
     /// A call that saw the other state ends. The value is its index in `looks`.
     Ends(usize),
@@ -52,14 +52,14 @@ struct Timed {
     step: Step,
 }
 
-/// A call that saw the other state, and how many changes had ended when it began.
+/// A call that saw the other state, and how many changes had ended when it started.
 #[derive(Clone, Copy)]
 struct Look {
     call: StreamCall,
     changes: usize,
 }
 
-/// The begins and ends of a key's calls, sorted by their moments.
+/// The starts and ends of the calls on a key, ordered by moment.
 #[derive(Drop)]
 struct Steps {
     steps: Vec<Timed>,
@@ -67,7 +67,7 @@ struct Steps {
 }
 
 impl Stretch {
-    /// Returns the stretch of time that starts with a change that begins at `from`.
+    /// Returns the stretch that starts at `from`, when its first change starts.
     fn from_change(was: Presence, from: u64) -> Stretch {
         Stretch {
             was,
@@ -80,7 +80,7 @@ impl Stretch {
         }
     }
 
-    /// Returns whether `call` is a change of the key in the stretch.
+    /// Returns whether `call` is one of the changes in the stretch.
     pub(crate) fn has(&self, call: StreamCall) -> bool {
         is_change_to(call, self.was) && self.from <= call.begun && has_ended(call, self.upto)
     }
@@ -92,8 +92,8 @@ impl Stretch {
         }
     }
 
-    /// Returns the number of calls in the stretch, if it has this many changes. The state at the opening and the final
-    /// state count as calls.
+    /// Returns the number of calls in the stretch if it contains this many changes. `first` and `last` count as calls,
+    /// and so do the opening state and the final state if the stretch starts or ends with them.
     fn places(&self, changes: usize) -> usize {
         let before = self.first.is_some() || self.since.is_none();
         let after = self.last.is_some() || self.until.is_none();
@@ -110,7 +110,7 @@ fn is_change_to(call: StreamCall, was: Presence) -> bool {
     }
 }
 
-/// Returns a call that saw the state `was` and had ended by `moment`: of several such calls, the one that began last.
+/// Of the calls that saw the state `was` and had ended by `moment`, returns the one that started last.
 fn last_look(calls: &[StreamCall], was: Presence, moment: u64) -> Option<StreamCall> {
     let mut last = None;
     for call in calls {
@@ -124,8 +124,8 @@ fn last_look(calls: &[StreamCall], was: Presence, moment: u64) -> Option<StreamC
 }
 
 impl Best {
-    /// Returns `stretch` if it makes a count and is smaller than the best one so far, else the best one. A stretch
-    /// makes a count if fewer calls can change the key back than its calls need.
+    /// Returns `stretch` if its calls form a count and it is smaller than the best one so far, else the best one. The
+    /// calls form a count if the key must change back more often than there are calls that can change it back.
     fn or(self, stretch: Stretch, changes: usize, backs: usize) -> Best {
         let places = stretch.places(changes);
         let size = places.saturating_add(backs);
@@ -141,7 +141,8 @@ impl Best {
 }
 
 impl Steps {
-    /// Returns the begins and ends that matter to a count whose changes leave the key in the state `was`.
+    /// Returns the starts and ends of calls that matter to stretches of time in which changes leave the key in the
+    /// state `was`.
     fn of(alloc: Global, calls: &[StreamCall], was: Presence) -> Result<Steps, AllocError> {
         let mut all = Steps {
             steps: Vec::new(alloc),
@@ -185,7 +186,7 @@ impl Steps {
         Ok(())
     }
 
-    /// Returns the smallest stretch that starts like `start`, or `best` if that one is smaller.
+    /// Returns the smallest stretch that starts like `start`, or `best` if `best` is smaller.
     fn pass(&mut self, start: Stretch, left: Option<Presence>, best: Best) -> Best {
         let mut pass = Pass {
             start,
@@ -205,8 +206,8 @@ impl Steps {
     }
 }
 
-/// A pass over the begins and ends of calls, which finds all stretches with the same start: how many changes have
-/// ended, and how many calls that can change the key back have begun.
+/// The state of a pass over the starts and ends of calls, which finds all stretches with the same start: how many
+/// changes have ended, and how many calls that can change the key back have started.
 #[derive(Clone, Copy)]
 struct Pass {
     start: Stretch,
@@ -253,7 +254,7 @@ impl Pass {
     }
 }
 
-/// Returns the smallest stretch whose changes leave the key in the state `was`, or `best` if that one is smaller.
+/// Returns the smallest stretch whose changes leave the key in the state `was`, or `best` if `best` is smaller.
 fn smaller_stretch(
     alloc: Global,
     calls: &[StreamCall],
@@ -281,7 +282,8 @@ fn smaller_stretch(
     Ok(best)
 }
 
-/// Returns the stretch of time that makes the smallest count of the calls of a key, or `None` if no stretch makes one.
+/// Returns the smallest stretch of time found in which the key would have to change back more often than it can, or
+/// `None` if none is found.
 pub(crate) fn smallest_stretch(
     alloc: Global,
     calls: &[StreamCall],

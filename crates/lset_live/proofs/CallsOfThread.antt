@@ -1,4 +1,4 @@
--- Proof: in the history of a run, a thread has its completed calls and, after them, its pending call.
+-- Proof: in the history of a run, the calls of a thread are its completed calls, followed by its pending call.
 use Rattle.std.proofs.Common.{◌≡◌, ◌≢◌, ⊎_elim, ℕ, zero, suc, ◌<◌, ◌≤◌, ◌==◌, Bool, true, false, cond, List, [], ◌∷◌, ◌++◌, map}
 use Rattle.std.proofs.Common.{Option, Some, None, refl, sym, ap, ◌∙◌, arith, append-nil, if◌then◌else◌}
 use Rattle.std.specs.Prelude.{filter, ◌&&◌, is_none}
@@ -24,7 +24,7 @@ abbrev pub open_records : ℕ → Option PendingCall → List CallRecord
 open_records u None = []
 open_records u (Some o) = record { thread = u; call = o.call; begun = o.begun; ended = None } ∷ []
 
--- Returns a thread's completed calls and its pending call as a history has them.
+-- Returns the completed calls and the pending call of thread u in the form that a history uses.
 abbrev pub thread_records : ℕ → List OwnCall → Option PendingCall → List CallRecord
 thread_records u done under_way = map (ended_record u) done ++ open_records u under_way
 
@@ -57,7 +57,7 @@ module _ (m : ℕ) (ch : Option Change) (a : Option Reply) where
           (of_thread u (map record_of (map (on t) xs)))) not
           ∙ (ih ∙ sym (ap (λ b. cond b (record_of x ∷ of_thread u (map record_of xs)) (of_thread u (map record_of xs))) not))
 
-  -- ---- A step of thread u changes its pending call, or completes the call
+  -- ---- A step of thread u changes its pending call or ends it
   abbrev ends : CallRecord → CallRecord
   ends x = if is_none x.ended then record x { ended = ended_by m a } else x
 
@@ -102,7 +102,7 @@ open_step m u ch a done o = map-append (ends m ch a) (map (ended_record u) done)
     last None (Some x) = ap (λ l. map (ended_record u) l ++ open_records u (Some x)) (sym (append-nil done))
     last None None = ap (λ l. map (ended_record u) l ++ []) (sym (append-nil done))
 
--- States that entry e of a log begins a call of thread u only if this thread has no pending call.
+-- States that thread u has no pending call if entry e of a log starts a call of this thread.
 abbrev pub MayBegin : Entry → ℕ → Option PendingCall → Type 0
 MayBegin (began t c) u o = t ≡ u → o ≡ None
 MayBegin (stepped t ch a) u o = Unit {0}

@@ -49,7 +49,7 @@ module _ (sz : Sizes) (ws : List ℕ) (used other : ℕ → ℕ) where
   pub same_content : (keys : List ℕ) → IsContent (view sz ws used) keys → IsContent (view sz ws other) keys
   same_content keys c = ((c.0.0, same_segment 0 c.0.0 1 c.0.1, c.0.2 ∙ same_keys c.0.0), c.1)
 
--- Only one list of nodes leads from node i to the tail.
+-- The list of nodes on the way from node i to the tail is unique.
 one_segment : (v : ChainView) (i : ℕ) (ns ms : List ℕ) → Segment v i ns 1 → Segment v i ms 1 → ns ≡ ms
 one_segment v i [] [] s t = refl
 one_segment v i [] (m ∷ ms) s t = absurd (t.1 s)
@@ -108,7 +108,8 @@ module _ (T : Table) (law : Lawful T) (v : View) (st : Stands T v) (idle : v.und
     is = refl;
   }
 
--- The facts about the words when the set is closed: they are those after the events that the closing seat has seen.
+-- When the set is closed, its words are those after the events that the closing seat has seen. The lemmas below are
+-- about these words.
 module _ (T : Table) (law : Lawful T) (v : View) (st : Stands T v) (sp : v.spent ≡ false) (idle : v.under ≡ None) (k : Opening)
     (shape : v.shape ≡ k)
     (full : length v.others + 1 ≡ k.threads) (id : ℕ) (ws : List ℕ) (xs : List (Unit {0})) (final : Final (Seen (Holds T k) id v) ws xs) where

@@ -1,4 +1,4 @@
--- Lemmas about seats' records whose calls have event numbers, and about the same records without the numbers.
+-- Lemmas about seats' records whose calls have event numbers, compared with the same records without these numbers.
 use Rattle.std.proofs.Common.{◌≡◌, ℕ, inl, inr, List, [], ◌∷◌, ◌++◌, map, refl, sym, ap, ◌∙◌, subst}
 use Rattle.std.proofs.lemmas.List.{map-append}
 use Rattle.lset_words.specs.SequentialSet.{Answered}
@@ -10,7 +10,7 @@ use Rattle.lset_rule.proofs.RecordsOfRuns as dated
 use Rattle.lset_words.specs.Records.{HasOwnCalls, Names, NamesGathered, thread_of, own_calls, calls_by, placed_by}
 use Rattle.lset_live.specs.Dated.{call_of, record_of}
 
--- Returns a completed call of thread u as an element of an order.
+-- Returns a completed call of thread u as an entry of an order.
 abbrev pub said_by : ℕ → OwnCall → Answered
 said_by u c = placed_by u (call_of c)
 

@@ -1,4 +1,4 @@
--- Proof: a `contains` that does not block ends within its bound of steps.
+-- Proof: a `contains` that does not block ends within its maximum number of steps.
 use Rattle.std.proofs.Common.{◌≡◌, ◌≢◌, ℕ, suc, ◌+◌, ◌<◌, ◌≤◌, cond, List, [], ◌∷◌, ◌++◌, length, inl}
 use Rattle.std.proofs.Common.{Option, Some, None, refl, sym, ap, ◌∙◌, subst, arith, length-append}
 use Rattle.std.proofs.lemmas.List.{same_from_push}
@@ -77,7 +77,6 @@ module _ (T : Table) (law : Lawful T) (reads : BoundedReads T) (key : Key) (v : 
   busy : (local_of (state_at T w.shape es (length before)) w.thread).pc ≢ 0
   busy = (subst (λ e. Enabled S e) last_is (run.enabled n (omega arith))).1
 
-  -- The record after the last step of the call.
   rooted : root v.past ≡ w.thread
   rooted = sym (ap root m.past) ∙ m.stands.of_thread
 
@@ -121,7 +120,7 @@ module _ (T : Table) (law : Lawful T) (reads : BoundedReads T) (key : Key) (v : 
       m.same.1 (subst (λ u. steps_since (event_at w.seen) u (length w.seen) ≤ most_reads (sizes w.shape))
       (sym (root_is v.past ∙ rooted)) within_shape)
 
--- The bound on the steps of a `contains`, stated as the contracts need it.
+-- A `contains` makes at most as many steps as its contract states.
 pub few_steps : (T : Table) → Lawful T → BoundedReads T → (key : Key) (s : TableSeat) (r : Reply) (s' : TableSeat)
     → Makes T (Contains key) s.me.0 r s'.me.0 → (set : SetValue) (old : SeatValue) → seat_at s ≡ old → old.set ≡ set
     → HasMadeAtMost (most_reads (sizes set.shape)) (thread_of old.past) s'.me.0.seen

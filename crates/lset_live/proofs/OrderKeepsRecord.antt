@@ -1,5 +1,5 @@
--- Proof: an order that linearizes a history has the calls of each idle thread in the order in which the thread made
--- them. Each call comes after all calls that ended before it began.
+-- Proof: an order that linearizes a history has the calls of each thread without a pending call in the order in which
+-- the thread made them. Each call comes after all calls that ended before it started.
 use Rattle.std.proofs.Common.{◌≡◌, ◌≢◌, ◌⊎◌, inl, inr, ⊎_elim, ℕ, zero, suc, ◌+◌, ◌<◌, ◌≤◌, ◌==◌, Bool, true, false, cond, List}
 use Rattle.std.proofs.Common.{[], ◌∷◌, ◌++◌, map, length, get_or, Option, Some, None, refl, sym, ap, ◌∙◌, subst, arith}
 use Rattle.std.proofs.Common.{append-nil, append_assoc}
@@ -36,7 +36,7 @@ pairs_rec R (x ∷ xs) a = (
   pairs_rec R xs (λ i j d l m. a (suc i) (suc j) d (omega arith) (omega arith)),
 )
 
--- Returns the numbers of thread u's calls in a history whose first call has the number n.
+-- Returns the numbers of thread u's calls in a history. The first call in the history has the number n.
 abbrev numbers_of : ℕ → ℕ → List CallRecord → List ℕ
 numbers_of u n [] = []
 numbers_of u n (x ∷ xs) = cond (x.thread == u) (n ∷ numbers_of u (suc n) xs) (numbers_of u (suc n) xs)
@@ -51,7 +51,7 @@ numbers_increase u n m (x ∷ xs) l = by_test (x.thread == u) (numbers_increase 
     by_test true h k = (l, h)
     by_test false h k = k
 
--- Each number in `numbers_of` is that of a call of thread u.
+-- Each number in `numbers_of` is the number of a call that thread u made.
 numbers_in : (u n j : ℕ) (xs : List CallRecord) → Contains (numbers_of u n xs) j → (k : ℕ) × (j ≡ n + k) × (k < length xs)
     × ((get_or xs k no_call).thread ≡ u)
 numbers_in u n j [] c = absurd (contains-nil j c)
@@ -85,7 +85,7 @@ in_numbers u n (suc k) (x ∷ xs) l h =
     by_test true c = contains-tail n (n + suc k) (numbers_of u (suc n) xs) c
     by_test false c = c
 
--- The calls with the numbers in `numbers_of` are the calls of thread u, in order.
+-- The calls whose numbers are in `numbers_of` are the calls of thread u, in order.
 numbers_map : {Y : Type 0} (g : CallRecord → Y) (u n : ℕ) (xs : List CallRecord) (f : ℕ → CallRecord) →
     ((k : ℕ) → k < length xs → f (n + k) ≡ get_or xs k no_call)
     → map (λ j. g (f j)) (numbers_of u n xs) ≡ map g (of_thread u xs)
@@ -141,7 +141,7 @@ pub map_said : (u : ℕ) (ds : List OwnCall) → map said (map (ended_record u) 
 map_said u [] = refl
 map_said u (d ∷ ds) = ap (λ l. said_by u d ∷ l) (map_said u ds)
 
--- Returns whether the call at this position of an order is a call of thread u.
+-- Returns whether the entry p of an order is a call of thread u.
 abbrev of_placed : List CallRecord → ℕ → Placed → Bool
 of_placed H u p = (call_numbered H p.call).thread == u
 
@@ -221,8 +221,7 @@ module _ (q : ℕ) (s : SetState) (H : List CallRecord) (P : List Placed) (L : L
       ∙ (sym same ∙ ap (λ (p : Placed). p.call) (sym (get_or_default P i b a l ∙ e))))))
       ne) (cases_order i j)
 
-  -- The facts about each position in the order: the number of its call is in the history, and the order has the
-  -- position.
+  -- What is known about each entry of the order: its call is in the history, and the entry is in the order.
   abbrev There : Placed → Type 0
   There p = (p.call < length H) × Contains P p
 
@@ -247,7 +246,7 @@ module _ (q : ℕ) (s : SetState) (H : List CallRecord) (P : List Placed) (L : L
     ended_at : (j : ℕ) → j < length H → (call_numbered H j).thread ≡ u → IsEnded (call_numbered H j)
     ended_at j l h = at_thread IsEnded u j H ended_all l h
 
-    -- The reply in the order is the reply that the call returned.
+    -- In the order, a call has the reply that it returned in the history.
     pub right_reply : (p : Placed) → There p → of_placed H u p ≡ true → answered H p ≡ said (rec_of p)
     right_reply p there t =
         let e = ended_at p.call there.0 (same_number (rec_of p).thread u t) in
@@ -295,7 +294,7 @@ module _ (q : ℕ) (s : SetState) (H : List CallRecord) (P : List Placed) (L : L
     same_list [] = refl
     same_list (x ∷ l) = ap (λ z. x ∷ z) (same_list l)
 
-    -- The calls of thread u in the order are the thread's calls, in the order in which it made them.
+    -- The calls of thread u in the order are exactly its calls, in the order in which it made them.
     pub records : map rec_of F ≡ map (ended_record u) D
     records = map_calls F ∙ (ap (map (λ j. call_numbered H j)) numbers
         ∙ (numbers_map (λ (x : CallRecord). x) u 0 H (λ j. call_numbered H j) (λ k l. ap (λ j. call_numbered H j) (from_zero k))
@@ -437,7 +436,7 @@ ended_records : (n v : ℕ) (ds : List OwnCall) → AllByRecursion (EndsBefore n
 ended_records n v [] a = tt
 ended_records n v (d ∷ ds) a = (a.0, ended_records n v ds a.1)
 
--- ---- Proof that the order keeps the order of the calls in a seat's record
+-- ---- Proof that the order agrees with the order of the calls in a seat's record
 module _ (q : ℕ) (s : SetState) (H : List CallRecord) (P : List Placed) (L : Linearizes q s H P)
     (turns : (i j : ℕ) → i < j → j < length H → (call_numbered H i).thread ≡ (call_numbered H j).thread → Precedes (call_numbered H i) (call_numbered H j)) (D : ℕ → List OwnCall) where
   keeps_items : (r : Past) → Apart r → InOrder r → ((u : ℕ) → IsIn u r → of_thread u H ≡ map (ended_record u) (D u)) →

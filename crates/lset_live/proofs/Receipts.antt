@@ -1,5 +1,5 @@
 -- Proof of the law of receipts. A completed call stays in the history when the run gets longer. Each order that
--- linearizes the longer history has this call before the calls that began after its end.
+-- linearizes the longer history has this call before the calls that started after its end.
 use Rattle.std.proofs.Common.{◌≡◌, ◌⊎◌, ⊎_elim, ℕ, zero, suc, ◌+◌, ◌<◌, ◌≤◌, ◌==◌, Bool, true, false, List, [], ◌∷◌}
 use Rattle.std.proofs.Common.{◌++◌, map, length, get_or, Option, Some, None, refl, sym, ap, ◌∙◌, subst, arith, length-append}
 use Rattle.std.proofs.Common.{append_assoc, if◌then◌else◌}
@@ -83,7 +83,7 @@ ended_stays T k log es (rest, is) n y d ended at =
     (ap (λ (l : List TracedCall). get_elem? (map record_of l) n)
     (calls_agree (log_by T k es) (log_by T k (es ++ rest)) (length es) (log_of_first T k es rest)) ∙ at))
 
--- ---- Lemmas about two calls of a history if the first ended before the second began
+-- ---- Lemmas about two calls in a history if the first ended before the second started
 numbered : (H : List CallRecord) (n : ℕ) (y : CallRecord) → get_elem? H n ≡ some y → (call_numbered H n ≡ y) × (n < length H)
 numbered [] n y at = absurd (some-ne-none y (sym at))
 numbered (x ∷ H) zero y at = (some-injective x y at, omega arith)

@@ -1,4 +1,4 @@
--- Proof: the events that a seat has seen have a linearization that keeps the order of the seat's record.
+-- Proof: the events that a seat has seen have a linearization that agrees with the seat's record.
 use Rattle.std.proofs.Common.{◌≡◌, ⊎_elim, inl, ℕ, suc, ◌+◌, ◌<◌, ◌==◌, Bool, true, false, cond, List, [], ◌∷◌, ◌++◌, map, length}
 use Rattle.std.proofs.Common.{Option, Some, None, refl, sym, ap, ◌∙◌, subst, arith, append-nil, append_assoc}
 use Rattle.std.proofs.lemmas.List.{map-append}
@@ -66,7 +66,8 @@ module _ (T : Table) (law : Lawful T) (v : View) (st : Stands T v) (idle : v.und
       (ap (λ (x : Here). x.under) st.own ∙ idle, ap (λ (x : Here). x.done) st.own))
       (λ x. aside_idle (at_end T v.shape v.seen) v.thread v.past v.others st.others u x) h
 
-  -- In the history of the events seen, each thread of the view has the calls that the view's record has.
+  -- In the history of the events that a seat has seen, each of its threads has made exactly its calls in the seat's
+  -- record.
   pub own : (u : ℕ) → HasThread v u → of_thread u (history_of T v.shape v.seen) ≡ map (ended_record u) (calls_of u v.past)
   own u h = let a = at_rest u h in calls_of_thread T law v.shape v.seen st.ran u (st.in_range u h)
       ∙ ((λ i. thread_records u (a.1 i) (a.0 i)) ∙ append-nil (map (ended_record u) (calls_of u v.past)))
@@ -154,7 +155,7 @@ module _ (T : Table) (law : Lawful T) (c : Call) (v : View) (r : Reply) (w : Vie
     })) m.before.1;
   }
 
--- ---- Proof of the contract of a call from what the call does to the view of its seat
+-- ---- The contract of a call follows from how the call changes what its seat knows (its view)
 abbrev pub seat_at : TableSeat → SeatValue
 seat_at s = record {
   set = record { table = s.table_id; shape = s.me.0.shape };

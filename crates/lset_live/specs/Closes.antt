@@ -9,12 +9,12 @@ use Rattle.lset_steps.specs.Steps.{Table}
 use Rattle.lset_steps.specs.Laws.{Lawful}
 use Rattle.lset_rule.specs.Runs.{end_of, IsRunOf}
 
--- The words that the threads of a set left, and the sizes of the set.
+-- The words as the threads of a set left them, and the sizes of the set.
 pub record LastWords : Type 0 where
   pub sizes : Sizes
   pub words : List ℕ
 
--- States that these words are those at the end of some run of some list.
+-- States that these words are what some run of some list ends with.
 pub record IsLast (c : LastWords) : Type 0 where
   pub opening : Opening
   pub of_sizes : sizes opening ≡ c.sizes
@@ -29,11 +29,11 @@ pub record IsLast (c : LastWords) : Type 0 where
 abbrev pub HasKeys : LastWords → List ℕ → Type 0
 HasKeys c keys = IsContent (view c.sizes c.words (λ t. 0)) keys
 
--- Returns the maximum number of keys that a set can have: one for each slot of each thread, and the opening keys.
+-- Returns the maximum number of keys in a set: the opening keys, plus as many keys as all threads together can add.
 abbrev pub most_keys : Sizes → ℕ
 most_keys s = s.threads * s.quota + s.opening
 
--- What a walk along the nodes of a closed set relies on.
+-- What a walk along the nodes of a closed set can assume.
 pub record HasLaws (c : LastWords) : Type 0 where
   pub few : length c.words ≤ MOST_WORDS
   pub count : length c.words ≡ word_count c.sizes

@@ -1,4 +1,4 @@
--- What the contracts of a running set state of its calls and of closing it.
+-- What the contracts of a running set state about its calls, and about closing it.
 use Rattle.std.specs.Prelude.{◌≡◌, ℕ, ◌+◌, ◌<◌, ◌≤◌, ◌⊎◌, List, [], ◌∷◌, ◌++◌, All, Some, length, map}
 use mathlib.Core.Option.{some}
 use lib.ListN.{get_elem?}
@@ -16,7 +16,7 @@ use Rattle.lset_words.specs.Records.{Record, Names, Keeps, called, calls_by, thr
 use Rattle.lset_live.specs.Seats.{SeatValue, SetValue}
 use Rattle.lset_words.specs.Words.{Opening}
 
--- Call c of thread t has ended with reply r. The thread had seen the events `before` when the call began. It has now
+-- Call c of thread t has ended with reply r. The thread had seen the events `before` when the call started. It has now
 -- seen the events `after`, which end with the call's last step.
 pub record IsAnswered (T : Table) (k : Opening) (t : ℕ) (c : Call) (r : Reply) (before after : List Event) : Type 0 where
   pub others : List Event
@@ -31,17 +31,18 @@ pub record IsAnswered (T : Table) (k : Opening) (t : ℕ) (c : Call) (r : Reply)
   })
 
 -- The events that a seat has seen are a run of the list. Some order of the run's calls linearizes their history from
--- the opening keys, and keeps the order of the seat's record r. The run can lack calls of seats that were not gathered.
+-- the opening keys, and agrees with the seat's record r. Calls of seats that were not merged into this seat can be
+-- missing from the run.
 pub record SeenIsLinearizable (T : Table) (k : Opening) (events : List Event) (r : Record) : Type 0 where
   pub run : IsRunOf T k events
   pub order : List Placed
   pub linearizes : Linearizes k.quota (opening_set k) (history_of T k events) order
   pub keeps : Keeps (map (answered (history_of T k events)) order) r
 
--- Call c was made from the seat `old`, returned r, and changed the seat to `new`. The new seat belongs to the set and
--- holds as many seats as before. Its record has grown by exactly this call. The call began after everything that the
--- old seat had seen. The events that the new seat has seen are a run whose calls have a linearization that keeps the
--- order of its record.
+-- Call c was made from the seat `old`, returned r, and changed the seat to `new`. The new seat belongs to the same set
+-- and holds as many seats as before. Exactly this call has been added to its record. The call started after everything
+-- that the old seat had seen. The events that the new seat has seen are a run whose calls have a linearization that
+-- agrees with its record.
 pub record HasAnswered (T : Table) (set : SetValue) (old : SeatValue) (c : Call) (r : Reply) (new : SeatValue) : Type 0 where
   pub of_set : new.set ≡ set
   pub held : new.held ≡ old.held
@@ -49,19 +50,19 @@ pub record HasAnswered (T : Table) (set : SetValue) (old : SeatValue) (c : Call)
   pub answered : IsAnswered T set.shape (thread_of old.past) c r old.events new.events
   pub explained : SeenIsLinearizable T set.shape new.events new.past
 
--- [Steps of the last call]: states that in these events, thread t has made at most `most` steps since it began its last
--- call.
+-- [Steps of the last call]: states that in these events, thread t has made at most `most` steps since it started its
+-- last call.
 abbrev pub HasMadeAtMost : ℕ → ℕ → List Event → Type 0
 HasMadeAtMost most t events = steps_since (event_at events) t (length events) ≤ most
 
--- States that one of the records names thread u.
+-- States that thread u has one of these records, or one that was merged into them.
 abbrev pub NamedIn : ℕ → List Record → Type 0
 NamedIn u [] = ⊥
 NamedIn u (r ∷ rs) = Names u r ⊎ NamedIn u rs
 
--- A legal order of exactly the calls in the records, which leaves these keys. The order keeps each record: the order of
--- each seat's calls, and the order of gathering. It need not keep real-time order between seats. In short: the calls
--- are sequentially consistent.
+-- A legal order of exactly the calls in the records, which leaves these keys. The order agrees with each record: with
+-- the order of the seat's calls, and with when other seats were merged into it. It need not keep real-time order
+-- between seats. In short: the calls are sequentially consistent.
 pub record IsOneLegalOrder (k : Opening) (records : List Record) (keys : List ℕ) : Type 0 where
   pub order : List Answered
   pub legal : IsLegal k.quota (opening_set k) order
@@ -71,9 +72,9 @@ pub record IsOneLegalOrder (k : Opening) (records : List Record) (keys : List �
   pub leaves : (set_left (opening_set k) order).keys ≡ keys
 
 -- A legal order of exactly the calls in the records that also linearizes the history of these events: if a call ended
--- before another one began, it comes first. In the contracts, the events begin with all events that the seats had seen.
--- A seat that takes a receipt has then seen all events that the giver had seen. Therefore the order respects receipts
--- in the same way as gathering.
+-- before another one started, it comes first. In the contracts, the events start with all events that the seats had
+-- seen. A seat that takes a receipt has then seen all events that the issuer had seen. Therefore the order respects
+-- receipts in the same way as the merging of seats.
 pub record IsOneOrderInTime (T : Table) (k : Opening) (events : List Event) (records : List Record) (keys : List ℕ) : Type 0 where
   pub run : IsRunOf T k events
   pub placed : List Placed
@@ -81,16 +82,16 @@ pub record IsOneOrderInTime (T : Table) (k : Opening) (events : List Event) (rec
   pub one : IsOneLegalOrder k records keys
   pub is : one.order ≡ map (answered (history_of T k events)) placed
 
--- The order has call a, and call b after it.
+-- In this order, call a comes before call b.
 pub record StandsBefore (order : List Answered) (a b : Answered) : Type 0 where
   pub first : List Answered
   pub between : List Answered
   pub last : List Answered
   pub is : order ≡ first ++ a ∷ (between ++ b ∷ last)
 
--- The law of receipts. Call c had ended in the events `given` of a receipt. The seat of thread u takes the receipt and
--- then makes call d. Then c comes before d in each order that linearizes the events up to the end of d or a longer list
--- of events.
+-- The law of receipts. Call c had ended in the events `given` that a receipt contains. The seat of thread u takes the
+-- receipt and then makes call d. Then c comes before d in each order that linearizes the events up to the end of d or a
+-- longer list of events.
 abbrev pub ReceiptsKeepOrder : Type 0
 ReceiptsKeepOrder = (T : Table) (k : Opening) (t u : ℕ) (c d : Call) (r a : Reply) (old given taken after events : List Event)
     → IsAnswered T k t c r old given → StartsWith taken given → IsAnswered T k u d a taken after → StartsWith events after

@@ -27,17 +27,16 @@ pub record SeatValue : Type 0 where
   pub held : ℕ
   pub events : List Event
 
--- A receipt in contracts: its set, and the events that a seat had seen when it made the receipt.
+-- A receipt in contracts: its set, and the events that a seat had seen when it issued the receipt.
 pub record ReceiptValue : Type 0 where
   pub set : SetValue
   pub events : List Event
 
--- Returns the seat of thread t when the set is opened.
+-- Returns the seat of thread t in a set that was just opened.
 abbrev pub new_seat : SetValue → ℕ → SeatValue
 new_seat set t = record { set = set; past = fresh t; held = 1; events = [] }
 
--- States that the set was just opened with these sizes and keys, and that `seats` are its new seats, in the order of
--- their threads.
+-- States that the set was just opened with these sizes and keys, and that `seats` are its new seats, ordered by thread.
 abbrev pub IsOpened : SetValue → Opening → List SeatValue → Type 0
 IsOpened set opening seats = (set.shape ≡ opening) × (seats ≡ map (new_seat set) (range_with_len 0 opening.threads))
 
@@ -49,8 +48,8 @@ RefusesSeats s fault.Quota = RefusesSizes s layout.Quota
 RefusesSeats s fault.Memory = IsWithin s
 RefusesSeats s fault.Opening = ⊥
 
--- States that `open_with` returns this error for the opening o: the first size that is out of range, then Opening if
--- the keys do not increase strictly or are too many. Memory is for openings without any of these faults.
+-- States that `open_with` returns this error for the opening o: the first size that is out of range, else Opening if
+-- the keys do not increase strictly or are too many, else Memory.
 abbrev pub RefusesOpening : Opening → OpenFault → Type 0
 RefusesOpening o fault.Seats = RefusesSizes (sizes o) layout.Threads
 RefusesOpening o fault.Quota = RefusesSizes (sizes o) layout.Quota
@@ -58,13 +57,13 @@ RefusesOpening o fault.Memory = Opens o
 RefusesOpening o fault.Opening = ((0 < o.threads) × (o.threads ≤ MOST_THREADS) × (o.quota ≤ MOST_QUOTA))
     × ((IsStrictlyIncreasing o.keys → ⊥) ⊎ (MOST_OPENING < length o.keys))
 
--- Returns the reply in the seat's record for a Boolean result of a call.
+-- Converts the Boolean result of a call to the reply that the seat's record stores.
 abbrev pub reply_of : Bool → Reply
 reply_of true = True
 reply_of false = False
 
--- Returns the record after the records of the list are gathered into the given record, one after another. If no record
--- is given, the first of the list takes its place.
+-- Returns the record after the records in the list are merged into the given record, one after another. If no record is
+-- given, the first one in the list takes its place.
 abbrev pub gather_onto : Option Record → List Record → Option Record
 gather_onto r [] = r
 gather_onto None (g ∷ gs) = gather_onto (Some g) gs

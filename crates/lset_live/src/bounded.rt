@@ -1,4 +1,4 @@
-//! Calls for callers that must not block: the loops of a call make a bounded number of rounds.
+//! Calls for callers that must not block: each loop of a call makes a bounded number of rounds.
 ghost use Rattle.std.specs.Prelude.{IfSome};
 ghost use Rattle.lset_rule.specs.Seats.{HasCalled, MayCall};
 
@@ -17,15 +17,15 @@ use lset_words::{Call, Reply};
 /// uses the interpreter (`lset_rule::interpret_within`). A list can also provide its own body under the same contract,
 /// as the five lists do.
 ///
-/// - Precondition `MayCall`: `place` is a seat of the words `table` without a pending call, and `slots` are those of its
-///   thread.
-/// - Postcondition `HasCalled`: `place` is still the same seat, the returned slots are those of its thread, and its
-///   record has grown by exactly this call. The call began after everything that the seat had seen, and has ended.
-///   After `None`, nothing is ensured.
+/// - Precondition `MayCall`: `place` is a seat on the words `table` without a pending call, and `slots` are the slots
+///   of its thread.
+/// - Postcondition `HasCalled`: `place` is still the same seat, the returned slots are those of its thread, and exactly
+///   this call has been added to its record. The call started after everything that the seat had seen, and has ended.
+///   If `None` is returned, nothing is ensured.
 pub trait Bounded: Machine {
     /// Makes a call of any kind, with at most `N::MOST` rounds in each loop. (A `contains` of LazyList and LockFreeList
-    /// makes as many rounds as it needs.) `table` has the words, `place` is an idle seat of these words, and `slots`
-    /// are the slots of its thread. Returns the slots after the call, and the reply.
+    /// makes as many rounds as it needs.) `place` is an idle seat on the words `table`, and `slots` are the slots of
+    /// its thread (nodes for keys that it adds). Returns the slots after the call, and the reply.
     ///
     /// Returns `None` if a loop has made all its rounds. The call is then still pending and holds its locks, and the
     /// seat can make no other call.

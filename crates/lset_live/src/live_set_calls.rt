@@ -1,4 +1,4 @@
-//! The implementation of `SetCalls` (calls of a set in contracts) for running sets.
+//! Implements `SetCalls` (the calls of a set in contracts) for running sets.
 ghost use Rattle.std.specs.Prelude.{◌≡◌};
 
 use crate::running_machine::Running;

@@ -1,4 +1,4 @@
-//! Opening a set.
+//! Opens sets.
 ghost use Rattle.std.specs.Prelude.{◌≡◌, length, All, IfOk, IfErr};
 ghost use Rattle.std.specs.List.Sorted.{IsStrictlyIncreasing};
 ghost use Rattle.lset_words.specs.Words.{empty, Opens};
@@ -61,7 +61,7 @@ fn open_on<M: Machine>(
 }
 
 /// Opens an empty set with `seats` seats (1 to `MOST_THREADS`). Seat `t` calls as thread `t`, and can add `quota` keys
-/// (0 to `MOST_QUOTA`). Allocates all memory of the set. Later, only `Closed::keys` allocates.
+/// (0 to `MOST_QUOTA`). Allocates all memory of the set. After that, only `Closed::keys` allocates.
 ///
 /// Returns `OpenFault::Seats` if `seats` is out of range, else `OpenFault::Quota` if `quota` is out of range. Returns
 /// `OpenFault::Memory` if an allocation fails.
@@ -86,9 +86,9 @@ pub fn open<M: Machine>(
 }
 
 /// Opens a set that contains `keys`, with `seats` seats (1 to `MOST_THREADS`) that can add `quota` keys each (0 to
-/// `MOST_QUOTA`). `keys` must be in strictly increasing order, at most `MOST_OPENING`. They count against no quota, no
-/// thread has added them, and each seat can remove them. The final keys of a closed set can open another set, of any
-/// list. (The lists in the literature open empty.)
+/// `MOST_QUOTA`). There can be at most `MOST_OPENING` `keys`, in strictly increasing order. They count against no
+/// quota, no thread has added them, and each seat can remove them. The final keys of a closed set can open another set,
+/// of any list. (The lists in the literature open empty.)
 ///
 /// Returns `OpenFault::Seats` if `seats` is out of range, else `OpenFault::Quota` if `quota` is, else
 /// `OpenFault::Opening` if `keys` has too many keys or a key is not above the key before it. Returns

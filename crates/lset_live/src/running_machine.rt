@@ -1,4 +1,4 @@
-//! Calls that can block, and a `contains` that never blocks, made on shared words with a seat of them.
+//! Calls that can block, and a `contains` that never blocks, made from a seat on shared words.
 ghost use Rattle.lset_words.specs.declared.Call.TheVariants.{Contains};
 ghost use Rattle.lset_rule.specs.Seats.{HasCalled, MayCall};
 

@@ -33,8 +33,8 @@ use std::sync::Wait;
 use thiserror::Error;
 
 /// A running set of the list `M`: Herlihy and Shavit's `Set`, with a limit on the keys that each thread can add (its
-/// quota). Threads share the set by `&`, and each thread calls from its own seat. In contracts, a set is its table of
-/// words and its opening: the number of threads, the quota and the opening keys.
+/// quota). Threads share the set by `&`, and each thread calls from its own seat (the right to call as one thread). In
+/// contracts, a set is its table of words and its opening: the number of threads, the quota and the opening keys.
 #[derive(Drop)]
 pub struct LiveSet<M: Machine> {
     pub(crate) table: Table<(), View, Opened, Follows<M>, Global>,
@@ -74,7 +74,7 @@ impl<M: Machine> fmt::Debug for SeatsOut<M> {
 }
 
 impl<M: Machine> LiveSet<M> {
-    /// Returns the number of seats of the set: `seats` of `open`.
+    /// Returns the number of seats that the set was opened with.
     pub fn seats(&self) -> u32
         ensures seats { result ≡ self.now.shape.threads }
         ensures range { (0 < result) × (result ≤ MOST_THREADS) }
@@ -90,7 +90,7 @@ impl<M: Machine> LiveSet<M> {
         self.quota
     }
 
-    /// Returns the maximum number of keys that the set can have: the opening keys, and those that its threads can add.
+    /// Returns the maximum number of keys that the set can have: the opening keys plus those that its threads can add.
     pub fn most_keys(&self) -> usize
         ensures { result ≡ most_keys (sizes self.now.shape) }
     {
@@ -102,10 +102,10 @@ impl<M: Running> LiveSet<M> {
     /// Makes the call from `seat`, which must belong to this set. Calls `pause` after each step of the call except the
     /// last. Returns the reply.
     ///
-    /// Appends the call with its reply to the seat's record. The call begins after everything that the seat had seen,
-    /// and its last step is the last event that the seat has seen afterwards. The calls in the events that the seat has
-    /// seen have a linearization (Herlihy and Wing) that keeps the order of the record. Can block while another thread
-    /// holds a lock that the call needs. Does not allocate.
+    /// Appends the call with its reply to the seat's record. The call starts after everything that the seat had seen,
+    /// and its last step is the last event that the seat has then seen. The calls in the events that the seat has seen
+    /// have a linearization (Herlihy and Wing) that agrees with the record. Can block while another thread holds a lock
+    /// that the call needs. Does not allocate.
     pub fn call<R: Wait, P: Pause>(
         &self,
         rt: &R,
@@ -169,8 +169,8 @@ impl<M: Running> LiveSet<M> {
 
 impl<M: Bounded> LiveSet<M> {
     /// Makes the call from `seat`, which must belong to this set, with at most `N::MOST` rounds in each loop of the
-    /// call. Requires no runtime. The walk of a `contains` of LazyList and LockFreeList does not block and makes as
-    /// many rounds as it needs. Returns the seat and the reply, which satisfy the postcondition of `call`.
+    /// call. Needs no runtime. In LazyList and LockFreeList, a `contains` walks without blocking and makes as many
+    /// rounds as it needs. Returns the seat and the reply, which satisfy the postcondition of `call`.
     ///
     /// Returns `None` if a loop has made all its rounds, for example while it waits for a lock. The call is then still
     /// pending and holds its locks. The seat is consumed, and the set can never be closed. With [`Countless`] rounds,
@@ -209,9 +209,9 @@ impl<M: Bounded> LiveSet<M> {
 }
 
 impl<M: Machine> LiveSet<M> {
-    /// Merges the seat `from` into the seat `into`: its record, the seats that it holds, and the events that it has
-    /// seen. Both must belong to this set. In each order that keeps the record of `into`, the gathered calls come
-    /// before the later calls of `into`.
+    /// Merges the seat `from` into the seat `into`, with its record, the seats that it holds, and the events that it
+    /// has seen. Both must belong to this set. In each order that agrees with the record of `into`, the calls of `from`
+    /// come before the later calls of `into`.
     pub fn gather(&self, into: &mut Seat<M>, from: Seat<M>)
         requires into { into.old.set ≡ self.now }
         requires from { from.set ≡ self.now }
@@ -235,8 +235,8 @@ impl<M: Machine> LiveSet<M> {
 
     /// Closes the set if `seat` holds all seats of the set. Otherwise returns both unchanged in `SeatsOut`.
     ///
-    /// Some legal order consists of exactly the calls in the seat's record, keeps the order of the record, and leaves
-    /// the final keys. This order also linearizes the history of the events that the seat has seen.
+    /// Some legal order consists of exactly the calls in the seat's record, agrees with the record, and leaves the
+    /// final keys. This order also linearizes the history of the events that the seat has seen.
     pub fn close(self, seat: Seat<M>) -> Result<Closed, SeatsOut<M>>
         requires { seat.set ≡ self }
         ensures all { IfOk result (λ c. seat.held ≡ self.shape.threads) }
@@ -286,8 +286,9 @@ impl<M: Machine> LiveSet<M> {
         closed.keys()
     }
 
-    /// Closes the set and returns its final keys, in increasing order, in the vector `room`, which must be empty with a
-    /// capacity of at least `most_keys`. `seat` must hold all seats. Does not allocate and does not fail.
+    /// Closes the set and writes its final keys, in increasing order, into the vector `room`, which must be empty with
+    /// a capacity of at least `most_keys`. Returns the vector. `seat` must hold all seats. Does not allocate and does
+    /// not fail.
     pub fn keys_left_in(self, seat: Seat<M>, room: Vec<u32>) -> Vec<u32>
         requires seat { seat.set ≡ self }
         requires all { seat.held ≡ self.shape.threads }
@@ -339,7 +340,7 @@ impl<M: OpenContains> LiveSet<M> {
 
 impl<M: RunningReads> LiveSet<M> {
     /// Returns whether `key` is in the set, without blocking or allocating. `seat` must belong to this set. The call is
-    /// appended to its record with the reply `True` or `False`.
+    /// appended to the seat's record with the reply `True` or `False`.
     ///
     /// The call is wait-free: whatever other threads do, it makes at most `bound` steps, each of them a load
     /// (`lset_steps::OpenReads`).

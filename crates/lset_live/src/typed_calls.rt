@@ -1,4 +1,4 @@
-//! Calls made from a seat, each with its own result type. `LiveSet` has the same calls, which return a `Reply`.
+//! Calls made from a seat, each with its own result type. The same calls on `LiveSet` return a `Reply`.
 ghost use Rattle.std.specs.Prelude.{◌≡◌};
 ghost use Rattle.lset_words.specs.declared.Call.TheVariants.{Add, Remove, Contains, Ceiling};
 ghost use Rattle.lset_live.specs.Explained.{HasAnswered};
@@ -15,7 +15,7 @@ use std::sync::Wait;
 #[derive(Clone, Copy, Debug, PartialEq, Eq)]
 #[must_use]
 pub enum Added {
-    /// The key was absent and has been added. It uses one slot of the seat's thread. The reply is `True`.
+    /// The key was absent and has been added. It counts against the quota of the seat's thread. The reply is `True`.
     New,
     /// The key was already present. Nothing changed. The reply is `False`.
     Already,
@@ -24,11 +24,11 @@ pub enum Added {
 }
 
 impl<M: Running> Seat<M> {
-    /// Adds `key` to `set`. Returns whether the key was added, was already present, or exceeds the quota. This seat
-    /// must belong to `set`.
+    /// Adds `key` to `set`. Returns whether the key was added, was already present, or would exceed the quota. This
+    /// seat must belong to `set`.
     ///
-    /// Appends the call with its reply to the seat's record, as `LiveSet::add` does. Removing a key frees no slot. Can
-    /// block while another thread holds a lock that the call needs. Does not allocate.
+    /// Appends the call with its reply to the seat's record, as `LiveSet::add` does. A removed key still counts against
+    /// the quota. Can block while another thread holds a lock that the call needs. Does not allocate.
     ///
     /// For example:
     ///
@@ -101,7 +101,7 @@ impl<M: Running> Seat<M> {
     }
 }
 
-/// Returns the result of an `add` that has this reply.
+/// Converts the reply of an `add` to its typed result.
 fn added_of(reply: Reply) -> Added
     requires { IsAddReply reply }
     ensures { reply_of_add result ≡ reply }
@@ -114,7 +114,7 @@ fn added_of(reply: Reply) -> Added
     }
 }
 
-/// Returns the result of a `remove` or a `contains` that has this reply.
+/// Converts the reply of a `remove` or a `contains` to its typed result.
 pub(crate) fn truth_of(reply: Reply) -> bool
     requires { IsTruth reply }
     ensures { reply_of result ≡ reply }
@@ -126,7 +126,7 @@ pub(crate) fn truth_of(reply: Reply) -> bool
     }
 }
 
-/// Returns the result of a `ceiling` that has this reply.
+/// Converts the reply of a `ceiling` to its typed result.
 fn key_of(reply: Reply) -> Option<Key>
     requires { IsCeilingReply reply }
     ensures { reply_of_ceiling result ≡ reply }

@@ -25,7 +25,6 @@ use Rattle.lset_loops.specs.Calling.{Holds, MayStep, HasStepped, MayLock, MayAns
 use Rattle.lset_loops.specs.Calling.{HasAnswered, MayStore, Stores}
 
 module _ (m : Table) (b : Begun) where
-  -- The seat of a pending call belongs to the call's shared words.
   pub of_table : (c : Call) (z : TableId) (k : Opening) → IsCall b c z k → (l : Local) (s : TableSeat) → Holds m b l s → IsOf z k s
   of_table c z k is l s h = let P : TableId × Opening → Type 0 = λ q. q.0.words ≡ word_count (sizes q.1) in
       (h.seat.0 ∙ is.1, h.mid.same.1 ∙ is.2, subst P (λ i. (is.1 i, is.2 i)) h.words)
@@ -47,7 +46,7 @@ module _ (m : Table) (b : Begun) where
         local = come.0;
       }
 
-  -- A step that does not end the call leads to the row that the step table demands. This needs no fact about the
+  -- A step that does not end the call leads to the row that follows in the step table. Nothing must be known about the
   -- thread's registers.
   pub leads : (a : Action) (s : TableSeat) (n : ℕ) (s' : TableSeat) → MayStep m b a s → IsSeat s s' → Goes m s.me.0 n s'.me.0 →
       HasStepped m b s n s'
@@ -78,7 +77,7 @@ module _ (m : Table) (b : Begun) where
   pub few_asks : Lawful m → (a : Action) (s : TableSeat) → MayAnswer m b a s → word_named a < MOST_WORDS
   few_asks law a s h = few_held law h.held a s h.holds h.acts
 
-  -- The registers of the thread are those in the view of its seat.
+  -- The thread has the registers that the view of its seat (what the seat knows) stores.
   pub itself : (l : Local) (s : TableSeat) → Holds m b l s → Holds m b s.me.0.local s
   itself l s h = record { words = h.words; used = h.used; seat = h.seat; mid = h.mid; stands = h.stands; local = refl }
 
@@ -172,8 +171,8 @@ begins_holding m law b own s n s' c same may seat starts none =
       local = come.0;
     } in subst (λ x. Holds m x f.local s') (sym may.now) here
 
--- The first step of a call can be a failed attempt to take a lock: the thread's registers are then those at the call's
--- begin.
+-- The first step of a call can be a failed attempt to take a lock. The thread then still has the registers from the
+-- start of the call.
 pub first_tried : (m : Table) → Lawful m → (b : Begun) (own : OwnSlots) (s : TableSeat) (n : ℕ) (s' : TableSeat) (c : Call) → b.call ≡ c →
     MayBegin m b own s
     → IsSeat s s' → Starts m c s.me.0 n s'.me.0 → ((i : ℕ) → i ≢ 0 → m.feed (first m b own) i ≡ continued (first m b own)) → n ≢ 0
@@ -182,15 +181,15 @@ first_tried m law b own s n s' c same may seat starts again ne =
     now_holds m b (m.feed (first m b own) n).local (first m b own) s' (ap (λ (f : Fed). f.local) (again n ne))
     (begins_holding m law b own s n s' c same may seat starts (ap (λ (f : Fed). f.answer) (again n ne)))
 
--- If a thread has the registers l, and l' equals l, the thread has the registers l'.
+-- Replaces the registers l of a thread by equal registers l'.
 --
 -- The proof of a loop has three parts. `leads` states the registers after a step, as the step table computes them. The
 -- test of a branch selects the case (if_same, if_other, deed). `moved` writes the registers in the form `row`.
 pub moved : {m : Table} {b : Begun} {l l' : Local} {s : TableSeat} → Holds m b l s → l ≡ l' → Holds m b l' s
 moved h same = record { words = h.words; used = h.used; seat = h.seat; mid = h.mid; stands = h.stands; local = h.local ∙ same }
 
--- Replaces the number of the current node in the registers (in `to_pred`: of the previous node) by an equal number that
--- the loop has in a variable.
+-- In the registers, replaces the number of the current node (in `to_pred`: of the previous node) by an equal number
+-- that the loop has in a variable.
 pub to_curr : {m : Table} {b : Begun} {d : Call} {own : OwnSlots} {pc p x x' : ℕ} {r : Option Reply} {j : Rest} {s : TableSeat}
     → x' ≡ x → Holds m b (row own d pc r p x j) s → Holds m b (row own d pc r p x' j) s
 to_curr {d = d} {own = own} {pc = pc} {p = p} {r = r} {j = j} is h = moved h (ap (λ i. row own d pc r p i j) (sym is))
@@ -223,7 +222,7 @@ stores {m = m} {b = b} {s = s} {word = word} {more = more} h is all =
 abbrev pub no_rest : Rest
 no_rest = record { succ = 0; node = 0; pkey = 0; ckey = 0 }
 
--- ---- Lemmas about a whole call that began from seat s
+-- ---- Lemmas about a whole call that started from seat s
 module _ (c : Call) (b : Begun) (s : TableSeat) (began : b ≡ begun_at c s) where
   pub may_begin : {m : Table} {z : TableId} {k : Opening} {own : OwnSlots} → MayCall m z k own s → MayBegin m b own s
   may_begin may = rw began record {

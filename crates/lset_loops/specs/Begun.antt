@@ -1,4 +1,4 @@
--- A pending call, and its seat (the right to call as one thread) when the call began.
+-- A pending call, and its seat (the right to call as one thread) as it was when the call started.
 use Rattle.std.specs.Prelude.{◌≡◌, ℕ, List}
 use Rattle.atomic_table.specs.Seated.{TableId}
 use Rattle.lset_words.specs.declared.Call.{Call}
@@ -15,6 +15,6 @@ pub record Begun : Type 0 where
 abbrev pub begun_at : Call → TableSeat → Begun
 begun_at c s = record { call = c; table_id = s.table_id; id = s.id; me = s.me }
 
--- States that the pending call b is a call of c, on the shared words z of a set with opening k.
+-- States that b is a pending call c on the shared words z of a set that opened with k.
 abbrev pub IsCall : Begun → Call → TableId → Opening → Type 0
 IsCall b c z k = (b.call ≡ c) × (b.table_id ≡ z) × (b.me.0.shape ≡ k)

@@ -1,4 +1,4 @@
--- What a loop knows of its pending call between two steps.
+-- What a loop knows about its pending call between two steps.
 use Rattle.std.specs.Prelude.{◌≡◌, ◌≢◌, ℕ, ◌+◌, ◌*◌, List, [], ◌∷◌, Bool, true, false, Option, Some, None, MatchOption}
 use Rattle.lset_words.specs.declared.Call.{Call}
 use Rattle.lset_words.specs.declared.Reply.{Reply}
@@ -20,7 +20,8 @@ use Rattle.lset_rule.specs.Views.{Stands}
 use Rattle.lset_rule.specs.Calls.{IsMid, Makes}
 use Rattle.lset_loops.specs.Begun.{Begun, begun_at}
 
--- Call b on list m is pending. Its thread has the registers `l`, and its seat is now s.
+-- Call b on list m is pending. Its thread has the registers `l`, and its seat (the right to call as one thread) is now
+-- s.
 pub record Holds (m : Table) (b : Begun) (l : Local) (s : TableSeat) : Type 0 where
   pub words : b.table_id.words ≡ word_count (sizes b.me.0.shape)
   pub used : b.me.0.spent ≡ false
@@ -29,18 +30,19 @@ pub record Holds (m : Table) (b : Begun) (l : Local) (s : TableSeat) : Type 0 wh
   pub stands : Stands m s.me.0
   pub local : s.me.0.local ≡ l
 
--- Action a is the step that the step table demands next of call b. It does not end the call.
+-- Action a is the next step of call b according to the step table. The step does not end the call.
 pub record MayStep (m : Table) (b : Begun) (a : Action) (s : TableSeat) : Type 0 where
   pub held : Local
   pub holds : Holds m b held s
   pub acts : a ≡ m.next held
   pub goes_on : (n : ℕ) → (m.feed held n).answer ≡ None
 
--- States that the step from seat s to s' saw the value n, and led to the row that the step table demands.
+-- States that the step from seat s to s' saw the value n, and that the call is now at the row that follows in the step
+-- table.
 pub record HasStepped (m : Table) (b : Begun) (s : TableSeat) (n : ℕ) (s' : TableSeat) : Type 0 where
   pub leads : (l : Local) → Holds m b l s → Holds m b (m.feed l n).local s'
 
--- The step table demands that call b attempts to take the lock at `word` until the lock is free.
+-- According to the step table, call b now retries the lock at `word` until it gets the lock.
 pub record MayLock (m : Table) (b : Begun) (word thread : ℕ) (s : TableSeat) : Type 0 where
   pub held : Local
   pub holds : Holds m b held s
@@ -48,17 +50,17 @@ pub record MayLock (m : Table) (b : Begun) (word thread : ℕ) (s : TableSeat) :
   pub again : (n : ℕ) → n ≢ 0 → m.feed held n ≡ continued held
   pub goes_on : (m.feed held 0).answer ≡ None
 
--- Returns the node (slot) that the thread's next successful add will link in.
+-- Returns the node that the thread's next successful add links in (its next slot).
 abbrev pub slot : OwnSlots → ℕ
 slot own = slot_node own.quota own.thread own.used
 
--- Returns the registers after a thread with registers `l` has stored these values, given as (word, value).
+-- Returns the registers of a thread after it has stored these (word, value) pairs, if it had the registers `l` before.
 abbrev pub feeds : Table → Local → List (ℕ × ℕ) → Local
 feeds m l [] = l
 feeds m l ((word, value) ∷ more) = feeds m (m.feed l value).local more
 
--- States that the step table demands these stores, given as (word, value), one after another from registers `l` on.
--- None of them ends the call.
+-- States that these stores, given as (word, value) pairs, are the next steps according to the step table if the thread
+-- has the registers `l`. None of them ends the call.
 abbrev pub Stores : Table → Local → List (ℕ × ℕ) → Type 0
 Stores m l [] = Unit {0}
 Stores m l ((word, value) ∷ more) = (Store word value ≡ m.next l) × ((n : ℕ) → (m.feed l n).answer ≡ None)
@@ -72,20 +74,22 @@ pub record MayStore (m : Table) (b : Begun) (words : List (ℕ × ℕ)) (s : Tab
 pub record HasStored (m : Table) (b : Begun) (stores : List (ℕ × ℕ)) (s s' : TableSeat) : Type 0 where
   pub leads : (l : Local) → Holds m b l s → Holds m b (feeds m l stores) s'
 
--- Returns the stores that write the key `word` and a link to node x into the thread's next slot.
+-- Returns the stores that write the key `word` and a link to node x into the thread's next unused node (its slot).
 abbrev pub slot_stores : OwnSlots → ℕ → ℕ → List (ℕ × ℕ)
 slot_stores own word x = (key_index (slot own), word) ∷ (link_index (slot own), 2 * x) ∷ []
 
--- Returns the stores that write the key `word` into the thread's next slot and link the slot in between nodes p and x.
+-- Returns the stores that write the key `word` into the thread's next unused node (its slot) and link it in between
+-- nodes p and x.
 abbrev pub put_stores : OwnSlots → ℕ → ℕ → ℕ → List (ℕ × ℕ)
 put_stores own word p x = (key_index (slot own), word) ∷ (link_index (slot own), 2 * x) ∷ (link_index p, 2 * slot own) ∷ []
 
--- Call b has not begun yet. Its seat s is idle, and the thread of the seat has the slots `own`.
+-- Call b has not started yet. Its seat s has no pending call, and the seat's thread has the slots `own` (nodes for keys
+-- that it adds).
 pub record MayBegin (m : Table) (b : Begun) (own : OwnSlots) (s : TableSeat) : Type 0 where
   pub now : b ≡ begun_at b.call s
   pub may : MayCall m b.table_id b.me.0.shape own s
 
--- Returns the registers of the thread after it has begun call b.
+-- Returns the registers of the thread after call b has started.
 abbrev pub first : Table → Begun → OwnSlots → Local
 first m b own = m.begin b.call (resting own)
 
@@ -95,36 +99,37 @@ pub record Answered (m : Table) (b : Begun) (r : Reply) (l : Local) (s : TableSe
   pub makes : Makes m b.call b.me.0 r s.me.0
   pub local : s.me.0.local ≡ l
 
--- Action a is the step that the step table demands next of call b. It can end the call.
+-- Action a is the next step of call b according to the step table. The step can end the call.
 pub record MayAnswer (m : Table) (b : Begun) (a : Action) (s : TableSeat) : Type 0 where
   pub held : Local
   pub holds : Holds m b held s
   pub acts : a ≡ m.next held
 
--- States that call b is still pending if the step with result f has no reply, and has ended with this reply otherwise.
+-- States that call b has ended if its last step returned a reply, and is still pending otherwise. f is the result of
+-- that step.
 abbrev pub StandsAfter : Table → Begun → Fed → TableSeat → Type 0
 StandsAfter m b f s = MatchOption f.answer (Holds m b f.local s) (λ r. Answered m b r f.local s)
 
--- States that the step from seat s to s' saw the value n, and that the call is then pending or ended as the step table
--- demands.
+-- States that the step from seat s to s' saw the value n, and that the call has then ended or continues as the step
+-- table says.
 abbrev pub HasTold : Table → Begun → TableSeat → ℕ → TableSeat → Type 0
 HasTold m b s n s' = (l : Local) → Holds m b l s → (f : Fed) → m.feed l n ≡ f → StandsAfter m b f s'
 
--- States that the exchange from seat s to s' saw `old` if it succeeded and another value if it failed, and that the
--- call is then pending or ended as the step table demands.
+-- States that the exchange from seat s to s' found `old` if it succeeded and another value if it failed, and that the
+-- call has then ended or continues as the step table says.
 abbrev pub HasExchanged : Table → Begun → ℕ → TableSeat → Bool → TableSeat → Type 0
 HasExchanged m b old s true s' = HasTold m b s old s'
 HasExchanged m b old s false s' = (n : ℕ) × (n ≢ old) × HasTold m b s n s'
 
--- The registers whose values the loops do not need.
+-- The registers whose values do not matter to the loops.
 pub record Rest : Type 0 where
   pub succ : ℕ
   pub node : ℕ
   pub pkey : ℕ
   pub ckey : ℕ
 
--- Returns the registers of a thread at row pc of the step table: p is the previous node, x the current one, j has the
--- registers that the loops do not need.
+-- Returns the registers of a thread at row pc of the step table: p is the previous node, x the current node, and j has
+-- the registers that do not matter to the loops.
 abbrev pub row : OwnSlots → Call → ℕ → Option Reply → ℕ → ℕ → Rest → Local
 row own c pc r p x j = record {
   thread = own.thread;
@@ -141,22 +146,23 @@ row own c pc r p x j = record {
   ckey = j.ckey;
 }
 
--- Returns the registers after decision d: at the row that adds, at the row that removes, or at the row that ends the
--- call with a reply.
+-- Returns the registers after decision d. Their next row is the one that adds the key, the one that removes it, or the
+-- one that ends the call with a reply.
 abbrev pub done : Targets → Decision → Local → Local
 done t PutIn l = goes_to t.adds None l
 done t TakeOut l = goes_to t.removes None l
 done t (Answer r) l = goes_to t.leaves (Some r) l
 
--- States that the step table also makes decision d for call c when the walk has stopped at the key `word`.
+-- States that the step table makes the same decision d for call c if the walk has stopped at the key `word`.
 abbrev pub Decides : Call → OwnSlots → ℕ → Decision → Type 0
 Decides c own word d = (t : Targets) (l : Local) → l.call ≡ c → l.used ≡ own.used → l.quota ≡ own.quota →
     decided_on t word l ≡ done t d l
 
--- Returns the slots of a thread after one more slot is used.
+-- Returns the slots of a thread (nodes for keys that it adds) after it has used one more.
 abbrev pub one_more : OwnSlots → OwnSlots
 one_more own = record own { used = own.used + 1 }
 
--- States that call b has ended with this pair of slots and reply.
+-- States that call b has ended. `answer` has the thread's slots (nodes for keys that it adds) after the call, and the
+-- reply.
 abbrev pub HasAnswered : Table → Begun → OwnSlots × Reply → TableSeat → Type 0
 HasAnswered m b answer s = (l : Local) × Answered m b answer.1 l s × (answer.0 ≡ slots_of l)

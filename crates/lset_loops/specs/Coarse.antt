@@ -1,5 +1,4 @@
--- The state of a call between two parts of CoarseList's loop: the row of the step table, and the nodes in the
--- registers.
+-- The states between two parts of a CoarseList loop: the row of the step table, and the nodes in the registers.
 use Rattle.std.specs.Prelude.{ℕ, Some, None}
 use Rattle.lset_words.specs.declared.Reply.{Reply}
 use Rattle.lset_steps.specs.Rows.{decided_on}
@@ -14,15 +13,16 @@ use Rattle.lset_loops.specs.Calling.{Holds, Rest, row}
 abbrev pub AtHead : Begun → OwnSlots → TableSeat → Type 0
 AtHead b own s = (j : Rest) × Holds coarse b (row own b.call 2 None 0 0 j) s
 
--- States that the call is about to load the key of node x, to which the link of p led.
+-- States that the call is about to load the key of node x, which it reached by the link of p.
 abbrev pub AtKey : Begun → OwnSlots → ℕ → ℕ → TableSeat → Type 0
 AtKey b own p x s = (j : Rest) × Holds coarse b (row own b.call 3 None p x j) s
 
--- States that the walk has stopped at the nodes f, and that the call continues at the row that its decision selects.
+-- States that the walk has stopped at the nodes f, and that the call continues at the row for its decision.
 abbrev pub StopsAt : Begun → OwnSlots → Found → TableSeat → Type 0
 StopsAt b own f s = (j : Rest) × Holds coarse b (decided_on targets f.word (row own b.call 3 None f.pred.number f.curr.number j))
     s
 
--- States that the call is about to release the list's lock and to end with this pair of slots and reply.
+-- States that the call is about to release the list's lock and then to end. `answer` has the thread's slots (nodes for
+-- keys that it adds) after the call, and the reply.
 abbrev pub Leaves : Begun → OwnSlots × Reply → TableSeat → Type 0
 Leaves b answer s = (p : ℕ) × (x : ℕ) × (j : Rest) × Holds coarse b (row answer.0 b.call 10 (Some answer.1) p x j) s

@@ -1,4 +1,4 @@
--- The state of a call between two parts of FineList's loop: the row of the step table, and the nodes in the registers.
+-- The states between two parts of a FineList loop: the row of the step table, and the nodes in the registers.
 use Rattle.std.specs.Prelude.{ℕ, Some, None}
 use Rattle.lset_words.specs.declared.Reply.{Reply}
 use Rattle.lset_steps.specs.Rows.{decided_on}
@@ -13,15 +13,16 @@ use Rattle.lset_loops.specs.Calling.{Holds, Rest, row}
 abbrev pub AtHead : Begun → OwnSlots → TableSeat → Type 0
 AtHead b own s = (j : Rest) × Holds fine b (row own b.call 2 None 0 0 j) s
 
--- States that the call has locked node p and is about to lock node x, to which the link of p led.
+-- States that the call has locked node p and is about to lock node x, which it reached by the link of p.
 abbrev pub AtLock : Begun → OwnSlots → ℕ → ℕ → TableSeat → Type 0
 AtLock b own p x s = (j : Rest) × Holds fine b (row own b.call 3 None p x j) s
 
--- States that the walk has stopped at the nodes f, both locked, and that the call continues at the row that its
--- decision selects.
+-- States that the walk has stopped at the nodes f, both locked, and that the call continues at the row for its
+-- decision.
 abbrev pub StopsAt : Begun → OwnSlots → Found → TableSeat → Type 0
 StopsAt b own f s = (j : Rest) × Holds fine b (decided_on targets f.word (row own b.call 4 None f.pred.number f.curr.number j)) s
 
--- States that the call is about to release the locks of the nodes f and to end with this pair of slots and reply.
+-- States that the call is about to release the locks of the nodes f and then to end. `answer` has the thread's slots
+-- (nodes for keys that it adds) after the call, and the reply.
 abbrev pub Leaves : Begun → Found → OwnSlots × Reply → TableSeat → Type 0
 Leaves b f answer s = (j : Rest) × Holds fine b (row answer.0 b.call 12 (Some answer.1) f.pred.number f.curr.number j) s

@@ -1,5 +1,5 @@
--- The state of a call between two parts of LazyList's loop for `add` and `remove`: the row of the step table, and the
--- nodes in the registers.
+-- The states between two parts of a LazyList loop for `add` and `remove`: the row of the step table, and the nodes in
+-- the registers.
 use Rattle.std.specs.Prelude.{ℕ, Option, Some, None}
 use Rattle.lset_words.specs.declared.Reply.{Reply}
 use Rattle.lset_steps.specs.Rows.{decided_on}
@@ -11,7 +11,7 @@ use Rattle.lset_loops.specs.declared.decision.Found.{Found}
 use Rattle.lset_loops.specs.Begun.{Begun}
 use Rattle.lset_loops.specs.Calling.{Holds, Rest, row}
 
--- States that the call is about to load the key of node x, to which the link of p led.
+-- States that the call is about to load the key of node x, which it reached by the link of p.
 abbrev pub AtKey : Begun → OwnSlots → ℕ → ℕ → TableSeat → Type 0
 AtKey b own p x s = (j : Rest) × Holds lazy b (row own b.call 2 None p x j) s
 
@@ -24,7 +24,7 @@ abbrev pub HasLocked : Begun → OwnSlots → Found → TableSeat → Type 0
 HasLocked b own f s = (j : Rest) × Holds lazy b (row own b.call 6 None f.pred.number f.curr.number (record j { ckey = f.word })) s
 
 -- States that the nodes f are locked neighbours, that the link of the second leads to n, and that the call continues at
--- the row that its decision selects.
+-- the row for its decision.
 abbrev pub AreNeighbours : Begun → OwnSlots → Found → Node → TableSeat → Type 0
 AreNeighbours b own f n s = (j : Rest)
     × Holds lazy b (decided_on targets f.word
@@ -38,8 +38,8 @@ GivesBack b f own r s = (j : Rest) × Holds lazy b (row own b.call 13 r f.pred.n
 abbrev pub Leaves : Begun → Found → OwnSlots × Reply → TableSeat → Type 0
 Leaves b f answer s = GivesBack b f answer.0 (Some answer.1) s
 
--- States the outcome of the check of the nodes f: they are neighbours if the check returned a node, otherwise the call
--- is about to release them and to start over.
+-- States the result of checking the nodes f. If a node was returned, they are neighbours. Otherwise, the call is about
+-- to release them and start over.
 abbrev pub HasValidated : Begun → OwnSlots → Found → Option Node → TableSeat → Type 0
 HasValidated b own f (Some n) s = AreNeighbours b own f n s
 HasValidated b own f None s = GivesBack b f own None s

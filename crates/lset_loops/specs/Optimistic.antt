@@ -1,5 +1,4 @@
--- The state of a call between two parts of OptimisticList's loop: the row of the step table, and the nodes in the
--- registers.
+-- The states between two parts of an OptimisticList loop: the row of the step table, and the nodes in the registers.
 use Rattle.std.specs.Prelude.{ℕ, Bool, true, false, Option, Some, None}
 use Rattle.lset_words.specs.declared.Reply.{Reply}
 use Rattle.lset_steps.specs.Rows.{decided_on}
@@ -12,7 +11,7 @@ use Rattle.lset_loops.specs.Begun.{Begun}
 use Rattle.lset_loops.specs.Calling.{Holds, Rest, row}
 use Rattle.lset_loops.specs.declared.optimistic.Stopped.{Stopped}
 
--- States that the call is about to load the key of node x, to which the link of p led. `before` is the key of p.
+-- States that the call is about to load the key of node x, which it reached by the link of p. `before` is the key of p.
 abbrev pub AtKey : Begun → OwnSlots → ℕ → ℕ → ℕ → TableSeat → Type 0
 AtKey b own p x before s = (j : Rest) × Holds optimistic b (row own b.call 2 None p x (record j { pkey = before })) s
 
@@ -24,7 +23,7 @@ StopsAt b own f s = (j : Rest)
       ckey = f.found.word;
     })) s
 
--- States that the call has locked the nodes f. It walks again from the head, except if the first of them is the head.
+-- States that the call has locked the nodes f. It then walks again from the head, unless the first of them is the head.
 abbrev pub HasLocked : Begun → OwnSlots → Stopped → TableSeat → Type 0
 HasLocked b own f s = (j : Rest)
     × Holds optimistic b (at_locks (row own b.call 5 None f.found.pred.number f.found.curr.number (record j {
@@ -32,7 +31,7 @@ HasLocked b own f s = (j : Rest)
       ckey = f.found.word;
     }))) s
 
--- States that the call, in its second walk, is about to load the link of node n. The nodes f are locked.
+-- States that the call, on its second walk, is about to load the link of node n. The nodes f are locked.
 abbrev pub AtNode : Begun → OwnSlots → Stopped → Node → TableSeat → Type 0
 AtNode b own f n s = (j : Rest)
     × Holds optimistic b (row own b.call 6 None f.found.pred.number f.found.curr.number (record j {
@@ -46,7 +45,7 @@ abbrev pub AtPred : Begun → OwnSlots → Found → TableSeat → Type 0
 AtPred b own f s = (j : Rest) × Holds optimistic b
     (row own b.call 8 None f.pred.number f.curr.number (record j { ckey = f.word })) s
 
--- States that the nodes f are locked neighbours, and that the call continues at the row that its decision selects.
+-- States that the nodes f are locked neighbours, and that the call continues at the row for its decision.
 abbrev pub AreNeighbours : Begun → OwnSlots → Found → TableSeat → Type 0
 AreNeighbours b own f s = (j : Rest)
     × Holds optimistic b (decided_on targets f.word
@@ -60,14 +59,14 @@ GivesBack b f own r s = (j : Rest) × Holds optimistic b (row own b.call 14 r f.
 abbrev pub Leaves : Begun → Found → OwnSlots × Reply → TableSeat → Type 0
 Leaves b f answer s = GivesBack b f answer.0 (Some answer.1) s
 
--- States the outcome of the second walk: it has reached the first of the nodes f, or the call is about to release their
--- locks and to start over.
+-- States the result of the second walk: it has reached the first of the nodes f, or the call is about to release their
+-- locks and start over.
 abbrev pub HasReached : Begun → OwnSlots → Found → Bool → TableSeat → Type 0
 HasReached b own f true s = AtPred b own f s
 HasReached b own f false s = GivesBack b f own None s
 
--- States the outcome of the check of the nodes f: they are neighbours, or the call is about to release their locks and
--- to start over.
+-- States the result of checking the nodes f: they are neighbours, or the call is about to release their locks and start
+-- over.
 abbrev pub HasValidated : Begun → OwnSlots → Found → Bool → TableSeat → Type 0
 HasValidated b own f true s = AreNeighbours b own f s
 HasValidated b own f false s = GivesBack b f own None s

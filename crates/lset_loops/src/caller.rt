@@ -1,4 +1,4 @@
-//! The thread that makes a pending call, and what its loop needs.
+//! The thread that makes a pending call, with everything that its loop needs.
 ghost use Rattle.std.specs.Prelude.{◌≡◌, ◌<◌};
 ghost use Rattle.std.proofs.Props.{props};
 ghost use Rattle.lset_words.specs.Words.{tail_word, target};
@@ -12,7 +12,7 @@ use lset_words::Call;
 use std::marker::Model;
 use std::snapshot::Snapshot;
 
-/// A pending call, and a copy of its seat (the right to call as one thread) from when the call began.
+/// A pending call, and a copy of its seat (the right to call as one thread) from when the call started.
 #[derive(Drop)]
 pub(crate) struct Origin {
     call: Call,
@@ -47,7 +47,7 @@ pub(crate) struct Caller<'a, M: Machine, P: Pause> {
 }
 
 impl<'a, M: Machine, P: Pause> Caller<'a, M, P> {
-    /// Creates the caller of `call` from the idle seat `place`. The call begins later, with its first step.
+    /// Creates the caller of `call` from the idle seat `place`. The call starts later, with its first step.
     pub fn new(
         table: &'a Words<M>,
         place: &TableSeat,

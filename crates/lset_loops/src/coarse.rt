@@ -32,7 +32,7 @@ fn walk<P: Pause, N: Rounds>(caller: &Caller<CoarseList, P>, place: &mut TableSe
     None
 }
 
-/// Adds the key, removes it, or only replies, between the two nodes at which the walk has stopped. The list's lock must
+/// Adds or removes the key between the two nodes at which the walk has stopped, or only replies. The list's lock must
 /// be held.
 fn act<P: Pause>(
     caller: &Caller<CoarseList, P>,

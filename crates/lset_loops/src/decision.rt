@@ -45,7 +45,7 @@ pub fn decide(call: Call, word: u64, slots: OwnSlots) -> Decision
     }
 }
 
-/// Returns the slots of a thread after one more slot is used.
+/// Returns the slots of a thread (nodes for keys that it adds) after it has used one more.
 pub(crate) fn one_more(slots: OwnSlots) -> OwnSlots
     requires { slots.used < slots.quota }
     ensures { result ≡ one_more slots }

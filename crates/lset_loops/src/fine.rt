@@ -36,7 +36,7 @@ fn walk<P: Pause, N: Rounds>(caller: &Caller<FineList, P>, place: &mut TableSeat
     None
 }
 
-/// Adds the key, removes it, or only replies, between the two locked nodes at which the walk has stopped.
+/// Adds or removes the key between the two locked nodes at which the walk has stopped, or only replies.
 fn act<P: Pause>(
     caller: &Caller<FineList, P>,
     place: &mut TableSeat,

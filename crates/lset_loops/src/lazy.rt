@@ -1,5 +1,5 @@
-//! LazyList: a node is marked before it is unlinked. A call walks without locks, locks the two nodes at which the walk
-//! has stopped, and checks that they are still neighbours.
+//! LazyList: a node is marked before it is unlinked. A call walks without locks, locks the two nodes at which it stops,
+//! and checks that they are still neighbours.
 ghost use Rattle.lset_steps.specs.ReadRows.{first_row};
 ghost use Rattle.std.specs.Prelude.{◌≡◌, IfSome};
 ghost use Rattle.lset_lazy.specs.Lazy.{lazy};
@@ -61,7 +61,7 @@ fn validate<P: Pause>(
     Some(Node::behind(after))
 }
 
-/// Adds the key, removes it, or only replies, between the two locked nodes at which the walk has stopped.
+/// Adds or removes the key between the two locked nodes at which the walk has stopped, or only replies.
 fn act<P: Pause>(
     caller: &Caller<LazyList, P>,
     place: &mut TableSeat,

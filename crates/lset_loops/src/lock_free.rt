@@ -1,4 +1,5 @@
-//! LockFreeList: no locks. A call marks a node by an exchange of the node's link, and walks unlink marked nodes.
+//! LockFreeList: no locks. A call marks a node by a compare-and-exchange on the node's link, and walks unlink marked
+//! nodes.
 ghost use Rattle.std.specs.Prelude.{◌≡◌, IfSome};
 ghost use Rattle.lset_steps.specs.ReadRows.{first_row};
 ghost use Rattle.lset_lock_free.specs.LockFree.{lock_free};
@@ -50,7 +51,7 @@ fn find<P: Pause, N: Rounds>(
     None
 }
 
-/// Adds the key, removes it, or only replies, between the two nodes at which the walk has stopped. Returns `None` if a
+/// Adds or removes the key between the two nodes at which the walk has stopped, or only replies. Returns `None` if a
 /// link has changed since the walk.
 fn attempt<P: Pause>(
     caller: &Caller<LockFreeList, P>,

@@ -1,5 +1,4 @@
-//! OptimisticList: a call walks without locks, locks the two nodes at which the walk has stopped, and walks again to
-//! check them.
+//! OptimisticList: a call walks without locks, locks the two nodes at which it stops, and walks again to check them.
 ghost use Rattle.std.specs.Prelude.{IfSome};
 ghost use Rattle.lset_optimistic.specs.Optimistic.{optimistic};
 ghost use Rattle.lset_rule.specs.Seats.{HasCalled, MayCall};
@@ -49,7 +48,7 @@ fn walk<P: Pause, N: Rounds>(
     None
 }
 
-/// Walks a second time from the head, and returns whether this walk reaches `pred`. It does not if it sees a key
+/// Walks a second time from the head, and returns whether this walk reaches `pred`. The walk fails if it sees a key
 /// greater than that of `pred`.
 #[inline(always)]
 fn reaches<P: Pause, N: Rounds>(
@@ -100,7 +99,7 @@ fn validate<P: Pause, N: Rounds>(
     Some(true)
 }
 
-/// Adds the key, removes it, or only replies, between the two locked nodes at which the walk has stopped.
+/// Adds or removes the key between the two locked nodes at which the walk has stopped, or only replies.
 fn act<P: Pause>(
     caller: &Caller<OptimisticList, P>,
     place: &mut TableSeat,

@@ -28,8 +28,8 @@ impl ReadsByRows for LockFreeList {
     ghost reading = { lock_free_rows.reading };
 }
 
-/// Returns the reply of a `contains` that has found its key. `link` is the link word of the key's node. The key is in
-/// the set if the node is unmarked.
+/// Returns the reply of a `contains` that has found its key. `link` is the link word of the node with the key. The key
+/// is in the set if the node is unmarked.
 fn reply_by_mark(link: u64) -> Reply
     ensures { result ≡ (if link % 2 == 0 then True else False) }
 {
@@ -40,12 +40,12 @@ fn reply_by_mark(link: u64) -> Reply
     }
 }
 
-/// Makes a whole `contains` of `key`: walks to the first key that is not smaller than `key`, and replies by the mark of
-/// its node. This is Herlihy and Shavit's wait-free `contains`.
+/// Makes a whole `contains` of `key`: walks to the first key that is not smaller than `key`, and replies according to
+/// the mark of its node. This is Herlihy and Shavit's wait-free `contains`.
 ///
-/// `place` is an idle seat (the right to call as one thread) of the words `table`, and `slots` are the slots of its
-/// thread. Returns the slots and the reply. `pause` is called after each step that does not end the call. Does not
-/// block, and always returns.
+/// `place` is an idle seat (the right to call as one thread) on the words `table`, and `slots` are the slots of its
+/// thread (nodes for keys that it adds). Returns the slots and the reply. `pause` is called after each step that does
+/// not end the call. Does not block, and always returns.
 pub fn contains_on<M: ReadsByRows, P: Pause>(
     table: &Words<M>,
     place: &mut TableSeat,

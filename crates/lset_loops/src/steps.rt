@@ -1,5 +1,5 @@
-//! The steps of a pending call. A function may be called only if the list's step table demands its step at the call's
-//! current row.
+//! The steps of a pending call. Each function requires that its step is the next one according to the list's step
+//! table.
 ghost use Rattle.std.specs.Prelude.{◌≡◌, ◌≢◌, ℕ, ◌+◌, None, IfSome};
 ghost use Rattle.lset_words.specs.Words.{key_index, link_index, lock_index};
 ghost use Rattle.lset_steps.specs.ReadRows.{continued};
@@ -115,8 +115,8 @@ impl<'a, M: Machine, P: Pause> Caller<'a, M, P> {
         self.store(place, Part::Lock(node), 0);
     }
 
-    /// Exchanges the link of a node from `old` to `new`, as the last step of a call. Returns the value that the link
-    /// had before.
+    /// Changes the link of a node from `old` to `new` by a compare-and-exchange, as the last step of a call. Returns
+    /// the value that the link had before.
     #[inline(always)]
     pub fn exchange_last(&self, place: &mut TableSeat, node: Node, old: Link, new: Link) -> u64
         requires { MayAnswer M.table self.now.origin (Exchange (link_index node.number) (word_of old) (word_of new)) place.old }
@@ -127,8 +127,8 @@ impl<'a, M: Machine, P: Pause> Caller<'a, M, P> {
         step_on::<M>(self.table, place, action)
     }
 
-    /// Exchanges the link of a node from `old` to `new`, and returns whether the exchange succeeded. The call can end
-    /// with this step. If the exchange succeeded and the call continues, the loop must call `goes_on`.
+    /// Changes the link of a node from `old` to `new` by a compare-and-exchange, and returns whether it succeeded. The
+    /// call can end with this step. If the exchange succeeded and the call continues, the loop must call `goes_on`.
     #[inline(always)]
     pub fn exchange(&self, place: &mut TableSeat, node: Node, old: Link, new: Link) -> bool
         requires { MayAnswer M.table self.now.origin (Exchange (link_index node.number) (word_of old) (word_of new)) place.old }
@@ -141,8 +141,7 @@ impl<'a, M: Machine, P: Pause> Caller<'a, M, P> {
         true
     }
 
-    /// Attempts to take the lock at index `word` until the thread has the lock. Returns `None` after `N::MOST` failed
-    /// attempts.
+    /// Attempts to take the lock at index `word` until it succeeds. Returns `None` after `N::MOST` failed attempts.
     #[inline(never)]
     fn wait_for<N: Rounds>(&self, place: &mut TableSeat, word: u64) -> Option<()>
         requires { MayLock M.table self.now.origin word self.now.slots.thread place.old }
@@ -186,7 +185,7 @@ impl<'a, M: Machine, P: Pause> Caller<'a, M, P> {
         self.take::<N>(place, Part::Lock(node).index())
     }
 
-    /// Begins the call by taking the lock at index `word`. Returns `None` after one failed attempt and `N::MOST` more.
+    /// Starts the call by taking the lock at index `word`. Returns `None` after one failed attempt and `N::MOST` more.
     pub fn begin_locked<N: Rounds>(&self, place: &mut TableSeat, word: u64) -> Option<()>
         requires begins { MayBegin M.table self.now.origin self.now.slots place.old }
         requires acts { Exchange word 0 (self.now.slots.thread + 1) ≡ M.table.next (first M.table self.now.origin self.now.slots) }
@@ -206,7 +205,7 @@ impl<'a, M: Machine, P: Pause> Caller<'a, M, P> {
         Some(())
     }
 
-    /// Begins the call by loading the head's link. Returns the link word.
+    /// Starts the call by loading the head's link. Returns the link word.
     pub fn begin_at_head(&self, place: &mut TableSeat) -> u64
         requires begins { MayBegin M.table self.now.origin self.now.slots place.old }
         requires acts { Load (link_index 0) ≡ M.table.next (first M.table self.now.origin self.now.slots) }

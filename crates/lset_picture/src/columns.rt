@@ -8,7 +8,7 @@ use lset_text::{call_word, reply_word};
 use lset_words::{Call, CallRecord, Reply};
 use std::alloc::{AllocError, Global};
 
-/// A sign on a thread's row: a call begins, takes effect and changes the set, takes effect without a change, or ends.
+/// A sign on a thread's row: a call starts, takes effect and changes the set, takes effect without a change, or ends.
 #[derive(Clone, Copy)]
 pub(crate) enum Sign {
     Begin(Call),
@@ -34,7 +34,7 @@ pub(crate) struct Column {
     pub width: usize,
 }
 
-/// The position of something relative to the range of drawn moments: before it, at least partly within it, or after it.
+/// Where something lies relative to the drawn moments: before them, at least partly among them, or after them.
 #[derive(Clone, Copy)]
 pub(crate) enum Side {
     Before,
@@ -43,7 +43,8 @@ pub(crate) enum Side {
 }
 
 /// The columns of a picture, and what was left out. `known` is true if every linearization point is known, `from` and
-/// `last` are the first and last drawn moments, and `before` and `after` are true if something happens outside of them.
+/// `last` are the first and last drawn moments, and `before` and `after` are true if something happens before or after
+/// these moments.
 #[derive(Drop)]
 pub(crate) struct Drawing {
     pub columns: Vec<Column>,
@@ -55,13 +56,13 @@ pub(crate) struct Drawing {
 }
 
 impl Drawing {
-    /// Returns `true` if something happens at a moment that is not drawn.
+    /// Returns whether something happens at a moment that is not drawn.
     pub fn is_cut(&self) -> bool {
         self.before || self.after
     }
 
-    /// Returns a range of moments that begins at the call that the refusal names. Returns `None` if no refusal names a
-    /// call of the history, if all moments were drawn, or if `window` excludes some moments.
+    /// Returns a range of moments that starts at the call for which the order was rejected. Returns `None` if the order
+    /// is accepted or the history has no such call, if all moments were drawn, or if `window` excludes some moments.
     pub fn window_of_clash(&self, picture: &Picture, window: Window) -> Option<Window> {
         if !(self.after && window.is_whole()) {
             return None;
@@ -70,8 +71,8 @@ impl Drawing {
         Some(Window { from, ..window })
     }
 
-    /// Returns the position of the moments `first` to `last` relative to the drawn ones. If `last` is `None`, the
-    /// moments continue without end.
+    /// Returns where the moments `first` to `last` lie relative to the drawn ones. If `last` is `None`, the moments
+    /// continue without end.
     pub fn side_of(&self, first: u32, last: Option<u32>) -> Side {
         match last {
             _ if self.last < first => Side::After,
@@ -80,7 +81,7 @@ impl Drawing {
         }
     }
 
-    /// Returns the position of a call's bar relative to the drawn moments.
+    /// Returns where a call's bar lies relative to the drawn moments.
     pub fn side_of_bar(&self, made: CallRecord) -> Side {
         match made.ended {
             Some((end, _)) => self.side_of(made.begun, Some(end)),
@@ -100,7 +101,7 @@ fn add_begun(marks: &mut Vec<Mark>, picture: &Picture, moment: u32) -> Result<()
     Ok(())
 }
 
-/// Adds the signs of all linearization points at `moment`. Returns `true` if one of these calls changes the set.
+/// Adds the signs of all linearization points at `moment`. Returns whether one of these calls changes the set.
 fn add_points(marks: &mut Vec<Mark>, picture: &Picture, moment: u32) -> Result<bool, AllocError> {
     let mut changes = false;
     for (index, point) in points_of(picture).iter().enumerate() {
@@ -171,7 +172,7 @@ pub(crate) fn put_signs(out: &mut String, marks: &[Mark], thread: u32) -> Result
     Ok(())
 }
 
-/// Returns the width of a column in characters: its longest entry and one space, at most `MOST_WIDTH`.
+/// Returns the width of a column in characters: that of its longest entry plus one space, at most `MOST_WIDTH`.
 fn width_of(alloc: Global, moment: u32, marks: &[Mark], set: &str) -> Result<usize, AllocError> {
     let mut most = format!(in alloc; "{moment} ")?.len();
     if set.len() >= most {

@@ -19,11 +19,9 @@ fn clashes_in(keys: &[u32], refusal: &Refusal, number: usize, made: &CallRecord)
     }
 }
 
-/// Returns `true` if the call `made`, which has this number, contradicts the order and is drawn in red. That is the
-/// case if the refusal names the call. If the final keys are wrong, it is the case for all calls whose key is in only
-/// one of the two sets: the keys that the order leaves, and the report's final keys. Always returns `false` for an
-/// accepted order.
-/// accepted, no call clashes.
+/// Returns whether the call `made`, which has this number, contradicts the order and is drawn in red. This is so if the
+/// reason for rejecting the order names the call. If the final keys are wrong, it is so for all calls on the wrong
+/// keys: those that are final keys only of the order or only of the report. No call contradicts an accepted order.
 pub(crate) fn is_clash(picture: &Picture, number: usize, made: &CallRecord) -> bool {
     match &picture.refusal {
         None => false,

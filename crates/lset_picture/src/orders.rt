@@ -81,8 +81,8 @@ fn put_place(out: &mut String, number: usize, standing: Standing) -> Result<(), 
     writeln!(out, " {reply}{no_change}{still_open}")
 }
 
-/// Returns the position of an entry relative to the drawn moments. It is the position of the linearization point if
-/// this is known, otherwise of the call's bar. Returns `None` if the history does not have the call.
+/// Returns where an entry lies relative to the drawn moments: its linearization point if this is known, otherwise its
+/// call's bar. Returns `None` if the call is not in the history.
 fn side_of(standing: Standing, drawing: &Drawing) -> Option<Side> {
     match standing.point {
         Some(point) => Some(drawing.side_of(point.moment, Some(point.moment))),
@@ -90,8 +90,8 @@ fn side_of(standing: Standing, drawing: &Drawing) -> Option<Side> {
     }
 }
 
-/// Returns `true` if an entry whose call is not in the history is printed. This is the case if all moments are drawn or
-/// the refusal names the call.
+/// Returns whether to print an entry whose call is not in the history: only if all moments are drawn or the order was
+/// rejected for this call.
 fn is_told(picture: &Picture, drawing: &Drawing, place: Placed) -> bool {
     match &picture.refusal {
         _ if !drawing.is_cut() => true,
@@ -100,14 +100,15 @@ fn is_told(picture: &Picture, drawing: &Drawing, place: Placed) -> bool {
     }
 }
 
-/// The number of entries that were not printed: before the drawn moments, after them, or without a call in the history.
+/// The numbers of entries that were not printed: those before the drawn moments, those after them, and those without a
+/// call in the history.
 struct LeftOut {
     before: usize,
     after: usize,
     unknown: usize,
 }
 
-/// Writes the entries that are drawn, and returns how many are left out.
+/// Writes the entries that are drawn, and returns how many it leaves out.
 fn put_places(
     out: &mut String,
     picture: &Picture,
@@ -165,7 +166,7 @@ fn put_order(out: &mut String, picture: &Picture, drawing: &Drawing) -> Result<(
 }
 
 /// Appends the lines below the rows: the order, the number of entries left out, the final keys, `legend` if the
-/// linearization points are known, and the refused event of a schedule, if any.
+/// linearization points are known, and the schedule's event that is not enabled, if any.
 pub(crate) fn put_lines_below(
     out: &mut String,
     picture: &Picture,

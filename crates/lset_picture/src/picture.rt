@@ -2,18 +2,18 @@ use crate::refusal::Refusal;
 use lset_history::History;
 use lset_words::{CallRecord, Kind, Placed, Point};
 
-/// The contents of a picture of a run or a report: a history, an order of its calls, and the final keys.
+/// What the picture of a run or a report shows: a history, an order of its calls, and the final keys.
 ///
 /// The moments in `points` never decrease along the order. The points are drawn only if each entry of the order has one
-/// and the order is not refused.
+/// and the order is not rejected.
 #[derive(Drop)]
 pub struct Picture {
     pub kind: Kind,
     pub history: History,
-    /// The number of events executed; `None` for the picture of a report.
+    /// The number of events executed, or `None` for the picture of a report.
     pub events: Option<u32>,
     pub order: Vec<Placed>,
-    /// One linearization point for each entry of the order; empty if the order is refused.
+    /// One linearization point for each entry of the order. Empty if the order is rejected.
     pub points: Vec<Point>,
     pub keys: Vec<u32>,
     pub refusal: Option<Refusal>,
@@ -30,13 +30,13 @@ pub struct Window {
 }
 
 impl Window {
-    /// Returns `true` if this range includes every moment.
+    /// Returns whether this range includes every moment.
     pub fn is_whole(self) -> bool {
         self.from <= 1 && self.to == u32::MAX
     }
 }
 
-/// Returns `true` if the linearization points are known: the order is not refused, and each entry has a point.
+/// Returns whether the linearization points are known: the order is not rejected, and each entry has a point.
 pub(crate) fn are_known(picture: &Picture) -> bool {
     picture.refusal.is_none() && picture.points.len() == picture.order.len()
 }
@@ -66,7 +66,7 @@ fn standing_of(picture: &Picture, index: usize, placed: Placed) -> Standing {
     }
 }
 
-/// Returns the entry of the order with this index, counted from 0; `None` if the order is shorter.
+/// Returns the entry of the order with this index, counted from 0, or `None` if the order is shorter.
 pub(crate) fn standing_at(picture: &Picture, index: usize) -> Option<Standing> {
     let placed = picture.order.get(index)?;
     Some(standing_of(picture, index, *placed))

@@ -1,7 +1,7 @@
 use lset_words::Reply;
 
-/// Why an order is refused: its first error, with the facts that prove it. Calls are numbered from 0, the order's
-/// entries (places) from 1.
+/// Why an order is rejected: its first error, with the facts that prove it. Calls count from 0, the entries (places) of
+/// the order from 1.
 #[derive(Drop)]
 pub enum Refusal {
     /// The order names call number `call`, but the history has only `calls` calls.
@@ -28,8 +28,8 @@ pub enum Refusal {
         says: Reply,
         ended: Reply,
     },
-    /// In the order the call has the reply `says`. The sequential set, which has the keys `keys` at this place, replies
-    /// `answer`. If the call ended, it returned `says`.
+    /// In the order, the call has the reply `says`. The sequential set, which has the keys `keys` at this place,
+    /// replies `answer`. If the call ended, it returned `says`.
     SetReply {
         call: u32,
         place: u64,
@@ -37,14 +37,14 @@ pub enum Refusal {
         keys: Vec<u32>,
         answer: Reply,
     },
-    /// The order has `call` before `other`, but `call` began at `begun`, after `other` had ended at `ended`.
+    /// The order has `call` before `other`, but `call` started at `begun`, after `other` had ended at `ended`.
     TooEarly {
         call: u32,
         begun: u32,
         other: u32,
         ended: u32,
     },
-    /// After all calls of the order the set has the keys `left`, but the report states other final keys.
+    /// After all calls in the order, the set has the keys `left`, but the report has other final keys.
     WrongSet {
         left: Vec<u32>,
     },

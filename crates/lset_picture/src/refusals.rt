@@ -1,4 +1,4 @@
-//! Writes the reason why an order is refused.
+//! Writes the reason why an order is rejected.
 use crate::drawn_sets::put_set;
 use crate::picture::Picture;
 use crate::refusal::Refusal;
@@ -110,7 +110,7 @@ fn put_reason(out: &mut String, refusal: &Refusal, told: &[u32]) -> Result<(), A
     }
 }
 
-/// Appends a line with the reason if the order of a picture is refused.
+/// If the order of a picture is rejected, appends a line with the reason.
 pub(crate) fn put_refusal(out: &mut String, picture: &Picture) -> Result<(), AllocError> {
     if let Some(refusal) = &picture.refusal {
         out.push_str("refused ")?;

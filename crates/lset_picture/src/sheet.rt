@@ -2,7 +2,7 @@
 use crate::columns::Column;
 use std::alloc::AllocError;
 
-/// The CSS classes for threads' colours, assigned in turn.
+/// The CSS classes for the threads' colours, assigned in turn.
 const THREADS: [&str; 8] = [
     "thread-0", "thread-1", "thread-2", "thread-3", "thread-4", "thread-5", "thread-6", "thread-7",
 ];
@@ -19,7 +19,7 @@ pub(crate) struct Spot {
     pub y: u64,
 }
 
-/// Returns the x position of a moment: the left margin and the total width of the columns before the moment.
+/// Returns the x position of a moment: the left margin plus the total width of the columns before the moment.
 pub(crate) fn x_of(columns: &[Column], moment: u64) -> u64 {
     let mut x = 88u64;
     for column in columns {
@@ -30,7 +30,7 @@ pub(crate) fn x_of(columns: &[Column], moment: u64) -> u64 {
     x
 }
 
-/// Returns the x position of the right edge of the columns.
+/// Returns the x position of the right edge of the last column.
 pub(crate) fn right_edge(columns: &[Column]) -> u64 {
     x_of(columns, 4_294_967_296)
 }

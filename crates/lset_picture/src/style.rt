@@ -1,4 +1,4 @@
-/// The style sheet that every SVG contains. Its rules apply inside the SVG only, even if the SVG is embedded in a page.
+/// The style sheet in every SVG. Its rules only apply inside the SVG, even if the SVG is embedded in a page.
 ///
 /// Colour-blind readers can tell the threads' colours apart, and each colour has a contrast of at least 4.5 against the
 /// background. A call that contradicts the order is drawn thick as well as red.

@@ -16,17 +16,17 @@ use std::alloc::{AllocError, Global};
 const LEGEND: &str =
     "filled: changes the set    open: changes nothing, its reply fits there    dashed: still open";
 
-/// The maximum number of characters for which the sheet grows with its longest line of text.
+/// The sheet is as wide as its longest line of text, up to this number of characters.
 const MOST_CHARACTERS: usize = 255;
 
-/// The two lines above the rows: the heading, and the reason if the order is refused (otherwise empty).
+/// The two lines above the rows: the heading, and the reason if the order is rejected (otherwise empty).
 #[derive(Clone, Copy)]
 struct Above<'a> {
     heading: &'a str,
     refusal: &'a str,
 }
 
-/// Opens the SVG with its title, style and background. The sheet is wide enough for the columns and the lines of text.
+/// Starts the SVG with its title, style and background. The sheet is wide enough for the columns and the lines of text.
 fn put_sheet(
     out: &mut String,
     threads: u32,
@@ -52,7 +52,7 @@ fn put_sheet(
     out.push_str("<rect class=\"ground\" width=\"100%\" height=\"100%\"/>\n")
 }
 
-/// Adds the lines above the rows: the heading, the reason if the order is refused, and the range of drawn moments
+/// Adds the lines above the rows: the heading, the reason if the order is rejected, and the range of drawn moments
 /// unless all are drawn.
 fn put_above(
     alloc: Global,
@@ -130,7 +130,7 @@ fn put_bar(
     put_line(out, &class, Spot { x, y }, Spot { x: end, y })
 }
 
-/// Adds a call's operation and key above its begin, if the begin is drawn.
+/// Adds a call's operation and key above its start, if the start is drawn.
 fn put_begin(
     alloc: Global,
     out: &mut String,
@@ -253,8 +253,8 @@ fn put_below(out: &mut String, threads: u32, below: &str) -> Result<(), AllocErr
 /// Draws a picture as an SVG. It shows the moments in `window`, counted from 1, but at most the first 64 at which
 /// something happens.
 ///
-/// If `window` includes all moments and they do not fit, the drawing of a refused order begins at the call that the
-/// refusal names. A call is a line in its thread's colour: dashed if it is pending, thick if it contradicts the order
+/// If `window` includes all moments and they do not fit, the drawing of a rejected order starts at the call for which
+/// it was rejected. A call is a line in its thread's colour: dashed if it is pending, thick if it contradicts the order
 /// (`is_clash`). A linearization point is a circle, filled if the call changes the set, with a thin line down to the
 /// set. The order is below, as text. The style sheet has a dark background for readers who prefer one. The SVG has no
 /// script and no external references. Returns `AllocError` if an allocation fails.

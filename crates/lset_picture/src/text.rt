@@ -16,8 +16,7 @@ const LEGEND: &str = "* changes the set    o changes nothing, its reply fits the
 const LEGEND_OF_CUT: &str =
     "* changes the set    o changes nothing, its reply fits there    > goes on    < began before";
 
-/// Returns `true` if a thread's bar continues after the signs in `marks`. `before` is true if a bar was drawn up to
-/// them.
+/// Returns whether a thread's bar continues after the signs in `marks`. `before` is true if a bar was drawn up to them.
 fn goes_on(marks: &[Mark], thread: u32, before: bool) -> bool {
     let mut drawn = before;
     for mark in marks {
@@ -32,7 +31,7 @@ fn goes_on(marks: &[Mark], thread: u32, before: bool) -> bool {
     drawn
 }
 
-/// Appends `with` to a row until the row has `width` characters. The row begins at byte `start` of the string.
+/// Appends `with` to a row until the row has `width` characters. The row starts at byte `start` of the string.
 fn fill(row: &mut String, start: usize, width: usize, with: char) -> Result<(), AllocError> {
     for _done in row.len().saturating_sub(start)..width {
         row.push(with)?;
@@ -40,8 +39,9 @@ fn fill(row: &mut String, start: usize, width: usize, with: char) -> Result<(), 
     Ok(())
 }
 
-/// Appends a thread's cell in a column, and returns `true` if the bar continues past the column. `before` is true if a
-/// bar was drawn up to the column. In the first column, `<` marks a bar that began earlier, unless the cell has a sign.
+/// Appends a thread's cell in a column, and returns whether the bar continues past the column. `before` is true if a
+/// bar was drawn up to the column. In the first column, `<` marks a bar that started earlier, unless the cell has a
+/// sign.
 fn put_cell(
     row: &mut String,
     column: &Column,
@@ -59,7 +59,7 @@ fn put_cell(
     Ok(drawn)
 }
 
-/// Returns `true` if the thread had a pending call just before a moment.
+/// Returns whether the thread had a pending call just before a moment.
 fn is_spanned(calls: &[CallRecord], thread: u32, moment: u32) -> bool {
     for made in calls {
         if made.thread == thread
@@ -146,7 +146,7 @@ fn has_longer(rows: &str, width: u32) -> bool {
     false
 }
 
-/// Returns `true` if no row of a drawing is longer than `width` characters.
+/// Returns whether all rows of a drawing are at most `width` characters long.
 fn fits(
     alloc: Global,
     picture: &Picture,
@@ -219,8 +219,8 @@ fn put_drawn_rows(
 ///
 /// The picture shows the moments `window.from` to `window.to`, counted from 1. It is limited to the first 64 at which
 /// something happens, and to those that fit into rows of `width` characters, but shows at least one. If `window`
-/// includes all moments and they do not fit, the drawing of a refused order begins at the call that the refusal names.
-/// Returns `AllocError` if an allocation fails. (Pictures with bars and points are due to Herlihy and Wing.)
+/// includes all moments and they do not fit, the drawing of a rejected order starts at the call for which it was
+/// rejected. Returns `AllocError` if an allocation fails. (Pictures with bars and points are due to Herlihy and Wing.)
 pub fn write_picture(
     alloc: Global,
     picture: &Picture,

@@ -52,11 +52,12 @@ drop_more [] (suc k) next rest e = absurd (cc)
 drop_more (x ∷ es) zero next rest e = cc
 drop_more (x ∷ es) (suc k) next rest e = drop_more es k next rest e
 
--- The default for an index after the last line.
+-- The value that stands for a line whose index is out of range.
 abbrev pub no_line : Line
 no_line = line.Begin 0 (call.Add (record { 0 = 0 }))
 
--- The events that remain while line i is made: `times` events of line i, then all events of the later lines.
+-- Returns the events that remain while the loop makes line i: `times` events from line i, then all events from later
+-- lines.
 abbrev pub rest_of : ℕ → List Line → ℕ → ℕ → LineEvent → List LineEvent
 rest_of n ls i times next = replicate times next ++ events_from (n + (i + 1)) (drop (i + 1) ls)
 
@@ -73,7 +74,7 @@ module _ (n : ℕ) (ls : List Line) (i k times : ℕ) (next : LineEvent) where
         let t : times ≡ times - 0 = omega arith in cc (e, f, t));
   }
 
-  -- Lemmas for the case that j events of the current line were made.
+  -- Lemmas for the case that j events from the current line have been made.
   module _ (j : ℕ) (ahead : IsAhead (events_from n ls) k (rest_of n ls i (times - j) next)) where
     is_next : j < times → drop k (events_from n ls) ≡ next ∷ rest_of n ls i (times - (j + 1)) next
     is_next inside = ahead.rest_is ∙ ap (λ z. rest_of n ls i z next) (let e : times - j ≡ suc (times - (j + 1)) = omega arith in e)

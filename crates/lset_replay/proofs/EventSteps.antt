@@ -1,4 +1,4 @@
--- Every enabled event of a run can be recorded. Afterwards the recorder still matches the run.
+-- Every enabled event of a run can be recorded, and the recorder then still matches the run.
 use Rattle.std.proofs.Common.{◌≡◌, ℕ, suc, ◌+◌, ◌<◌, ◌⊎◌, inl, inr, List, sym, refl, subst, ap, ◌∙◌, add-one, arith}
 use Rattle.lset_words.specs.Account.{Account, Enters}
 use Rattle.lset_words.specs.Words.{Opening, Opens, sizes}
@@ -26,7 +26,7 @@ use Rattle.lset_replay.proofs.EventLists.{IsAhead}
 use Rattle.lset_replay.proofs.FollowedRuns.{TellsKeys, holds_keys, shown}
 use Rattle.lset_replay.proofs.RecorderReady.{may_begin, may_step}
 
--- The effect that `told` returns for an event is the entry that the log has for this event.
+-- The effect of an event, as `told` returns it, is the log's entry for this event.
 pub told_entry : (T : Table) (s : State) (e : Event) → entry_told e (told T s e) ≡ entry_of T s e
 told_entry T s (Begin t call) = refl
 told_entry T s (Go t) = refl
@@ -98,7 +98,8 @@ module _ (T : Table) (op : Opening) (events : List LineEvent) (k : ℕ) (w : Wor
   stopped cause.Memory w' made = tt
   stopped c w' made = made
 
-  -- The next event can be recorded. This follows from the list's account: which event changes which key for which call.
+  -- The next event can be recorded. This follows from the list's account, which says which event changes which key for
+  -- which call.
   module _ (accounts : TellsKeys T) where
     open shown T op events use {log, contents, counts}
 
@@ -151,7 +152,7 @@ module _ (T : Table) (accounts : TellsKeys T) (op : Opening) (events : List Line
   only_memory c memory = subst (λ z. IsStoppedBy T op events next.line z)
       (sym (memory (ready T op events r.last w r h next there accounts made.0 a made.2))) tt
 
--- The state before the first event.
+-- Before the first event, the world (words and threads) and the recorder match the run.
 pub at_first : (T : Table) (op : Opening) (events : List LineEvent) (w : WorldState) (r : Recorder) → Opens op
     → r.history.opening ≡ op → w ≡ record { sizes = sizes op; state = opening op } → trace_of r ≡ no_trace r.history.opening
     → r.last ≡ 0 → HasFollowed T r.history.opening events 0 w r

@@ -1,4 +1,4 @@
--- The report that is made of a recorded run, and why its order linearizes the history.
+-- The report made from a recorded run, and why its order linearizes the history.
 use Rattle.std.proofs.Common.{◌≡◌, ℕ, suc, ◌<◌, Bool, true, false, List, [], ◌∷◌, length, map, sym, refl, subst, ap, ◌∙◌, arith}
 use Rattle.std.specs.Prelude.{Option, Some, None}
 use Rattle.std.specs.List.{swap}
@@ -38,13 +38,13 @@ use Rattle.lset_replay.proofs.FollowedRuns.{TellsKeys, shown, account_then, low_
 use Rattle.lset_replay.proofs.EventLists.{as_many}
 use Rattle.lset_schedule.specs.Plan.{Plan, opening_in}
 
--- ---- Lemmas: the calls, sorted by linearization point, are in the order of [Placement]
+-- ---- Lemmas: the calls, sorted by linearization point, are in the order that the definition [Placement] requires
 
 abbrev moment_of : Option Linearized → Option ℕ
 moment_of None = None
 moment_of (Some p) = Some p.moment
 
--- Whether the linearization point of a call is a change: the case if the call made a change.
+-- Returns whether the linearization point of a call is a change: yes if the call made a change.
 changes : Option ℕ → Bool
 changes None = false
 changes (Some m) = true
@@ -149,7 +149,7 @@ module _ (op : Opening) (last : ℕ) (log : Log) (contents : Contents) (counts :
       let f = follows op last log contents counts account low last (omega arith) in
       is_placement op.quota contents counts (calls_at log last) (trace_at op log last).places f.numbered f.placed
 
--- The content of a world, as a list of keys, is unique.
+-- The keys in a world (the words and threads of a list) are unique, as a list in increasing order.
 content_once : (v : View) (ks js : List ℕ) → IsContent v ks → IsContent v js → ks ≡ js
 content_once v ks js a b = a.0.2 ∙ ap (keys_in v) (chain_once v 0 a.0.0 b.0.0 a.0.1 b.0.1) ∙ sym b.0.2
 

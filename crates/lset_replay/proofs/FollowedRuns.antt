@@ -1,4 +1,4 @@
--- What is known of a run whose events were recorded.
+-- What is known about a run whose events were recorded.
 use Rattle.std.proofs.Common.{ℕ, List, sym, subst, arith}
 use Rattle.lset_words.specs.Log.{Log}
 use Rattle.lset_words.specs.Account.{Account, Contents, Counts}
@@ -18,7 +18,8 @@ use Rattle.lset_replay.proofs.ReplayKept.{Follows}
 use Rattle.lset_replay.proofs.KeyChanges.{HoldsKeys}
 use Rattle.lset_replay.proofs.RecorderReady.{follows}
 
--- A run, abstracted: its log, and at each moment the set's content and each thread's count of added keys.
+-- A run without its words and registers: its log, and at each moment the set's content and the number of keys that each
+-- thread has added.
 pub record Shown : Type 1 where
   pub log : Log
   pub contents : Contents

@@ -23,11 +23,11 @@ pub length_stepped : (log : Log) (k t : ℕ) (change : Option Change) (reply : O
 length_stepped log k t change reply e = ap (λ z. length (calls_after (suc k) z (calls_at log k))) e
     ∙ length-map (calls_at log k) (step_of k t change reply)
 
--- The call is pending and has this thread, operation and begin.
+-- States that a call is pending, and that it has this thread, operation and start.
 abbrev pub IsOpenAs : ℕ → Call → ℕ → TracedCall → Type 0
 IsOpenAs t call begun x = (x.thread ≡ t) × (x.ended ≡ None) × (x.call ≡ call) × (x.begun ≡ begun)
 
--- The call with this number is the thread's pending call, with this operation and begin.
+-- The call with this number is the thread's pending call, with this operation and start.
 pub record OpenNumber (xs : List TracedCall) (t number : ℕ) (call : Call) (begun : ℕ) : Type 0 where
   pub below : number < length xs
   pub open_call : IsOpenAs t call begun (traced_at xs number)
@@ -50,7 +50,7 @@ open_began x xs t number call begun p =
       open_call = subst (IsOpenAs t call begun) (sym (get_or_append_left xs (x ∷ []) no_traced number low)) p.open_call;
     }
 
--- A step leaves a pending call as it is if the step is of another thread or ends no call.
+-- A step does not change a pending call if another thread makes the step or the step ends no call.
 pub open_stepped : (k u t : ℕ) (change : Option Change) (reply : Option Reply) (xs : List TracedCall) (number : ℕ) (call : Call)
     (begun : ℕ) → (reply ≡ None) ⊎ (u ≢ t) → OpenNumber xs t number call begun
     → OpenNumber (map (step_of k u change reply) xs) t number call begun

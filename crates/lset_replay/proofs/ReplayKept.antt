@@ -24,15 +24,15 @@ use Rattle.lset_history.specs.Changes.{is_present, IsBounded}
 use Rattle.lset_history.proofs.ChangeLaws.{all_upto_later}
 use Rattle.lset_replay.proofs.KeyChanges.{Tells, changes_by, quiet_keys}
 
--- At moment k, the thread t has the pending call o, with its number and begin.
+-- At moment k, the thread t has the pending call o, with its number and start.
 pub record IsWatched (log : Log) (contents : Contents) (counts : Counts) (k t : ℕ) (o : OpenCall) : Type 0 where
   pub here : OpenNumber (calls_at log k) t o.number o.call o.begun
   pub since : o.begun ≤ k
-  -- Until the call changes the set, the number of keys that its thread has added stays the same.
+  -- Until the call changes the set, its thread adds no key.
   pub steady : has_changed log t k ≡ false → (m : ℕ) → o.begun ≤ m → m ≤ k → counts m t ≡ counts k t
 
--- The linearization point of a call: its change or, for a completed call without a change, the first moment at which
--- its reply is correct.
+-- States that p is the linearization point of a call: its change or, for a completed call without a change, the first
+-- moment of the call at which its reply is correct.
 abbrev pub PlaceBy : ℕ → Contents → Counts → TracedCall → Option ℕ → Option (ℕ × Reply) → Option Linearized → Type 0
 PlaceBy q contents counts x (Some m) ended p = p ≡ Some (changed_at m)
 PlaceBy q contents counts x None None p = p ≡ None
@@ -131,12 +131,12 @@ module _ (m t : ℕ) where
   ended_changes None s = refl
   ended_changes (Some x) s = refl
 
--- ---- Lemmas for an event that begins a call
+-- ---- Lemmas about an event that starts a call
 pub calls_are : (log : Log) (k : ℕ) (e : Entry) → log k ≡ e → calls_at log (suc k) ≡ calls_after (suc k) e (calls_at log k)
 calls_are log k e at = ap (λ z. calls_after (suc k) z (calls_at log k)) at
 
--- A pending call keeps its properties at the next moment if its thread's count of added keys stays the same until the
--- call changes the set.
+-- Lemmas about a pending call whose thread adds no key until the call changes the set: at the next moment, the call is
+-- still as `IsWatched` states.
 module _ (log : Log) (contents : Contents) (counts : Counts) (k u : ℕ) (o : OpenCall)
     (quiet : has_changed log u (suc k) ≡ false → (has_changed log u k ≡ false) × (counts (suc k) u ≡ counts k u))
     (w : IsWatched log contents counts k u o) where

@@ -1,5 +1,5 @@
 -- For a call that changes nothing, the first moment at which its reply is correct is the first moment at which its key
--- is present or absent, as the reply requires.
+-- is present, or absent, as the reply requires.
 use Rattle.std.proofs.Common.{◌≡◌, ℕ, List, true, false, ◌<◌, ◌≤◌, sym, refl, subst, ◌∙◌, arith}
 use Rattle.std.specs.Prelude.{Option, Some, None}
 use Rattle.lset_words.specs.declared.Call.{Call}
@@ -48,7 +48,7 @@ module _ (q : ℕ) (contents : Contents) (counts : Counts) (first last t : ℕ) 
   abbrev pub FitsAt : Call → Reply → ℕ → Type 0
   FitsAt c r m = Fits q (contents m) (counts m t) c r
 
-  -- The test by which `fit` decides that the reply of a call without a change is correct at moment m.
+  -- States that, according to the test in `fit`, the reply of a call without a change is correct at moment m.
   abbrev pub Passes : (ℕ → List ℕ) → Call → Reply → ℕ → Type 0
   Passes changes c r m = shows changes c r m ≡ needs_key c r
 

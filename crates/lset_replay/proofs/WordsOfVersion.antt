@@ -35,7 +35,7 @@ use Rattle.lset_replay.specs.declared.events.LineEvent.{LineEvent}
 use Rattle.lset_replay.specs.Events.{events_of_line, events_from, events_of, only_events}
 use Rattle.lset_replay.specs.Reports.{IsReplay, IsExplained}
 
--- ---- Lemmas: the version has words for the calls that the schedule begins
+-- ---- Lemmas: the version has words for the calls that the schedule starts
 
 abbrev BeginsIn : Version → Event → Type 0
 BeginsIn v (event.Begin t c) = HasCall v c
@@ -59,14 +59,14 @@ lines_begin v n [] h = tt
 lines_begin v n (l ∷ ls) h = all-append (BeginsLineIn v) (events_of_line n l) (events_from (n + 1) ls) (line_begins v n l h.0)
     (lines_begin v (n + 1) ls h.1)
 
--- After the last event, `event_at` returns a step, which begins no call.
+-- After the last event, `event_at` returns a step, which starts no call.
 event_begins : (v : Version) (es : List LineEvent) (k : ℕ) → AllByRecursion (BeginsLineIn v) es
     → BeginsIn v (event_at (only_events es) k)
 event_begins v [] k h = tt
 event_begins v (e ∷ es) zero h = h.0
 event_begins v (e ∷ es) (suc k) h = event_begins v es k h.1
 
--- ---- Lemmas: each call in the history was begun by the schedule
+-- ---- Lemmas: each call in the history was started by the schedule
 
 abbrev EntersIn : Version → Entry → Type 0
 EntersIn v (began t c) = HasCall v c

@@ -10,7 +10,7 @@ use Rattle.lset_schedule.specs.declared.TheConstants.{MOST_EVENTS}
 use Rattle.lset_schedule.specs.Plan.{Plan, event_count, first_event_line, opening_in}
 use Rattle.lset_replay.specs.declared.events.LineEvent.{LineEvent}
 
--- The events that one line stands for: the begin of a call, or some steps of one thread.
+-- Returns the events that one line stands for: the start of a call, or some steps of one thread.
 abbrev pub events_of_line : ℕ → Line → List LineEvent
 events_of_line number (line.Begin t call) = record { line = number; event = event.Begin t call } ∷ []
 events_of_line number (line.Go t steps) = replicate steps (record { line = number; event = event.Go t })
@@ -34,6 +34,6 @@ event_in e = e.event
 abbrev pub only_events : List LineEvent → List Event
 only_events es = map event_in es
 
--- The line number of the event with this index, counted from 0.
+-- Returns the line number of the event with this index, counted from 0.
 abbrev pub line_at : List LineEvent → ℕ → ℕ
 line_at es index = (slice_index_or es index (record { line = 0; event = event.Go 0 })).line

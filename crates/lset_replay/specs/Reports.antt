@@ -1,4 +1,4 @@
--- [Replay]: the report of a schedule or, if a schedule cannot be run, the event at which it fails.
+-- [Replay]: the report of a schedule or, if the schedule cannot be run, the event at which it fails.
 use Rattle.std.specs.Prelude.{◌≡◌, ℕ, ◌<◌, List, length, Result, Ok, Err}
 use Rattle.std.specs.List.Sorted.{IsStrictlyIncreasing}
 use Rattle.lset_words.specs.declared.history.CallRecord.{CallRecord}
@@ -33,11 +33,11 @@ pub record IsReportOf (T : Table) (op : Opening) (events : List Event)
   -- The final keys in the report are the keys of the set after the last event.
   pub content : IsContent (views T op (event_at events) (length events)) keys
 
--- The shared words and the local states after the first k events.
+-- Returns the shared words and the threads' local states after the first k events.
 abbrev pub world_after : Table → Opening → List Event → ℕ → WorldState
 world_after T op events k = record { sizes = sizes op; state = state_at T op (event_at events) k }
 
--- The first event that is not enabled has this line number, and this is the first cause that applies to it.
+-- The first event that is not enabled has this line number, and `cause` is the first cause that applies to it.
 pub record IsFirstRefused (T : Table) (op : Opening) (events : List LineEvent)
     (line : ℕ) (cause : StepFault) : Type 0 where
   pub index : ℕ
@@ -46,21 +46,22 @@ pub record IsFirstRefused (T : Table) (op : Opening) (events : List LineEvent)
   pub before : Run T op (event_at (only_events events)) index
   pub refused : Refused (world_after T op (only_events events) index) (event_at (only_events events) index) cause
 
--- Why a replay fails: at the first event that is not enabled, with its line and cause, or at a failed allocation.
+-- States why a replay fails: at the first event that is not enabled, with its line and cause, or at a failed
+-- allocation.
 abbrev pub IsRefusal : Table → Opening → List LineEvent → ReplayFault → Type 0
 IsRefusal T op events (fault.NoThread line) = IsFirstRefused T op events line step.NoThread
 IsRefusal T op events (fault.Busy line) = IsFirstRefused T op events line step.Busy
 IsRefusal T op events (fault.Idle line) = IsFirstRefused T op events line step.Idle
 IsRefusal T op events fault.Memory = Unit {0}
 
--- The report is the one that replaying the schedule on the step table T returns.
+-- The report r is the one that a replay of the schedule p on the step table T must return.
 pub record IsReplay (T : Table) (p : Plan) (r : ReportValue) : Type 0 where
   pub version_is : r.version ≡ p.version
   pub kind_is : r.kind ≡ p.kind
   pub opening_is : r.history.opening ≡ opening_in p
   pub report : IsReportOf T (opening_in p) (only_events (events_of p)) r.history.calls r.order r.keys
 
--- The possible results of a replay on the step table T: the schedule's report, or the error that the schedule has.
+-- States the result of a replay on the step table T: the schedule's report, or the error that the schedule has.
 abbrev pub Replays : Table → Plan → Result Report ReplayFault → Type 0
 Replays T p (Ok r) = IsReplay T p (view r)
 Replays T p (Err refusal) = IsRefusal T (opening_in p) (events_of p) refusal

@@ -22,15 +22,15 @@ use Rattle.lset_replay.specs.declared.recorder.Recorder.{Recorder}
 
 -- ---- The reply of a pending call
 
--- True if this reply of a call that changes nothing is correct while the key is present, false if it is correct while
--- the key is absent. True for every ceiling, whose whole reply is tested by `shows`.
+-- A call that changed nothing returned this reply. Returns true if the reply is correct while the key is present, and
+-- false if it is correct while the key is absent. Always true for a ceiling, since `shows` tests its whole reply.
 abbrev pub needs_key : Call → Reply → Bool
 needs_key (call.Add k) reply.False = true
 needs_key (call.Contains k) reply.True = true
 needs_key (call.Ceiling k) r = true
 needs_key c r = false
 
--- The key in a ceiling's reply; None if the reply is Nothing.
+-- Returns the key in a ceiling's reply, or None if the reply is Nothing.
 abbrev pub found_in : Reply → Option ℕ
 found_in (reply.At k) = Some k.0
 found_in reply.Nothing = None
@@ -38,15 +38,16 @@ found_in reply.True = None
 found_in reply.False = None
 found_in reply.Full = None
 
--- True at the moments at which the call's key is present. For a ceiling, true at the moments at which its reply is
--- correct.
+-- Returns whether the call's key is present at a moment. For a ceiling, returns whether its reply is correct at this
+-- moment.
 abbrev pub shows : (ℕ → List ℕ) → Call → Reply → ℕ → Bool
 shows changes (call.Add k) r = λ m. is_present changes k.0 m
 shows changes (call.Remove k) r = λ m. is_present changes k.0 m
 shows changes (call.Contains k) r = λ m. is_present changes k.0 m
 shows changes (call.Ceiling k) r = has_ceiling changes k.0 (found_in r)
 
--- The first moment, from the call's begin up to `last`, at which the reply is correct. The call must change nothing.
+-- Returns the first moment, from the start of the call up to `last`, at which the reply is correct. The call must
+-- change nothing.
 abbrev pub fit : (ℕ → List ℕ) → OpenCall → Reply → ℕ → Option ℕ
 fit changes o reply last = first_passing (needs_key o.call reply) (shows changes o.call reply) o.begun (last - o.begun)
 
@@ -55,14 +56,15 @@ fit changes o reply last = first_passing (needs_key o.call reply) (shows changes
 abbrev pub changed_at : ℕ → Linearized
 changed_at moment = record { moment = moment; reply = reply.True; change = true }
 
--- The linearization point of a call that changes nothing: the first moment at which its reply is correct. Each call of
--- a list has such a moment. If a call of a broken list has none, its linearization point is its end.
+-- Returns the linearization point of a call that changes nothing: the first moment of the call at which its reply is
+-- correct. Each call on a list has such a moment. If a call on a broken list has none, its linearization point is its
+-- end.
 abbrev pub read_at : Option ℕ → ℕ → Reply → Linearized
 read_at None end reply = record { moment = end; reply = reply; change = false }
 read_at (Some moment) end reply = record { moment = moment; reply = reply; change = false }
 
--- The linearization point of a completed call: the moment of its change or, if it made none, the moment `read_at`
--- finds.
+-- Returns the linearization point of a completed call: the moment of its change or, if it made none, the moment that
+-- `read_at` finds.
 abbrev pub settled : Option Linearized → Option ℕ → ℕ → Reply → Option Linearized
 settled (Some p) moment end reply = Some p
 settled None moment end reply = Some (read_at moment end reply)
@@ -149,15 +151,15 @@ abbrev pub entry_told : Event → Told → Entry
 entry_told (event.Begin thread call) told = began thread call
 entry_told (event.Go thread) told = stepped thread told.change told.answer
 
--- The thread has a pending call, and this call can change the set or end at this moment.
+-- The thread has a pending call that can change the set or end at this moment.
 pub record MayStep (h : HistoryValue) (under_way : List (Option OpenCall)) (places : List (Option Linearized))
     (thread moment : ℕ) : Type 0 where
   pub of_a_thread : thread < length under_way
   pub goes : IsSomeAnd (open_call_at under_way thread) (λ o.
       (o.number < length places) × (o.begun ≤ moment) × MayEnd h o.number moment)
 
--- The change can be recorded: its moment is after every recorded change, and it adds an absent key or removes a present
--- one.
+-- States that a change can be recorded: its moment is after every recorded change, and it adds an absent key or removes
+-- a present one.
 abbrev pub MayChange : (ℕ → List ℕ) → ℕ → Option Change → Type 0
 MayChange changes moment None = Unit {0}
 MayChange changes moment (Some (k, present)) =

@@ -3,7 +3,8 @@
 //!
 //! One loop, `follow`, makes the events of a schedule, and a `Recorder` collects the calls. For a list, both are
 //! proved: `replay` returns the report of the run. `calls_of` returns the calls for a picture, and `TracedRun` reports
-//! the effect of each event. These two also work on broken lists; they are tested, not proved.
+//! the effect of each event. These two also work on broken lists (lists with one check removed); they are tested, not
+//! proved.
 #![tactic(auto)]
 
 mod events;

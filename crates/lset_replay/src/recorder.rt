@@ -12,7 +12,7 @@ pub(crate) struct Recorder {
     pub under_way: Vec<Option<OpenCall>>,
     pub places: Vec<Option<Linearized>>,
     pub changes: Changes,
-    /// The number of the last event, counted from 1; 0 before the first event.
+    /// The number of the last event, counted from 1, or 0 before the first event.
     pub last: u32,
     ghost past: { (k : ℕ) → All (λ m. m ≤ last) (moments_of changes k) },
     ghost few: { (length places.items ≤ last) × (last < 2 ^ 32) },

@@ -37,8 +37,8 @@ fn is_there(changes: &Changes, key: u32, moment: u32) -> bool
     changes.first(key, true, moment, moment).0.is_some()
 }
 
-/// Records that a key was added (if `present` is true) or removed at this moment. Records nothing if the key already
-/// was present or absent, which happens on broken lists only.
+/// Records that a key was added (if `present` is true) or removed at this moment. Records nothing if the key was
+/// already present or absent, which only happens on broken lists.
 fn note_key(changes: &mut Changes, key: u32, present: bool, moment: u32) -> Result<(), AllocError>
     requires { IsLaterThanAll (moments_of changes.old) moment }
     ensures upto { (k : ℕ) → All (λ m. m ≤ moment) (moments_of changes.new k) }
@@ -70,13 +70,13 @@ impl Recorder {
         })
     }
 
-    /// Returns the number of a thread's pending call; `None` if the thread has no pending call.
+    /// Returns the number of a thread's pending call, or `None` if the thread has none.
     pub fn open_number(&self, thread: u32) -> Option<u32> {
         let open = (*self.under_way.get(thread as usize)?)?;
         Some(open.number)
     }
 
-    /// Returns the moment of a call's linearization point; `None` if it is not known yet.
+    /// Returns the moment of a call's linearization point, or `None` if it is not known yet.
     pub fn moment_of(&self, call: u32) -> Option<u32> {
         let place = (*self.places.get(call as usize)?)?;
         Some(place.moment)
@@ -98,7 +98,7 @@ impl Recorder {
         }
     }
 
-    // Not inlined, so that the loop over the events stays small: few events begin or end a call or change the set.
+    // Not inlined, so that the loop over the events stays small: few events start or end a call or change the set.
     #[inline(never)]
     fn begin(&mut self, thread: u32, call: Call) -> Result<(), Cause>
         requires { length self.old.places.items < self.old.last }
@@ -191,7 +191,7 @@ impl Recorder {
     }
 
     /// Records the next event and its effect. Can allocate. Returns the error `Memory` if an allocation fails, and
-    /// `Lost` if the effect does not fit the run so far, which happens on broken lists only.
+    /// `Lost` if the effect is not possible after the run so far, which only happens on broken lists.
     #[inline(always)]
     pub fn follow(&mut self, event: Event, told: Told) -> Result<(), Cause>
         ensures trace { OnOk result (MayRecord self.old (self.old.last + 1) event told

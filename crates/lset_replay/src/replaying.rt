@@ -38,8 +38,8 @@ fn refusal(stopped: LineFault) -> ReplayFault
     }
 }
 
-/// Makes the events of these lines in turn and records them. `first` is the number of the first line. Stops at the
-/// first event that is refused and returns its line and cause. The cause is `Memory` if an allocation failed.
+/// Makes the events in these lines in turn and records them. `first` is the number of the first line. Stops at the
+/// first event that is not enabled and returns its line and cause. The cause is `Memory` if an allocation failed.
 pub(crate) fn follow<W: Steps>(
     world: &mut W,
     recorder: &mut Recorder,
@@ -123,13 +123,13 @@ impl Task for Replaying<'_> {
 /// Executes a schedule and returns a report with the history of the run, a linearization of it, and the final keys.
 ///
 /// `schedule` must be within the limits: 1 to 64 threads, a quota of 0 to 16,384, at most 1,048,576 opening keys in
-/// strictly increasing order, and at most 1,000,000 events. Every schedule from `read_schedule` is. The report has the
-/// schedule's version. `write_report` accepts the report if that version has words for the schedule's calls and opening
-/// keys.
+/// strictly increasing order, and at most 1,000,000 events. Every schedule from `read_schedule` is within them. The
+/// report has the schedule's version. `write_report` accepts the report if that version has words for the schedule's
+/// calls and opening keys.
 ///
 /// A call that changed the set takes effect at the event of its change, even if the call is pending. Any other
-/// completed call takes effect at the first of its moments at which its reply is correct. (Linearizability is due to
-/// Herlihy and Wing.)
+/// completed call takes effect at the first moment between its start and its end at which its reply is correct.
+/// (Linearizability is due to Herlihy and Wing.)
 ///
 /// Example, from `crates/first_program`:
 ///

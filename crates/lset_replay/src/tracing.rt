@@ -17,12 +17,13 @@ fn thread_of(event: Event) -> u32 {
     }
 }
 
-/// Returns `true` if the shared word with this index is the key or the link of a node.
+/// Returns whether the shared word with this index is the key or the link of a node.
 fn is_node_word(word: u64) -> bool {
     word > 2 && word % 3 != 2
 }
 
-/// Returns `true` if an event writes the key or the link of a node. Only such an event can change the chain of nodes.
+/// Returns whether an event writes the key or the link of a node. Only such an event can change which nodes are in the
+/// list.
 fn writes_node(deed: Deed) -> bool {
     match deed {
         Deed::Begin(_) | Deed::Access(Action::Load(_), _) => false,
@@ -41,9 +42,10 @@ pub struct TracedRun<W: Steps + Drop> {
 }
 
 impl<W: Steps + Drop> TracedRun<W> {
-    /// Creates the run of a schedule. `world` must be new: no event was made in it. If `chains` is true, each event
-    /// that changes the chain of nodes or a mark in it is reported with the new chain. This costs a walk along the
-    /// chain at each event that writes a node's key or link. Returns `AllocError` if an allocation fails.
+    /// Creates the run of a schedule. No event may have been made in `world` before. If `chains` is true, each event
+    /// that changes which nodes are in the list, or their marks, is reported with the new list of nodes. This costs a
+    /// walk along the nodes at each event that writes a node's key or link. Returns `AllocError` if an allocation
+    /// fails.
     pub fn opened(
         alloc: Global,
         schedule: &Schedule,
@@ -61,7 +63,7 @@ impl<W: Steps + Drop> TracedRun<W> {
         })
     }
 
-    /// Makes an event and returns it as a trace shows it. If the event is refused, the inner error is the cause.
+    /// Makes an event and returns it as a trace shows it. If the event is not enabled, the inner error is the cause.
     /// Returns `AllocError` if an allocation fails.
     pub fn make(&mut self, next: LineEvent) -> Result<Result<TracedEvent, Cause>, AllocError> {
         let ahead = self.look(next.event);
@@ -112,7 +114,7 @@ impl<W: Steps + Drop> TracedRun<W> {
         Some((self.world.held(thread_of(event))?, deed))
     }
 
-    /// Returns the reply and the moment of a call, if its last event ended it.
+    /// Returns the reply and the moment of a call, if the last event ended it.
     fn end_of(&self, call: u32, told: Told) -> Option<CallEnd> {
         Some(CallEnd {
             reply: told.answer?,
@@ -120,8 +122,8 @@ impl<W: Steps + Drop> TracedRun<W> {
         })
     }
 
-    /// Returns the chain of nodes after an event, if chains were requested and the chain differs from the last one
-    /// returned.
+    /// Returns the list's nodes from head to tail after an event, if they were requested and have changed since they
+    /// were last returned.
     fn changed_chain(&mut self, deed: Deed) -> Result<Option<Vec<ChainKey>>, AllocError> {
         let Some(told) = &mut self.chain else {
             return Ok(None);

@@ -1,4 +1,5 @@
--- The test `may_follow` decides whether a call can follow a history, and the fields of CallsSoFar suffice for the test.
+-- The test `may_follow` decides whether a call can follow a history, and the fields of CallsSoFar suffice for this
+-- test.
 use Rattle.std.proofs.Common.{inl, inr, ◌≡◌, ◌≢◌, ℕ, ◌<◌, ◌&&◌, ◌||◌, not, ltb, eqb, Bool, true, false, List, [], ◌∷◌, ◌++◌, length, get_or}
 use Rattle.std.proofs.Common.{Option, Some, None, refl, sym, ap, ◌∙◌, arith, ⊎_elim, zero, suc, replicate}
 use Rattle.std.proofs.Math.ListN.{set}
@@ -32,7 +33,7 @@ not_or false b = refl
 abbrev Apart : ℕ → CallRecord → Type 0
 Apart m y = (m ≢ y.begun) × IfSome y.ended (λ (d : ℕ × Reply). m ≢ d.0)
 
--- Decides whether a moment differs from both the begin and the end of a call.
+-- Decides whether a call neither starts nor ends at a moment.
 apart_by : (m begun : ℕ) (o : Option (ℕ × Reply)) → Decides (not (eqb begun m || ends_at m o)) ((m ≢ begun) × IfSome o (λ d. m ≢ d.0))
 apart_by m begun None = grind (arith, nat_tests)
 apart_by m begun (Some e) = grind (arith, nat_tests)
@@ -119,7 +120,7 @@ pub history_more : (threads : ℕ) (calls : List CallRecord) (x : CallRecord) �
     → may_follow threads calls x ≡ true → IsHistory threads (calls ++ x ∷ [])
 history_more threads calls x h may = history_begun threads calls x h (may_ok threads calls x may)
 
--- ---- Lemmas: the invariant is kept when a call is appended
+-- ---- Lemmas: appending a call preserves the invariant
 
 begins_pushed : (calls : List CallRecord) (x : CallRecord) (last : ℕ) → ((m : ℕ) → begins_later calls m ≡ ltb last m)
     → begins_later calls x.begun ≡ true → (m : ℕ) → begins_later (calls ++ x ∷ []) m ≡ ltb x.begun m
@@ -142,8 +143,8 @@ taken_pushed calls x m past =
     list_any-append (is_entry m) calls (x ∷ []) ∙ ap (λ c. is_taken calls m || c) (or-false (is_entry m x))
     ∙ ap (λ c. is_taken calls m || (c || ends_at m x.ended)) other
 
--- When a thread's entry in the list of last ends is replaced by v, the moments in the list are those before and v. The
--- moment m must differ from the replaced entry.
+-- If a thread's entry in the list of last ends is replaced by v, the list contains the moment m if it did before or if
+-- m is v. The moment m must differ from the replaced entry.
 last_end_set : (ends : List ℕ) (t m v : ℕ) → t < length ends → eqb (get_or ends t 0) m ≡ false
     → is_last_end (set ends t v) m ≡ (is_last_end ends m || eqb v m)
 last_end_set [] t m v low old = absurd (omega (arith, low))
@@ -165,7 +166,7 @@ idle_step : (calls : List CallRecord) (x : CallRecord) (t m : ℕ)
 idle_step calls x t m =
     list_all-append (idle_at t m) calls (x ∷ []) ∙ ap (λ b. is_idle calls t m && b) (and-true (idle_at t m x))
 
--- The thread has no pending call, and its last call ended before this moment.
+-- Returns whether a thread has no pending call and its last call ended before moment m.
 abbrev is_over : Bool → ℕ → ℕ → Bool
 is_over busy end m = not busy && ltb end m
 

@@ -43,7 +43,7 @@ pieces_of told.End = codes "end" ∷ []
 abbrev pub line_text : Line → List ℕ
 line_text l = line_of (pieces_of l)
 
--- The line's numbers are in range, and the version has the words that the line uses.
+-- States that the line's numbers are in range, and that this version of the format has the words that the line uses.
 abbrev pub IsLine : Version → Line → Type 0
 IsLine v (told.Opening k) = (k < 2 ^ 32) × (v ≡ Two)
 IsLine v (told.Call n x) =
@@ -52,7 +52,7 @@ IsLine v (told.Place p) = IsPlace v p
 IsLine v (told.Key k) = k < 2 ^ 32
 IsLine v told.End = Unit {0}
 
--- The report has no lines that belong after this section.
+-- States that the report has no lines that belong after this section.
 abbrev pub Reaches : Section → ReportValue → Type 0
 Reaches section.Opening r = (r.history.calls ≡ []) × (r.order ≡ []) × (r.keys ≡ [])
 Reaches section.Calls r = (r.order ≡ []) × (r.keys ≡ [])
@@ -62,14 +62,14 @@ Reaches section.Done r = Unit {0}
 
 -- ---- Lemmas: bytes that are read as a line are the line's text
 
--- The line is well formed, and the report has no lines that belong after its section.
+-- States that the line is well formed, and that the report has no lines that belong after its section.
 abbrev pub IsNext : Version → ReportValue → Line → Type 0
 IsNext v r l = IsLine v l × Reaches (section_after l) r
 
 abbrev Known : Version → ReportValue → LineKind Line → Type 0
 Known v r = Knows v pieces_of (IsNext v r)
 
--- The line of a call with the given end, or with none if the call is pending.
+-- Returns the line of a call with the given end, or without one if the call is pending.
 abbrev call_with : CallWord → ℕ → ℕ → ℕ → ℕ → Option (ℕ × Reply) → Line
 call_with w n t k b o = told.Call n (record { thread = t; call = with_key w (record { 0 = k }); begun = b; ended = o })
 
@@ -174,7 +174,7 @@ end_told_so v = inr (refl, inl ((tt, tt), refl, (tt, tt)))
 abbrev pub reached : List CallRecord → List Placed → List ℕ → Section
 reached cs ps ks = later ks (later ps (later cs section.Opening section.Calls) section.Order) section.Keys
 
--- True if the line's fields match this form.
+-- Returns whether the line's fields match this form.
 abbrev Has : Version → LineKind Line → Line → Bool
 Has v k l = have_form v k.0 (pieces_of l)
 

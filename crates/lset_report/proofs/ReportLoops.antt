@@ -36,8 +36,8 @@ use Rattle.lset_report.specs.ReportReader.{so_far, state, IsFull}
 
 -- ---- Lemmas about the checks that each line must pass
 
--- The line's section is not full, an opening key is greater than the one before it, and a call can follow the earlier
--- calls.
+-- States that the line's section is not full, that an opening key is greater than the one before it, and that a call
+-- can follow the earlier calls.
 abbrev pub IsGood : ReportValue → Line → Type 0
 IsGood r (Opening k) = (length r.history.opening.keys < MOST_OPENING) × (is_above r.history.opening.keys k ≡ true)
 IsGood r (Call number x) =
@@ -86,7 +86,7 @@ end_is One section.Opening l e = ok_is End l e
 end_is v section.Done l e = absurd cc
 end_is v s l e = ok_is End l e
 
--- The result of reading all remaining lines of a text.
+-- Returns the result of reading all remaining lines of a text.
 abbrev pub AllOf : List ℕ → SoFar → Result SoFar LineFault
 AllOf rest s = lines_from grammar first_line s (cut_at 10 rest)
 
@@ -112,7 +112,7 @@ stops_at all start s line rest x after e parts (inr full) stands =
 
 -- ---- Lemmas about the whole text, header included
 
--- The report of a reader state, as the result of reading.
+-- Returns the report in a reader's state, as the result of reading.
 abbrev pub report_told : SoFar → Result ReportValue LineFault
 report_told s = Ok s.report
 
@@ -123,7 +123,7 @@ module _ (bytes : List ℕ) (v : Version) (version_is : v ≡ version_told (cut_
   in_version : reading bytes ≡ told_by (text_from (text v) (cut_at 10 bytes))
   in_version = ap (λ (u : Version). told_by (text_from (text u) (cut_at 10 bytes))) (sym version_is)
 
-  -- An error in the header is the error of the whole text.
+  -- If the header has an error, this is the error of the whole text.
   pub header_fault : (e : LineFault) → header_of (title v) (cut_at 10 bytes) ≡ Err e → reading bytes ≡ Err e
   header_fault e is = in_version ∙ ap told_by (text_refused (text v) (cut_at 10 bytes) e is)
 
@@ -131,7 +131,8 @@ module _ (bytes : List ℕ) (v : Version) (version_is : v ≡ version_told (cut_
   still_good line (Ok s) good = tt
   still_good line (Err e) good = good
 
-  -- An allocation can fail at any line from the header's last line on, as long as no line up to it has an error.
+  -- An allocation can fail at the header's last line or a later line, as long as neither this line nor an earlier one
+  -- has an error.
   runs_out : (index : ℕ) → last_of_header ≤ 1 + index
       → IsGoodLine 1 (cut_at 10 bytes) (text_from (text v) (cut_at 10 bytes)) (1 + index)
       → get_or (cut_at 10 bytes) index [] ≢ last_line → RunsOut 1 (cut_at 10 bytes) (reading bytes) (fault (1 + index) wrong.Memory)

@@ -89,7 +89,7 @@ one_call : (f : List (List ℕ)) (cs : List CallRecord) (ps : List Placed) (ks :
     ≡ f ++ call_lines 0 cs ++ map place_line ps ++ map key_line ks ++ call_line (0 + length cs) x ∷ []
 one_call f cs ps ks x p n = rw (p, n, calls_pushed 0 cs x) (simp (append-nil, append_assoc))
 
--- The text of a line that is read is appended to the text of the lines before it.
+-- If a line is read, its text is appended to the text of the lines before it.
 more_lines : (r : ReportValue) (l : Line) → Reaches (section_after l) r → IsGood r l
     → lines_at (record { section = section_after l; report = with_line r l }) ≡ to_end r ++ line_text l ∷ []
 more_lines r (told.Opening k) next good =
@@ -275,7 +275,7 @@ keys_lead v h os cs ps ks few are =
 
 -- ---- Lemmas about reading the whole text
 
--- The lines after the header, without the last line `end`.
+-- Returns the lines after the header, without the last line `end`.
 abbrev body : ReportValue → List (List ℕ)
 body r = opening_lines r.history.opening.keys
     ++ (call_lines 0 r.history.calls ++ (map place_line r.order ++ (map key_line r.keys ++ last_line ∷ [])))
@@ -352,7 +352,7 @@ words_in One calls order are places = (
 )
 words_in Two calls order are places = tt
 
--- A report that has a text uses only words of its version.
+-- A report that has a text only uses words of its version.
 pub has_words : (r : ReportValue) → IsReport r → HasWordsOfVersion r
 has_words r is = record { opening = is.opening; words = words_in r.version r.history.calls r.order is.calls is.places }
 

@@ -1,5 +1,5 @@
 -- Sorting by linearization point is stable. If the entries were sorted by call number before, the result is therefore
--- in the order that the definition [Placement] demands.
+-- in the order that the definition [Placement] requires.
 use Rattle.std.proofs.Common.{◌≡◌, ℕ, ◌<◌, ◌≤◌, ◌⊎◌, inl, inr, Bool, true, false, not, ◌&&◌, List, [], ◌∷◌, refl, sym, ◌∙◌, arith}
 use Rattle.std.specs.Prelude.{◌==◌, if◌then◌else◌, AllPairs}
 use Rattle.std.specs.List.{filter, AllByRecursion}
@@ -59,7 +59,8 @@ by_ranks xs ys moved increase stable = record {
   stable = ranks_stay rank_of HasSmallerNumber xs ys stable;
 }
 
--- If the entries were sorted by call number, sorting them by linearization point puts them in the order of [Placement].
+-- If the entries were sorted by call number, sorting them by linearization point puts them in the order that the
+-- definition [Placement] requires.
 pub sorted_rises : (xs ys : List Pointed) → AreByPoints xs ys → AllPairs HasSmallerNumber xs → AllPairs IsPlacedBefore ys
 sorted_rises xs ys are numbers = pairs_std IsPlacedBefore ys (in_order rank_of HasSmallerNumber ys
     (pairs_rec (λ x y. rank_of x ≤ rank_of y) ys (λ i j d l m. are.increase i j d (omega arith) m))

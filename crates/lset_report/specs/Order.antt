@@ -12,23 +12,25 @@ placed_in xs = map (λ (x : Pointed). x.placed) xs
 abbrev pub points_in : List Pointed → List Point
 points_in xs = map (λ (x : Pointed). x.point) xs
 
--- The sort key of an entry: earlier moments come first and, at one moment, a call that changes the set comes first.
+-- Returns the sort key of an entry: earlier moments come first and, at one moment, a call that changes the set comes
+-- first.
 abbrev pub rank_of : Pointed → ℕ
 rank_of x = if x.point.change then 2 * x.point.moment else 2 * x.point.moment + 1
 
--- The list ys contains the entries of xs, sorted by `rank_of`. Entries with equal keys keep their relative order.
+-- The list ys contains the entries in xs, sorted by `rank_of`. Entries with equal keys keep their relative order.
 pub record AreByPoints (xs ys : List Pointed) : Type 0 where
   pub moved : IsPermutation xs ys
   pub increase : IsNonDecreasingBy rank_of ys
   pub stable : (x : Pointed) → filter (λ y. rank_of y == rank_of x) ys ≡ filter (λ y. rank_of y == rank_of x) xs
 
--- Sorted by `rank_of` and, for equal keys, by call number. The definition [Placement] demands this order.
+-- States that the call of x has a smaller number than the call of y. The definition [Placement] sorts entries by
+-- `rank_of`, and those with equal ranks by call number.
 abbrev pub HasSmallerNumber : Pointed → Pointed → Type 0
 HasSmallerNumber x y = x.placed.call < y.placed.call
 
 abbrev pub IsPlacedBefore : Pointed → Pointed → Type 0
 IsPlacedBefore x y = (rank_of x < rank_of y) ⊎ ((rank_of x ≡ rank_of y) × HasSmallerNumber x y)
 
--- The entry for a call that has a linearization point.
+-- Returns the entry for a call that has a linearization point.
 abbrev pub pointed_of : Standing → Pointed
 pointed_of s = record { point = record { moment = s.moment; change = makes_change s }; placed = placed_of s }

@@ -6,7 +6,7 @@ use Rattle.lset_history.specs.History.{HistoryValue}
 use Rattle.lset_text.specs.declared.words.Version.{Version}
 use Rattle.lset_report.specs.declared.report.Report.{Report}
 
--- A report in which lists replace the vectors of the type `Report`.
+-- A report with lists in place of the vectors of the type `Report`.
 pub record ReportValue : Type 0 where
   pub version : Version
   pub kind : Kind

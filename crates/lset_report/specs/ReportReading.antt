@@ -1,4 +1,4 @@
--- The grammar of reports: the report that a text spells, or the text's first error. Lines are checked one by one.
+-- The grammar of reports: defines which report a text is, or which error it has first. Lines are checked one by one.
 -- Within a line, the checks have a fixed order.
 use Rattle.std.specs.Prelude.{◌≡◌, ◌≢◌, ◌⊎◌, ℕ, ◌+◌, ◌<◌, ◌≤◌, ◌^◌, ◌==◌, ◌&&◌, ◌||◌, not, nat_lt, Bool, true, false, List, []}
 use Rattle.std.specs.Prelude.{◌∷◌, ◌++◌, length, codes, Option, Some, None, Result, Ok, Err, if◌then◌else◌, slice_index_or}
@@ -37,7 +37,7 @@ use Rattle.lset_report.specs.Texts.{title, last_line, report_text}
 
 -- ---- Limits on the numbers in a report
 
--- A call's key and its moments are at most 4294967295. (A history does not imply these limits.)
+-- States that a call's key and its moments are at most 4294967295. (A history does not imply these limits.)
 abbrev pub IsEnd : Version → Option (ℕ × Reply) → Type 0
 IsEnd version None = Unit {0}
 IsEnd version (Some end) = (end.0 < 2 ^ 32) × HasReply version end.1
@@ -48,14 +48,14 @@ IsCall version x = (x.begun < 2 ^ 32) × ((key_of x.call).0 < 2 ^ 32) × IsEnd v
 abbrev pub IsPlace : Version → Placed → Type 0
 IsPlace version p = (p.call < 2 ^ 32) × HasReply version p.reply
 
--- The maximum number of final keys. A set that opens with keys can reach more keys than one that opens empty.
+-- Returns the maximum number of final keys. A set that opens with keys can reach more keys than one that opens empty.
 abbrev pub most_keys : Version → ℕ
 most_keys One = MOST_KEYS
 most_keys Two = MOST_KEYS_OPENED
 
 -- A report that can be written as text. A set can open with its thread count, quota and opening keys; its calls are a
--- history; its version has words for its opening keys, calls and replies. All numbers, and the counts of calls, entries
--- and keys, are within their limits. The order and the final keys are otherwise arbitrary.
+-- history; its version of the format has words for its opening keys, calls and replies. All numbers, and the counts of
+-- calls, entries and keys, are within their limits. The order and the final keys are otherwise arbitrary.
 pub record IsReport (r : ReportValue) : Type 0 where
   pub opens : Opens r.history.opening
   pub opening : HasOpening r.version r.history.opening.keys
@@ -72,12 +72,12 @@ pub record IsReport (r : ReportValue) : Type 0 where
 abbrev pub opening_kind : LineKind ReportLine
 opening_kind = (opening_form, λ t. told.Opening t.1.0)
 
--- Builds the line of a call from its number, thread, operation, key, begin and end.
+-- Returns the line of a call, made from its number, thread, operation, key, start and end.
 abbrev pub call_told : {X : Type 0} → ℕ × (ℕ × (CallWord × (ℕ × (ℕ × X)))) → Option (ℕ × Reply) → ReportLine
 call_told t end = told.Call t.0
     (record { thread = t.1.0; call = with_key t.1.1.0 (record { 0 = t.1.1.1.0 }); begun = t.1.1.1.1.0; ended = end })
 
--- The fields of a call's line, up to the moment at which the call begins.
+-- Returns the fields of a call's line. `end` are the fields after the moment at which the call starts.
 abbrev pub call_form : Form → Form
 call_form end = piece.word (codes "call") ∷ piece.any ∷ piece.any ∷ piece.call ∷ piece.any ∷ piece.moment ∷ end
 
@@ -102,7 +102,8 @@ key_kind = (piece.word (codes "key") ∷ piece.any ∷ [], λ t. told.Key t.1.0)
 abbrev pub end_kind : LineKind ReportLine
 end_kind = (piece.word (codes "end") ∷ [], λ t. told.End)
 
--- The kinds of lines from a section on. The sections come in a fixed order, and any of them can be empty.
+-- `from_keys` and the definitions below it return the kinds of lines from a section on. The sections come in a fixed
+-- order, and any of them can be empty.
 abbrev pub from_keys : List (LineKind ReportLine)
 from_keys = key_kind ∷ end_kind ∷ []
 
@@ -117,7 +118,7 @@ abbrev pub from_opening : Version → List (LineKind ReportLine)
 from_opening One = from_calls
 from_opening Two = opening_kind ∷ from_calls
 
--- The kinds of lines that are allowed when the reader has reached this section.
+-- Returns the kinds of lines that are allowed when the reader has reached this section.
 abbrev pub kinds : Version → Section → List (LineKind ReportLine)
 kinds version section.Opening = from_opening version
 kinds version section.Calls = from_calls
@@ -127,7 +128,7 @@ kinds version section.Done = []
 
 -- ---- Whether a line can follow the lines before it
 
--- True if a call ended at this moment.
+-- Returns whether a call ended at this moment.
 abbrev pub ends_at : ℕ → Option (ℕ × Reply) → Bool
 ends_at moment None = false
 ends_at moment (Some end) = end.0 == moment
@@ -138,11 +139,11 @@ is_entry moment y = y.begun == moment || ends_at moment y.ended
 abbrev pub is_taken : List CallRecord → ℕ → Bool
 is_taken calls moment = list_any (is_entry moment) calls
 
--- True if every call began before this moment, which is counted from 1.
+-- Returns whether every call started before this moment, which counts from 1.
 abbrev pub begins_later : List CallRecord → ℕ → Bool
 begins_later calls moment = nat_lt 0 moment && list_all (λ y. nat_lt y.begun moment) calls
 
--- True if a call ended before this moment.
+-- Returns whether a call ended before this moment.
 abbrev pub ended_before : ℕ → Option (ℕ × Reply) → Bool
 ended_before moment None = false
 ended_before moment (Some end) = nat_lt end.0 moment
@@ -150,13 +151,13 @@ ended_before moment (Some end) = nat_lt end.0 moment
 abbrev pub is_idle : List CallRecord → ℕ → ℕ → Bool
 is_idle calls thread moment = list_all (λ y. not (y.thread == thread) || ended_before moment y.ended) calls
 
--- True if a call is pending, or it ends after its begin at a moment at which no other call begins or ends.
+-- Returns whether a call is pending, or ends after its start at a moment at which no other call starts or ends.
 abbrev pub ends_later : List CallRecord → ℕ → Option (ℕ × Reply) → Bool
 ends_later calls begun None = true
 ends_later calls begun (Some end) = nat_lt begun end.0 && not (is_taken calls end.0)
 
--- True if the call x can be appended to a history, that is, x begins last, its thread is idle, and its moments are
--- free.
+-- Returns whether the call x can be appended to a history: x starts last, its thread has no pending call, and no other
+-- call starts or ends at its moments.
 abbrev pub may_follow : ℕ → List CallRecord → CallRecord → Bool
 may_follow threads calls x =
     nat_lt x.thread threads
@@ -165,7 +166,7 @@ may_follow threads calls x =
     && (not (is_taken calls x.begun)
     && is_idle calls x.thread x.begun)))
 
--- Returns the line if its section has room for another line.
+-- Returns the line if its section has fewer than `most` lines, else the error TooMany.
 abbrev pub counted : ℕ → ℕ → ReportLine → Result ReportLine Cause
 counted most count l = if nat_lt count most then Ok l else Err wrong.TooMany
 
@@ -178,8 +179,8 @@ following r number x l = if is_next r number x then Ok l else Err wrong.History
 abbrev pub increasing : ReportValue → ℕ → ReportLine → Result ReportLine Cause
 increasing r k l = if is_above r.history.opening.keys k then Ok l else Err wrong.Opening
 
--- Returns the line if its section has room, an opening key is greater than the one before it, and a call can follow the
--- calls so far. Otherwise returns the cause of the refusal.
+-- Returns the line if its section is not full, an opening key is greater than the one before it, and a call can follow
+-- the calls so far. Otherwise returns the cause of the error.
 abbrev pub judged : ReportValue → ReportLine → Result ReportLine Cause
 judged r (told.Opening k) = counted MOST_OPENING (length r.history.opening.keys) (told.Opening k) >>= increasing r k
 judged r (told.Call number x) = counted MOST_CALLS (length r.history.calls) (told.Call number x) >>= following r number x
@@ -187,7 +188,7 @@ judged r (told.Place p) = counted MOST_PLACES (length r.order) (told.Place p)
 judged r (told.Key k) = counted (most_keys r.version) (length r.keys) (told.Key k)
 judged r told.End = Ok told.End
 
--- Parses a line and checks that it can follow the lines before it.
+-- Parses a line and checks whether it can follow the lines before it.
 abbrev pub line_after : Section → ReportValue → List ℕ → Result ReportLine Cause
 line_after s r line = line_in r.version wrong.Line (kinds r.version s) line >>= judged r
 
@@ -216,7 +217,7 @@ with_line r told.End = r
 
 -- ---- A text as its lines: the complete lines, then the bytes after the last newline
 
--- The state of the reader after some lines: the section it reached, and the report so far.
+-- The state of the reader after some lines: the section that it has reached, and the report so far.
 pub record SoFar : Type 0 where
   pub section : Section
   pub report : ReportValue
@@ -227,7 +228,7 @@ with_told s l = record { section = section_after l; report = with_line s.report 
 abbrev pub step : SoFar → List ℕ → Result SoFar Cause
 step s line = made (with_told s) (line_after s.section s.report line)
 
--- True if the line `end` was read. The text is then complete.
+-- Returns whether the line `end` was read. The text is then complete.
 abbrev pub is_done : Section → Bool
 is_done section.Opening = false
 is_done section.Calls = false
@@ -254,7 +255,7 @@ no_lines version h = record {
 abbrev pub nothing_told : Version → HeaderTold → SoFar
 nothing_told version h = record { section = section.Opening; report = no_lines version h }
 
--- The version of a text. Version 2 if the first line is the title of version 2, otherwise version 1.
+-- Returns version 2 if the first line is the title of version 2, otherwise version 1.
 abbrev pub version_told : List (List ℕ) → Version
 version_told parts = version_in (title Two) parts
 
@@ -276,12 +277,12 @@ ReportsReadBack = (r : ReportValue) (bytes : List ℕ)
 
 -- ---- Errors from failed allocations
 
--- Reading can return the error Memory at a line only if the line passed all its other checks. `parts` are the lines of
+-- When reading can return the error Memory: only at a line that passed all its other checks. `parts` are the lines of
 -- the text from line `first` on, and last the bytes after the final newline. `read` is the result if no allocation
 -- fails.
 pub record RunsOut (first : ℕ) (parts : List (List ℕ)) (read : Result ReportValue LineFault) (e : LineFault) : Type 0 where
   pub cause : e.cause ≡ wrong.Memory
-  -- An allocation can fail at the header's last line and at later lines. The lines before need no memory.
+  -- An allocation can fail at the header's last line or a later line. The lines before need no memory.
   pub after_header : last_of_header ≤ e.line
   -- The line at which the allocation failed is complete: it ends with a newline.
   pub index : ℕ
@@ -292,7 +293,7 @@ pub record RunsOut (first : ℕ) (parts : List (List ℕ)) (read : Result Report
   -- Neither this line nor any line before it has another error.
   pub good : IsFaultlessTo e.line read
 
--- The result is the report that the bytes spell, their first error, or Memory from a failed allocation.
+-- States that the result is the report that the bytes spell, their first error, or Memory from a failed allocation.
 abbrev pub Gives : {X : Type 0} → (X → ReportValue) → Result X LineFault → List ℕ → Type 0
 Gives view (Ok x) bytes = reading bytes ≡ Ok (view x)
 Gives view (Err e) bytes = (reading bytes ≡ Err e) ⊎ RunsOut 1 (cut_at 10 bytes) (reading bytes) e

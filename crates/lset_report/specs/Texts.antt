@@ -22,7 +22,7 @@ title Two = codes "listset-report 2"
 abbrev pub header_in : ReportValue → Header
 header_in r = record { kind = r.kind; threads = r.history.opening.threads; quota = r.history.opening.quota }
 
--- How a call's end is written: the moment and the reply, or `open` if the call is pending.
+-- Returns the text of a call's end: the moment and the reply, or `open` if the call is pending.
 abbrev pub end_pieces : Option (ℕ × Reply) → List (List ℕ)
 end_pieces (Some end) = decimal end.0 ∷ reply_text end.1 ∷ []
 end_pieces None = codes "open" ∷ []
@@ -31,7 +31,7 @@ abbrev pub call_line : ℕ → CallRecord → List ℕ
 call_line number x = line_of (codes "call" ∷ decimal number ∷ decimal x.thread ∷ call_text x.call ∷ decimal ((key_of x.call).0)
     ∷ decimal x.begun ∷ end_pieces x.ended)
 
--- The lines of the calls, in the order of their numbers.
+-- Returns the lines of the calls, ordered by number.
 abbrev pub call_lines : ℕ → List CallRecord → List (List ℕ)
 call_lines number [] = []
 call_lines number (x ∷ xs) = call_line number x ∷ call_lines (number + 1) xs
@@ -55,7 +55,7 @@ report_text r = text_of (report_lines r)
 
 -- ---- Reports that a version of the format can express
 
--- The call is pending, or the version has a word for its reply.
+-- States that the call is pending, or that the version has a word for its reply.
 abbrev pub HasEnd : Version → Option (ℕ × Reply) → Type 0
 HasEnd version None = Unit {0}
 HasEnd version (Some end) = HasReply version end.1
@@ -65,7 +65,7 @@ HasWordsIn One calls order = AllByRecursion (λ (x : CallRecord). HasCall One x.
     × AllByRecursion (λ (p : Placed). HasReply One p.reply) order
 HasWordsIn Two calls order = Unit {0}
 
--- The version has words for everything in the report. Version 1 lacks opening keys, `ceiling` and its replies; version
+-- The version has words for everything in the report. Version 1 lacks opening keys, `ceiling` and its replies. Version
 -- 2 can express every report.
 pub record HasWordsOfVersion (r : ReportValue) : Type 0 where
   pub opening : HasOpening r.version r.history.opening.keys

@@ -78,7 +78,7 @@ impl Reader {
         })
     }
 
-    /// Returns `true` if `number` is the next call number and the call `made` can follow the calls read so far.
+    /// Returns whether `number` is the next call number and the call `made` can follow the calls read so far.
     fn is_next(&self, number: u32, made: CallRecord) -> bool
         requires { Holds self.now }
         ensures { result ≡ is_next (so_far self.now) number made }
@@ -86,9 +86,9 @@ impl Reader {
         number as usize == self.calls.history.calls().len() && self.calls.may_follow(made)
     }
 
-    /// Returns the line if it can follow the lines read so far, otherwise the cause of the refusal. Its section must
-    /// not be full, an opening key must be greater than the one before it, and a call must be able to follow the
-    /// earlier calls.
+    /// Returns the line if it can follow the lines read so far, otherwise the cause of the error. Its section must not
+    /// be full, an opening key must be greater than the one before it, and a call must be able to follow the earlier
+    /// calls.
     fn judged(&self, line: Line) -> Result<Line, Cause>
         requires { Holds self.now }
         ensures { result ≡ judged (so_far self.now) line }
@@ -195,7 +195,7 @@ impl Reader {
     }
 }
 
-/// Returns the version of the format that the first line of a report states.
+/// Returns which version of the format the first line of a report names.
 fn version_told(bytes: &[u8]) -> Version
     ensures { result ≡ version_told (cut_at 10 bytes.now) }
 {
@@ -216,17 +216,17 @@ fn report(alloc: Global, bytes: &[u8]) -> Result<Report, ReportFault>
 
 /// Reads a report of either version from its bytes. Allocates.
 ///
-/// The first line states the version. In version 2, lines of opening keys can precede the calls, in strictly increasing
-/// order. In version 1, a line with `opening`, `ceiling`, `nothing` or a reply such as `at-5` is refused with `Line`.
-/// The function does not check that the order explains the history and leaves the final keys; use `check_order` for
-/// that. Reading n bytes takes about `n log n` steps, whatever numbers they contain.
+/// The first line states the version. In version 2, lines with opening keys can precede the calls, in strictly
+/// increasing order. In version 1, a line with `opening`, `ceiling`, `nothing` or a reply such as `at-5` is the error
+/// `Line`. The function does not check that the order explains the history and leaves the final keys; use `check_order`
+/// for that. Reading n bytes takes about `n log n` steps, whatever numbers they contain.
 ///
 /// # Errors
 ///
 /// Returns the first wrong line with the first check that it fails. `NotEnded` takes precedence over all other errors;
 /// the others are checked in the order of `Cause`. If the bytes end before a header line, the error is the one for that
-/// line. Returns `Memory` instead if an allocation fails: its line is the last line read. That line is not `end`, and
-/// no line up to it has another error.
+/// line. If an allocation fails, returns `Memory` with the last line read instead. That line is not `end`, and neither
+/// it nor an earlier line has another error.
 #[tactic(auto, using(crate::proofs::ReportTexts::found_in, crate::proofs::ReportTexts::only_in))]
 pub fn read_report(alloc: Global, bytes: &[u8]) -> Result<Report, ReportFault>
     // If a report is returned, its calls are a history, and `bytes` is the text of the report.

@@ -11,7 +11,7 @@ pub const MOST_PLACES: usize = 1_000_000;
 /// The maximum number of final keys in a report of version 1, whose set opens empty.
 pub const MOST_KEYS: usize = 1_048_576;
 
-/// The maximum number of final keys in a report of version 2, whose set can open with 1,048,576 keys.
+/// The maximum number of final keys in a report of version 2. (In version 2, a set can open with up to 1,048,576 keys.)
 pub const MOST_KEYS_OPENED: usize = 2_097_152;
 
 /// A report of a run: the version of its format, the kind of list, the history with its threads, quota and opening

@@ -1,5 +1,5 @@
--- Proof: if a view has as many threads as the set, each thread of the set is in the view. When the set is closed, the
--- seat of this view knows the words exactly.
+-- Proof: if a view (what a seat knows) has as many threads as the set, it has each thread of the set. When the set is
+-- closed, the seat with this view knows the words exactly.
 use Rattle.std.proofs.Common.{◌≡◌, ◌≢◌, ◌⊎◌, inl, inr, ⊎_elim, ℕ, zero, suc, ◌+◌, ◌<◌, ◌≤◌, List, [], ◌∷◌, length, refl, sym, ap}
 use Rattle.std.proofs.Common.{◌∙◌, subst, arith, ◌++◌, false, append-nil, length-append}
 use mathlib.Core.Logic.{dite}
@@ -86,7 +86,6 @@ module _ (m : Table) (v : View) (st : Stands m v) where
   pub held_few : length v.others + 1 ≤ v.shape.threads
   held_few = let a = few v.shape.threads (names v) all_apart below in let b = long v.others in omega arith
 
-  -- If a seat has as many threads as the set, it has each thread of the set.
   pub has_all : length v.others + 1 ≡ v.shape.threads → (t : ℕ) → t < v.shape.threads → HasThread v t
   has_all full t lt = ⊎_elim (λ i. ⊎_elim inl (λ j. inr (in_has v.others t j)) i)
       (λ out. let a = few v.shape.threads (t ∷ names v) (
@@ -104,7 +103,7 @@ by_small : (s : State) (e : Event) → Enabled s e → thread_of e < length s.lo
 by_small s (Begin t c) en = en.0
 by_small s (Go t) en = en.0
 
--- If a view has all threads of the set, all events of a run are among those that it has seen.
+-- If a view has all threads of the set, it has seen all events of a run.
 no_more : (m : Table) (law : Lawful m) (k : Opening) (v : View) (es rest : List Event) → ((t : ℕ) → t < k.threads → HasThread v t)
     → IsRunOf m k (es ++ rest) → IsQuiet v rest → rest ≡ []
 no_more m law k v es [] all r quiet = refl

@@ -1,4 +1,4 @@
--- Proof: splitting and joining seats, and giving and taking receipts, preserve the rule (the invariant of the shared
+-- Proof: splitting and joining seats, and issuing and taking receipts, preserve the rule (the invariant of the shared
 -- words and all seats).
 use Rattle.std.proofs.Common.{◌≡◌, ◌≢◌, ◌⊎◌, inl, inr, ⊎_elim, ℕ, ◌+◌, ◌<◌, ◌≤◌, ◌==◌, Bool, true, false, cond, List}
 use Rattle.std.proofs.Common.{[], ◌∷◌, ◌++◌, length, set, nat_le, Option, None, refl, sym, ap, ◌∙◌, subst, arith, rules, tests}
@@ -30,7 +30,8 @@ use Rattle.lset_rule.proofs.ViewsFit.{is_in, set_there, stands_else, stands_stil
 use Rattle.lset_rule.proofs.MovesKeepRule.{M}
 use Rattle.lset_words.specs.Words.{Opening}
 
--- If no thread of view v makes these events, and all threads of view w are threads of v, no thread of w makes them.
+-- If no thread in view v (what a seat knows) makes these events, and each thread in view w is also in v, no thread in w
+-- makes them.
 quiet_less : (v w : View) → ((t : ℕ) → HasThread w t → HasThread v t) → (es : List Event) → IsQuiet v es → IsQuiet w es
 quiet_less v w less [] q = tt
 quiet_less v w less (e ∷ es) q = (λ h. q.0 (less (thread_of e) h), quiet_less v w less es q.1)
@@ -67,7 +68,7 @@ longer_of log xs ys x y = by_test (nat_le (length xs) (length ys)) refl
     by_test false is = let le : length ys ≤ length xs = search (rules, tests) in
         record { begins = x; first = omega arith; second = le }
 
--- ---- Lemmas about the spare threads of two views (idle threads that a seat can still split off)
+-- ---- Lemmas about the spare threads of two seats (idle threads that a seat can still split off)
 has_end : (os ps : List SpareThread) (t : ℕ) → HasAside (os ++ ps) t → HasAside os t ⊎ HasAside ps t
 has_end [] ps t h = inr h
 has_end (o ∷ os) ps t h = ⊎_elim (λ e. inl (inl e)) (λ x. ⊎_elim (λ y. inl (inr y)) (λ y. inr y) (has_end os ps t x)) h
@@ -87,7 +88,7 @@ asides_join ends t r (o ∷ os) ps apart a b = (
   asides_join ends t r os ps (λ u h. apart u (inr h)) a.3 b,
 )
 
--- The spare threads stay idle if the record is replaced by another one that has the same calls of these threads.
+-- The spare threads stay idle if the record is replaced by another one with the same calls for these threads.
 asides_in : (ends : ℕ → Here) (t t' : ℕ) (r r' : Past) (os : List SpareThread) →
     ((u : ℕ) → HasAside os u → (u ≢ t') × (calls_of u r' ≡ calls_of u r)) → AreIdle ends t r os → AreIdle ends t' r' os
 asides_in ends t t' r r' [] same a = tt
@@ -103,7 +104,7 @@ not_own w t r [] a h = h
 not_own w t r (o ∷ os) a h = ⊎_elim (λ e. a.0 (sym e)) (λ x. not_own w t r os a.3 x) h
 
 module _ (m : Table) where
-  -- A view that loses threads still matches the events.
+  -- If a view (what a seat knows) loses threads, it still matches the events.
   fits_less : (k : Opening) (log : List Event) (so so' : ℕ → ℕ) (i j : ℕ) (v w : View) (f : MatchesLog m k log so i v) →
       w.shape ≡ v.shape → w.seen ≡ v.seen → StartsWith log w.ours → StartsWith log w.theirs
       → ((t : ℕ) → HasThread w t → HasThread v t) → Stands m w → ((t : ℕ) → HasThread w t → so' t ≡ j) → MatchesLog m k log so' j w
@@ -194,7 +195,8 @@ module _ (m : Table) where
   splits k id v o os sp idle fresh there = subst (λ (z : View). Splits (Holds m k) id z (left_view z) (right_view z))
       (λ i. record v { spent = sym sp i; under = sym idle i; past = sym fresh i; others = sym there i }) (splits_at v o os k id)
 
-  -- View v after it has learned of more events, up to the list `to`. The additional events are made by other threads.
+  -- View v (what a seat knows) after it has learned of more events, up to the list `to`. Threads of other views make
+  -- these additional events.
   module _ (k : Opening) (log : List Event) (so : ℕ → ℕ) (i : ℕ) (v : View) (f : MatchesLog m k log so i v) (ran : IsRunOf m k log) (to : List Event) (begins : StartsWith log to) (le : length v.seen ≤ length to) where
     more : (d : List Event) × (to ≡ v.seen ++ d) × (f.rest ≡ d ++ begins.0)
     more = prefixes v.seen to f.rest begins.0 (sym f.is ∙ begins.1) le
@@ -205,8 +207,8 @@ module _ (m : Table) where
     still_there : (t : ℕ) → HasThread v t → at_end m v.shape to t ≡ at_end m v.shape v.seen t
     still_there t h = ap (λ l. at_end m v.shape l t) more.1 ∙ still_quiet m v.shape v v.seen more.0 t h quiet.0
 
-    -- After it has learned of the events `to`, the view still matches all events. The lists that it keeps from a
-    -- joining can be any two prefixes.
+    -- After a view (what a seat knows) has learned of the events `to`, it still matches all events. The two lists that
+    -- it keeps after a join can be any prefixes of the events.
     sees : (mine theirs : List Event) → StartsWith log mine → StartsWith log theirs →
         MatchesLog m k log so i (record v { seen = to; ours = mine; theirs = theirs })
     sees mine theirs ours other = record {
@@ -232,7 +234,7 @@ module _ (m : Table) where
       theirs = other;
     }
 
-  -- ---- Lemmas about joining two seats, whose views are v and w
+  -- ---- Lemmas about joining two seats. Their views (what the seats know) are v and w
   module _ (k : Opening) (log : List Event) (so so' : ℕ → ℕ) (i j : ℕ) (apart : j ≢ i) (v w : View) (f : MatchesLog m k log so i v) (g : MatchesLog m k log so j w) (v_idle : v.under ≡ None) (w_idle : w.under ≡ None) (ran : IsRunOf m k log) where
     abbrev J : View
     J = joined v w
@@ -246,7 +248,7 @@ module _ (m : Table) where
     abbrev F : Stands m (record v { seen = J.seen })
     F = (sees k log so i v f ran J.seen lo.begins lo.first v.ours v.theirs f.ours f.theirs).stands
 
-    -- View w, after it has learned of the events that the joined view has seen.
+    -- View w (what a seat knows), if it has seen the same events as the joined view.
     abbrev S : Stands m (record w { seen = J.seen; shape = v.shape })
     S = subst (λ z. Stands m (record w { seen = J.seen; shape = z })) (g.shape ∙ sym f.shape)
         (sees k log so j w g ran J.seen lo.begins lo.second w.ours w.theirs g.ours g.theirs).stands
@@ -311,7 +313,7 @@ module _ (m : Table) where
   other_there s id other v w apart there = ⊎_elim (λ (t : (other ≡ id) × (v ≡ w)). absurd (apart t.0))
       (λ (t : (other ≢ id) × (get_elem? s.views other ≡ some w)). t.1) (at_set s.views id other v w there)
 
-  -- The views after a joining: view `id` is changed and view `other` is spent.
+  -- The views (what the seats know) after a join: view `id` has changed, and view `other` is spent.
   takes_in : (k : Opening) (log : List Event) (so : ℕ → ℕ) (s : St) (id other : ℕ) (v : View) → MatchesLog m k log so id v →
       ((j : ℕ) (x : View) → j ≢ other → j ≢ id → get_elem? s.views j ≡ some x → Fits m k log so j x)
       → (j : ℕ) (x : View) → get_elem? (set (set s.views id v) other nobody) j ≡ some x → Fits m k log so j x

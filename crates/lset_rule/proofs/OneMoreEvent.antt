@@ -32,20 +32,20 @@ pick_yes b x y e = rw e refl
 pick_not : {A : Type 0} (b : Bool) (x y : A) → b ≡ false → (if b then x else y) ≡ y
 pick_not b x y e = rw e refl
 
--- Returns the value that an action leaves in its word. n is the value before.
+-- Returns the value that an action leaves in a word whose value was n before.
 abbrev pub left : Action → ℕ → ℕ
 left (Load w) n = n
 left (Store w v) n = v
 left (Exchange w old new) n = either (n == old) new n
 
--- Returns the value that an action sees. n is the value of its word before.
+-- Returns the value that an action sees in a word whose value was n before.
 abbrev pub found : Action → ℕ → ℕ
 found (Load w) n = n
 found (Store w v) n = v
 found (Exchange w old new) n = n
 
--- Returns the state h of a thread after its step, which is event n. `begins` returns the state after the begin of a
--- call.
+-- `gone` returns the state h of a thread after its step, which is event n. `begins` returns the state after the start
+-- of a call.
 abbrev pub gone : Here → Fed → ℕ → Here
 gone h f n = here f.local (under_after f.answer h.under) (h.done ++ ending f.answer h.under n)
 
@@ -136,8 +136,8 @@ module _ (T : Table) (op : Opening) (es : ℕ → Event) (k t : ℕ) where
       let d = other_done s (es k) (under_at (log_of T op es) t k) (done_at (log_of T op es) t k) ne in
       λ i. here (l i) (u i) (d i)
 
--- States that a thread's registers match its pending call: at row 0 if no call is pending, otherwise at another row and
--- with the same call.
+-- States that a thread's registers match its pending call: they are at row 0 if no call is pending, otherwise at
+-- another row and with the same call.
 abbrev pub Tied : Option PendingCall → Local → Type 0
 Tied None l = l.pc ≡ 0
 Tied (Some u) l = (l.pc ≢ 0) × (l.call ≡ u.call)
@@ -191,7 +191,7 @@ module _ (T : Table) (law : Lawful T) (op : Opening) (es : ℕ → Event) (last 
       (omega arith))
   tied t (suc k) th l = tied_by t k th (omega arith) (es k) refl (tied t k th (omega arith))
 
--- ---- Lemmas about a list of events to which events are appended
+-- ---- Lemmas about appending events to a list of events
 event_before : (es : List Event) (e : Event) (j : ℕ) → j < length es → event_at (es ++ e ∷ []) j ≡ event_at es j
 event_before [] e j h = absurd (omega arith)
 event_before (x ∷ es) e zero h = refl
@@ -275,7 +275,7 @@ run_of_first T k es rest r = record {
       )) (r.enabled j (omega arith));
 }
 
--- At the end of a run, the state has the properties that the list's law states of each state in a run.
+-- The state at the end of a run has the properties that the list's law guarantees for each state in a run.
 module _ (T : Table) (law : Lawful T) (k : Opening) (es : List Event) (r : IsRunOf T k es) where
   pub end_laws : StateLaws T.marks (sizes k) (end_of T k es)
   end_laws = law.states k (length es) (length es) (event_at es) r (omega arith)

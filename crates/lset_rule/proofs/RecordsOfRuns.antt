@@ -84,13 +84,13 @@ pub begun_by : (log : Log) (t n : ℕ) → BegunBy (under_at log t n) n
 begun_by log t zero = tt
 begun_by log t (suc n) = begun_next (log n) t n (under_at log t n) (begun_by log t n)
 
--- Returns the calls that a record's own thread made, without those of gathered records.
+-- Returns the calls that a record's own thread made, without those in records merged into it.
 abbrev pub own_calls : Past → List OwnCall
 own_calls (Fresh t) = []
 own_calls (Called' p r c) = own_calls r ++ c ∷ []
 own_calls (Gathered' p r q g) = own_calls r
 
--- States that a record of thread u was gathered into the record.
+-- States that a record of thread u was merged into the record.
 abbrev pub HasGathered : ℕ → Past → Type 0
 HasGathered u (Fresh t) = ⊥
 HasGathered u (Called' p r c) = HasGathered u r
@@ -109,7 +109,7 @@ none_of_another u (Called' p r c) out =
 none_of_another u (Gathered' p r q g) out = λ i. none_of_another u r (λ h. out (inl h)) i
     ++ none_of_another u g (λ h. out (inr h)) i
 
--- After a step of the own thread, the record has the calls that this thread has completed.
+-- After a step of the record's own thread, the record has exactly the calls that this thread has completed.
 pub after_calls : (t : ℕ) (r : Past) (a : Option Reply) (u : Option PendingCall) (n : ℕ) → root r ≡ t → calls_of t r
     ++ ending a u n ≡ calls_of t (record_after r a u n)
 after_calls t r (Some x) (Some u) n is = ap (λ b. calls_of t r ++ cond b (own u x n ∷ []) []) (sym (eq-eqb t (root r) (sym is)))

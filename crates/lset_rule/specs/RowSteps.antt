@@ -11,7 +11,7 @@ use Rattle.lset_rule.specs.Calls.{Goes}
 use Rattle.lset_rule.specs.Seats.{TableSeat, IsOf, IsSeat}
 
 -- What the next step of an interpreted call requires: seat s belongs to table z and has a pending call, and `l` are the
--- registers of its thread. They occur in some run.
+-- registers of its thread, as they occur in some run.
 pub record MayStep (m : Table) (z : TableId) (k : Opening) (l : Local) (s : TableSeat) : Type 0 where
   pub place : IsOf z k s
   pub under_way : IsOpen s.me.0
@@ -19,8 +19,8 @@ pub record MayStep (m : Table) (z : TableId) (k : Opening) (l : Local) (s : Tabl
   pub held : l ≡ s.me.0.local
   pub occurs : Occurs m l
 
--- An interpreted call has made its next step: its seat changed from s to s'. The step table computes f from the
--- registers `l` and the value that the step saw.
+-- An interpreted call has made its next step, which changed its seat from s to s'. f is the result that the step table
+-- computes from the registers `l` and the value that the step saw.
 pub record HasStepped (m : Table) (l : Local) (s : TableSeat) (f : Fed) (s' : TableSeat) : Type 0 where
   pub place : IsSeat s s'
   pub seen : ℕ

@@ -24,11 +24,11 @@ pub record Here : Type 0 where
 abbrev pub here : Local → Option PendingCall → List OwnCall → Here
 here l u d = record { local = l; under = u; done = d }
 
--- Returns the completed call that the pending call u becomes if event n ends it with reply r.
+-- Returns the completed call that results if event n ends the pending call u with reply r.
 abbrev pub own : PendingCall → Reply → ℕ → OwnCall
 own u r n = record { call = u.call; reply = r; begun = u.begun; ended = n }
 
--- Returns the pending call of a thread after a step of the thread: none if the step returned a reply.
+-- Returns the pending call of a thread after one of its steps, or None if the step returned a reply.
 abbrev pub under_after : Option Reply → Option PendingCall → Option PendingCall
 under_after (Some r) u = None
 under_after None None = None
@@ -40,8 +40,8 @@ ending (Some r) (Some u) n = own u r n ∷ []
 ending (Some r) None n = []
 ending None u n = []
 
--- The pending call of thread t after event n, computed from that before the event. `done_next` is the same for the
--- completed calls.
+-- `under_next` returns the pending call of thread t after event n, computed from the one before. `done_next` does the
+-- same for its completed calls.
 abbrev pub under_next : ℕ → Entry → ℕ → Option PendingCall → Option PendingCall
 under_next n (began u c) t before = if u == t then Some (record { call = c; begun = n; steps = 0 }) else before
 under_next n (stepped u change answer) t before = if u == t then under_after answer before else before
@@ -50,7 +50,8 @@ abbrev pub done_next : ℕ → Entry → ℕ → Option PendingCall → List Own
 done_next n (began u c) t open_now before = before
 done_next n (stepped u change answer) t open_now before = if u == t then before ++ ending answer open_now n else before
 
--- Returns the pending call of thread t after the first k events of a log. `done_at` returns its completed calls.
+-- `under_at` returns the pending call of thread t after the first k events in a log. `done_at` returns its completed
+-- calls.
 abbrev pub under_at : Log → ℕ → ℕ → Option PendingCall
 under_at log t zero = None
 under_at log t (suc k) = under_next (suc k) (log k) t (under_at log t k)
@@ -63,8 +64,8 @@ done_at log t (suc k) = done_next (suc k) (log k) t (under_at log t k) (done_at 
 abbrev pub here_at : Table → Opening → (ℕ → Event) → ℕ → ℕ → Here
 here_at T op es t k = here (local_of (state_at T op es k) t) (under_at (log_of T op es) t k) (done_at (log_of T op es) t k)
 
--- The run of a list of events from this opening: `log_by` is its log, `end_of` its last state, `at_end` the state of a
--- thread at its end. `IsRunOf` states that each event was enabled when it occurred.
+-- The run of a list of events from this opening: `log_by` is its log, `end_of` its last state, and `at_end` the state
+-- of a thread at its end. `IsRunOf` states that each event was enabled when it occurred.
 abbrev pub log_by : Table → Opening → List Event → Log
 log_by T k es = log_of T k (event_at es)
 
@@ -77,6 +78,6 @@ at_end T k es t = here_at T k (event_at es) t (length es)
 abbrev pub IsRunOf : Table → Opening → List Event → Type 0
 IsRunOf T k es = Run T k (event_at es) (length es)
 
--- Returns the history (all calls with begin, end and reply) of the run of these events.
+-- Returns the history (all calls with start, end and reply) of the run of these events.
 abbrev pub history_of : Table → Opening → List Event → List CallRecord
 history_of T k es = history_at (log_by T k es) (length es)

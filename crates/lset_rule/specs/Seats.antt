@@ -1,4 +1,4 @@
--- The seat of a call: what a call requires of its seat, and how the call changes the seat.
+-- The seat of a call: what a call requires of its seat (the right to call as one thread), and how the call changes it.
 use Rattle.std.specs.Prelude.{◌≡◌}
 use Rattle.atomic_table.specs.declared.shared.Seat.{Seat}
 use Rattle.atomic_table.specs.Seated.{TableId}
@@ -16,24 +16,24 @@ use Rattle.lset_rule.specs.Calls.{Makes}
 abbrev pub TableSeat : Type 0
 TableSeat = Seat (Unit {0}) View
 
--- States that seat s belongs to the shared words z, and that z has the number of words of a set with opening k.
+-- States that seat s belongs to the shared words z, and that z has as many words as a set that opens with k.
 abbrev pub IsOf : TableId → Opening → TableSeat → Type 0
 IsOf z k s = (s.table_id ≡ z) × (s.me.0.shape ≡ k) × (z.words ≡ word_count (sizes k))
 
--- States that s and s' are the same seat at two moments. Its view can differ.
+-- States that s and s' are the same seat at two moments. What the seat knows (its view) can differ.
 abbrev pub IsSeat : TableSeat → TableSeat → Type 0
 IsSeat s s' = (s'.table_id ≡ s.table_id) × (s'.id ≡ s.id) × (s'.me.1 ≡ s.me.1)
 
 -- What a call requires of seat s: s belongs to the shared words z, and its thread has no pending call and the slots
--- `own`.
+-- `own` (nodes for keys that it adds).
 pub record MayCall (m : Table) (z : TableId) (k : Opening) (own : OwnSlots) (s : TableSeat) : Type 0 where
   pub place : IsOf z k s
   pub idle : IsIdle s.me.0
   pub stands : Stands m s.me.0
   pub slots : own ≡ slots_of s.me.0.local
 
--- Call c changed the seat from s to s': the seat's record has grown by exactly this call with its reply. `answer` has
--- the slots of the thread after the call, and the reply.
+-- Call c changed the seat from s to s', and exactly this call with its reply was added to the seat's record. `answer`
+-- has the thread's slots (nodes for keys that it adds) after the call, and the reply.
 pub record HasCalled (m : Table) (c : Call) (s : TableSeat) (answer : OwnSlots × Reply) (s' : TableSeat) : Type 0 where
   pub place : IsSeat s s'
   pub slots : answer.0 ≡ slots_of s'.me.0.local

@@ -12,9 +12,9 @@ use lset_steps::{Machine, OpenReads};
 use lset_words::{Call, Key, Reply};
 use std::marker::Brand;
 
-/// The code between two steps of a call: returns the reply if the call has ended, otherwise pauses.
+/// Expands to the code between two steps of a call: returns the reply if the call has ended, otherwise pauses.
 ///
-/// A macro, because a pause can block. After a call of a function that can block, the compiled code would not jump
+/// A macro, because a pause can block. If a function that can block were called here, the compiled code would not jump
 /// straight to the code of the next row.
 macro_rules! ends_or_pauses {
     ($last:expr, $pause:expr) => {
@@ -31,14 +31,14 @@ macro_rules! ends_or_pauses {
 
 /// Makes a whole call step by step, in at most `N::MOST` rounds of four steps each.
 ///
-/// `place` is an idle seat (the right to call as one thread) of the words `table`. `slots` are the thread's slots, as
+/// `place` is an idle seat (the right to call as one thread) on the words `table`. `slots` are the thread's slots, as
 /// the thread's last call returned them. After each step that does not end the call, the interpreter calls
-/// `pause.failed` if the step has failed, and `pause.moved` otherwise. `pause.moved` is also called when the call takes
-/// a lock that it has waited for: `pause.taken` is never called.
+/// `pause.failed` if the step has failed, and `pause.moved` otherwise. It also calls `pause.moved` when the call takes
+/// a lock that it has waited for, and never calls `pause.taken`.
 ///
-/// Returns the thread's slots after the call, and the reply. The call began after all events that the seat had seen,
-/// and the call has been added to the seat's record. Returns `None` if the call has not ended after these rounds. The
-/// call is then still pending and keeps its locks, and the seat can make no other call.
+/// Returns the thread's slots after the call, and the reply. The call started after all events that the seat had seen,
+/// and has been added to the seat's record. Returns `None` if the call has not ended after these rounds. The call is
+/// then still pending and keeps its locks, and the seat can make no other call.
 pub fn interpret_within<M: Machine, P: Pause, N: Rounds>(
     table: &Words<M>,
     place: &mut TableSeat,
@@ -73,9 +73,9 @@ pub fn interpret_within<M: Machine, P: Pause, N: Rounds>(
 }
 
 /// Makes a whole `contains` of `key` step by step, without blocking. `M` is a list whose walk reaches each node at most
-/// once (`OpenReads`): a list that marks nodes before it unlinks them.
+/// once (`OpenReads`), because the list marks nodes before it unlinks them.
 ///
-/// `place` is an idle seat (the right to call as one thread) of the words `table`, and `slots` are the thread's slots,
+/// `place` is an idle seat (the right to call as one thread) on the words `table`, and `slots` are the thread's slots,
 /// as the thread's last call returned them. Returns the thread's slots after the call, and the reply.
 pub fn interpret_read<M: OpenReads>(
     table: &Words<M>,

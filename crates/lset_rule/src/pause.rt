@@ -7,13 +7,14 @@ use std::cell::Cell;
 /// the seat, and affects only how long a call lasts.
 ///
 /// Each outcome of a step has its own function, because the kit reads a byte after each call of a function that can
-/// yield. If a pause yields only after a failed step, no byte is read after other steps.
+/// yield. If only `failed` yields, no byte is read after other steps.
 pub trait Pause {
     /// Called after a step that succeeded without ending the call. `thread` is the number of the calling thread.
     fn moved(&self, thread: u32);
 
-    /// Called after a step that failed without ending the call. Such a step is an exchange that found another value
-    /// than expected, for example because a lock is held. `thread` is the number of the calling thread.
+    /// Called after a step that failed without ending the call. Such a step is a compare-and-exchange that found
+    /// another value than the expected one, for example because a lock is held. `thread` is the number of the calling
+    /// thread.
     fn failed(&self, thread: u32);
 
     /// Called instead of `moved` when a call takes a lock that it has waited for. The loops of the four lists with
@@ -30,8 +31,8 @@ pub trait Pause {
 const MOST_WAITS: u32 = 16;
 
 /// A pause that waits after each failed exchange with `Backoff` of `crossbeam_utils`. Each wait is twice as long as the
-/// previous one, up to a limit. Beyond the limit, the pause also yields the processor. When the call takes a lock, the
-/// waits become short again. Each call has its own `Spin`.
+/// previous one, up to a limit. Once the limit is reached, the pause also yields the processor. When the call takes a
+/// lock, the waits become short again. Each call has its own `Spin`.
 #[derive(Drop)]
 pub struct Spin {
     backoff: Backoff,

@@ -1,4 +1,4 @@
-//! The number of rounds of a call's loop: bounded, or effectively unbounded.
+//! How many rounds the loop of a call can make: a bounded number, or one with no practical bound.
 ghost use Rattle.std.specs.Prelude.{◌≡◌, Some};
 
 use crate::slots::OwnSlots;
@@ -11,14 +11,14 @@ pub trait Rounds {
     const MOST: u64;
 }
 
-/// The bound of a call that has no practical bound: 2^64 - 1 rounds.
+/// The bound for calls that need no practical bound: 2^64 - 1 rounds.
 pub struct Countless;
 
 impl Rounds for Countless {
     const MOST: u64 = u64::MAX;
 }
 
-/// Returns the result of a call that may make [`Countless`] rounds (2^64 - 1). Waits forever if `answer` is `None`.
+/// Returns the result of a call that can make [`Countless`] rounds (2^64 - 1). Waits forever if `answer` is `None`.
 #[inline(always)]
 pub fn or_wait_forever<R: Wait>(rt: &R, answer: Option<(OwnSlots, Reply)>) -> (OwnSlots, Reply)
     ensures { answer ≡ Some result }

@@ -1,4 +1,4 @@
-//! The next step of an interpreted call, by the compiled code of its row in the step table.
+//! Makes the next step of an interpreted call, by the compiled code for its row of the step table.
 ghost use Rattle.std.specs.Prelude.{◌≡◌};
 ghost use Rattle.lset_rule.specs.RowSteps.{HasStepped, MayStep};
 
@@ -61,9 +61,9 @@ fn other_step<M: Machine, const SITE: u8>(
     }
 }
 
-/// Makes the next step of a call by the compiled code of its row.
+/// Makes the next step of a call, by the compiled code for its row of the step table.
 ///
-/// `place` is a seat of the words `table` with a pending call, and `local` is the state of its thread. Each call site
+/// `place` is a seat on the words `table` with a pending call, and `local` is the state of its thread. Each call site
 /// passes its own number `SITE`. Each row of the five lists' step tables has an arm. Rows of other tables work without
 /// an arm, but their steps are slower.
 #[inline(always)]

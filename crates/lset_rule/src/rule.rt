@@ -1,4 +1,5 @@
-//! The rule (the invariant of the shared words and all seats), and what a seat learns from each kind of move.
+//! The rule (the invariant of the shared words and all seats), and what each move adds to the knowledge of a seat (its
+//! view).
 ghost use Rattle.lset_words.specs.declared.Call.{Call};
 ghost use Rattle.lset_words.specs.declared.Call.TheVariants.{Contains};
 ghost use Rattle.lset_rule.specs.Rule.{Holds, opener, left_view, right_view, joined, nobody, learned, without_thread, informed};
@@ -9,8 +10,9 @@ use atomic_table::{Join, Play, Split, TableRule};
 use lset_steps::Machine;
 use std::marker::{Brand, PhantomData};
 
-/// The rule of shared words whose list is `M`: the events of all threads are a run of `M` that ends with these words,
-/// and the view of each seat matches this run. When the set is opened, one seat has all threads.
+/// The invariant of the shared words of a list `M`: the events of all threads so far are a run of `M` that ends with
+/// these words, and what each seat knows (its view) matches this run. When the set is opened, a single seat has all
+/// threads.
 pub struct Follows<M> {
     machine: PhantomData<M>,
 }
@@ -21,7 +23,7 @@ impl<M: Machine> TableRule<(), View, Opened> for Follows<M> {
     ghost first = { opener };
 }
 
-/// The call that a first step begins, as a type. A caller passes `Brand`, and proves which call `Brand` means.
+/// The call that a first step starts, as a type. A caller passes `Brand`, and proves which call `Brand` means.
 pub trait Asking {
     ghost call: { Call };
 }
@@ -30,7 +32,7 @@ impl Asking for Brand {
     ghost call = { Contains (record { 0 = 0 }) };
 }
 
-/// What a seat learns from a step of its call other than the first.
+/// What a seat learns from a step of its call that is not the first.
 pub struct Step<M> {
     machine: PhantomData<M>,
 }
@@ -39,7 +41,7 @@ impl<M: Machine> Play<(), View> for Step<M> {
     ghost then = { onward M.table };
 }
 
-/// What a seat learns from the first step of a call. The call begins with this step.
+/// What a seat learns from the first step of a call. The call starts with this step.
 pub struct FirstStep<M, J> {
     machine: PhantomData<M>,
     asking: PhantomData<J>,
@@ -49,7 +51,7 @@ impl<M: Machine, J: Asking> Play<(), View> for FirstStep<M, J> {
     ghost then = { starting M.table J.call };
 }
 
-/// The views of both seats after a split: a spare thread of the old seat becomes the thread of a new seat.
+/// What both seats know (their views) after a split: a spare thread of the old seat becomes the thread of a new seat.
 pub struct SplitSeat;
 
 impl Split<View> for SplitSeat {
@@ -58,7 +60,8 @@ impl Split<View> for SplitSeat {
     ghost right = { right_view };
 }
 
-/// The view of a seat after it has gathered another seat: it also has the other seat's threads and record.
+/// What a seat knows (its view) after another seat was merged into it (gathered): it also has the other seat's threads
+/// and record.
 pub struct JoinSeats;
 
 impl Join<View> for JoinSeats {
@@ -67,8 +70,8 @@ impl Join<View> for JoinSeats {
     ghost spent = { nobody };
 }
 
-/// The views after a seat makes a receipt, or a receipt is copied. The view of the seat stays. The receipt is a view
-/// without threads that has seen the same events.
+/// What a seat and a receipt know (their views) after the seat issues the receipt or the receipt is copied. The seat's
+/// view does not change. The receipt has seen the same events, and has no threads.
 pub struct GiveReceipt;
 
 impl Split<View> for GiveReceipt {
@@ -77,7 +80,8 @@ impl Split<View> for GiveReceipt {
     ghost right = { without_thread };
 }
 
-/// The view of a seat after it has taken a receipt: it has seen all events that the seat or the receipt had seen.
+/// What a seat knows (its view) after it has taken a receipt: it has seen all events that the seat or the receipt had
+/// seen.
 pub struct TakeReceipt;
 
 impl Join<View> for TakeReceipt {
@@ -86,8 +90,8 @@ impl Join<View> for TakeReceipt {
     ghost spent = { nobody };
 }
 
-/// What a seat learns from the load that follows a gathering or the taking of a receipt: the events that it has seen
-/// include those that either view had seen.
+/// What a seat learns from its first load after another seat was merged into it or it took a receipt: the events that
+/// it has seen include those that either of the two had seen.
 pub struct Learn<M> {
     machine: PhantomData<M>,
 }

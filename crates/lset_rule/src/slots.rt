@@ -16,7 +16,7 @@ pub struct OwnSlots {
 }
 
 impl OwnSlots {
-    /// Returns the slots of thread `thread` before its first call.
+    /// Returns the slots of thread `thread` (nodes for keys that it adds) before its first call.
     pub fn unused(layout: &Layout, thread: u32) -> OwnSlots
         ensures { result ≡ slots_of (idle layout.now.quota thread) }
     {
@@ -27,7 +27,7 @@ impl OwnSlots {
         }
     }
 
-    /// Returns the part of the registers that is kept after a call.
+    /// Returns the part of the registers that a thread keeps after a call.
     pub(crate) fn of(local: &Local) -> OwnSlots
         ensures { result ≡ slots_of local.now }
     {
@@ -38,7 +38,7 @@ impl OwnSlots {
         }
     }
 
-    /// Returns the registers of a thread with these slots and no pending call.
+    /// Returns the registers of a thread that has these slots (nodes for keys that it adds) and no pending call.
     pub(crate) fn resting(self) -> Local
         ensures { result ≡ resting self }
     {

@@ -8,7 +8,7 @@ use std::collections::LinkedList;
 use std::marker::Model;
 
 /// The opening of a set: the number of threads, the number of keys that each thread can add (its quota), and the
-/// opening keys. Fixed when the set is opened.
+/// opening keys. Never changes.
 #[derive(Drop)]
 pub struct Opened {
     threads: u32,
@@ -23,7 +23,8 @@ impl Model for Opened {
 }
 
 impl Opened {
-    /// Returns the opening of a set with `threads` threads that can add `quota` keys each, and the opening keys `keys`.
+    /// Returns the opening of a set with `threads` threads that can add `quota` keys each, and with the opening keys
+    /// `keys`.
     pub fn new(threads: u32, quota: u32, keys: Vec<u32>) -> Opened
         ensures { result ≡ record { threads = threads; quota = quota; keys = keys.items } }
     {
@@ -39,7 +40,7 @@ impl Opened {
 pub struct OwnCall {
     pub call: Call,
     pub reply: Reply,
-    /// The number of the event at which the call began. All events of all threads are numbered from 1.
+    /// The number of the event at which the call started. All events of all threads are numbered from 1.
     pub begun: u64,
     /// The number of the step that ended the call.
     pub ended: u64,
@@ -48,19 +49,19 @@ pub struct OwnCall {
 /// A pending call of a thread.
 pub struct PendingCall {
     pub call: Call,
-    /// The number of the event at which the call began. All events of all threads are numbered from 1.
+    /// The number of the event at which the call started. All events of all threads are numbered from 1.
     pub begun: u64,
     /// The number of steps that the call has made.
     pub steps: u64,
 }
 
-/// The record of a seat: its completed calls, and the records of the seats that it gathered, oldest first.
+/// The record of a seat: its completed calls, and the records of the seats merged into it (gathered), oldest first.
 pub enum Past {
-    /// The record of this thread, without calls.
+    /// The record of this thread, which has no calls yet.
     Fresh(u32),
     /// A record, and a call that the record's own thread completed after it.
     Called(&'static Past, OwnCall),
-    /// A record, and the record of a seat that was gathered after it.
+    /// A record, and the record of a seat that was later merged into its seat.
     Gathered(&'static Past, &'static Past),
 }
 
@@ -72,25 +73,27 @@ pub struct SpareThread {
 
 /// A view: what a seat (the right to call as one thread) knows.
 pub struct View {
-    /// Whether the view has no threads, because its seat was gathered or the view is a receipt. Of such a view, the
-    /// rule only says which events it has seen.
+    /// Whether the view has no threads, because its seat was merged into another or the view is a receipt. The rule
+    /// (the invariant) then only says which events the view has seen.
     pub spent: bool,
     /// The opening of the set.
     pub shape: Opened,
-    /// The number of the seat's own thread, which makes the seat's calls.
+    /// The number of the seat's own thread: the thread that the seat calls as.
     pub thread: u32,
     /// The registers of the seat's own thread.
     pub local: Local,
     /// The pending call of the seat's own thread.
     pub under: Option<PendingCall>,
-    /// The idle threads that the seat has in addition to its own: they were gathered, or can be split off.
+    /// The idle threads that the seat has in addition to its own: they came from seats merged into it, or can be split
+    /// off.
     pub others: LinkedList<SpareThread>,
-    /// The seat's completed calls, and the records of the seats that it gathered.
+    /// The seat's completed calls, and the records of the seats merged into it.
     pub past: Past,
     /// The events that the seat has seen, oldest first.
     pub seen: LinkedList<Event>,
-    /// After a gathering or the taking of a receipt: the events that this seat had seen before.
+    /// The events that this seat had seen when another seat was merged into it or it took a receipt.
     pub ours: LinkedList<Event>,
-    /// After a gathering or the taking of a receipt: the events that the other view had seen.
+    /// The events that the other seat had seen when it was merged into this seat, or the receipt when this seat took
+    /// it.
     pub theirs: LinkedList<Event>,
 }

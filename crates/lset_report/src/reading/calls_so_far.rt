@@ -11,9 +11,9 @@ use std::alloc::{AllocError, Global};
 /// The calls read so far, and the fields that decide whether a further call can follow them.
 #[derive(Drop)]
 pub(crate) struct CallsSoFar {
-    /// The calls as a history of a set that opens empty.
+    /// The calls read so far, as a history of a set that opens empty.
     pub history: History,
-    /// The moment at which the last call began; 0 before the first call.
+    /// The moment at which the last call started, or 0 before the first call.
     pub last_begun: u32,
     /// For each thread, the moment at which its last call ended. 0 if the thread has no call yet or its last call is
     /// pending.
@@ -55,7 +55,7 @@ impl CallsSoFar {
         })
     }
 
-    /// Returns `true` if some thread's last call ended at `moment`, which must not be 0.
+    /// Returns whether some thread's last call ended at `moment`, which must not be 0.
     fn is_last_end(&self, moment: u32) -> bool
         ensures { result ≡ is_last_end self.now.last_ends.items moment }
     {
@@ -71,8 +71,9 @@ impl CallsSoFar {
         }
     }
 
-    /// Returns `true` if the call `made` can follow these calls. A moment after the last begin is occupied only if some
-    /// thread's last call ended at it. Comparing with these ends is therefore enough, and no set of moments is kept.
+    /// Returns whether the call `made` can follow these calls. After the start of the last call, a moment is taken only
+    /// if some thread's last call ended at it. It therefore suffices to compare with these ends, and no set of moments
+    /// is stored.
     pub fn may_follow(&self, made: CallRecord) -> bool
         requires { Tracks self.now }
         ensures { result ≡ may_follow (threads_of self.now) self.now.history.calls made }

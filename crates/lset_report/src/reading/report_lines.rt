@@ -49,7 +49,7 @@ impl Line {
     }
 }
 
-/// The fields of a call's line up to the moment at which the call begins.
+/// The fields of a call's line up to the moment at which the call starts.
 #[derive(Clone, Copy)]
 struct Begun<'a> {
     word: &'a [u8],
@@ -104,7 +104,7 @@ fn ended_call(version: Version, pieces: Begun<'_>, end: &[u8], reply: &[u8]) -> 
     Ok(Line::Call(id, made))
 }
 
-/// Parses a call from its line. `word`, `id` and `thread` are the first three fields, `rest` is the remainder of the
+/// Parses a call from its line. `word`, `id` and `thread` are the first three fields; `rest` is the remainder of the
 /// line.
 fn call(version: Version, word: &[u8], id: &[u8], thread: &[u8], rest: &[u8]) -> Result<Line, Cause>
     ensures { result ≡ first_of version Cause.Line (open_kind ∷ ended_kind ∷ []) (word.now ∷ id.now ∷ thread.now

@@ -14,7 +14,7 @@ other_bool true false d = refl
 other_bool false true d = refl
 other_bool a b d = absurd cc
 
--- A change to be recorded is real: it adds an absent key or removes a present one.
+-- If the test finds that a change must be recorded, it adds an absent key or removes a present one.
 turn_of : (changes : ℕ → List ℕ) (key moment : ℕ) (there present : Bool) → ((j : ℕ) → All (λ m. m < moment) (changes j))
     → there ≡ is_present changes key moment → not (beq there present) ≡ true → present ≡ not (is_present_now changes key)
 turn_of changes key moment there present later is other =
