@@ -17,8 +17,8 @@ pub made_ok : {X Y : Type 0} (f : X → Y) (r : Result X Cause) (y : Y) → made
 made_ok f (Ok x) y e = (x, refl, ok_is (f x) y e)
 made_ok f (Err d) y e = absurd cc
 
--- What the proofs need to know about a kind of line: its form can be read back, and each value made of fields that the
--- version can spell has the property `Good`, and is spelled by these fields.
+-- What the proofs need to know about a kind of line. Its form can be read back. Each value made from fields that the
+-- version can spell has the property `Good`, and its spelling consists of these fields.
 abbrev pub Knows : {X : Type 0} → Version → (X → List (List ℕ)) → (X → Type 0) → LineKind X → Type 0
 Knows v pieces Good k = IsForm k.0 × ((t : Told k.0) → AllFit v k.0 t → (spell k.0 t ≡ pieces (k.1 t)) × Good (k.1 t))
 

@@ -43,7 +43,7 @@ pub enum Cause {
     Idle,
     /// A broken list (with a check removed) cannot make this step: it would access a word outside its table.
     Lost,
-    /// The thread cannot reach the given step: `go 1 out`, if the thread waits for a lock of another thread.
+    /// The thread cannot reach the given step: `go 1 out`, if the thread waits for a lock that another thread holds.
     Waits,
     /// An allocation failed at this line or above it. The program does not print the line: it prints `out of memory`.
     Memory,

@@ -10,7 +10,7 @@ use Rattle.lset_words.specs.declared.Reply.TheVariants.{True, False, Full, At, N
 use Rattle.lset_words.specs.Log.{Log, Entry, Change, last_call, begun_at, is_open, has_changed}
 use Rattle.lset_words.specs.Log.Entry.{began, stepped}
 
--- A set of keys, given as the predicate of its members.
+-- A set of keys, as a predicate that is true of its members.
 abbrev pub Content : Type 1
 Content = ℕ → Type 0
 
@@ -27,7 +27,8 @@ Changes (Some (k, true)) before after =
 Changes (Some (k, false)) before after =
     before k.0 × (after k.0 → ⊥) × ((j : ℕ) → j ≢ k.0 → (before j → after j) × (after j → before j))
 
--- Returns how many successful adds a thread has made after this change of its own. `count` is the number before.
+-- Returns how many successful adds a thread has made after one of its calls made this change. `count` is the number
+-- before the change.
 abbrev pub count_after : Option Change → ℕ → ℕ
 count_after None count = count
 count_after (Some (k, true)) count = count + 1
@@ -106,7 +107,8 @@ pub record Steps (threads quota : ℕ) (log : Log) (contents : Contents) (counts
   -- The reply, if any, is correct.
   pub right : RightReply (has_changed log t (suc k)) quota contents counts (begun_at log t k) (suc k) t (last_call log t k) reply
 
--- States that entry `k` of the log, the event between moments `k` and `k + 1`, is a valid begin or a valid step.
+-- States that entry `k` of the log, the event between moments `k` and `k + 1`, is a valid start of a call or a valid
+-- step.
 abbrev pub Enters : ℕ → ℕ → Log → Contents → Counts → ℕ → Entry → Type 0
 Enters threads quota log contents counts k (began t call) = Begins threads log contents counts k t
 Enters threads quota log contents counts k (stepped t change reply) = Steps threads quota log contents counts k t change reply
@@ -117,7 +119,7 @@ pub record Account (o : Opening) (last : ℕ) (log : Log) (contents : Contents) 
   -- The content at moment 0 consists of the opening keys. They increase strictly.
   pub increasing : IsStrictlyIncreasing o.keys
   pub opens : (k : ℕ) → (contents 0 k → InList o.keys k) × (InList o.keys k → contents 0 k)
-  -- At moment 0, no thread has added a key.
+  -- Each of the first `last` entries of the log is a valid start of a call or a valid step.
   pub none_yet : (t : ℕ) → t < o.threads → counts 0 t ≡ 0
-  -- Each of the first `last` entries of the log is a valid begin or a valid step.
+  -- Each of the first `last` entries of the log is a valid start of a call or a valid step.
   pub enters : (k : ℕ) → k < last → Enters o.threads o.quota log contents counts k (log k)

@@ -53,8 +53,8 @@ calls_by u order = filter (λ (a : Answered). a.thread == u) order
 abbrev pub placed_by : ℕ → CallMade → Answered
 placed_by u c = record { thread = u; call = c.call; reply = c.reply }
 
--- States that the order contains, of all calls by the record's thread, exactly those that the record lists as its own,
--- in the same sequence.
+-- States that the calls of the record's thread in the order are exactly those that the record lists as its own, in the
+-- same sequence.
 abbrev pub HasOwnCalls : List Answered → Record → Type 0
 HasOwnCalls order r = calls_by (thread_of r) order ≡ map (placed_by (thread_of r)) (own_calls r)
 
