@@ -1,5 +1,5 @@
--- What is true of the calls in the log of a run at each moment, if each event of the run is a valid begin or a valid
--- step.
+-- What is true of the calls in the log of a run at each moment, if each event of the run is a valid start of a call or
+-- a valid step.
 use Rattle.std.proofs.Common.{rules, ◌≡◌, ◌≢◌, ℕ, zero, suc, ◌<◌, ◌≤◌, ◌⊎◌, Bool, true, false, ◌||◌, inl, inr, List, [], ◌∷◌, ◌++◌, map, length}
 use Rattle.std.proofs.Common.{sym, refl, ap, ◌∙◌, arith}
 use Rattle.std.specs.Prelude.{slice_index_or, Option, Some, None, is_some, IfSome, IsSomeAnd, All, AllPairs, if◌then◌else◌}
@@ -30,7 +30,7 @@ abbrev pub run_of : ℕ → ℕ → Log → Contents → Counts → Run
 run_of threads quota log contents counts =
     record { threads = threads; quota = quota; log = log; contents = contents; counts = counts }
 
--- States that the log's entry just before the moment `begun` is the begin of this call.
+-- States that the log's entry just before the moment `begun` is the start of this call.
 pub record Beginning (r : Run) (thread : ℕ) (call : Call) (begun : ℕ) : Type 0 where
   pub before : ℕ
   pub is : begun ≡ suc before
@@ -57,7 +57,7 @@ pub record EndAt (r : Run) (thread : ℕ) (call : Call) (begun : ℕ) (changed :
   pub after_change : (m : ℕ) → changed ≡ Some m → m ≤ end
   pub right : RightReply (is_some changed) r.quota r.contents r.counts begun end thread call (Some reply)
 
--- States that the functions that compute a thread's pending call from the log have the values that belong to this call.
+-- States that the functions that compute a thread's pending call from the log return the values of this call.
 pub record OpenAt (r : Run) (k thread : ℕ) (call : Call) (begun : ℕ) (changed : Option ℕ) : Type 0 where
   pub is : is_open r.log thread k ≡ true
   pub call_is : last_call r.log thread k ≡ call
@@ -200,7 +200,7 @@ way_of t x u = (grind (arith, nat_tests), grind (arith, nat_tests))
 pub is_way : (t : ℕ) (x : TracedCall) → x.thread ≡ t → x.ended ≡ None → is_under_way t x ≡ true
 is_way t x e n = rw (equal_test x.thread t e, n) refl
 
--- A call has its change or its end either from earlier moments or from this step.
+-- If a call has a change or an end after a step, the call had it before the step, or the step made it.
 changed_as : (m n : ℕ) (change : Option Change) (before : Option ℕ) → changed_by m change before ≡ Some n
     → ((change ≡ None) × (before ≡ Some n)) ⊎ ((c : Change) × (change ≡ Some c) × (n ≡ m))
 changed_as m n None before e = inl (refl, e)

@@ -212,7 +212,7 @@ abbrev pub IsFrom : ℕ → Option ℕ → Type 0
 IsFrom key None = Unit {0}
 IsFrom key (Some k) = key ≤ k
 
--- States that each key from `key` up to, but without, `next` and `end` was absent at `moment` if the key is present
+-- States that each key from `key` to just below both `next` and `end` was absent at `moment` if the key is present
 -- after the last change.
 abbrev pub CameUpTo : (ℕ → List ℕ) → ℕ → Option ℕ → Option ℕ → ℕ → Type 0
 CameUpTo changes key next end moment =

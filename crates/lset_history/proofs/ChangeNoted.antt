@@ -161,8 +161,8 @@ pub others_after : (key : ℕ) (old new : BTreeSet ℕ) → set.UpdatesBy nat_cm
     → IsTrue (contains nat_cmp old k) → IsTrue (contains nat_cmp new k)
 others_after key old new up k n has = up.2 k (sym (same_test key k) ∙ unequal_test k key n) ∙ has
 
--- A case distinction for proofs: a property of the changes at moment 0 has to hold for an opening key and for any other
--- key.
+-- A case distinction: a property of the changes at moment 0 follows if it holds both for an opening key and for any
+-- other key.
 opened_then : (P : List ℕ → Type 0) → P [] → P (0 ∷ []) → (b : Bool) → P ((if b then 0 ∷ [] else []) ++ [])
 opened_then P none one true = one
 opened_then P none one false = none

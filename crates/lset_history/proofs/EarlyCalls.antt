@@ -37,7 +37,8 @@ FindsEarly calls order i early =
     MatchOption early ((place : ℕ) → i ≤ place → place < length order → IsTooEarly calls order place → ⊥)
     (EarlyFrom calls order i)
 
--- A call at index j or later is at index j or later than j. The loop goes from index j + 1 to index j.
+-- If some call at index j or later ended before a moment, it is the call at index j or a later one. The loop uses this
+-- to go from index j + 1 to index j.
 first_or_later : (calls : List CallRecord) (order : List Placed) (j moment : ℕ) → EndsFrom calls order j moment
     → EndsBefore moment (placed_call calls order j).ended ⊎ EndsFrom calls order (suc j) moment
 first_or_later calls order j moment (k, from, inside, ends) =

@@ -60,7 +60,7 @@ turned_is n = elim (odd_or_even n) [
   | inr h ↦ (unequal_test (n % 2) 1 (λ e. let a : n % 2 ≡ 0 = h.0 in omega arith) ∙ sym h.1)
 ]
 
--- A `Bool` that is negated n times, as a key's presence is by n changes.
+-- Lemmas about negating a `Bool` n times. Each change of a key negates its presence.
 differ : (x there : Bool) → not (beq x there) ≡ (if there then not x else x)
 differ true true = refl
 differ true false = refl

@@ -1,5 +1,5 @@
--- The placement theorem: the order of a run's calls by their linearization points linearizes the history, and leaves
--- the keys that the run leaves.
+-- The placement theorem: the order of a run's calls by their linearization points linearizes the history, and ends with
+-- the same keys as the run.
 use Rattle.std.proofs.Common.{◌≡◌, ◌≢◌, ℕ, zero, suc, ◌<◌, ◌≤◌, true, false, inl, inr, List, [], ◌∷◌, sym, refl, subst, ap}
 use Rattle.std.proofs.Common.{◌∙◌, arith, length, map}
 use Rattle.std.specs.Prelude.{◌==◌, Option, Some, None, IfSome, IsSomeAnd, slice_index, Contains, All, AllPairs}

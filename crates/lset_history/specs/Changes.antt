@@ -9,8 +9,8 @@ use Rattle.std.specs.BTreeMap.{BTreeMap, get, is_at}
 use Rattle.std.specs.BTreeSet.{BTreeSet, contains}
 use Rattle.lset_words.specs.SequentialSet.{has_key}
 
--- The opening keys, and each key that changed with the moments, from 1, at which the key was added and removed:
--- alternately, and in increasing order.
+-- The opening keys and, for each key that changed, the moments (from 1) at which the key was alternately added and
+-- removed, in increasing order.
 pub record ChangesValue : Type 0 where
   pub opening : List ℕ
   pub entries : List (ℕ × List ℕ)
@@ -33,14 +33,14 @@ noted_of c key = moments_in (lookup (is_at (nat_cmp key)) c.entries)
 abbrev pub moments_of : ChangesValue → ℕ → List ℕ
 moments_of c key = opened_moments c.opening key ++ noted_of c key
 
--- Returns whether a key is present at a moment, if the key changes at the moments of the list. `present` is whether it
--- is present before the first of them.
+-- Returns whether a key is present at a moment, if the key changes at the moments of the list. `present` says whether
+-- the key is present before the first of them.
 abbrev pub state_at : Bool → List ℕ → ℕ → Bool
 state_at present [] moment = present
 state_at present (m ∷ ms) moment = if nat_lt moment m then present else state_at (not present) ms moment
 
--- Returns whether a key is present in the end, if it changes at each moment of the list. `present` is whether it is
--- present before the first of them.
+-- Returns whether a key is present in the end, if it changes at each moment of the list. `present` says whether the key
+-- is present before the first of them.
 abbrev pub state_after : Bool → List ℕ → Bool
 state_after present [] = present
 state_after present (m ∷ ms) = state_after (not present) ms
@@ -97,7 +97,7 @@ changes_in opening kept = record { opening = opening; entries = map (λ (e : ℕ
 abbrev pub Increase : ChangesValue → Type 0
 Increase c = (key : ℕ) → IsStrictlyIncreasing (moments_of c key)
 
--- States that no number from 2^32 up, which is no key, has changes.
+-- States that no number from 2^32 up has changes. (Such a number is not a key.)
 abbrev pub IsBounded : (ℕ → List ℕ) → Type 0
 IsBounded changes = (key : ℕ) → 2 ^ 32 ≤ key → changes key ≡ []
 

@@ -1,4 +1,4 @@
--- What each single check of an order of calls decides, for the contracts of the checker's functions.
+-- What each check of an order of calls decides. The contracts of the checker's functions use these definitions.
 use Rattle.std.specs.Prelude.{◌≡◌, ◌≢◌, ℕ, ◌<◌, ◌==◌, ◌⊎◌, Bool, true, false, List, map, length, get_or, min, Option, Some, None}
 use Rattle.std.specs.Prelude.{take, is_some, All, IfSome, IsSomeAnd}
 use Rattle.std.specs.List.{list_any}

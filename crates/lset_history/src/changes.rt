@@ -259,7 +259,7 @@ impl Changes {
         let mut moment = from;
         let mut last = from;
         while let Some((at, noted)) = self.note_after(last) {
-            // A key that refutes `found` at `moment` does so until the key changes. That is at `at`.
+            // A key that refutes `found` at `moment` keeps refuting it until the key changes, at the moment `at`.
             if self.is_against(key, found, noted, moment) {
                 moment = at;
             }

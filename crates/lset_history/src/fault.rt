@@ -17,7 +17,7 @@ pub enum HistoryFault {
     /// The history has no call with this number, or the call has already ended.
     #[error("no open call has this number")]
     NotOpen,
-    /// The moment is 0, or not after every begin and end in the history.
+    /// The moment is 0, or not after the start and the end of every call in the history.
     #[error("the moment is 0, or not above every earlier one")]
     Time,
     /// An allocation failed.
