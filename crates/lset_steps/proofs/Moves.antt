@@ -63,7 +63,7 @@ pub record Unlinks (v w : View) (pred curr : ℕ) : Type 0 where
   pub grows : (i : ℕ) → v.published i → w.published i
   pub published_from : (i : ℕ) → w.published i → v.published i
 
--- The moves of a list, each with the key that it adds to the set or removes. `marks` is whether the list marks nodes
+-- The moves of a list, each with the key that it adds to the set or removes. `marks` says whether the list marks nodes
 -- before it unlinks them. Otherwise, the unlinking removes the key.
 pub data Move (marks : Bool) (v w : View) : Option (Key × Bool) → Type 0 where
   quiet : Quiet v w → Move marks v w None

@@ -104,8 +104,8 @@ abbrev pub Onward : Sizes → ℕ → Local → Local → Type 0
 Onward sz t l l' = Registers sz t l' × (l'.call ≡ l.call) × (l'.used ≡ l.used) × (l'.pc ≢ 0)
 
 -- What has to be shown of one row of the step table: thread t, in private state `l`, makes the step. The row continues
--- the call, changes the set, ends the call, or does both of the latter. Each case has the row's action, its effect on
--- the words, the thread's next private state, and what the outline says after the step.
+-- the call, changes the set, ends the call, or changes the set and ends the call. Each case has the row's action, its
+-- effect on the words, the thread's next private state, and what the outline says after the step.
 pub data Turn (T : Table) (P : Protocol T.marks) (At : Outline) (sz : Sizes) (t : ℕ) (vs : ℕ → View) (first now : ℕ) (ws : List ℕ)
     (used : ℕ → ℕ) (done : Bool) (l : Local) : Type 0 where
   passes : (a : Action) (ws' : List ℕ) (l' : Local)

@@ -1,4 +1,4 @@
--- The consequences of the law of a machine, each under its own name. In all of them, `op` is how the set opens, `es`
+-- The consequences of the law of a machine, each under its own name. In all of them, `op` says how the set opens, `es`
 -- are the events of a run of `last` events, and k is a moment: the state after k events.
 use Rattle.std.specs.Prelude.{◌≡◌, ◌≢◌, ℕ, zero, suc, ◌+◌, ◌%◌, ◌^◌, ◌<◌, ◌≤◌, ◌⊎◌, true, false, if◌then◌else◌, ◌==◌, List, []}
 use Rattle.std.specs.Prelude.{◌∷◌, ◌++◌, map, Option, Some, Contains, slice_index}
@@ -104,7 +104,7 @@ abbrev pub UnmarkedNodesInChain : Table → Type 0
 UnmarkedNodesInChain T = (op : Opening) (last k : ℕ) (es : ℕ → Event) → Run T op es last → k ≤ last
     → UnmarkedInChain T.marks (views T op es k)
 
--- States that in a list that does not mark nodes, no node has a mark, not even one that no add has used yet.
+-- States that in a list that does not mark nodes, no node has a mark, not even a node that no add has used yet.
 abbrev pub NoLinkIsMarked : Table → Type 0
 NoLinkIsMarked T = (op : Opening) (last k i : ℕ) (es : ℕ → Event) → Run T op es last → k ≤ last → T.marks ≡ false →
     i < node_count (sizes op)

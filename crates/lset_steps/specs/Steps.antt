@@ -18,7 +18,7 @@ use Rattle.lset_steps.specs.declared.Event.{Event}
 use Rattle.lset_steps.specs.declared.Event.TheVariants.{Begin, Go}
 
 -- A machine: a list set as a table of steps. `begin` begins a call, `next` is the thread's next access to a word,
--- `feed` is the thread's state after the access, and `effect` is the key that the step adds or removes. `marks` is
+-- `feed` is the thread's state after the access, and `effect` is the key that the step adds or removes. `marks` says
 -- whether the list marks nodes before it unlinks them.
 pub record Table : Type 0 where
   pub marks : Bool

@@ -32,8 +32,8 @@ abbrev pub thread_of : Event → ℕ
 thread_of (Begin t call) = t
 thread_of (Go t) = t
 
--- States that this is the error of an event that is not enabled. If several apply, it is the first of NoThread, Busy
--- and Idle.
+-- States that this is the error returned for an event that is not enabled. If several errors apply, it is the first of
+-- NoThread, Busy and Idle.
 abbrev pub Refused : WorldState → Event → StepFault → Type 0
 Refused w e NoThread = w.sizes.threads ≤ thread_of e
 Refused w (Begin t call) Busy = (t < w.sizes.threads) × ((local_of w.state t).pc ≢ 0)
