@@ -19,12 +19,12 @@ use Rattle.lset_recording.specs.declared.reader.RecordingReader.{RecordingReader
 use Rattle.lset_recording.specs.Texts.{Recording, IsRecording, all_threads}
 use Rattle.lset_recording.specs.Reading.{SoFar, Reads, Says, first_line, is_done, is_title, IsVerdictOnRecording}
 
--- States that the moment is the begin of one of these calls, or 0.
+-- States that the moment is the start of one of these calls, or 0.
 abbrev pub IsLatest : List CallRecord → ℕ → Type 0
 IsLatest calls moment = (moment ≡ 0) ⊎ ((x : CallRecord) × Contains calls x × (moment ≡ x.begun))
 
--- States that the judge has judged exactly these calls, that its moment is the begin of one of them or 0, and that
--- there are at most as many calls as this moment. Before the first call, the reader has no judge.
+-- States that the judge has judged exactly these calls, that the judge's moment is the start of one of them or 0, and
+-- that there are at most as many calls as this moment. Before the first call, the reader has no judge.
 abbrev pub IsJudgeKept : List ℕ → List CallRecord → Option Judge → Type 0
 IsJudgeKept opening calls None = calls ≡ []
 IsJudgeKept opening calls (Some j) =
@@ -55,7 +55,7 @@ pub record IsKept (c : Recording) (j : Judging) : Type 0 where
   pub left : AreKeys c.keys
   pub cut_off : j.cut_off ≡ c.cut_off
 
--- States that the reader has no judge yet, if its section is one before the calls.
+-- States that the reader has no judge yet, if it is in a section before the calls.
 abbrev pub IsFirst : Section → Option Judge → Type 0
 IsFirst part.Title judge = judge ≡ None
 IsFirst part.Opening judge = judge ≡ None

@@ -43,7 +43,7 @@ moment = piece.number 1 LAST_MOMENT
 abbrev pub none : Piece
 none = piece.word dash
 
--- Returns the value of a line that has a call: `t` has the thread, name, key and begin of the call, `end` its end.
+-- Returns the value of a line that has a call: `t` has the thread, name, key and start of the call, `end` its end.
 abbrev pub call_told : {X : Type 0} → ℕ × (CallWord × (ℕ × (ℕ × X))) → Option (ℕ × Reply) → RecordingLine
 call_told t end = told.Call (record {
   thread = t.0;
@@ -75,7 +75,7 @@ end_kind = (piece.word (codes "end") ∷ [], λ t. told.End)
 abbrev pub cut_kind : LineKind RecordingLine
 cut_kind = (piece.word (codes "cut") ∷ [], λ t. told.Cut)
 
--- The kinds of lines that can still come when the final keys have begun (`from_keys`) and when the calls have begun
+-- The kinds of lines that can still come once the reader has reached the final keys (`from_keys`) or the calls
 -- (`from_calls`). Sections have a fixed order, and each can be empty. A recording that was cut off has no final keys.
 abbrev pub from_keys : List (LineKind RecordingLine)
 from_keys = key_kind ∷ end_kind ∷ []
@@ -149,8 +149,8 @@ nothing_told = record {
   told = record { opening = []; calls = []; keys = []; cut_off = false };
 }
 
--- States that a line agrees with the recording so far: keys must increase, and the calls must form a history, in the
--- order in which they began.
+-- States that a line agrees with the recording so far: keys must increase, and the calls must form a history, ordered
+-- by start.
 abbrev pub GoesOn : Recording → RecordingLine → Type 0
 GoesOn c told.Title = Unit {0}
 GoesOn c (told.Opening k) = is_above c.opening k ≡ true

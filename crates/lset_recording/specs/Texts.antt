@@ -1,4 +1,4 @@
--- [Recording] and its text: the calls that threads made to a set, in the order in which they began.
+-- [Recording] and its text: the calls that threads made to a set, ordered by start.
 use Rattle.std.specs.Prelude.{ℕ, ◌^◌, Bool, if◌then◌else◌, List, [], ◌∷◌, ◌++◌, map, codes, Option, Some, None, All}
 use Rattle.std.specs.Fmt.{decimal}
 use Rattle.std.specs.List.Sorted.{IsStrictlyIncreasing}
@@ -14,7 +14,7 @@ use Rattle.lset_judge.specs.Verdict.{IsPlain}
 use Rattle.lset_judge.specs.Stream.{IsBefore}
 
 pub record Recording : Type 0 where
-  -- The opening keys. The calls follow, then the keys of the set after all calls.
+  -- The opening keys. The next fields are the calls, and the keys of the set after all calls.
   pub opening : List ℕ
   pub calls : List CallRecord
   pub keys : List ℕ
