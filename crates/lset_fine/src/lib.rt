@@ -13,8 +13,8 @@ use lset_steps::rows::{
 use lset_steps::{Action, Fed, Local, Machine};
 use lset_words::{Call, HEAD, Key, Kind, Reply};
 
-/// The list set with one lock for each node. A walk locks the next node before it releases the node behind (Herlihy and
-/// Shavit's fine-grained list).
+/// The list set with one lock for each node. A walk locks the next node before it releases the previous node (Herlihy
+/// and Shavit's fine-grained list).
 #[derive(Clone, Copy)]
 pub struct FineList;
 

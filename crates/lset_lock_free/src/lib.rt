@@ -101,8 +101,8 @@ fn at_key(local: &Local, seen: u64) -> Fed
     }
 }
 
-/// Returns the outcome of the step that has linked the thread's new node into the chain: the thread has one slot less
-/// to use, and the call ends with `True`.
+/// Returns the outcome of the step that has linked the thread's new node into the chain: the thread has used one more
+/// slot, and the call ends with `True`.
 #[inline(always)]
 fn puts_in(local: &Local) -> Fed
     requires { IsSmall local.now }

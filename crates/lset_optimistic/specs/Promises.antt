@@ -1,5 +1,5 @@
--- Laws of OptimisticList, in addition to the laws of all machines. In all of them, `op` is how the set opens, `es` are
--- the events of a run of `last` events, t is a thread, and k is a moment: the state after k events.
+-- Laws of OptimisticList, in addition to the laws of all machines. In all of them, `op` says how the set opens, `es`
+-- are the events of a run of `last` events, t is a thread, and k is a moment: the state after k events.
 use Rattle.std.specs.Prelude.{◌≡◌, ℕ, ◌+◌, ◌/◌, ◌<◌, ◌≤◌, ◌⊎◌, false, Some}
 use Rattle.lset_words.specs.Words.{lock_index, Opening}
 use Rattle.lset_words.specs.declared.Call.{Call}
