@@ -1,6 +1,6 @@
--- Proof that freedom from livelock implies freedom from deadlock. A thread whose next step is not a failed attempt to
--- take a lock stays so until another thread makes a counted step. Therefore, in a fair run, counted steps are made
--- again and again.
+-- Proof that freedom from livelock implies freedom from deadlock. If a thread's next step is not a failed attempt to
+-- take a lock, this remains true until another thread makes a counted step. Therefore, in a fair run, counted steps are
+-- made again and again.
 use Rattle.std.specs.Prelude.{◌≡◌, ◌≢◌, ℕ, ◌+◌, ◌-◌, ◌/◌, ◌%◌, ◌<◌, ◌≤◌, ◌⊎◌, true, false, List, Option, Some, None}
 use Rattle.std.specs.Prelude.{if◌then◌else◌, ◌==◌, nat_lt, slice_index, slice_set, refl}
 use Rattle.std.proofs.Common.{arith, inl, inr, sym, ◌∙◌, ap, subst, zero, suc}
@@ -145,7 +145,7 @@ module _ (T : Table) (law : Lawful T) (S : Shape) (most : Sizes → ℕ) (shows 
   weight_of s v n e = ap (unless_failed s.words (T.next (local_of s v))) e
 
   -- The next step of thread u is not a failed attempt to take a lock, and u has not made this step yet. Each event
-  -- until then is a counted step, or leaves the thread so.
+  -- until then is a counted step, or does not change this.
   module _ (m : ℕ) (again : (k t : ℕ) → Busy k t → Gather m k) (u : ℕ) where
     record Ready (k : ℕ) : Type 0 where
       busy : Busy k u

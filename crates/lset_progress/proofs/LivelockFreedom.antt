@@ -58,7 +58,7 @@ module _ (T : Table) (law : Lawful T) (S : Shape) (most : Sizes → ℕ) (shows 
   abbrev Owes : ℕ → Local → Type 0
   Owes m l = (5 ≤ m) ⊎ LateBy S m l
 
-  -- Returns how much one write can add to the numbers of steps that are enough for all threads.
+  -- Returns by how much one write can increase the total number of steps that the threads need.
   abbrev price : Sizes → ℕ
   price sz = sz.threads * most sz
 
@@ -81,7 +81,7 @@ module _ (T : Table) (law : Lawful T) (S : Shape) (most : Sizes → ℕ) (shows 
     within = f.within;
   }
 
-  -- The begin of a call does not increase the potential.
+  -- The start of a call does not increase the potential.
   begins : (sz : Sizes) (s : State) (t : ℕ) (c : Call) → Enabled s (Begin t c) → (p : ℕ) → Phase sz s p
       → Phase sz (after T s (Begin t c)) p
   begins sz s t c en p f = same_phase sz s (after T s (Begin t c)) p f (λ u un. elim (same_or_not u t) [

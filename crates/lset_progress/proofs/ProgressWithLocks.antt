@@ -38,7 +38,7 @@ abbrev expected : Action → ℕ → ℕ
 expected (Exchange x old new) other = old
 expected a other = other
 
--- States that the action is no attempt to take a lock, or that the lock is free.
+-- States that the action is not an attempt to take a lock, or that the lock is free.
 abbrev pub IsFree : List ℕ → Action → Type 0
 IsFree ws (Load w) = Unit {0}
 IsFree ws (Store w v) = Unit {0}

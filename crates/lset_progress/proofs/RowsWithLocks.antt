@@ -110,8 +110,8 @@ module _ (S : Shape) (size : ℕ) where
   no_time key link l (inl v) = let h : S.left size key l < 0 = v.1 in omega arith
   no_time key link l (inr h) = omega arith
 
-  -- States what a step does that does not end its call, from l and ws to l' and ws'. A walk that will succeed still
-  -- does, and any other walk starts again.
+  -- States what a step that does not end its call does. The step leads from l and ws to l' and ws'. A walk that would
+  -- succeed before the step still does, and any other walk starts again.
   pub record Goes (key : ℕ → ℕ) (ws : List ℕ) (l : Local) (key' : ℕ → ℕ) (ws' : List ℕ) (l' : Local) : Type 0 where
     pub busy : l'.pc ≢ 0
     pub late : S.late l → LateBy S (S.left 0 (λ a. 0) l) l'

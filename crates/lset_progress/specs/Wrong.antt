@@ -128,7 +128,8 @@ yielding = record {
   effect = lazy.effect;
 }
 
--- States that the law is false for this machine, whatever number of steps is allowed. Three more laws follow.
+-- States that `CallsEndAlone` is false for this machine, whatever number of steps is allowed. The negations of three
+-- more laws follow.
 abbrev pub NoCallsEndAlone : Table → Type 0
 NoCallsEndAlone T = (most : Sizes → ℕ) → CallsEndAlone T most → ⊥
 
