@@ -28,7 +28,7 @@ use Rattle.lset_session.specs.declared.sessions.Talk.{Talk}
 
 -- ---- Lemmas about a text to which bytes are appended
 
--- If q has no newline, it is part of the first line of q and the bytes after it.
+-- Prepending bytes without a newline to a text prepends them to its first line.
 cut_more : (q x : List ℕ) (xs : List (List ℕ)) (more : List ℕ) → cut_at 10 more ≡ x ∷ xs → Lacks 10 q
     → cut_at 10 (q ++ more) ≡ (q ++ x) ∷ xs
 cut_more [] x xs more e lacks = e

@@ -48,8 +48,9 @@ pub data Turn : Type 0 where
   long : Turn
   limit : Turn
 
--- Returns the turns of a session (its answered lines) from a line with request q on. `later` are the turns of the lines
--- after it. QUIT is the last turn of a session. If the session can answer only one more line, the limit follows q.
+-- Returns the turns (answered lines) of a session, starting at the line with request q. `later` contains the turns of
+-- the following lines. QUIT is the last turn of a session. If the session can answer only one more line, the turn of q
+-- is followed by the turn that reports the limit.
 abbrev pub turns_after : ℕ → Request → List Turn → List Turn
 turns_after left request.Quit later = line request.Quit ∷ []
 turns_after left other later = line other ∷ (if left == 1 then limit ∷ [] else later)
