@@ -55,7 +55,8 @@ fn drop_rest<I: Source>(reader: &mut I)
 
 /// Prepares a connection for closing, after its session has ended for the reason `why`. If the session ended before the
 /// client's bytes did, closes the sending side and then reads the client's remaining bytes, for at most one second and
-/// 1,048,576 bytes. Meanwhile the system can deliver the answers. Returns at once if the system refuses.
+/// 1,048,576 bytes. Meanwhile the system can deliver the answers. Returns at once if the system refuses to close the
+/// sending side.
 pub(crate) fn take_leave<R: Clock>(rt: &R, stream: &TcpStream, why: EndReason) {
     match why {
         EndReason::Quit | EndReason::Long | EndReason::Limit => {}

@@ -35,7 +35,7 @@ pub enum ServeCause {
     /// The system refused to start a thread.
     #[error("the system refused to start a thread")]
     Spawn,
-    /// The channel returned a connection, or another message, in place of sending it to a worker.
+    /// The channel returned a connection, or another message, instead of sending it to a worker.
     #[error("the channel returned a connection")]
     Send,
     /// An allocation failed.
@@ -218,9 +218,9 @@ fn serve_all<R: Threads + Wait + Clock + Sync, M: Running + Send + Sync>(
 
 /// Serves a set to `sessions` connections, with one worker thread for each of `seats`.
 ///
-/// `seats` must belong to `set`. Connections are numbered from 0, and wait in a channel with as many places as `seats`
-/// has seats. Each worker runs `buffered_session` on its seat, for one connection after another. A session that ends
-/// with a read or write error does not end the server. At the end, the seats are gathered and the set is closed. Blocks
+/// `seats` must belong to `set`. Connections are numbered from 0, and wait in a channel with one place for each of
+/// `seats`. Each worker runs `buffered_session` on its seat, for one connection after another. A session that ends with
+/// a read or write error does not end the server. At the end, the seats are gathered and the set is closed. Blocks
 /// until all connections have been accepted and all workers have ended. Each worker blocks for its client.
 ///
 /// # Errors

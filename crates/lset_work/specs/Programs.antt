@@ -71,7 +71,7 @@ pub record IsWorkInTime (T : Table) (k : Opening) (seats : List SeatValue) (reco
   pub begins : All (λ (s : SeatValue). StartsWith events s.events) seats
   pub order : IsOneOrderInTime T k events records keys
 
--- States that `work` can fail for this cause after it has started threads. `may_shut` is whether the gate can return
+-- States that `work` can fail for this cause after it has started threads. `may_shut` says whether the gate can return
 -- false.
 abbrev pub IsOfThreads : Bool → WorkCause → Type 0
 IsOfThreads may_shut Programs = ⊥
