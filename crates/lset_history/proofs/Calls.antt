@@ -36,7 +36,7 @@ pub record Beginning (r : Run) (thread : ℕ) (call : Call) (begun : ℕ) : Type
   pub is : begun ≡ suc before
   pub entry : r.log before ≡ began thread call
 
--- States that the log's entry just before the moment `changed` is the change by this call.
+-- States that the log's entry just before the moment `changed` is the change that this call makes.
 pub record ChangeAt (r : Run) (thread : ℕ) (call : Call) (begun changed : ℕ) : Type 0 where
   pub before : ℕ
   pub is : changed ≡ suc before
@@ -94,7 +94,7 @@ if_some (Some x) P f = f x refl
 pub record Calls (r : Run) (k : ℕ) (xs : List TracedCall) : Type 0 where
   pub each : All (Traced r k) xs
   pub pairs : AllPairs Later xs
-  -- If the log has a pending call of thread `t`, this call is in the list.
+  -- If the log has a pending call by thread `t`, this call is in the list.
   pub opens : (t : ℕ) → is_open r.log t k ≡ true → SomeCall (IsOpenOf t) xs
   -- If the log has a change, the call that made it is in the list.
   pub changers : (j t : ℕ) (change : Change) (reply : Option Reply) → j < k → r.log j ≡ stepped t (Some change) reply
@@ -182,7 +182,7 @@ after_beginning {r} {k} {t} {call} {xs} e l shut h = record {
     before : {j u : ℕ} {change : Change} {reply : Option Reply} → j < suc k → r.log j ≡ stepped u (Some change) reply → j < k
     before m f = search rules
 
--- A step of thread `t` between moments k and k + 1: its entry in the log, and what is known of its change and reply.
+-- A step of thread `t` between moments k and k + 1: its entry in the log, and what is known about its change and reply.
 pub record Stepping (r : Run) (k t : ℕ) (change : Option Change) (reply : Option Reply) : Type 0 where
   pub entry : r.log k ≡ stepped t change reply
   pub of_a_thread : t < r.threads

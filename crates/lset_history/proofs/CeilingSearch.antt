@@ -15,7 +15,7 @@ use Rattle.lset_history.proofs.ChangeLaws.{present_past}
 abbrev pub CeilingAt : (ℕ → List ℕ) → ℕ → Option ℕ → ℕ → Type 0
 CeilingAt changes key found m = IsCeiling (λ j. is_present changes j m ≡ true) key found
 
--- States that the key with these moments of change does not change after moment `a` up to moment `b`.
+-- States that a key that changes at exactly these moments does not change after moment `a` and up to moment `b`.
 abbrev IsQuiet : List ℕ → ℕ → ℕ → Type 0
 IsQuiet ms a b = All (λ m. a < m → m ≤ b → ⊥) ms
 

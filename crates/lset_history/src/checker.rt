@@ -24,9 +24,9 @@ fn first_unknown(calls: &[CallRecord], order: &[Placed]) -> Option<u32>
     None
 }
 
-/// Returns the number of the first call that the order has for a second time. `placed` must have one mark for each call
-/// of the history, all false. If no call is in the order twice, afterwards exactly the marks of the order's calls are
-/// true.
+/// Returns the number of the first call that occurs a second time in the order. `placed` must have one mark for each
+/// call of the history, all false. If no call is in the order twice, afterwards exactly the marks of the order's calls
+/// are true.
 fn first_twice(order: &[Placed], placed: &mut [bool]) -> Option<u32>
     requires known { All (λ (p : Placed). p.call < length placed.old) order.now }
     requires none_set { All (λ (mark : Bool). mark ≡ false) placed.old }
@@ -107,7 +107,7 @@ fn is_below(end: Option<u32>, moment: u32) -> bool
     end.is_some_and(|end| end < moment)
 }
 
-/// Returns the smaller of `smallest` and the moment at which a call ends. `None` means no end.
+/// Returns the smaller of `smallest` and the moment at which a call ends. `None` means that there is no end.
 fn lesser(smallest: Option<u32>, ended: Option<(u32, Reply)>) -> Option<u32>
     ensures { result ≡ smallest_with smallest ended }
 {
@@ -147,7 +147,7 @@ fn first_too_early(calls: &[CallRecord], order: &[Placed]) -> Option<u32>
 ///
 /// # Errors
 ///
-/// Returns the first of these that applies. The whole order is searched for one error before the next:
+/// Returns the first of these that applies. The whole order is searched for one kind of error before the next:
 /// - `Unknown`: the history has no call with this number;
 /// - `Twice`: the call is in the order twice;
 /// - `Missing`: this call is completed and not in the order; if there are several, the one with the smallest number;

@@ -1,4 +1,4 @@
--- Laws of cutting a text into lines, cutting a line into fields, and joining the parts again.
+-- Lemmas about cutting a text into lines, cutting a line into fields, and joining the parts again.
 use Rattle.std.proofs.Common.{◌≡◌, ℕ, ◌+◌, ◌-◌, ◌<◌, ◌≤◌, Bool, true, false, cond, eqb, ltb, not, ◌&&◌, List, [], ◌∷◌, ◌++◌}
 use Rattle.std.proofs.Common.{length, take, drop, Some, None, refl, sym, ap, ◌∙◌, append_assoc, arith, length-append}
 use Rattle.std.specs.Prelude.{position}

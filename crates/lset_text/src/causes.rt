@@ -25,8 +25,8 @@ pub enum Cause {
     Line,
     /// The field is not a number, or is out of range: `begin 0 add 05`, `go 0 10001`, `place 01 true`.
     Number,
-    /// This line exceeds the limit of events, opening keys, calls, places or keys in a file: the hundredth line `go 0
-    /// 10000`.
+    /// With this line, the file has too many events, opening keys, calls, `place` lines or `key` lines: the hundredth
+    /// line `go 0 10000`.
     TooMany,
     /// The key is not above the opening key before it: `opening 9` twice.
     Opening,

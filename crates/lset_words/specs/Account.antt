@@ -66,8 +66,8 @@ Contents = ℕ → Content
 abbrev pub Counts : Type 0
 Counts = ℕ → ℕ → ℕ
 
--- States that the reply is correct at some moment from `first` to `last`: a sequential set with the content of that
--- moment returns this reply.
+-- States that the reply is correct at some moment from `first` to `last`: a sequential set with the keys of that moment
+-- returns this reply.
 pub record FitsSometime (quota : ℕ) (contents : Contents) (counts : Counts) (first last thread : ℕ) (call : Call)
     (reply : Reply) : Type 0 where
   pub moment : ℕ
@@ -83,8 +83,8 @@ RightReply true quota contents counts first last thread call (Some reply) = repl
 RightReply false quota contents counts first last thread call (Some reply) =
     FitsSometime quota contents counts first last thread call reply
 
--- Thread `t` begins a call between moments `k` and `k + 1`. Before that, it has no pending call. Content and counts do
--- not change.
+-- Thread `t` begins a call between moments `k` and `k + 1`. Before that, it has no pending call. The set's keys and the
+-- counts of successful adds do not change.
 pub record Begins (threads : ℕ) (log : Log) (contents : Contents) (counts : Counts) (k t : ℕ) : Type 0 where
   pub of_a_thread : t < threads
   pub idle : is_open log t k ≡ false
@@ -98,7 +98,7 @@ pub record Steps (threads quota : ℕ) (log : Log) (contents : Contents) (counts
   -- The thread has a pending call.
   pub of_a_thread : t < threads
   pub under_way : is_open log t k ≡ true
-  -- Content and counts change as `change` says, and in no other way.
+  -- The set's keys and the count of the thread's successful adds change as `change` says, and in no other way.
   pub content : Changes change (contents k) (contents (suc k))
   pub own_count : counts (suc k) t ≡ count_after change (counts k t)
   pub other_counts : (u : ℕ) → u < threads → u ≢ t → counts (suc k) u ≡ counts k u
@@ -119,7 +119,7 @@ pub record Account (o : Opening) (last : ℕ) (log : Log) (contents : Contents) 
   -- The content at moment 0 consists of the opening keys. They increase strictly.
   pub increasing : IsStrictlyIncreasing o.keys
   pub opens : (k : ℕ) → (contents 0 k → InList o.keys k) × (InList o.keys k → contents 0 k)
-  -- Each of the first `last` entries of the log is a valid start of a call or a valid step.
+  -- At moment 0, no thread has added a key.
   pub none_yet : (t : ℕ) → t < o.threads → counts 0 t ≡ 0
   -- Each of the first `last` entries of the log is a valid start of a call or a valid step.
   pub enters : (k : ℕ) → k < last → Enters o.threads o.quota log contents counts k (log k)

@@ -1,4 +1,4 @@
--- Histories of calls, and what it means that an order of calls linearizes a history (Herlihy and Wing). Pending calls
+-- Histories of calls, and what it means for an order of calls to linearize a history (Herlihy and Wing). Pending calls
 -- can be completed by a reply or left out.
 use Rattle.std.specs.Prelude.{◌≡◌, ◌≢◌, ℕ, ◌<◌, List, map, length, Some, None, Contains, All, AllPairs, IfSome}
 use Rattle.std.specs.Prelude.{IsSomeAnd, slice_index_or}
@@ -16,7 +16,7 @@ no_call = record { thread = 0; call = call.Contains (record { 0 = 0 }); begun = 
 abbrev pub call_numbered : List CallRecord → ℕ → CallRecord
 call_numbered history number = slice_index_or history number no_call
 
--- The conditions that each call of a history must meet by itself.
+-- The conditions that each call of a history must meet on its own.
 pub record IsCall (threads : ℕ) (x : CallRecord) : Type 0 where
   pub of_a_thread : x.thread < threads
   pub counted : 0 < x.begun

@@ -1,5 +1,6 @@
--- [Record] of a seat, the right to call as one thread: the thread, its own calls with their replies, and the records of
--- the seats that were merged into it (gathered). `Keeps` defines when an order of calls agrees with a record.
+-- The [Record] of a seat (the right to call as one thread): the thread, its own calls with their replies, and the
+-- records of the seats that were merged into it (gathered). `Keeps` defines when an order of calls agrees with a
+-- record.
 use Rattle.std.specs.Prelude.{◌≡◌, ℕ, ◌==◌, ◌⊎◌, List, [], ◌∷◌, ◌++◌, filter, map}
 use Rattle.lset_words.specs.declared.Call.{Call}
 use Rattle.lset_words.specs.declared.Reply.{Reply}

@@ -1,4 +1,4 @@
-//! Keys, calls, replies, the layout of a list's words, and the records of histories.
+//! Keys, calls, replies, the layout of a list's words, and histories of calls.
 //!
 //! This crate's specs define the terms of the main theorem: the sequential set, the history of a run, an order of the
 //! calls that explains the history, and the content. A run is defined in `lset_steps`. The crates that prove the
@@ -76,7 +76,7 @@ pub enum Kind {
     LockFree,
 }
 
-/// A call of a set: `add`, `remove` or `contains` of a key (Herlihy and Shavit's interface), or `ceiling`, which asks
+/// A call on a set: `add`, `remove` or `contains` with a key (Herlihy and Shavit's interface), or `ceiling`, which asks
 /// for the smallest key at or above a given one.
 #[derive(Clone, Copy, Debug, PartialEq, Eq)]
 pub enum Call {
