@@ -61,8 +61,8 @@ pub record LazyRows (T : Table) : Type 0 where
   -- The call checks that the link of `pred` leads to `curr` and that `pred` is not marked. Otherwise, it releases the
   -- locks.
   pub row_6 : Does T 6 (λ l. Load (link_index l.pred)) (λ l seen. if seen == 2 * l.curr then on_to 7 l else leaves None l) nothing
-  -- The call checks that `curr` is not marked. If `curr` is unmarked, the call decides. Otherwise, the call releases
-  -- the locks and starts again.
+  -- The call checks that `curr` is not marked. If `curr` is unmarked, the call decides what to do. Otherwise, the call
+  -- releases the locks and starts again.
   pub row_7 : Does T 7 (λ l. Load (link_index l.curr))
       (λ l seen. if seen % 2 == 0 then decides l.call (record l { succ = seen / 2 }) else leaves None l)
       nothing

@@ -53,7 +53,7 @@ pub record LockFreeRows (T : Table) : Type 0 where
       (λ l seen. if seen == 2 * l.curr then continued (record l { pc = 2; curr = l.succ }) else on_to 1 l)
       nothing
   -- If `curr` is not marked, the walk loads the key of `curr`. Then it continues with the next node, or the call
-  -- decides.
+  -- decides what to do.
   pub row_4 : Does T 4 (λ l. Load (key_index l.curr))
       (λ l seen. if nat_lt seen (target l.call) then continued (record l { pc = 2; pred = l.curr; curr = l.succ })
       else decides l.call l seen)

@@ -170,8 +170,8 @@ module _ (op : Opening) (last : ℕ) (es : ℕ → Event) (r : Run optimistic op
   abbrev S : ℕ → State
   S k = state_at optimistic op es k
 
-  -- States that a thread with a reply that has changed nothing, and is about to release a lock, has made the load at
-  -- which its reply was correct.
+  -- States that a thread that has a reply, has changed nothing and is about to release a lock has already made the load
+  -- at which its reply was correct.
   abbrev Settled : ℕ → ℕ → Bool → Local → Type 0
   Settled now first done l = (reply : Reply) → 14 ≤ l.pc → l.reply ≡ Some reply → done ≡ false
       → FitsAtALoad op es first now t l.call reply

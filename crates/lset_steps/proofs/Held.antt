@@ -241,7 +241,7 @@ module _ {marks : Bool} {sz : Sizes} {ws : List ℕ} {used : ℕ → ℕ} (m : M
     (b.walk.held.mine, b.mine),
   )
 
--- What a thread still knows of its locked nodes after its own steps that do not write them.
+-- What a thread still knows about its locked nodes after its own steps that do not write them.
 module _ {marks : Bool} {sz : Sizes} {ws : List ℕ} {used : ℕ → ℕ} (m : Memory marks sz ws used) {t : ℕ} (tn : t < sz.threads) where
   pub leaves_locked : (a : ℕ) → node_lock ws a ≡ 0
       → Leaves (view sz ws used) (view sz (slice_set ws (lock_index a) (t + 1)) used) t

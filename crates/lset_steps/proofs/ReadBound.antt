@@ -127,7 +127,7 @@ tally_on {v} {w} {size} {below} g a = record {
   amount_is = a.amount_is;
 }
 
--- States that this row of the step table is one of a `ceiling` without locks.
+-- States that this is a row of the step table for a `ceiling` without locks.
 abbrev IsCeilingRow : ℕ → Type 0
 IsCeilingRow pc = (pc ≡ 23) ⊎ (pc ≡ 24) ⊎ (pc ≡ 25)
 

@@ -41,7 +41,7 @@ pub record ChainIsSorted (v : View) : Type 0 where
 abbrev pub SortedChain : Table → Type 0
 SortedChain T = (op : Opening) (last k : ℕ) (es : ℕ → Event) → Run T op es last → k ≤ last → ChainIsSorted (views T op es k)
 
--- [Lock words]: a lock word is t + 1 from the step with which thread t takes the lock to the store of 0 that releases
+-- [Lock words]: a lock word is t + 1 from the step in which thread t takes the lock until the store of 0 that releases
 -- it, and 0 at all other times. This function returns lock word x after an action of thread t. `old` is the word before
 -- the action.
 abbrev pub held : ℕ → ℕ → ℕ → Action → ℕ
@@ -65,8 +65,8 @@ LockWords T = (op : Opening) (last k x : ℕ) (es : ℕ → Event) → Run T op 
     x < word_count (sizes op)
     → slice_index (state_at T op es k).words x ≡ holder T op es x k
 
--- States that in each step, an exchange on a lock word is an attempt to take the lock, and a store to a lock word is a
--- 0 by the thread that holds the lock.
+-- States that in each step, an exchange on a lock word is an attempt to take the lock, and a store to a lock word
+-- stores 0 and is made by the thread that holds the lock.
 abbrev pub LockUses : Table → Type 0
 LockUses T = (op : Opening) (last k t : ℕ) (es : ℕ → Event) → Run T op es last → k < last → es k ≡ Go t
     → LockUse (state_at T op es k).words t (T.next (local_of (state_at T op es k) t))
@@ -154,7 +154,7 @@ TrueMeansChange T = (op : Opening) (last k t : ℕ) (es : ℕ → Event) (change
     → (has_changed (log_of T op es) t (suc k) ≡ true) ⊎ IsContains (last_call (log_of T op es) t k)
 
 -- States that every run has an account: each event changes the keys of the set as its call allows, and each reply is
--- correct at some moment of its call. These are all laws together, without nodes or locks.
+-- correct at some moment of its call. This combines all the laws, without mentioning nodes or locks.
 abbrev pub HasAccount : Table → Type 0
 HasAccount T = (op : Opening) (last : ℕ) (es : ℕ → Event) → Run T op es last
     → Account op last (log_of T op es) (contents_of (views T op es)) (counts_of (views T op es))

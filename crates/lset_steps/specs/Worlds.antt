@@ -83,7 +83,7 @@ abbrev pub AnswersAs : {A : Type 0} → (ChainKey → Option A → Type 0) → (
 AnswersAs {A} answers pick = (met : ChainKey) (answer : Option A) → answers met answer → answer ≡ pick met
 
 -- States that the items are what a function `pick` selects from the keys along the chain, in this order. `answers` is
--- all that is known of `pick`: which answers it can have for a key.
+-- all that is known about `pick`: which answers it can have for a key.
 pub record IsPickedFromChain {A : Type 0} (answers : ChainKey → Option A → Type 0) (v : View) (items : List A) : Type 0 where
   pub nodes : List ℕ
   pub is_chain : IsChain v nodes

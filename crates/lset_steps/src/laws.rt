@@ -33,8 +33,8 @@ pub fn sorted_chain<M: Machine>()
     ensures { SortedChain M.table }
 {}
 
-/// Lemma: a lock word is `t + 1` from the step with which thread `t` takes the lock to the store of 0 that releases it.
-/// At all other moments the word is 0.
+/// Lemma: a lock word is `t + 1` from the step in which thread `t` takes the lock until the store of 0 that releases
+/// it. At all other moments the word is 0.
 pub fn lock_words<M: Machine>()
     ensures { LockWords M.table }
 {}

@@ -195,7 +195,7 @@ fn access(words: &mut Vec<u64>, action: Action) -> u64
     }
 }
 
-/// Returns the value that an access will see, without performing it.
+/// Returns the value that an access will see, without performing the access.
 fn sight(words: &[u64], action: Action) -> u64
     requires { word_named action < length words.now }
     ensures { result ≡ seen_by words.now action }
@@ -322,7 +322,7 @@ impl<M: Machine> World<M> {
         Ok(picked)
     }
 
-    /// Lemma: a world satisfies the laws of every state of every run. The function does nothing.
+    /// Lemma: the state of a world satisfies the laws that hold in every state of every run. The function does nothing.
     fn keeps_its_laws(&self)
         ensures { StateLaws M.table.marks self.now.sizes self.now.state }
     {
