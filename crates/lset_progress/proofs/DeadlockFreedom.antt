@@ -68,7 +68,8 @@ module _ (T : Table) (law : Lawful T) (S : Shape) (most : Sizes → ℕ) (shows 
   abbrev count : State → Event → ℕ
   count = moves calls T
 
-  -- States that after moment k, some call ends or at least m more counted steps are made.
+  -- States that after moment k, some call ends or at least m more counted steps (not failed attempts to take a lock)
+  -- are made.
   abbrev Gather : ℕ → ℕ → Type 0
   Gather m k = (n : ℕ) × (SomeEnds (moves calls T) T op es k n ⊎ (m ≤ steps_among (moves calls T) T op es k n))
 
@@ -172,7 +173,7 @@ module _ (T : Table) (law : Lawful T) (S : Shape) (most : Sizes → ℕ) (shows 
     mine_counts : (k : ℕ) → Ready k → moves calls T (state_at T op es k) (Go u) ≡ 1
     mine_counts k g = weight_of _ u 1 g.busy.meant ∙ gets_weight _ (T.next _) g.gets_on.tries
 
-    -- By cases of the event: a counted step, or an event that changes no word.
+    -- Proof by cases: the event is a counted step, or it changes no word.
     by_event : (k : ℕ) → Ready k → (Ready (suc k) → Gather (suc m) (suc k)) → (e : Event) → es k ≡ e
         → Enabled (state_at T op es k) e → Gather (suc m) k
     by_event k g rest (Begin t c) ee en =

@@ -30,9 +30,9 @@ is_lock_test x (inr (i, e)) =
     if_other x 0 (omega arith) true (if nat_lt x 5 then false else if x % 3 == 2 then true else false)
     ∙ if_not_below x 5 (omega arith) false (if x % 3 == 2 then true else false) ∙ if_same (x % 3) 2 (omega arith) true false
 
--- What the proof of a list has to show of the calls whose steps are counted: they include every call that holds a lock
--- or changes the list; all other calls only read. If a counted step is no failed attempt to take a lock, the words are
--- as this step needs them (`calm`).
+-- What the proof of a list must show about the calls whose steps are counted: they include every call that holds a lock
+-- or changes the list; all other calls only read. If a counted step is not a failed attempt to take a lock, the words
+-- are as this step needs them (`calm`).
 pub record Counts (T : Table) (S : Shape) (calls : Call → ℕ) : Type 0 where
   pub one_or_none : (c : Call) → (calls c ≡ 0) ⊎ (calls c ≡ 1)
   pub late : (op : Opening) (last k t : ℕ) (es : ℕ → Event) → Run T op es last → k ≤ last → t < op.threads
@@ -94,7 +94,8 @@ module _ (T : Table) (law : Lawful T) (S : Shape) (most : Sizes → ℕ) (shows 
         (sym (put_other s t u (T.begin c (local_of s t)) y)) (f.times u un, f.owes u un)
   ])
 
-  -- A counted step decreases the potential by one, unless it ends its call. No other step increases the potential.
+  -- A counted step (not a failed attempt to take a lock) decreases the potential by one, unless it ends its call. No
+  -- other step increases the potential.
   module _ (op : Opening) (last k : ℕ) (es : ℕ → Event) (r : Run T op es last) (below : k < last) (t : ℕ) (ee : es k ≡ Go t)
       (en : Enabled (state_at T op es k) (Go t)) (p : ℕ) (f : Phase (sizes op) (state_at T op es k) p) where
     abbrev s : State
@@ -389,7 +390,7 @@ module _ (T : Table) (law : Lawful T) (S : Shape) (most : Sizes → ℕ) (shows 
       (λ j p l f. one_event op (k + n) es r j p l f (es j) refl (r.enabled j l)) (none_left op (k + n) es r (some (sizes op)))
       n k (lock_window most (sizes op)) (omega arith) (starts op (k + n) es r k) h
 
--- If no step needs anything of the words (`calm`), the steps of all calls can be counted.
+-- If no step requires anything of the words (`calm`), the steps of all calls can be counted.
 pub each_counts : (T : Table) (S : Shape) → ((ws : List ℕ) (l : Local) → S.calm ws l) → Counts T S (λ call. 1)
 each_counts T S calm = record {
   one_or_none = λ call. inr refl;

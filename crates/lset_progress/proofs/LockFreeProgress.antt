@@ -88,8 +88,8 @@ at_pred link l row follows =
       along = λ h. absurd (omega arith);
     }
 
--- What the general proofs need to know of LockFreeList. No thread holds a lock. While a `ceiling` walks, no node of the
--- chain is marked.
+-- What the general proofs need to know about LockFreeList. No thread holds a lock. While a `ceiling` walks, no node of
+-- the chain is marked.
 abbrev pub shape : Shape
 shape = record {
   may = λ l x. ⊥;

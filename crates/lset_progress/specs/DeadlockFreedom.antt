@@ -28,9 +28,9 @@ abbrev pub moves : (Call → ℕ) → Table → State → Event → ℕ
 moves calls T s (Begin t call) = 0
 moves calls T s (Go t) = unless_failed s.words (T.next (local_of s t)) (calls (local_of s t).call)
 
--- [Livelock freedom]: states that among any `most` successive counted steps, one ends its call, whichever threads make
--- the steps and whatever else happens in between. A step is counted if `calls` is 1 for its call and the step is not a
--- failed attempt to take a lock.
+-- [Livelock freedom]: states that among any `most` successive counted steps, at least one ends its call, whichever
+-- threads make the steps and whatever else happens in between. A step is counted if `calls` is 1 for its call and the
+-- step is not a failed attempt to take a lock.
 abbrev pub IsLivelockFree : (Call → ℕ) → Table → (Sizes → ℕ) → Type 0
 IsLivelockFree calls T most = EndsAmong (moves calls T) T most
 

@@ -111,14 +111,14 @@ pub record SomeEnds (count : State → Event → ℕ) (T : Table) (op : Opening)
   pub counts : count (state_at T op es at) (es at) ≡ 1
   pub ends : Answers T (state_at T op es at) thread
 
--- States that among any `most` successive counted steps of a run, one ends its call.
+-- States that among any `most` successive counted steps of a run, at least one ends its call.
 abbrev pub EndsAmong : (State → Event → ℕ) → Table → (Sizes → ℕ) → Type 0
 EndsAmong count T most = (op : Opening) (k n : ℕ) (es : ℕ → Event) → Run T op es (k + n)
     → most (sizes op) ≤ steps_among count T op es k n → SomeEnds count T op es k n
 
--- [Lock freedom]: states that among any `most` successive steps of `add` and `remove`, one ends its call, whichever
--- threads make the steps and whatever else happens in between. The same is required of steps of `add`, `remove` and
--- `contains`.
+-- [Lock freedom]: states that among any `most` successive steps of `add` and `remove`, at least one ends its call,
+-- whichever threads make the steps and whatever else happens in between. The same is required of steps of `add`,
+-- `remove` and `contains`.
 abbrev pub IsLockFree : Table → (Sizes → ℕ) → Type 0
 IsLockFree T most = (reads : Bool) → EndsAmong (steps_of reads) T most
 

@@ -77,9 +77,9 @@ pub fn lock_free_calls_end_alone()
 {}
 
 /// Theorem: among any `n(2N + 2)(N + n) + n(4N + 5)` successive steps of `add` and `remove` by the n threads of a
-/// LockFreeList, one ends its call, whichever threads make the steps and whatever else happens in between. The same is
-/// true of steps of `add`, `remove` and `contains`. (Lock freedom of Harris's and Michael's list, as Herlihy and Shavit
-/// define it.)
+/// LockFreeList, at least one ends its call, whichever threads make the steps and whatever else happens in between. The
+/// same is true of steps of `add`, `remove` and `contains`. (Lock freedom of Harris's and Michael's list, as Herlihy
+/// and Shavit define it.)
 #[tactic(auto, using(crate::proofs::LockFreedom::lock_free_is_lock_free))]
 pub fn lock_free_list_is_lock_free()
     ensures { IsLockFree lock_free lock_free_window }
