@@ -1,4 +1,4 @@
--- Proof that the reader's state stays right from line to line.
+-- Proof that the reader's state stays correct from line to line.
 use Rattle.std.proofs.Common.{◌≡◌, ℕ, ◌+◌, ◌-◌, ◌<◌, ◌^◌, true, List, [], ◌∷◌, ◌++◌, length, min, Option, Some, None, refl, sym, ap, subst, ◌∙◌}
 use Rattle.std.proofs.Common.{arith}
 use Rattle.std.specs.Prelude.{nat_lt, slice_get}
@@ -18,7 +18,7 @@ use Rattle.lset_recording.specs.Texts.{Recording}
 use Rattle.lset_recording.specs.Reading.{SoFar, Comes}
 use Rattle.lset_recording.specs.Kept.{AreKeys, IsFirst, IsJudging, IsKept, IsJudgeKept}
 
--- ---- Lemmas about one more key
+-- ---- Lemmas about appending a key
 
 above_pushed : (keys : List ℕ) (key k : ℕ) → is_above (keys ++ key ∷ []) k ≡ nat_lt key k
 above_pushed keys key k =
@@ -37,7 +37,7 @@ keys_more keys key are above low =
       few = omega (arith, long, few, low);
     }
 
--- ---- Lemmas about one more line
+-- ---- Lemmas about reading one more line
 
 first_none : (s : Section) (k : ℕ) (o : Option Judge) → Comes s (told.Opening k) → IsFirst s o → o ≡ None
 first_none part.Opening k o comes first = first

@@ -1,4 +1,4 @@
--- What the reader of a recording knows after some bytes of the text, as the invariant of its state.
+-- The invariant of a recording reader's state: what the reader knows after some bytes of the text.
 use Rattle.std.specs.Prelude.{◌≡◌, ◌≢◌, ℕ, ◌+◌, ◌<◌, ◌≤◌, ◌^◌, ◌⊎◌, Bool, true, false, List, [], ◌++◌, length, Option, Some, None, Contains, ◌==◌, not, count_by}
 use Rattle.std.specs.Prelude.{Result, Err}
 use Rattle.std.specs.List.Sorted.{IsStrictlyIncreasing}
@@ -71,7 +71,8 @@ pub record IsJudging (s : SoFar) (j : Judging) : Type 0 where
   pub first : IsFirst s.section j.judge
   pub number : j.number ≡ first_line + lines_of s
 
--- States that the reader has stored the bytes of the line that has no newline yet, or has noted that they are too many.
+-- States that the reader has stored the bytes of the line that has no newline yet, or has noted that there are too
+-- many.
 abbrev pub IsHeld : List ℕ → List ℕ → Bool → Type 0
 IsHeld held kept false = held ≡ kept
 IsHeld held kept true = LONGEST_LINE < length held
@@ -102,7 +103,7 @@ IsLineOf bytes piece line = (first_line + newlines bytes ≤ line) × (line < fi
 abbrev pub HasFailed : RecordingReader → LineFault → Type 0
 HasFailed r e = r.failed ≡ Some e
 
--- States that every text that begins with these bytes has this error. Nothing is stated of a failed allocation.
+-- States that every text that begins with these bytes has this error. Nothing is stated about a failed allocation.
 abbrev pub IsRefusedAt : List ℕ → LineFault → Type 0
 IsRefusedAt bytes e = e.cause ≢ wrong.Memory → (more : List ℕ) → Says (bytes ++ more) (Err e)
 

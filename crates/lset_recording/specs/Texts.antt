@@ -26,7 +26,7 @@ abbrev pub all_threads : ℕ
 all_threads = 2 ^ 32
 
 -- States what a recording must satisfy: the opening keys and the final keys increase strictly, the calls are a history
--- with moments below 2^63, and each completed call is no `ceiling` and returned true or false.
+-- with moments below 2^63, no completed call is a `ceiling`, and each completed call returned true or false.
 pub record IsRecording (c : Recording) : Type 0 where
   pub opening : IsStrictlyIncreasing c.opening
   pub calls : IsHistory all_threads c.calls

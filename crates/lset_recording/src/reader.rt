@@ -23,9 +23,9 @@ fn next_line(bytes: &[u8]) -> Option<(&[u8], &[u8])>
 }
 
 /// A reader of a recording. Its caller passes the text in pieces of any length, and the reader judges the calls as they
-/// come. It stores the keys, the pending calls, at most one completed call of each key, and at most `LONGEST_LINE`
-/// bytes of an incomplete line. Its memory grows with the number of keys, of threads and of pending calls, but not with
-/// the number of calls. The first line of a recording is `listset-calls 1`. (This project's own format.)
+/// come. It stores the keys, the pending calls, at most one completed call on each key, and at most `LONGEST_LINE`
+/// bytes of an incomplete line. Its memory grows with the numbers of keys, threads and pending calls, but not with the
+/// number of calls. The first line of a recording is `listset-calls 1`. (This project's own format.)
 #[derive(Drop)]
 pub struct RecordingReader {
     judging: Judging,
@@ -74,7 +74,7 @@ impl RecordingReader {
         }
     }
 
-    /// Reads the newline of the line whose bytes are stored, and so completes the line.
+    /// Reads a newline, which completes the line whose bytes are stored.
     fn newline_in(&mut self) -> Result<(), LineFault>
         ensures taken { OnOk result ((bytes : List ℕ) → IsRead bytes self.old → IsRead (bytes ++ 10 ∷ []) self.new) }
         ensures refused { IfErr result (λ fault. (bytes : List ℕ) → IsRead bytes self.old → IsRefusedAt (bytes ++ 10 ∷ []) fault) }
@@ -109,7 +109,7 @@ impl RecordingReader {
         }
     }
 
-    /// Reads the rest of a line, without its newline, and so completes the line.
+    /// Completes a line: reads its remaining bytes, given without the newline.
     fn line_in(&mut self, line: &[u8]) -> Result<(), LineFault>
         requires { Lacks 10 line.now }
         ensures taken { OnOk result ((bytes : List ℕ) → IsRead bytes self.old → IsRead (bytes ++ line.now ++ 10 ∷ []) self.new) }
@@ -222,8 +222,9 @@ impl RecordingReader {
         self.judging.finish()
     }
 
-    /// Ends the text here, and returns the verdict: whether some order of the calls explains them and leaves the final
-    /// keys. If the recording was cut off, its final keys are unknown, and any are accepted. Allocates; does not block.
+    /// Ends the text here, and returns the verdict: whether some order of the calls explains their replies and the
+    /// final keys. If the recording was cut off, its final keys are unknown, and any are accepted. Allocates; does not
+    /// block.
     ///
     /// # Errors
     ///

@@ -108,7 +108,7 @@ module _ {L : Type 0} (text : EventLines L) (v : Version) (title : List ℕ) (pi
   -- ---- Lemmas about a single line
 
   -- States that reading the line x changes the content from s to t, that t can be written, and that its text is the
-  -- text of s and x.
+  -- text of s followed by x.
   abbrev Adds : BodyValue L → List ℕ → BodyValue L → Type 0
   Adds s x t = HasText text v Good t × (text_lines t ≡ text_lines s ++ x ∷ [])
 

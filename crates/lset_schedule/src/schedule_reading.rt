@@ -107,8 +107,8 @@ fn schedule(alloc: Global, bytes: &[u8]) -> Result<Schedule, ScheduleFault>
 /// For other lines, the first cause in the order of `Cause` applies. A missing header line has the cause of that line.
 /// In version 1, a line that exists only in version 2 has the cause `Event`. In either version, an opening key below an
 /// event has the cause `Event`. The cause is `Number` if a thread or a key is not a number up to 4294967295, or the
-/// number of steps is not from 1 to 10000. `TooMany` if there are more than 1,000,000 events or 1,048,576 opening keys.
-/// `Memory` if an allocation fails; the line then has no other error.
+/// number of steps is not from 1 to 10000, `TooMany` if there are more than 1,000,000 events or 1,048,576 opening keys,
+/// and `Memory` if an allocation fails. A line with the cause `Memory` has no other error.
 #[tactic(auto, using(crate::proofs::ScheduleTextLaws::found_in, crate::proofs::ScheduleTextLaws::only_in))]
 pub fn read_schedule(alloc: Global, bytes: &[u8]) -> Result<Schedule, ScheduleFault>
     // If a schedule is returned, it is within the limits, and the bytes are its text.
@@ -116,7 +116,7 @@ pub fn read_schedule(alloc: Global, bytes: &[u8]) -> Result<Schedule, ScheduleFa
     // The text of every schedule within the limits is read as this schedule, unless an allocation fails.
     ensures only { (p : Plan) → IsSchedule p → bytes.now ≡ schedule_text p
         → MatchResult result (λ s. view s ≡ p) (λ e. e.cause ≡ Cause.Memory) }
-    // The result is that of the definition `reading`, unless an allocation fails.
+    // The result is the one that `reading` defines, unless an allocation fails.
     ensures exact { Gives view result (reading bytes.now) }
     // The error `Memory` names a line after the header. Neither this line nor a line above it has another error.
     ensures memory { IfErr result (λ e. e.cause ≡ Cause.Memory → IsGoodLine bytes.now e.line) }
