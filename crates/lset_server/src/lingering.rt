@@ -1,7 +1,7 @@
-//! Closing a connection without losing answers. If a server closes a connection before it has read all bytes of the
-//! client, the system resets the connection, and the client loses the answers that have not reached it. If a session
-//! ends before the client's bytes do, the server therefore first closes only its sending side, and reads on for a
-//! while.
+//! Closing a connection without losing answers. If a server closes a connection before it has read all bytes that the
+//! client sent, the system resets the connection, and the client loses the answers that have not reached it. If a
+//! session ends before the client's bytes do, the server therefore first closes only its sending side, and reads on for
+//! a while.
 ghost use Rattle.std.specs.Prelude.{◌≡◌, false};
 
 use lset_session::{Device, EndReason, Source};
@@ -16,7 +16,7 @@ const MOST_DROPPED: usize = 1_048_576;
 /// The maximum time in seconds for which bytes are read and ignored after the last answer.
 const MOST_SECONDS: u64 = 1;
 
-/// A connection whose reads fail when its time is over.
+/// A connection whose reads fail once its time is up.
 #[derive(Drop)]
 struct Closing<'a, R> {
     rt: &'a R,

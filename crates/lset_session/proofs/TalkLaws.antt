@@ -63,7 +63,7 @@ turns_line left p more lacks short = by_parts (cut_at 10 more) refl (some_part 1
         let few = le-ltb LONGEST_LINE (length p) short in
         rw (first, e, few) refl
 
--- Bytes after the last newline cause no turn, unless they are too long for a line.
+-- Bytes after the last newline cause no turn (no answered line), unless they are too long for a line.
 pub turns_rest : (left : ℕ) (p : List ℕ) → Lacks 10 p → length p ≤ LONGEST_LINE → turns_at left (cut_at 10 (p ++ [])) ≡ []
 turns_rest left p lacks short =
     let few = le-ltb LONGEST_LINE (length p) short in

@@ -67,8 +67,8 @@ turns_at left (first ∷ next ∷ more) =
 unfoldable pub turns_of : List ℕ → List Turn
 turns_of bytes = turns_at MOST_LINES (cut_at 10 bytes)
 
--- Returns the reason for which a session ends after a turn (an answered line), or `otherwise` if the session does not
--- end with this turn.
+-- Returns the reason why a session ends after a turn (an answered line), or `otherwise` if the session does not end
+-- with this turn.
 abbrev pub end_after : Turn → EndReason → EndReason
 end_after (line request.Quit) otherwise = why.Quit
 end_after (line other) otherwise = otherwise
