@@ -1,5 +1,4 @@
--- What is true of the calls in the log of a run at each moment, if each event of the run is a valid start of a call or
--- a valid step.
+-- Properties of the calls in the log of a run at each moment, if each event is a valid start of a call or a valid step.
 use Rattle.std.proofs.Common.{rules, ◌≡◌, ◌≢◌, ℕ, zero, suc, ◌<◌, ◌≤◌, ◌⊎◌, Bool, true, false, ◌||◌, inl, inr, List, [], ◌∷◌, ◌++◌, map, length}
 use Rattle.std.proofs.Common.{sym, refl, ap, ◌∙◌, arith}
 use Rattle.std.specs.Prelude.{slice_index_or, Option, Some, None, is_some, IfSome, IsSomeAnd, All, AllPairs, if◌then◌else◌}
@@ -344,7 +343,7 @@ module _ {r : Run} {k t : ℕ} {change : Option Change} {reply : Option Reply} (
       opens_as : (u : ℕ) (y : Option Reply) (b : Bool) → open_after (stepped t change y) u b ≡ true → (b ≡ true) × (t ≡ u → y ≡ None)
       opens_as u y b o = (grind (arith, nat_tests), grind (arith, nat_tests))
 
--- At each moment of a run, the list of its calls has the properties in `Calls`. By induction over the moments.
+-- At each moment of a run, the list of its calls has the properties in `Calls`. Proof by induction on the moments.
 pub calls_of : (op : Opening) (last : ℕ) (log : Log) (contents : Contents) (counts : Counts)
     → Account op last log contents counts
     → (k : ℕ) → k ≤ last → Calls (run_of op.threads op.quota log contents counts) k (calls_at log k)

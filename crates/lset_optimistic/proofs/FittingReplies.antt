@@ -1,5 +1,4 @@
--- Proof that the reply of each call of OptimisticList that changes nothing is correct at the moment of one of its own
--- loads.
+-- Proof that if a call of OptimisticList changes nothing, its reply is correct at the moment of one of its own loads.
 use Rattle.std.specs.Prelude.{◌≡◌, ◌≢◌, ℕ, zero, suc, ◌+◌, ◌/◌, ◌<◌, ◌≤◌, ◌⊎◌, Bool, true, false, Option, Some, None, List}
 use Rattle.std.specs.Prelude.{if◌then◌else◌, ◌==◌, ◌||◌, nat_lt, slice_index_or, slice_set, length, refl}
 use Rattle.std.proofs.Common.{arith, inl, inr, sym, ◌∙◌, ap, subst, get_or-set_other, get_or-set_same}

@@ -1,5 +1,5 @@
--- Progress of FineList: what each row does to the number of steps that remain. It follows that calls end alone, and
--- that the list is free from livelock and deadlock.
+-- Progress of FineList: what each row does to the number of steps that remain. It follows that a call ends if it runs
+-- alone, and that the list is free from livelock and deadlock.
 use Rattle.std.specs.Prelude.{◌≡◌, ℕ, ◌+◌, ◌*◌, ◌/◌, ◌<◌, ◌||◌, Bool, false, List, [], ◌∷◌, refl, slice_index}
 use Rattle.std.proofs.Common.{arith, inl, inr, subst}
 use Rattle.lset_words.proofs.Numbers.{if_other}

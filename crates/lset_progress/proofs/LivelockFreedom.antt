@@ -1,6 +1,6 @@
--- Proof that a list with locks is free from livelock. Only a call that has decided writes a word other than a lock, and
--- at most 5 of its steps remain then. Between two such writes, each thread makes at most as many steps as a call that
--- runs alone. A potential, computed from both numbers, decreases with each counted step.
+-- Proof that a list with locks is free from livelock. Only a call that has decided what to do writes a word other than
+-- a lock, and at most 5 of its steps remain then. Between two such writes, each thread makes at most as many steps as a
+-- call that runs alone. A potential, computed from both numbers, decreases with each counted step.
 use Rattle.std.specs.Prelude.{◌≡◌, ◌≢◌, ℕ, ◌+◌, ◌*◌, ◌%◌, ◌<◌, ◌≤◌, ◌⊎◌, List, if◌then◌else◌, ◌==◌, nat_lt, true, false, refl}
 use Rattle.std.specs.Prelude.{slice_index, slice_set}
 use Rattle.std.proofs.Common.{arith, inl, inr, sym, ◌∙◌, ap, subst, suc}
@@ -49,12 +49,13 @@ pub record Counts (T : Table) (S : Shape) (calls : Call → ℕ) : Type 0 where
 
 module _ (T : Table) (law : Lawful T) (S : Shape) (most : Sizes → ℕ) (shows : Shows T S most) (calls : Call → ℕ)
     (counts : Counts T S calls) where
-  -- States that m steps are enough for a thread: those that remain of its counted call or, if the thread has no such
-  -- call, the maximum of a whole call.
+  -- States that m steps are enough for a thread: for the rest of its counted call or, if the thread has no such call,
+  -- for the longest possible call.
   abbrev Fits : Sizes → List ℕ → ℕ → Local → Type 0
   Fits sz ws m l = (most sz ≤ m) ⊎ ((l.pc ≢ 0) × (calls l.call ≡ 1) × Timed S (node_count sz) ws m l)
 
-  -- States that m is enough for the steps that the thread can make after its decision: 5, or those that remain.
+  -- States that m steps are enough for what the thread does after its decision: 5 steps, or the remaining ones if it
+  -- has decided.
   abbrev Owes : ℕ → Local → Type 0
   Owes m l = (5 ≤ m) ⊎ LateBy S m l
 
@@ -212,7 +213,8 @@ module _ (T : Table) (law : Lawful T) (S : Shape) (most : Sizes → ℕ) (shows 
       -- The case of a counted step, with n more steps that are enough for the call.
       module _ (one : calls L.call ≡ 1) (n : ℕ) (is : f.time t ≡ suc n)
           (time : Timed S (node_count (sizes op)) s.words (suc n) L) where
-        -- Returns the numbers of steps that are enough after a write: n for thread t, and the maximum for all others.
+        -- Returns, for each thread, a number of steps that is enough after a write: n for thread t, and the maximum for
+        -- all others.
         abbrev again : ℕ → ℕ
         again = put (λ u. most (sizes op)) t n
 

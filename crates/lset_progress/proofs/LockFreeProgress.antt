@@ -1,5 +1,5 @@
--- Progress of LockFreeList: what each row does to the number of steps that remain. It follows that calls end alone,
--- whatever state the other threads are in.
+-- Progress of LockFreeList: what each row does to the number of steps that remain. It follows that a call ends if it
+-- runs alone, whatever state the other threads are in.
 use Rattle.std.specs.Prelude.{◌≡◌, ◌≢◌, ℕ, ◌+◌, ◌*◌, ◌/◌, ◌%◌, ◌<◌, ◌≤◌, ◌⊎◌, Bool, true, Some, None, List, [], ◌∷◌, refl}
 use Rattle.std.specs.Prelude.{if◌then◌else◌, ◌==◌, nat_lt, slice_index, slice_set}
 use Rattle.std.proofs.Common.{arith, get_or, inl, inr, sym, ◌∙◌, ap, subst, suc}

@@ -40,7 +40,7 @@ reads_left size key l =
 abbrev pub Along : (ℕ → ℕ) → Local → Type 0
 Along link l = When (nat_lt 22 l.pc) (Path link 0 l.curr)
 
--- States that n steps are enough: those that remain of a walk in the chain, or of any walk and one more.
+-- States that n steps are enough for the rest of a walk in the chain, or for the rest of any walk and one more walk.
 abbrev pub ReadTimed : ℕ → ℕ → (ℕ → ℕ) → List ℕ → ℕ → Local → Type 0
 ReadTimed round size key ws n l = (Along (node_link ws) l × (reads_left size key l < n)) ⊎ (reads_left size key l + round < n)
 

@@ -89,8 +89,8 @@ abbrev pub Any : ℕ → Type 0
 Any x = Unit {0}
 
 module _ (S : Shape) (size : ℕ) where
-  -- States that the call ends within n steps: those that remain of a walk that will succeed, or of any walk and one
-  -- more.
+  -- States that the call ends within n steps. They are enough for the rest of a walk that will succeed, or for the rest
+  -- of any walk and one more walk.
   abbrev pub TimedBy : (ℕ → ℕ) → (ℕ → ℕ) → ℕ → Local → Type 0
   TimedBy key link n l = (S.valid link l × (S.left size key l < n)) ⊎ (S.left size key l + S.round size < n)
 

@@ -50,8 +50,8 @@ IsDeadlockFree calls T = (op : Opening) (k t : ℕ) (es : ℕ → Event) → IsF
     → IsPending (state_at T op es k) t → calls (local_of (state_at T op es k) t).call ≡ 1
     → (n : ℕ) × SomeEnds (moves calls T) T op es k n
 
--- Returns a bound for n threads on the number of counted steps until a call ends. After its decision, a call makes at
--- most 5 steps. Between two such steps of any threads, each thread makes at most `most` steps, the maximum for a call
--- that runs alone.
+-- Returns a bound for n threads on the number of counted steps until a call ends. After a call has decided what to do,
+-- it makes at most 5 steps. Between two such steps of any threads, each thread makes at most `most` steps, the maximum
+-- for a call that runs alone.
 abbrev pub lock_window : (Sizes → ℕ) → Sizes → ℕ
 lock_window most sz = sz.threads * most sz * (5 * sz.threads + 1)

@@ -196,7 +196,7 @@ impl Judging {
         Ok(())
     }
 
-    /// Returns the number of the line that comes next.
+    /// Returns the number of the next line.
     pub(crate) fn number(&self) -> u64
         ensures { result ≡ self.now.number }
     {

@@ -6,8 +6,8 @@ use Rattle.lset_server.specs.declared.channel.Tally.{Tally}
 use Rattle.lset_server.specs.Serving.{followed}
 use Rattle.lset_server.specs.Tallies.{tally}
 
--- A worker's results: it has received `sessions` connections with its pass, and has made `calls` calls on its seat,
--- which changed from s to s'.
+-- A worker's results: it has received `sessions` connections with its pass (a right to use the channel), and has made
+-- `calls` calls on its seat, which changed from s to s'.
 pub record HasWorked (s s' : SeatValue) (v : Tally) (sessions calls : ℕ) : Type 0 where
   pub received : List ℕ
   pub view : v ≡ tally 1 [] received

@@ -139,8 +139,8 @@ fn send_all<R: Wait>(
     close_all(rt, to, pass, workers)
 }
 
-/// Starts the workers, sends them `sessions` connections, and joins them. Returns the pass (the right to use the
-/// channel), which has all parts again, and the seat into which all seats were merged.
+/// Starts the workers, sends them `sessions` connections, and waits for them to end. Returns the pass (the right to use
+/// the channel), which has all parts again, and the seat into which all seats were merged.
 fn serve_in<'s, E, R: Threads + Wait + Clock + Sync, M: Running + Send + Sync>(
     alloc: Global,
     scope: &Scope<'s, E>,

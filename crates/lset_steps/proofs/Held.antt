@@ -180,7 +180,7 @@ module _ {marks : Bool} {sz : Sizes} {ws : List ℕ} {used : ℕ → ℕ} (m : M
   pub held_from : {a : ℕ} → node_lock ws a ≡ t + 1 → InChain (view sz ws used) a → Held (view sz ws used) t a
   held_from {a} mine i = record { mine = mine; at = i; published = in_chain_published (view sz ws used) m.ordered a i }
 
-  -- If a thread that holds the lock of pred reads pred's link, the link leads to the node curr of `Behind`.
+  -- If a thread that holds the lock of pred reads pred's link, the link leads to a node curr that satisfies `Behind`.
   pub behind_from : {pred key : ℕ} → Held (view sz ws used) t pred → node_link ws pred % 2 ≡ 0 → node_key ws pred < key
       → key < tail_word
       → Behind (view sz ws used) t key pred (node_link ws pred / 2)

@@ -92,7 +92,7 @@ module _ (marks : Bool) (sz : Sizes) (ws : List ℕ) (used : ℕ → ℕ) (m : M
   alien : (c a : ℕ) → node_lock ws c ≡ t + 1 → node_lock ws a ≡ u + 1 → a ≢ c
   alien c a x y e = d (let f : node_lock ws a ≡ node_lock ws c = ap (node_lock ws) e in omega arith)
 
-  -- A step of t under the locks leaves unchanged everything that u relies on. By cases: `at_word` for lock words,
+  -- A step of t under the locks leaves unchanged everything that u relies on. Proof by cases: `at_word` for lock words,
   -- `at_link` for links of published nodes. A node that t writes or unlinks is locked by t and therefore not by u
   -- (`alien`).
   pub rely_of : (a : Action) (ws' : List ℕ) (used' : ℕ → ℕ) (ch : Option (Key × Bool))

@@ -92,9 +92,9 @@ counts_of vs moment thread = (vs moment).used thread
 abbrev pub FitsIn : ℕ → View → ℕ → Call → Reply → Type 0
 FitsIn quota v thread call reply = Fits quota (InContent v) (v.used thread) call reply
 
--- [Unlinked stays]: compares node i at two moments, `v` and a later `w`. The node is published at `v`, which means that
--- it has been in the chain. At `w`, the node has the same key and is still published. If it was unlinked, it is still
--- unlinked and has the same link. In a list that marks nodes, a marked node still has the same link.
+-- [Unlinked stays]: compares node i at two moments, `v` and a later `w`. The node must be published at `v`, which means
+-- that it has been in the chain. At `w`, the node has the same key and is still published. If it was unlinked, it is
+-- still unlinked and has the same link. In a list that marks nodes, a marked node still has the same link.
 pub record UnlinkedStays (marks : Bool) (v w : View) (i : ℕ) : Type 0 where
   pub published : w.published i
   pub key : w.key i ≡ v.key i

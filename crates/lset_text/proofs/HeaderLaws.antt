@@ -100,7 +100,7 @@ told_again line cause read x y more told is = rw is refl
 abbrev Found : Type 0
 Found = Header × List (List ℕ)
 
--- The rest of reading a header after each of its four lines. This function is what remains after the quota line. The
+-- What is left to do after each of the four header lines has been read. This function is for the quota line. The
 -- functions for the threads line, the kind line and the title follow.
 abbrev after_quota : Kind → ℕ → ℕ × List (List ℕ) → Result Found LineFault
 after_quota kind threads quota = Ok (record { kind = kind; threads = threads; quota = quota.0 }, quota.1)

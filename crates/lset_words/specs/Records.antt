@@ -11,8 +11,9 @@ pub record CallMade : Type 0 where
   pub call : Call
   pub reply : Reply
 
--- What a seat has done. `fresh` is the record of a thread without calls, `called` appends a call that the thread made
--- itself, and `gathered` appends the record of a seat that was merged into this one.
+-- What a seat (the right to call as one thread) has done. `fresh` is the record of a thread without calls, `called`
+-- appends a call that the thread made itself, and `gathered` appends the record of a seat that was merged into this
+-- one.
 pub data Record : Type 0 where
   fresh : ℕ → Record
   called : Record → CallMade → Record
