@@ -15,16 +15,16 @@ use lset_words::{Call, HEAD, Key, Kind, LOCK, Reply};
 #[derive(Clone, Copy)]
 pub struct CoarseList;
 
-/// The rows of the step table at which a call continues after its decision. A call decides at the first key that is not
-/// smaller than its own.
+/// The rows of the step table at which a call continues after its decision. A call decides what to do at the first key
+/// that is not smaller than its own.
 const TARGETS: Targets = Targets {
     adds: 5,
     removes: 8,
     leaves: 10,
 };
 
-/// Returns the next access of a thread with a pending call, from the row of the step table that its program counter
-/// names. The numbers in `local` must be small, as they are in every run.
+/// Returns the next word access of a thread with a pending call. The thread's program counter names the row of the step
+/// table. The numbers in `local` must be small, as they are in every run.
 #[inline(always)]
 pub fn next_action(local: &Local) -> Action
     requires { IsSmall local.now }
@@ -44,7 +44,7 @@ pub fn next_action(local: &Local) -> Action
 }
 
 /// Returns the thread's private state after it has read the key word `seen`. If the key is smaller than the call's, the
-/// walk continues; otherwise the call decides.
+/// walk continues; otherwise the call decides what to do.
 #[inline(always)]
 fn at_key(local: &Local, seen: u64) -> Local
     ensures { result ≡ at_key seen local.now }

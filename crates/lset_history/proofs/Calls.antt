@@ -1,5 +1,4 @@
--- What is true of the calls in the log of a run at each moment, if each event of the run is a valid begin or a valid
--- step.
+-- Properties of the calls in the log of a run at each moment, if each event is a valid start of a call or a valid step.
 use Rattle.std.proofs.Common.{rules, ◌≡◌, ◌≢◌, ℕ, zero, suc, ◌<◌, ◌≤◌, ◌⊎◌, Bool, true, false, ◌||◌, inl, inr, List, [], ◌∷◌, ◌++◌, map, length}
 use Rattle.std.proofs.Common.{sym, refl, ap, ◌∙◌, arith}
 use Rattle.std.specs.Prelude.{slice_index_or, Option, Some, None, is_some, IfSome, IsSomeAnd, All, AllPairs, if◌then◌else◌}
@@ -30,13 +29,13 @@ abbrev pub run_of : ℕ → ℕ → Log → Contents → Counts → Run
 run_of threads quota log contents counts =
     record { threads = threads; quota = quota; log = log; contents = contents; counts = counts }
 
--- States that the log's entry just before the moment `begun` is the begin of this call.
+-- States that the log's entry just before the moment `begun` is the start of this call.
 pub record Beginning (r : Run) (thread : ℕ) (call : Call) (begun : ℕ) : Type 0 where
   pub before : ℕ
   pub is : begun ≡ suc before
   pub entry : r.log before ≡ began thread call
 
--- States that the log's entry just before the moment `changed` is the change by this call.
+-- States that the log's entry just before the moment `changed` is the change that this call makes.
 pub record ChangeAt (r : Run) (thread : ℕ) (call : Call) (begun changed : ℕ) : Type 0 where
   pub before : ℕ
   pub is : changed ≡ suc before
@@ -57,7 +56,7 @@ pub record EndAt (r : Run) (thread : ℕ) (call : Call) (begun : ℕ) (changed :
   pub after_change : (m : ℕ) → changed ≡ Some m → m ≤ end
   pub right : RightReply (is_some changed) r.quota r.contents r.counts begun end thread call (Some reply)
 
--- States that the functions that compute a thread's pending call from the log have the values that belong to this call.
+-- States that the functions that compute a thread's pending call from the log return the values of this call.
 pub record OpenAt (r : Run) (k thread : ℕ) (call : Call) (begun : ℕ) (changed : Option ℕ) : Type 0 where
   pub is : is_open r.log thread k ≡ true
   pub call_is : last_call r.log thread k ≡ call
@@ -94,7 +93,7 @@ if_some (Some x) P f = f x refl
 pub record Calls (r : Run) (k : ℕ) (xs : List TracedCall) : Type 0 where
   pub each : All (Traced r k) xs
   pub pairs : AllPairs Later xs
-  -- If the log has a pending call of thread `t`, this call is in the list.
+  -- If the log has a pending call by thread `t`, this call is in the list.
   pub opens : (t : ℕ) → is_open r.log t k ≡ true → SomeCall (IsOpenOf t) xs
   -- If the log has a change, the call that made it is in the list.
   pub changers : (j t : ℕ) (change : Change) (reply : Option Reply) → j < k → r.log j ≡ stepped t (Some change) reply
@@ -182,7 +181,7 @@ after_beginning {r} {k} {t} {call} {xs} e l shut h = record {
     before : {j u : ℕ} {change : Change} {reply : Option Reply} → j < suc k → r.log j ≡ stepped u (Some change) reply → j < k
     before m f = search rules
 
--- A step of thread `t` between moments k and k + 1: its entry in the log, and what is known of its change and reply.
+-- A step of thread `t` between moments k and k + 1: its entry in the log, and what is known about its change and reply.
 pub record Stepping (r : Run) (k t : ℕ) (change : Option Change) (reply : Option Reply) : Type 0 where
   pub entry : r.log k ≡ stepped t change reply
   pub of_a_thread : t < r.threads
@@ -200,7 +199,7 @@ way_of t x u = (grind (arith, nat_tests), grind (arith, nat_tests))
 pub is_way : (t : ℕ) (x : TracedCall) → x.thread ≡ t → x.ended ≡ None → is_under_way t x ≡ true
 is_way t x e n = rw (equal_test x.thread t e, n) refl
 
--- A call has its change or its end either from earlier moments or from this step.
+-- If a call has a change or an end after a step, the call had it before the step, or the step made it.
 changed_as : (m n : ℕ) (change : Option Change) (before : Option ℕ) → changed_by m change before ≡ Some n
     → ((change ≡ None) × (before ≡ Some n)) ⊎ ((c : Change) × (change ≡ Some c) × (n ≡ m))
 changed_as m n None before e = inl (refl, e)
@@ -344,7 +343,7 @@ module _ {r : Run} {k t : ℕ} {change : Option Change} {reply : Option Reply} (
       opens_as : (u : ℕ) (y : Option Reply) (b : Bool) → open_after (stepped t change y) u b ≡ true → (b ≡ true) × (t ≡ u → y ≡ None)
       opens_as u y b o = (grind (arith, nat_tests), grind (arith, nat_tests))
 
--- At each moment of a run, the list of its calls has the properties in `Calls`. By induction over the moments.
+-- At each moment of a run, the list of its calls has the properties in `Calls`. Proof by induction on the moments.
 pub calls_of : (op : Opening) (last : ℕ) (log : Log) (contents : Contents) (counts : Counts)
     → Account op last log contents counts
     → (k : ℕ) → k ≤ last → Calls (run_of op.threads op.quota log contents counts) k (calls_at log k)

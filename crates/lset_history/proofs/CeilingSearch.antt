@@ -15,7 +15,7 @@ use Rattle.lset_history.proofs.ChangeLaws.{present_past}
 abbrev pub CeilingAt : (ℕ → List ℕ) → ℕ → Option ℕ → ℕ → Type 0
 CeilingAt changes key found m = IsCeiling (λ j. is_present changes j m ≡ true) key found
 
--- States that the key with these moments of change does not change after moment `a` up to moment `b`.
+-- States that a key that changes at exactly these moments does not change after moment `a` and up to moment `b`.
 abbrev IsQuiet : List ℕ → ℕ → ℕ → Type 0
 IsQuiet ms a b = All (λ m. a < m → m ≤ b → ⊥) ms
 
@@ -212,7 +212,7 @@ abbrev pub IsFrom : ℕ → Option ℕ → Type 0
 IsFrom key None = Unit {0}
 IsFrom key (Some k) = key ≤ k
 
--- States that each key from `key` up to, but without, `next` and `end` was absent at `moment` if the key is present
+-- States that each key from `key` to just below both `next` and `end` was absent at `moment` if the key is present
 -- after the last change.
 abbrev pub CameUpTo : (ℕ → List ℕ) → ℕ → Option ℕ → Option ℕ → ℕ → Type 0
 CameUpTo changes key next end moment =

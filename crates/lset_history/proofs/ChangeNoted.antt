@@ -1,4 +1,4 @@
--- The recorded changes of all keys, after one more change was recorded.
+-- How recording one more change affects the recorded changes of all keys.
 use Rattle.std.proofs.lemmas.Grind.{common_steps}
 use Rattle.std.proofs.Common.{◌≡◌, ◌≢◌, ℕ, ◌<◌, ◌^◌, ◌≤◌, inl, inr, Bool, true, false, List, [], ◌∷◌, ◌++◌, get_or, map, sym}
 use Rattle.std.proofs.Common.{refl, subst, ap, ◌∙◌, arith, append_assoc}
@@ -37,7 +37,7 @@ pub noted_in : (keys : List ℕ) (m : Kept) (k : ℕ) → noted_of (changes_in k
 noted_in keys m k = ap moments_in (lookup-map_values (λ (v : Vec ℕ Global). v.items) (is_at (nat_cmp k)) m.entries)
     ∙ items_mapped (get nat_cmp m k)
 
--- The moments of every key, after one more moment of `key` was recorded.
+-- The recorded moments of every key, after one more moment of `key` is recorded.
 noted_items : (m n : Kept) (key at : ℕ) (w : Vec ℕ Global) → UpdatesBy nat_cmp (nat_cmp key) m n (Some w)
     → w.items ≡ items_in (get nat_cmp m key) ++ at ∷ [] → (k : ℕ) → items_in (get nat_cmp n k)
     ≡ (if k == key then items_in (get nat_cmp m k) ++ at ∷ [] else items_in (get nat_cmp m k))
@@ -161,8 +161,8 @@ pub others_after : (key : ℕ) (old new : BTreeSet ℕ) → set.UpdatesBy nat_cm
     → IsTrue (contains nat_cmp old k) → IsTrue (contains nat_cmp new k)
 others_after key old new up k n has = up.2 k (sym (same_test key k) ∙ unequal_test k key n) ∙ has
 
--- A case distinction for proofs: a property of the changes at moment 0 has to hold for an opening key and for any other
--- key.
+-- A case distinction: a property of the changes at moment 0 follows if it holds both for an opening key and for any
+-- other key.
 opened_then : (P : List ℕ → Type 0) → P [] → P (0 ∷ []) → (b : Bool) → P ((if b then 0 ∷ [] else []) ++ [])
 opened_then P none one true = one
 opened_then P none one false = none

@@ -1,4 +1,4 @@
--- The loop of the checker from the end of an order to its beginning. The loop keeps the smallest end seen so far: a
+-- The checker's loop, which goes from the end of an order to its start. The loop keeps the smallest end seen so far: a
 -- call that begins after this end is too early in the order.
 use Rattle.std.proofs.Common.{rules, ◌≡◌, ℕ, ◌<◌, ◌≤◌, List, length, Option, Some, None, refl, subst, inl, inr, ◌⊎◌}
 use Rattle.std.proofs.Common.{suc, arith}
@@ -37,7 +37,8 @@ FindsEarly calls order i early =
     MatchOption early ((place : ℕ) → i ≤ place → place < length order → IsTooEarly calls order place → ⊥)
     (EarlyFrom calls order i)
 
--- A call at index j or later is at index j or later than j. The loop goes from index j + 1 to index j.
+-- If some call at index j or later ended before a moment, either the call at index j did, or a later call did. The loop
+-- uses this to go from index j + 1 to index j.
 first_or_later : (calls : List CallRecord) (order : List Placed) (j moment : ℕ) → EndsFrom calls order j moment
     → EndsBefore moment (placed_call calls order j).ended ⊎ EndsFrom calls order (suc j) moment
 first_or_later calls order j moment (k, from, inside, ends) =

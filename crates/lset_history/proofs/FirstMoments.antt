@@ -1,4 +1,5 @@
--- The first moment at which a predicate holds: by computation, unique, and with different last moments of the search.
+-- Lemmas about the first moment at which a predicate holds: how to compute it, that it is unique, and how it depends on
+-- the last moment of the search.
 use Rattle.std.proofs.Common.{◌≡◌, ℕ, zero, suc, ◌+◌, ◌<◌, ◌≤◌, ◌⊎◌, inl, inr, Bool, true, false, refl, ap, subst, arith}
 use Rattle.std.specs.Prelude.{Option, Some, None}
 use Rattle.lset_history.specs.Changes.{IsFirst, is_same, first_passing}

@@ -135,7 +135,7 @@ others_begun calls x t other =
     (and_left (x.thread == t) (is_none x.ended) (ne_eqb x.thread t (λ same. other (sym same))))
     ∙ or-false (has_open calls t)
 
--- The fields of `History` decide whether a call can begin: the thread's flag, and the latest moment.
+-- Two fields of `History` decide whether a call can begin: the thread's flag and the latest moment.
 pub may_begin : (h : HistoryValue) (busy : List Bool) (latest thread at : ℕ)
     → IsKept h busy latest → thread < h.opening.threads → get_or busy thread false ≡ false → latest < at → MayBegin h thread at
 may_begin h busy latest thread at kept low idle above = record {
@@ -279,7 +279,7 @@ thread_of_call : (h : HistoryValue) (busy : List Bool) (latest n : ℕ) → IsKe
 thread_of_call h busy latest n kept inside =
     let c : IsCall h.opening.threads (call_numbered h.calls n) = kept.history.each n no_call inside in omega (arith, c.of_a_thread, kept.opens.within.few)
 
--- The fields of `History` decide whether a call can end: the call's record, and the latest moment.
+-- Two fields of `History` decide whether a call can end: the call's record and the latest moment.
 pub call_read : (calls : List CallRecord) (n : ℕ) (x : CallRecord) → n < length calls → x ≡ get_or calls n x
     → x ≡ call_numbered calls n
 call_read calls n x inside e = e ∙ get_or_default calls n x no_call inside

@@ -19,7 +19,7 @@ pub read_other : {X : Type 0} (xs : List X) (n k : ℕ) (z d e : X) → k ≢ n 
     → get_or (set xs n z) k d ≡ get_or xs k e
 read_other xs n k z d e ne low = get_or-set_other xs n k z d ne ∙ get_or_default xs k d e low
 
--- If R holds of all pairs of a list, and the new element z fits to all elements before and after it, R holds of all
+-- If R holds for all pairs of a list, and also for z with each element before and after index n, then R holds for all
 -- pairs after z is written at index n.
 pub pairs_set : {X : Type 0} (R : X → X → Type 0) (xs : List X) (n : ℕ) (z e : X) → n < length xs
     → ((k : ℕ) → k < n → R (get_or xs k e) z) → ((k : ℕ) → n < k → k < length xs → R z (get_or xs k e)) → AllPairs R xs

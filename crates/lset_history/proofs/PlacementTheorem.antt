@@ -1,5 +1,5 @@
--- The placement theorem: the order of a run's calls by their linearization points linearizes the history, and leaves
--- the keys that the run leaves.
+-- The placement theorem: the order of a run's calls by their linearization points linearizes the history, and ends with
+-- the same keys as the run.
 use Rattle.std.proofs.Common.{◌≡◌, ◌≢◌, ℕ, zero, suc, ◌<◌, ◌≤◌, true, false, inl, inr, List, [], ◌∷◌, sym, refl, subst, ap}
 use Rattle.std.proofs.Common.{◌∙◌, arith, length, map}
 use Rattle.std.specs.Prelude.{◌==◌, Option, Some, None, IfSome, IsSomeAnd, slice_index, Contains, All, AllPairs}
@@ -225,8 +225,8 @@ module _ (op : Opening) (last : ℕ) (log : Log) (contents : Contents) (counts :
   Due j xs = (i t : ℕ) (change : Change) (reply : Option Reply) → j ≤ i → i < last → log i ≡ stepped t (Some change) reply
       → SomeOf (ChangesIn (suc i)) xs
 
-  -- A set in the state of moment j returns the replies of all later calls, in their sorted order. By induction over the
-  -- calls: between two changes, the set stays the same.
+  -- A set in the state of moment j returns the replies of all later calls, in their sorted order. Proof by induction on
+  -- the calls: between two changes, the set stays the same.
   leads : (xs : List Standing) (j : ℕ) → j ≤ last → AllByRecursion Stands xs → Pairs ComesBefore xs → Late j xs → Due j xs
       → Leads op.quota (set_at op log j) (set_at op log last) xs
   leads [] j l s b late due = (tt, sym (quiet j last l due))

@@ -25,7 +25,8 @@ counts_after thread None counts = counts
 counts_after thread (Some (k, true)) counts = slice_set counts thread (slice_index counts thread + 1)
 counts_after thread (Some (k, false)) counts = counts
 
--- Returns the sequential set after an entry of the log: begins and steps without a change leave it as it is.
+-- Returns the sequential set after an entry of the log. The start of a call, or a step without a change, does not
+-- change the set.
 abbrev pub set_after : Entry → SetState → SetState
 set_after (began t call) s = s
 set_after (stepped t change reply) s = record { keys = keys_after change s.keys; counts = counts_after t change s.counts }

@@ -130,7 +130,8 @@ module _ {r : Run} {last : ℕ} {calls : List TracedCall} {places : List (Option
     }
   ]
 
--- States that a completed call has a linearization point, and that its reply in the order is its own reply.
+-- States that a completed call has a linearization point, and that its reply in the order is the reply that it
+-- returned.
 pub record EndedPlace (changed : Option ℕ) (ended : Option (ℕ × Reply)) (reply : Reply) (place : Option ℕ) : Type 0 where
   pub moment : ℕ
   pub is : place ≡ Some moment

@@ -1,5 +1,5 @@
--- The result of the whole check of an order, from its single checks: either they find the first error, or the order
--- explains the history.
+-- How the result of the whole check of an order follows from its single checks: either they find the first error, or
+-- the order explains the history.
 use Rattle.std.proofs.Common.{rules, ◌≡◌, ◌≢◌, ℕ, ◌<◌, ◌==◌, Bool, true, false, List, [], length, get_or, Option, Some, None}
 use Rattle.std.proofs.Common.{refl, sym, ap, ◌∙◌, subst, inl, inr, ◌⊎◌, arith}
 use Rattle.std.proofs.lemmas.Grind.{common_steps}
@@ -176,7 +176,7 @@ too_early_fault h calls order keys marks oracle number l r e =
       rw l.stands_once.calls_are at e,
     )
 
--- The final keys of the sequential set are the keys that the order leaves.
+-- After the checks, the keys of the sequential set are the final keys of the order.
 keys_after : (h : HistoryValue) (calls : List CallRecord) (order : List Placed) (marks : List Bool) (oracle : OracleValue)
     → LeavesNoneOut h calls order marks oracle
     → (after_order oracle calls order).state.keys ≡ (set_left_by (opening_set h.opening) h.calls order).keys

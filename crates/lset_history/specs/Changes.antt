@@ -9,8 +9,8 @@ use Rattle.std.specs.BTreeMap.{BTreeMap, get, is_at}
 use Rattle.std.specs.BTreeSet.{BTreeSet, contains}
 use Rattle.lset_words.specs.SequentialSet.{has_key}
 
--- The opening keys, and each key that changed with the moments, from 1, at which the key was added and removed:
--- alternately, and in increasing order.
+-- The opening keys and, for each key that changed, the moments (from 1) at which the key was alternately added and
+-- removed, in increasing order.
 pub record ChangesValue : Type 0 where
   pub opening : List ℕ
   pub entries : List (ℕ × List ℕ)
@@ -29,18 +29,18 @@ moments_in (Some ms) = ms
 abbrev pub noted_of : ChangesValue → ℕ → List ℕ
 noted_of c key = moments_in (lookup (is_at (nat_cmp key)) c.entries)
 
--- Returns all moments at which a key was added or removed, with moment 0 if it is an opening key.
+-- Returns all moments at which a key was added or removed, including moment 0 if it is an opening key.
 abbrev pub moments_of : ChangesValue → ℕ → List ℕ
 moments_of c key = opened_moments c.opening key ++ noted_of c key
 
--- Returns whether a key is present at a moment, if the key changes at the moments of the list. `present` is whether it
--- is present before the first of them.
+-- Returns whether a key is present at a moment, if the key changes at the moments of the list. `present` says whether
+-- the key is present before the first of them.
 abbrev pub state_at : Bool → List ℕ → ℕ → Bool
 state_at present [] moment = present
 state_at present (m ∷ ms) moment = if nat_lt moment m then present else state_at (not present) ms moment
 
--- Returns whether a key is present in the end, if it changes at each moment of the list. `present` is whether it is
--- present before the first of them.
+-- Returns whether a key is present at the end, if it changes at each moment of the list. `present` says whether the key
+-- is present before the first of them.
 abbrev pub state_after : Bool → List ℕ → Bool
 state_after present [] = present
 state_after present (m ∷ ms) = state_after (not present) ms
@@ -90,14 +90,14 @@ smallest_present changes key m = first_passing true (λ j. is_present changes j 
 abbrev pub has_ceiling : (ℕ → List ℕ) → ℕ → Option ℕ → ℕ → Bool
 has_ceiling changes key found m = same_key (smallest_present changes key m) found
 
--- Converts the fields of the Rust type `Changes` to the value that its contracts speak of.
+-- Converts the fields of the Rust type `Changes` to the value that its contracts use.
 abbrev pub changes_in : List ℕ → BTreeMap ℕ (Vec ℕ Global) → ChangesValue
 changes_in opening kept = record { opening = opening; entries = map (λ (e : ℕ × Vec ℕ Global). (e.0, e.1.items)) kept.entries }
 
 abbrev pub Increase : ChangesValue → Type 0
 Increase c = (key : ℕ) → IsStrictlyIncreasing (moments_of c key)
 
--- States that no number from 2^32 up, which is no key, has changes.
+-- States that no number from 2^32 up has changes. (Such a number is not a key.)
 abbrev pub IsBounded : (ℕ → List ℕ) → Type 0
 IsBounded changes = (key : ℕ) → 2 ^ 32 ≤ key → changes key ≡ []
 
@@ -106,7 +106,7 @@ abbrev pub IsListed : BTreeMap ℕ ℕ → ℕ → ℕ → Type 0
 IsListed keys_at key moment = 0 < moment → get nat_cmp keys_at moment ≡ Some key
 
 -- The invariant of the Rust type `Changes`. Its two indexes must contain all changes: `keys_at` has the key of each
--- moment of a change, and `keys_now` has each key that is present in the end. Both can have surplus entries.
+-- moment of a change, and `keys_now` has each key that is present at the end. Both can have surplus entries.
 pub record AreKept (c : ChangesValue) (keys_at : BTreeMap ℕ ℕ) (keys_now : BTreeSet ℕ) : Type 0 where
   pub opening : IsStrictlyIncreasing c.opening
   pub increase : Increase c

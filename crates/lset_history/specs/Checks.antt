@@ -1,4 +1,4 @@
--- What each single check of an order of calls decides, for the contracts of the checker's functions.
+-- What each check of an order of calls decides. The contracts of the checker's functions use these definitions.
 use Rattle.std.specs.Prelude.{◌≡◌, ◌≢◌, ℕ, ◌<◌, ◌==◌, ◌⊎◌, Bool, true, false, List, map, length, get_or, min, Option, Some, None}
 use Rattle.std.specs.Prelude.{take, is_some, All, IfSome, IsSomeAnd}
 use Rattle.std.specs.List.{list_any}
@@ -68,7 +68,7 @@ abbrev pub PutsInSome : OracleValue → List CallRecord → List Placed → Type
 PutsInSome o calls order = (place : ℕ) × (place < length order)
     × PutsIn (after_order o calls (take place order)) (placed_call calls order place).thread (placed_call calls order place).call
 
--- Returns the smaller of `smallest` and the moment at which a call ends. `None` means no end.
+-- Returns the smaller of `smallest` and the moment at which a call ends. `None` means that there is no end.
 abbrev pub smallest_with : Option ℕ → Option (ℕ × Reply) → Option ℕ
 smallest_with smallest None = smallest
 smallest_with None (Some end) = Some end.0

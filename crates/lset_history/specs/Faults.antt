@@ -1,5 +1,4 @@
--- What it means that an order of calls explains a history and its final keys and, if the order does not, which error is
--- reported.
+-- When an order of calls explains a history and its final keys, and which error is reported if it does not.
 use Rattle.std.specs.Prelude.{◌≡◌, ◌≢◌, ℕ, ◌<◌, ◌≤◌, ◌⊎◌, List, map, take, length, All, IsSome, IsSomeAnd, slice_index_or}
 use Rattle.std.specs.List.Sorted.{IsStrictlyIncreasing}
 use Rattle.lset_words.specs.declared.Reply.{Reply}

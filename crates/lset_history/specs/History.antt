@@ -1,4 +1,4 @@
--- The value of the Rust type `History`, and the conditions under which a history accepts the begin or the end of a
+-- The value of the Rust type `History`, and the conditions under which a history accepts the start or the end of a
 -- call.
 use Rattle.std.specs.Prelude.{◌≡◌, ℕ, ◌<◌, ◌≤◌, ◌^◌, ◌==◌, ◌&&◌, max, Bool, true, false, List, [], ◌∷◌, ◌++◌, length, Option}
 use Rattle.std.specs.Prelude.{Some, None, is_none, All, IfSome, slice_index_or, slice_set}
@@ -19,7 +19,7 @@ pub record HistoryValue : Type 0 where
 abbrev pub has_open : List CallRecord → ℕ → Bool
 has_open calls thread = list_any (λ x. x.thread == thread && is_none x.ended) calls
 
--- States that the moment is at least 1 and after every begin and every end in the history.
+-- States that the moment is at least 1, and after the start and the end of every call in the history.
 pub record IsLater (calls : List CallRecord) (at : ℕ) : Type 0 where
   pub counted : 0 < at
   pub begins : All (λ (x : CallRecord). x.begun < at) calls
@@ -31,7 +31,7 @@ pub record MayBegin (h : HistoryValue) (thread at : ℕ) : Type 0 where
   pub idle : has_open h.calls thread ≡ false
   pub later : IsLater h.calls at
 
--- States that this is the first reason to refuse that a thread begins a call. `Memory`, a failed allocation, is a
+-- States that this error is the first reason why the thread cannot begin a call. `Memory`, a failed allocation, is a
 -- reason only if the call could begin.
 abbrev pub CannotBegin : HistoryValue → ℕ → ℕ → HistoryFault → Type 0
 CannotBegin h thread at NoThread = h.opening.threads ≤ thread
@@ -52,7 +52,7 @@ pub record MayEnd (h : HistoryValue) (number at : ℕ) : Type 0 where
   pub open_call : IsOpen h.calls number
   pub later : IsLater h.calls at
 
--- States that this is the first reason to refuse that a call ends. Ending a call does not allocate, so `Memory` is
+-- States that this error is the first reason why the call cannot end. Ending a call does not allocate, so `Memory` is
 -- never a reason.
 abbrev pub CannotEnd : HistoryValue → ℕ → ℕ → HistoryFault → Type 0
 CannotEnd h number at NotOpen = IsOpen h.calls number → ⊥
@@ -73,7 +73,7 @@ abbrev pub moment_of : Option (ℕ × Reply) → ℕ
 moment_of None = 0
 moment_of (Some end) = end.0
 
--- Returns the last moment of a call: its end or, if the call is pending, its begin.
+-- Returns the last moment of a call: its end or, if the call is pending, its start.
 abbrev pub last_moment : CallRecord → ℕ
 last_moment x = max x.begun (moment_of x.ended)
 

@@ -26,13 +26,13 @@ pub record HasKeysOf (s : SetState) (content : List ℕ) : Type 0 where
   pub members : (j : ℕ) → Contains content j ↔ Contains s.keys j
   pub alone : (keys : List ℕ) → IsStrictlyIncreasing keys → ((j : ℕ) → Contains content j ↔ Contains keys j) → s.keys ≡ keys
 
--- Returns the state of the set after a run's calls are made one by one in this order, beginning with the opening keys.
+-- Returns the state of the set after a run's calls are made one by one in this order, starting from the opening keys.
 abbrev pub set_of_order : Opening → Log → ℕ → List Placed → SetState
 set_of_order op log last order = set_left (opening_set op) (map (answered (history_at log last)) order)
 
 -- The placement theorem: if a run has an account (each event changes the keys as its call allows, and each reply is
 -- correct at some moment of its call), then the order of its calls by linearization points linearizes the history, and
--- leaves the keys that the run leaves.
+-- ends with the same keys as the run.
 abbrev pub PlacementLinearizes : Type 0
 PlacementLinearizes = (op : Opening) (last : ℕ) (log : Log) (lists : ℕ → List ℕ) (counts : Counts) (order : List Placed)
     → Account op last log (contents_of_lists lists) counts
@@ -47,8 +47,8 @@ EveryCallHasAPlace = (op : Opening) (last : ℕ) (log : Log) (lists : ℕ → Li
     → Account op last log (contents_of_lists lists) counts
     → (order : List Placed) × IsPlacement op.quota (calls_at log last) (contents_of_lists lists) counts order
 
--- States that at each moment of a run with an account, in which each event is a valid begin or step, the calls form a
--- history.
+-- States that at each moment of a run with an account (each event is a valid start of a call or a valid step), the
+-- calls so far form a history.
 abbrev pub LogsTellHistories : Type 0
 LogsTellHistories = (op : Opening) (last : ℕ) (log : Log) (lists : ℕ → List ℕ) (counts : Counts)
     → Account op last log (contents_of_lists lists) counts → (k : ℕ) → k ≤ last → IsHistory op.threads (history_at log k)

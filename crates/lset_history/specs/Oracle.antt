@@ -1,4 +1,4 @@
--- The value of the Rust type `Oracle`, the sequential set, and what a call of it returns and changes.
+-- The value of the Rust type `Oracle`, the sequential set, and what a call on this set returns and changes.
 use Rattle.std.specs.Prelude.{◌≡◌, ℕ, ◌≤◌, List, length, All}
 use Rattle.std.specs.List.Sorted.{IsStrictlyIncreasing}
 use Rattle.lset_words.specs.declared.Call.{Call}

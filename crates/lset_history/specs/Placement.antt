@@ -9,7 +9,7 @@ use Rattle.lset_words.specs.declared.history.Placed.{Placed}
 use Rattle.lset_words.specs.Log.{TracedCall}
 use Rattle.lset_words.specs.Account.{Contents, Counts, Fits}
 
--- States that `moment` is the first moment from the begin of the call `x` to its end at which its reply fits.
+-- States that `moment` is the first moment from the start of the call `x` to its end at which its reply fits.
 pub record IsSmallestFit (quota : ℕ) (contents : Contents) (counts : Counts) (x : TracedCall) (end : ℕ) (reply : Reply)
     (moment : ℕ) : Type 0 where
   pub from : x.begun ≤ moment
@@ -52,8 +52,8 @@ makes_change s = has s.traced.changed
     has None = false
     has (Some moment) = true
 
--- Returns the calls that have a linearization point, in the order of their numbers. `places` has one entry for each
--- call: the moment of its point, or `None`.
+-- Returns the calls that have a linearization point, ordered by number. `places` has one entry for each call: the
+-- moment of its point, or `None`.
 abbrev pub standing : ℕ → List TracedCall → List (Option ℕ) → List Standing
 standing number [] places = []
 standing number (x ∷ xs) [] = []

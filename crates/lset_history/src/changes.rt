@@ -113,7 +113,7 @@ fn push_moment(
 }
 
 impl Changes {
-    /// Returns a record without changes, for a set that opens empty. Does not allocate; later calls use `alloc`.
+    /// Returns an empty record of changes, for a set that opens empty. Does not allocate; later calls use `alloc`.
     pub fn new(alloc: Global) -> Changes
         ensures { result ≡ no_changes }
     {
@@ -126,8 +126,8 @@ impl Changes {
         }
     }
 
-    /// Returns a record without changes, for a set that opens with `keys`, which must be in strictly increasing order.
-    /// Allocates a copy of the keys; returns `AllocError` if that fails.
+    /// Returns an empty record of changes, for a set that opens with `keys`, which must be in strictly increasing
+    /// order. Allocates a copy of the keys; returns `AllocError` if that fails.
     pub fn opened(alloc: Global, keys: &[u32]) -> Result<Changes, AllocError>
         requires { IsStrictlyIncreasing keys.now }
         ensures { IfOk result (λ c. (k : ℕ) → moments_of c k ≡ opened_moments keys.now k) }
@@ -259,7 +259,7 @@ impl Changes {
         let mut moment = from;
         let mut last = from;
         while let Some((at, noted)) = self.note_after(last) {
-            // A key that refutes `found` at `moment` does so until the key changes. That is at `at`.
+            // A key that refutes `found` at `moment` keeps refuting it until the key changes, at the moment `at`.
             if self.is_against(key, found, noted, moment) {
                 moment = at;
             }

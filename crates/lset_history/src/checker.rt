@@ -10,7 +10,7 @@ use crate::{History, Oracle, OrderFault};
 use lset_words::{CallRecord, Placed, Reply};
 use std::alloc::{AllocError, Global};
 
-/// Returns the number of the first call in the order that the history does not have. `None` if the history has all.
+/// Returns the number of the first call in the order that is not in the history, or `None` if all are in the history.
 fn first_unknown(calls: &[CallRecord], order: &[Placed]) -> Option<u32>
     ensures { MatchOption result
         (HasKnownCalls calls.now order.now)
@@ -24,8 +24,9 @@ fn first_unknown(calls: &[CallRecord], order: &[Placed]) -> Option<u32>
     None
 }
 
-/// Returns the number of the first call that the order has for a second time. `placed` must have one mark for each call
-/// of the history, all false. If no call is in the order twice, exactly the marks of its calls are true afterwards.
+/// Returns the number of the first call that occurs a second time in the order. `placed` must have one mark for each
+/// call of the history, all false. If no call is in the order twice, afterwards exactly the marks of the order's calls
+/// are true.
 fn first_twice(order: &[Placed], placed: &mut [bool]) -> Option<u32>
     requires known { All (λ (p : Placed). p.call < length placed.old) order.now }
     requires none_set { All (λ (mark : Bool). mark ≡ false) placed.old }
@@ -61,8 +62,8 @@ fn first_missing(calls: &[CallRecord], placed: &[bool]) -> Option<u32>
     None
 }
 
-/// Makes the call in `oracle`, and returns whether `reply` is the reply of the sequential set and, if the call is
-/// completed, its reply in the history.
+/// Makes the call on `oracle`, the sequential set. Returns whether `reply` is the set's reply and, if the call is
+/// completed, also its reply in the history.
 fn has_reply(oracle: &mut Oracle, call_record: CallRecord, reply: Reply) -> Result<bool, AllocError>
     requires { call_record.thread < oracle.old.threads }
     ensures answers { IfOk result (λ right. MatchBool right
@@ -78,8 +79,8 @@ fn has_reply(oracle: &mut Oracle, call_record: CallRecord, reply: Reply) -> Resu
     Ok(oracle.apply(call_record.thread, call_record.call)? == reply)
 }
 
-/// Makes the calls of the order in `oracle`, and returns the number of the first call with a wrong reply: one that
-/// differs from the history's, or from that of the sequential set after the earlier calls.
+/// Makes the calls of the order on `oracle`, the sequential set. Returns the number of the first call with a wrong
+/// reply: one that differs from the reply in the history, or from that of the set after the earlier calls.
 pub(crate) fn first_wrong_reply(
     oracle: &mut Oracle,
     calls: &[CallRecord],
@@ -106,7 +107,7 @@ fn is_below(end: Option<u32>, moment: u32) -> bool
     end.is_some_and(|end| end < moment)
 }
 
-/// Returns the smaller of `smallest` and the moment at which a call ends. `None` means no end.
+/// Returns the smaller of `smallest` and the moment at which a call ends. `None` means that there is no end.
 fn lesser(smallest: Option<u32>, ended: Option<(u32, Reply)>) -> Option<u32>
     ensures { result ≡ smallest_with smallest ended }
 {
@@ -117,8 +118,8 @@ fn lesser(smallest: Option<u32>, ended: Option<(u32, Reply)>) -> Option<u32>
     }
 }
 
-/// Returns the number of the first call that is too early in the order: a later call of the order had ended before it
-/// began.
+/// Returns the number of the first call that is too early in the order: a later call of the order had ended before this
+/// call began.
 fn first_too_early(calls: &[CallRecord], order: &[Placed]) -> Option<u32>
     requires { HasKnownCalls calls.now order.now }
     ensures { MatchOption result
@@ -146,16 +147,16 @@ fn first_too_early(calls: &[CallRecord], order: &[Placed]) -> Option<u32>
 ///
 /// # Errors
 ///
-/// Returns the first of these that applies. The whole order is searched for one error before the next:
+/// Returns the first of these that applies. The whole order is searched for one kind of error before the next:
 /// - `Unknown`: the history has no call with this number;
 /// - `Twice`: the call is in the order twice;
 /// - `Missing`: this call is completed and not in the order; if there are several, the one with the smallest number;
 /// - `WrongReply`: the history has another reply, or the sequential set returns another reply at this place;
 /// - `TooEarly`: a later call of the order had ended before this call began;
-/// - `WrongSet`: `keys` are not the keys that the order leaves, in strictly increasing order.
+/// - `WrongSet`: `keys` are not the final keys after the order's calls, in strictly increasing order.
 ///
-/// Returns `Memory`, in place of any other result, if an allocation fails. With n places, c calls and at most k keys in
-/// the set, the check takes about `c + n log k` steps. Does not block.
+/// Returns `Memory`, in place of any other result, if an allocation fails. With n calls in the order, c calls in the
+/// history and at most k keys in the set, the check takes about `c + n log k` steps. Does not block.
 pub fn check_order(
     alloc: Global,
     history: &History,

@@ -17,7 +17,7 @@ pub enum HistoryFault {
     /// The history has no call with this number, or the call has already ended.
     #[error("no open call has this number")]
     NotOpen,
-    /// The moment is 0, or not after every begin and end in the history.
+    /// The moment is 0, or not after the start and the end of every call in the history.
     #[error("the moment is 0, or not above every earlier one")]
     Time,
     /// An allocation failed.
@@ -25,8 +25,8 @@ pub enum HistoryFault {
     Memory,
 }
 
-/// The first error in an order of calls, with the number of the call. The whole order is searched for one error before
-/// the next. If an error is found at several places, the first of them is reported.
+/// The first error in an order of calls, with the number of the call. The whole order is searched for one kind of error
+/// before the next. Of several errors of one kind, the first in the order is reported.
 #[derive(Clone, Copy, Debug, PartialEq, Eq, Error)]
 pub enum OrderFault {
     /// The history has no call with this number.

@@ -10,9 +10,8 @@ use std::alloc::{AllocError, Global};
 use std::fmt;
 use std::marker::Model;
 
-/// A history of calls (Herlihy and Wing): each call's thread, begin, end and reply. Calls are numbered from 0 in the
-/// order in which they begin. Begins and ends are dated by moments, which are numbers from 1. No two of them are at the
-/// same moment.
+/// A history of calls (Herlihy and Wing): each call's thread, start, end and reply. Calls are numbered from 0, ordered
+/// by start. Starts and ends are dated by moments, which are numbers from 1. No two of them happen at the same moment.
 #[derive(Drop)]
 pub struct History {
     threads: u32,

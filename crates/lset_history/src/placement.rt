@@ -2,7 +2,7 @@ ghost use Rattle.lset_history.specs.Laws.{PlacementLinearizes, EveryCallHasAPlac
 
 /// The placement theorem. If a run has an account (each event changes the keys as its call allows, and each reply is
 /// correct at some moment of its call), the order of its calls by their linearization points linearizes the run's
-/// history (Herlihy and Wing), and leaves the keys that the run leaves. The function does nothing.
+/// history (Herlihy and Wing), and ends with the same keys as the run. The function does nothing.
 pub fn placement_linearizes()
     ensures { PlacementLinearizes }
 {}
@@ -14,14 +14,14 @@ pub fn every_call_has_a_place()
     ensures { EveryCallHasAPlace }
 {}
 
-/// Lemma: at each moment of a run with an account, in which each event is a valid begin or step, the calls form a
-/// history. The function does nothing.
+/// Lemma: at each moment of a run with an account (each event is a valid start of a call or a valid step), the calls so
+/// far form a history. The function does nothing.
 pub fn logs_tell_histories()
     ensures { LogsTellHistories }
 {}
 
-/// Lemma: a reply fits some keys and a number of successful adds if and only if the sequential set with these returns
-/// the reply and the call changes nothing. The function does nothing.
+/// Lemma: a reply fits the keys of a set and a thread's number of successful adds if and only if the sequential set in
+/// this state returns the reply and the call changes nothing. The function does nothing.
 pub fn fits_are_replies()
     ensures { FitsAreReplies }
 {}

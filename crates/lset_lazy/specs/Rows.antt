@@ -13,18 +13,18 @@ use Rattle.lset_steps.specs.Rows.{own_slot, goes_to, ceiling_at}
 use Rattle.lset_steps.specs.ReadRows.{continued, leaves_with}
 use Rattle.lset_steps.specs.RowLaws.{Does, HasReading, nothing}
 
--- The call continues at row `pc` of the step table.
+-- Returns the outcome of a step after which the call continues at row `pc` of the step table.
 abbrev pub on_to : ℕ → Local → Fed
 on_to pc l = continued (record l { pc = pc })
 
--- The call continues at row 13 of the step table, which releases the locks. With `None` as the reply, the call starts
--- again after that.
+-- Returns the outcome of a step after which the call releases its locks, from row 13 of the step table on. If the reply
+-- is `None`, the call then starts again.
 abbrev pub leaves : Option Reply → Local → Fed
 leaves r l = continued (goes_to 13 r l)
 
--- Decides how a call continues when both nodes are locked and `curr` is not marked, from whether `curr` has the call's
--- key: an `add` that adds goes to row 8 of the step table, a `remove` that removes to row 11, and all other calls have
--- a reply.
+-- Decides how a call continues when both nodes are locked and `curr` is not marked, depending on whether `curr` has the
+-- call's key: an `add` that adds goes to row 8 of the step table, a `remove` that removes to row 11, and all other
+-- calls have a reply.
 abbrev pub decides : Call → Local → Fed
 decides (Add k) l =
     if l.ckey == target (Add k) then leaves (Some False) l
@@ -34,7 +34,7 @@ decides (Remove k) l = if l.ckey == target (Remove k) then continued (goes_to 11
 decides (Contains k) l = if l.ckey == target (Contains k) then leaves (Some True) l else leaves (Some False) l
 decides (Ceiling k) l = leaves (Some (ceiling_at l.ckey)) l
 
--- The outcome of the last step of an attempt: the call ends with its reply or, if it has none, starts again.
+-- Returns the outcome of the last step of an attempt: the call ends with its reply or, if it has none, starts again.
 abbrev pub answers_or_walks : Option Reply → Local → Fed
 answers_or_walks None l = on_to 1 l
 answers_or_walks (Some r) l = leaves_with r l
@@ -61,7 +61,8 @@ pub record LazyRows (T : Table) : Type 0 where
   -- The call checks that the link of `pred` leads to `curr` and that `pred` is not marked. Otherwise, it releases the
   -- locks.
   pub row_6 : Does T 6 (λ l. Load (link_index l.pred)) (λ l seen. if seen == 2 * l.curr then on_to 7 l else leaves None l) nothing
-  -- The call checks that `curr` is not marked. If so, it decides; otherwise it releases the locks, and starts again.
+  -- The call checks that `curr` is not marked. If `curr` is unmarked, the call decides what to do. Otherwise, the call
+  -- releases the locks and starts again.
   pub row_7 : Does T 7 (λ l. Load (link_index l.curr))
       (λ l seen. if seen % 2 == 0 then decides l.call (record l { succ = seen / 2 }) else leaves None l)
       nothing

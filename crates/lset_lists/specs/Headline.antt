@@ -14,11 +14,11 @@ use Rattle.lset_steps.specs.Chain.{contents_of, counts_of}
 use Rattle.lset_steps.specs.Laws.{views}
 use Rattle.lset_steps.specs.Worlds.{IsContent}
 
--- Returns the keys of a set that opens as `op` says, after the calls of an order.
+-- Returns the keys of a set that opened with `op`, after the calls of an order.
 abbrev pub keys_left : Opening → List CallRecord → List Placed → List ℕ
 keys_left op history order = (set_left (opening_set op) (map (answered history) order)).keys
 
--- Returns the history of a run after k events: the calls with their begins, ends and replies.
+-- Returns the history of a run after k events: the calls with their starts, ends and replies.
 abbrev pub history_of : Table → Opening → (ℕ → Event) → ℕ → List CallRecord
 history_of T op es k = history_at (log_of T op es) k
 
@@ -26,7 +26,7 @@ history_of T op es k = history_at (log_of T op es) k
 pub record ExplainsRun (T : Table) (op : Opening) (es : ℕ → Event) (last : ℕ) (order : List Placed) : Type 0 where
   -- The calls of the run form a history.
   pub history : IsHistory op.threads (history_of T op es last)
-  -- The order linearizes the history, beginning with the opening keys.
+  -- The order linearizes the history of a set that starts with the opening keys.
   pub linearizes : Linearizes op.quota (opening_set op) (history_of T op es last) order
   -- The keys that the set has after the order's calls are the keys that the list has at the end of the run, in
   -- increasing order.
@@ -42,8 +42,8 @@ abbrev pub IsPlacedBy : Table → Opening → (ℕ → Event) → ℕ → List P
 IsPlacedBy T op es k order = IsPlacement op.quota (calls_at (log_of T op es) k)
     (contents_of (views T op es)) (counts_of (views T op es)) order
 
--- [The placement of a run]: states that the order has the run's calls by their linearization points, and that no other
--- order does.
+-- [The placement of a run]: states that the order lists the run's calls by their linearization points, and that no
+-- other order does.
 pub record IsThePlacement (T : Table) (op : Opening) (es : ℕ → Event) (last : ℕ) (order : List Placed) : Type 0 where
   pub placement : IsPlacedBy T op es last order
   pub alone : (other : List Placed) → IsPlacedBy T op es last other → other ≡ order

@@ -20,7 +20,7 @@ pub use theorem::{placement_explains_runs, runs_are_linearizable};
 
 /// One of the five lists, as a machine.
 pub trait List: Machine {
-    /// Lemma: the step table of the list is the one of its kind. The function does nothing.
+    /// Lemma: the list has the step table of its kind. The function does nothing.
     fn has_the_table_of_its_kind()
         ensures { table_of Self.KIND ≡ Self.table };
 }
@@ -45,7 +45,7 @@ impl List for LockFreeList {
     fn has_the_table_of_its_kind() {}
 }
 
-/// A task that can run on any of the five lists, by `on_list`.
+/// A task that `on_list` can run on any of the five lists.
 pub trait Task {
     type Out;
 

@@ -43,7 +43,7 @@ abbrev pub decision_of : Local → Fed
 decision_of l = record { local = l; answer = if l.pc == 0 then l.reply else None }
 
 -- Returns the outcome of the step that has loaded the key word of curr. If the key is smaller than the call's, the walk
--- continues; otherwise the call decides.
+-- continues; otherwise the call decides what to do.
 abbrev pub at_key : ℕ → Local → Fed
 at_key seen l =
     if nat_lt seen (target l.call) then continued (record l { pc = 2; pred = l.curr; curr = l.succ })

@@ -14,11 +14,11 @@ use Rattle.lset_steps.specs.Rows.{own_slot, goes_to, ceiling_at}
 use Rattle.lset_steps.specs.ReadRows.{continued, leaves_with}
 use Rattle.lset_steps.specs.RowLaws.{Does, HasReading, nothing}
 
--- The call continues at row `pc` of the step table.
+-- Returns the outcome of a step after which the call continues at row `pc` of the step table.
 abbrev pub on_to : ℕ → Local → Fed
 on_to pc l = continued (record l { pc = pc })
 
--- The call ends with this reply.
+-- Returns the outcome of a step that ends the call with this reply.
 abbrev pub answers : Reply → Local → Fed
 answers r l = leaves_with r (record l { reply = Some r })
 
@@ -42,18 +42,18 @@ pub record LockFreeRows (T : Table) : Type 0 where
   pub reading : HasReading T
   -- A walk starts with a load of the head's link.
   pub row_1 : Does T 1 (λ l. Load (link_index 0)) (λ l seen. continued (record l { pc = 2; pred = 0; curr = seen / 2 })) nothing
-  -- The walk loads the link of `curr`, which has the mark of `curr`.
+  -- The walk loads the link of `curr`, which includes the mark of `curr`.
   pub row_2 : Does T 2 (λ l. Load (link_index l.curr))
       (λ l seen. if seen % 2 == 0 then continued (record l { pc = 4; succ = seen / 2 })
       else continued (record l { pc = 3; succ = seen / 2 }))
       nothing
-  -- If `curr` is marked, the walk unlinks `curr` by an exchange of the link of `pred`. If that fails, it starts again
-  -- from the head.
+  -- If `curr` is marked, the walk unlinks `curr` by an exchange of the link of `pred`. If the exchange fails, the walk
+  -- starts again from the head.
   pub row_3 : Does T 3 (λ l. Exchange (link_index l.pred) (2 * l.curr) (2 * l.succ))
       (λ l seen. if seen == 2 * l.curr then continued (record l { pc = 2; curr = l.succ }) else on_to 1 l)
       nothing
   -- If `curr` is not marked, the walk loads the key of `curr`. Then it continues with the next node, or the call
-  -- decides.
+  -- decides what to do.
   pub row_4 : Does T 4 (λ l. Load (key_index l.curr))
       (λ l seen. if nat_lt seen (target l.call) then continued (record l { pc = 2; pred = l.curr; curr = l.succ })
       else decides l.call l seen)

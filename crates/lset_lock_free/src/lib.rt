@@ -31,8 +31,8 @@ const TARGETS: Targets = Targets {
     leaves: 0,
 };
 
-/// Returns the next access of a thread with a pending call, from the row of the step table that its program counter
-/// names. The numbers in `local` must be small, as they are in every run.
+/// Returns the next word access of a thread with a pending call. The thread's program counter names the row of the step
+/// table. The numbers in `local` must be small, as they are in every run.
 #[inline(always)]
 pub fn next_action(local: &Local) -> Action
     requires { IsSmall local.now }
@@ -89,7 +89,7 @@ fn decision_of(local: Local) -> Fed
 }
 
 /// Returns the outcome of the step that has read the key word `seen`. If the key is smaller than the call's, the walk
-/// continues; otherwise the call decides.
+/// continues; otherwise the call decides what to do.
 #[inline(always)]
 fn at_key(local: &Local, seen: u64) -> Fed
     ensures { result ≡ at_key seen local.now }
@@ -101,8 +101,8 @@ fn at_key(local: &Local, seen: u64) -> Fed
     }
 }
 
-/// Returns the outcome of the step that has linked the thread's new node into the chain: the thread has one slot less
-/// to use, and the call ends with `True`.
+/// Returns the outcome of the step that has linked the thread's new node into the chain: the thread has used one more
+/// slot, and the call ends with `True`.
 #[inline(always)]
 fn puts_in(local: &Local) -> Fed
     requires { IsSmall local.now }

@@ -1,5 +1,4 @@
--- Proof that the reply of each call of OptimisticList that changes nothing is correct at the moment of one of its own
--- loads.
+-- Proof that if a call of OptimisticList changes nothing, its reply is correct at the moment of one of its own loads.
 use Rattle.std.specs.Prelude.{◌≡◌, ◌≢◌, ℕ, zero, suc, ◌+◌, ◌/◌, ◌<◌, ◌≤◌, ◌⊎◌, Bool, true, false, Option, Some, None, List}
 use Rattle.std.specs.Prelude.{if◌then◌else◌, ◌==◌, ◌||◌, nat_lt, slice_index_or, slice_set, length, refl}
 use Rattle.std.proofs.Common.{arith, inl, inr, sym, ◌∙◌, ap, subst, get_or-set_other, get_or-set_same}
@@ -170,8 +169,8 @@ module _ (op : Opening) (last : ℕ) (es : ℕ → Event) (r : Run optimistic op
   abbrev S : ℕ → State
   S k = state_at optimistic op es k
 
-  -- States that a thread with a reply that has changed nothing, and is about to release a lock, has made the load at
-  -- which its reply was correct.
+  -- States that a thread that has a reply, has changed nothing and is about to release a lock has already made the load
+  -- at which its reply was correct.
   abbrev Settled : ℕ → ℕ → Bool → Local → Type 0
   Settled now first done l = (reply : Reply) → 14 ≤ l.pc → l.reply ≡ Some reply → done ≡ false
       → FitsAtALoad op es first now t l.call reply

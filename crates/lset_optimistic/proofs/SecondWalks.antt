@@ -24,7 +24,7 @@ use Rattle.lset_optimistic.specs.Lawful.Outline.{At, optimistic_follows}
 use Rattle.lset_optimistic.specs.Lawful.Outline.At.{at0, at1, at2, at3, at4, at5, at6, at7, at8, at9, at10, at11, at12, at13, at14, at15}
 use Rattle.lset_optimistic.specs.Promises.{held_at, world_at, IsWalking, HasArrived, GivesBack, WasInChain, IsLockedInChain, ValidatedWalk}
 
--- What a thread knows of its second walk, at each row of the step table.
+-- What a thread knows about its second walk, at each row of the step table.
 record Facts (vs : ℕ → View) (first now : ℕ) (v : View) (t : ℕ) (l : Local) : Type 0 where
   walks : IsWalking l → WasInChain vs first now t l.pred l.node
   arrives : HasArrived l → IsLockedInChain v t l.pred

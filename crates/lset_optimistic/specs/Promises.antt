@@ -1,5 +1,5 @@
--- Laws of OptimisticList, in addition to the laws of all machines. In all of them, `op` is how the set opens, `es` are
--- the events of a run of `last` events, t is a thread, and k is a moment: the state after k events.
+-- Laws of OptimisticList, in addition to the laws of all machines. In all of them, `op` says how the set opens, `es`
+-- are the events of a run of `last` events, t is a thread, and k is a moment: the state after k events.
 use Rattle.std.specs.Prelude.{◌≡◌, ℕ, ◌+◌, ◌/◌, ◌<◌, ◌≤◌, ◌⊎◌, false, Some}
 use Rattle.lset_words.specs.Words.{lock_index, Opening}
 use Rattle.lset_words.specs.declared.Call.{Call}
@@ -65,8 +65,8 @@ pub record WalksAreValid (op : Opening) (last t : ℕ) (es : ℕ → Event) : Ty
   pub arrives : (j k : ℕ) → j ≤ k → k ≤ last → HasArrived (held_at op es j t)
       → ((i : ℕ) → j ≤ i → i < k → GivesBack op es i t (held_at op es j t).pred → ⊥)
       → IsLockedInChain (world_at op es k) t (held_at op es j t).pred
-  -- A thread is at row 8 of the step table, at which a call decides, or at rows 9 to 13, at which it adds or removes,
-  -- only if its second walk has arrived at pred.
+  -- A thread is at one of the rows 8 to 13 of the step table, at which a call decides, adds or removes, only if its
+  -- second walk has arrived at pred.
   pub decides : (k : ℕ) → k ≤ last → 8 ≤ (held_at op es k t).pc → (held_at op es k t).pc ≤ 13 → HasArrived (held_at op es k t)
 
 -- [Validated walk]: states that if the second walk arrives at pred, then pred is in the chain until the thread releases
@@ -86,8 +86,9 @@ pub record FitsAtALoad (op : Opening) (es : ℕ → Event) (first now t : ℕ) (
   pub leads : (world_at op es at).link (held_at op es at t).pred / 2 ≡ (held_at op es at t).curr
   pub fits : FitsIn op.quota (world_at op es at) t call reply
 
--- [Optimistic replies fit]: states that if a call ends without having changed the set, its reply is correct at a moment
--- of the call at which the thread, after its second walk had arrived at pred, saw pred's link lead to curr (row 8).
+-- [Optimistic replies fit]: states that if a call ends without having changed the set, its reply is correct at some
+-- moment of the call. At that moment, after its second walk had arrived at pred, the thread saw pred's link lead to
+-- curr (row 8).
 abbrev pub OptimisticRepliesFit : Type 0
 OptimisticRepliesFit = (op : Opening) (last k t : ℕ) (es : ℕ → Event) (reply : Reply) → Run optimistic op es last → k < last →
     t < op.threads

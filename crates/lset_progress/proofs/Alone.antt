@@ -40,7 +40,7 @@ module _ (T : Table) (op : Opening) (es : ℕ → Event) (k t : ℕ) where
     ];
   }
 
--- What is known of a thread's pending call if it ends within a number of steps. The arguments are the sizes of the
+-- What is known about a thread's pending call if it ends within a number of steps. The arguments are the sizes of the
 -- list, its state, the thread, and this number.
 abbrev pub Stages : Type 1
 Stages = Sizes → State → ℕ → ℕ → Type 0

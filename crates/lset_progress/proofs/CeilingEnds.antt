@@ -154,7 +154,7 @@ module _ (op : Opening) (es : ℕ → Event) (fair : IsFair lazy op es) (t : ℕ
         }))
       ]
 
-  -- The case of another thread's event: the words stay the same, and so do the steps that remain.
+  -- The case of another thread's event: the words stay the same, and so does the number of remaining steps.
   stays : (k m : ℕ) → Waits k m → (state_at lazy op es (suc k)).words ≡ (state_at lazy op es k).words
       → local_of (state_at lazy op es (suc k)) t ≡ local_of (state_at lazy op es k) t → Waits (suc k) m
   stays k m w words same = record {

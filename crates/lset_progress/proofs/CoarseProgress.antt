@@ -1,5 +1,5 @@
--- Progress of CoarseList: what each row does to the number of steps that remain. It follows that calls end alone, and
--- that the list is free from livelock and deadlock.
+-- Progress of CoarseList: what each row does to the number of steps that remain. It follows that a call ends if it runs
+-- alone, and that the list is free from livelock and deadlock.
 use Rattle.std.specs.Prelude.{◌≡◌, ℕ, ◌+◌, ◌*◌, ◌/◌, ◌<◌, nat_le, Bool, false, List, [], ◌∷◌, refl, slice_index}
 use Rattle.std.proofs.Common.{arith, inl, subst}
 use Rattle.lset_words.proofs.Numbers.{if_other}
@@ -26,13 +26,14 @@ use Rattle.lset_progress.proofs.Rest.{rest, few_by, fewer}
 use Rattle.lset_progress.proofs.RowsWithLocks.{Shape, Loads, RowOf, within, Only, at_row, goes, on, takes, timed, unlocks, writes}
 use Rattle.lset_progress.proofs.Standing.{Standing, stands}
 
--- Returns how many steps remain after the next one: a number for each row of the step table, beginning with row 0.
+-- Returns how many steps remain after the next one. The list has a number for each row of the step table, starting with
+-- row 0.
 abbrev left : ℕ → (ℕ → ℕ) → Local → ℕ
 left size key l = slice_index (0 ∷ (2 * size + 2) ∷ (2 * size + 1) ∷ (2 * ahead key size (key l.curr) + 4)
     ∷ (2 * ahead key size (key l.curr) + 3) ∷ 3 ∷ 2 ∷ 1 ∷ 2 ∷ 1 ∷ 0 ∷ []) l.pc
 
--- What the general proofs need to know of CoarseList. A thread holds the lock from row 2 of the step table on, and has
--- decided at rows 5 to 10.
+-- What the general proofs need to know about CoarseList. A thread holds the lock from row 2 of the step table on, and
+-- is past its decision at rows 5 to 10.
 abbrev shape : Shape
 shape = record {
   may = λ l x. (x ≡ 0) × Only (nat_le 2 l.pc);

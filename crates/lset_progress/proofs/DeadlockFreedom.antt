@@ -1,6 +1,6 @@
--- Proof that freedom from livelock implies freedom from deadlock. A thread whose next step is not a failed attempt to
--- take a lock stays so until another thread makes a counted step. Therefore, in a fair run, counted steps are made
--- again and again.
+-- Proof that freedom from livelock implies freedom from deadlock. If a thread's next step is not a failed attempt to
+-- take a lock, this remains true until another thread makes a counted step. Therefore, in a fair run, counted steps are
+-- made again and again.
 use Rattle.std.specs.Prelude.{◌≡◌, ◌≢◌, ℕ, ◌+◌, ◌-◌, ◌/◌, ◌%◌, ◌<◌, ◌≤◌, ◌⊎◌, true, false, List, Option, Some, None}
 use Rattle.std.specs.Prelude.{if◌then◌else◌, ◌==◌, nat_lt, slice_index, slice_set, refl}
 use Rattle.std.proofs.Common.{arith, inl, inr, sym, ◌∙◌, ap, subst, zero, suc}
@@ -68,7 +68,8 @@ module _ (T : Table) (law : Lawful T) (S : Shape) (most : Sizes → ℕ) (shows 
   abbrev count : State → Event → ℕ
   count = moves calls T
 
-  -- States that after moment k, some call ends or at least m more counted steps are made.
+  -- States that after moment k, some call ends or at least m more counted steps (not failed attempts to take a lock)
+  -- are made.
   abbrev Gather : ℕ → ℕ → Type 0
   Gather m k = (n : ℕ) × (SomeEnds (moves calls T) T op es k n ⊎ (m ≤ steps_among (moves calls T) T op es k n))
 
@@ -145,7 +146,7 @@ module _ (T : Table) (law : Lawful T) (S : Shape) (most : Sizes → ℕ) (shows 
   weight_of s v n e = ap (unless_failed s.words (T.next (local_of s v))) e
 
   -- The next step of thread u is not a failed attempt to take a lock, and u has not made this step yet. Each event
-  -- until then is a counted step, or leaves the thread so.
+  -- until then is a counted step, or does not change this.
   module _ (m : ℕ) (again : (k t : ℕ) → Busy k t → Gather m k) (u : ℕ) where
     record Ready (k : ℕ) : Type 0 where
       busy : Busy k u
@@ -172,7 +173,7 @@ module _ (T : Table) (law : Lawful T) (S : Shape) (most : Sizes → ℕ) (shows 
     mine_counts : (k : ℕ) → Ready k → moves calls T (state_at T op es k) (Go u) ≡ 1
     mine_counts k g = weight_of _ u 1 g.busy.meant ∙ gets_weight _ (T.next _) g.gets_on.tries
 
-    -- By cases of the event: a counted step, or an event that changes no word.
+    -- Proof by cases: the event is a counted step, or it changes no word.
     by_event : (k : ℕ) → Ready k → (Ready (suc k) → Gather (suc m) (suc k)) → (e : Event) → es k ≡ e
         → Enabled (state_at T op es k) e → Gather (suc m) k
     by_event k g rest (Begin t c) ee en =

@@ -17,7 +17,7 @@ use Rattle.lset_steps.proofs.Discipline.{put_same, put_other}
 use Rattle.lset_progress.specs.Progress.{NoOtherHolds}
 
 -- If a thread holds a lock after a store, it held the lock before the store, and the store was to another word. The
--- next lemma states the same of an exchange.
+-- next lemma states the same for an exchange.
 pub after_store : (x t u old w v : ℕ) → held x t old (Store w v) ≡ u + 1 → (old ≡ u + 1) × (w ≢ x)
 after_store x t u old w v e = elim (same_or_not w x) [
   | inl y ↦ absurd (let z : 0 ≡ u + 1 = sym (if_same w x y 0 old) ∙ e in omega arith)
@@ -44,7 +44,7 @@ others_keep x t u old (Exchange w o v) d e = elim (after_try x t u old w o v e) 
   | inr z ↦ absurd (d z.2)
 ]
 
--- What the proof of a list has to show: which locks a thread can hold, depending on its private state (`May`).
+-- What the proof of a list must show: which locks a thread can hold, depending on its private state (`May`).
 pub record MayHold (T : Table) (May : Local → ℕ → Type 0) : Type 0 where
   pub rests : (l : Local) (x : ℕ) → l.pc ≡ 0 → May l x → ⊥
   pub steps : (op : Opening) (last k t x : ℕ) (es : ℕ → Event) → Run T op es last → k < last → es k ≡ Go t → t < op.threads
@@ -69,7 +69,7 @@ module _ (T : Table) (law : Lawful T) (May : Local → ℕ → Type 0) (may : Ma
   Known k = (u : ℕ) → slice_index (state_at T op es k).words x ≡ u + 1
       → (u < op.threads) × May (local_of (state_at T op es k) u) x
 
-  -- Each event preserves that only pending calls hold locks, and only locks that `May` allows.
+  -- After each event, it is still true that only pending calls hold locks, and only locks that `May` allows.
   known_after : (k : ℕ) → k < last → (e : Event) → es k ≡ e → Enabled (state_at T op es k) e → Known k → Known (suc k)
   known_after k l (Begin t call) ee en i u h =
       let old : slice_index (state_at T op es k).words x ≡ u + 1 = sym (word_next k l (Begin t call) ee) ∙ h in

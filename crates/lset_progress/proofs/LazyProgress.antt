@@ -48,7 +48,7 @@ use Rattle.lset_progress.proofs.Windows.{counted_or_not}
 pub follows : Discipline lazy true At
 follows = discipline_of lazy (node_locks true) At lazy_follows
 
--- What a thread knows at row 12 of the step table, at which it is about to unlink a marked node, and at the rows of
+-- What a thread knows when it is about to unlink a marked node (row 12 of the step table), and what it knows in a
 -- `ceiling`.
 what_stands : {q t : ℕ} {vs : ℕ → View} {first now : ℕ} {v : View} {done : Bool} {l : Local} → At q t vs first now v done l
     → Stands v t l
@@ -100,7 +100,7 @@ left size key l = get_or (0 ∷ (2 * size + 6) ∷ (2 * ahead key size (key l.cu
     ∷ (2 * ahead key size (key l.curr) + 8) ∷ 8 ∷ 7 ∷ 6 ∷ 5 ∷ 4 ∷ 3 ∷ 2 ∷ 3 ∷ 2 ∷ (1 + then_again size l.reply)
     ∷ (then_again size l.reply) ∷ []) l.pc (reads_left size key l)
 
--- What the general proofs need to know of LazyList. The walk is valid, which means that validation will succeed, if
+-- What the general proofs need to know about LazyList. The walk is valid, which means that validation will succeed, if
 -- pred is in the chain, curr is the next node, and neither is marked when both are locked. After its decision, a thread
 -- that releases its locks has a reply. While a `ceiling` walks, no node of the chain is marked.
 abbrev pub shape : Shape
@@ -143,7 +143,7 @@ module _ {sz : Sizes} {ws : List ℕ} {used : ℕ → ℕ} {t : ℕ} {vs : ℕ �
   user : (a : ℕ) → node_key ws a < target l.call → a ≢ 1
   user a lt = inner true sz ws used h.memory a (target l.call) lt h.registers.low
 
-  -- The number of nodes with greater keys is smaller for curr than for pred.
+  -- Moving from pred to curr decreases the number of nodes with greater keys.
   curr_less : Found V (target l.call) l.pred l.curr l.ckey → rest size ws l.curr < rest size ws l.pred
   curr_less f =
       let below : node_key ws l.pred < target l.call = f.spot.below in

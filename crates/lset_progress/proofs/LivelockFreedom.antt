@@ -1,6 +1,6 @@
--- Proof that a list with locks is free from livelock. Only a call that has decided writes a word other than a lock, and
--- at most 5 of its steps remain then. Between two such writes, each thread makes at most as many steps as a call that
--- runs alone. A potential, computed from both numbers, decreases with each counted step.
+-- Proof that a list with locks is free from livelock. Only a call that has decided what to do writes a word other than
+-- a lock, and at most 5 of its steps remain then. Between two such writes, each thread makes at most as many steps as a
+-- call that runs alone. A potential, computed from both numbers, decreases with each counted step.
 use Rattle.std.specs.Prelude.{◌≡◌, ◌≢◌, ℕ, ◌+◌, ◌*◌, ◌%◌, ◌<◌, ◌≤◌, ◌⊎◌, List, if◌then◌else◌, ◌==◌, nat_lt, true, false, refl}
 use Rattle.std.specs.Prelude.{slice_index, slice_set}
 use Rattle.std.proofs.Common.{arith, inl, inr, sym, ◌∙◌, ap, subst, suc}
@@ -30,9 +30,9 @@ is_lock_test x (inr (i, e)) =
     if_other x 0 (omega arith) true (if nat_lt x 5 then false else if x % 3 == 2 then true else false)
     ∙ if_not_below x 5 (omega arith) false (if x % 3 == 2 then true else false) ∙ if_same (x % 3) 2 (omega arith) true false
 
--- What the proof of a list has to show of the calls whose steps are counted: they include every call that holds a lock
--- or changes the list; all other calls only read. If a counted step is no failed attempt to take a lock, the words are
--- as this step needs them (`calm`).
+-- What the proof of a list must show about the calls whose steps are counted: they include every call that holds a lock
+-- or changes the list; all other calls only read. If a counted step is not a failed attempt to take a lock, the words
+-- are as this step needs them (`calm`).
 pub record Counts (T : Table) (S : Shape) (calls : Call → ℕ) : Type 0 where
   pub one_or_none : (c : Call) → (calls c ≡ 0) ⊎ (calls c ≡ 1)
   pub late : (op : Opening) (last k t : ℕ) (es : ℕ → Event) → Run T op es last → k ≤ last → t < op.threads
@@ -49,16 +49,17 @@ pub record Counts (T : Table) (S : Shape) (calls : Call → ℕ) : Type 0 where
 
 module _ (T : Table) (law : Lawful T) (S : Shape) (most : Sizes → ℕ) (shows : Shows T S most) (calls : Call → ℕ)
     (counts : Counts T S calls) where
-  -- States that m steps are enough for a thread: those that remain of its counted call or, if the thread has no such
-  -- call, the maximum of a whole call.
+  -- States that m steps are enough for a thread: for the rest of its counted call or, if the thread has no such call,
+  -- for the longest possible call.
   abbrev Fits : Sizes → List ℕ → ℕ → Local → Type 0
   Fits sz ws m l = (most sz ≤ m) ⊎ ((l.pc ≢ 0) × (calls l.call ≡ 1) × Timed S (node_count sz) ws m l)
 
-  -- States that m is enough for the steps that the thread can make after its decision: 5, or those that remain.
+  -- States that m steps are enough for what the thread does after its decision: 5 steps, or the remaining ones if it
+  -- has decided.
   abbrev Owes : ℕ → Local → Type 0
   Owes m l = (5 ≤ m) ⊎ LateBy S m l
 
-  -- Returns how much one write can add to the numbers of steps that are enough for all threads.
+  -- Returns by how much one write can increase the total number of steps that the threads need.
   abbrev price : Sizes → ℕ
   price sz = sz.threads * most sz
 
@@ -81,7 +82,7 @@ module _ (T : Table) (law : Lawful T) (S : Shape) (most : Sizes → ℕ) (shows 
     within = f.within;
   }
 
-  -- The begin of a call does not increase the potential.
+  -- The start of a call does not increase the potential.
   begins : (sz : Sizes) (s : State) (t : ℕ) (c : Call) → Enabled s (Begin t c) → (p : ℕ) → Phase sz s p
       → Phase sz (after T s (Begin t c)) p
   begins sz s t c en p f = same_phase sz s (after T s (Begin t c)) p f (λ u un. elim (same_or_not u t) [
@@ -94,7 +95,8 @@ module _ (T : Table) (law : Lawful T) (S : Shape) (most : Sizes → ℕ) (shows 
         (sym (put_other s t u (T.begin c (local_of s t)) y)) (f.times u un, f.owes u un)
   ])
 
-  -- A counted step decreases the potential by one, unless it ends its call. No other step increases the potential.
+  -- A counted step (not a failed attempt to take a lock) decreases the potential by one, unless it ends its call. No
+  -- other step increases the potential.
   module _ (op : Opening) (last k : ℕ) (es : ℕ → Event) (r : Run T op es last) (below : k < last) (t : ℕ) (ee : es k ≡ Go t)
       (en : Enabled (state_at T op es k) (Go t)) (p : ℕ) (f : Phase (sizes op) (state_at T op es k) p) where
     abbrev s : State
@@ -211,7 +213,8 @@ module _ (T : Table) (law : Lawful T) (S : Shape) (most : Sizes → ℕ) (shows 
       -- The case of a counted step, with n more steps that are enough for the call.
       module _ (one : calls L.call ≡ 1) (n : ℕ) (is : f.time t ≡ suc n)
           (time : Timed S (node_count (sizes op)) s.words (suc n) L) where
-        -- Returns the numbers of steps that are enough after a write: n for thread t, and the maximum for all others.
+        -- Returns, for each thread, a number of steps that is enough after a write: n for thread t, and the maximum for
+        -- all others.
         abbrev again : ℕ → ℕ
         again = put (λ u. most (sizes op)) t n
 
@@ -389,7 +392,7 @@ module _ (T : Table) (law : Lawful T) (S : Shape) (most : Sizes → ℕ) (shows 
       (λ j p l f. one_event op (k + n) es r j p l f (es j) refl (r.enabled j l)) (none_left op (k + n) es r (some (sizes op)))
       n k (lock_window most (sizes op)) (omega arith) (starts op (k + n) es r k) h
 
--- If no step needs anything of the words (`calm`), the steps of all calls can be counted.
+-- If no step requires anything of the words (`calm`), the steps of all calls can be counted.
 pub each_counts : (T : Table) (S : Shape) → ((ws : List ℕ) (l : Local) → S.calm ws l) → Counts T S (λ call. 1)
 each_counts T S calm = record {
   one_or_none = λ call. inr refl;

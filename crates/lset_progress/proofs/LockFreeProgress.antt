@@ -1,5 +1,5 @@
--- Progress of LockFreeList: what each row does to the number of steps that remain. It follows that calls end alone, in
--- whatever state the other threads are.
+-- Progress of LockFreeList: what each row does to the number of steps that remain. It follows that a call ends if it
+-- runs alone, whatever state the other threads are in.
 use Rattle.std.specs.Prelude.{◌≡◌, ◌≢◌, ℕ, ◌+◌, ◌*◌, ◌/◌, ◌%◌, ◌<◌, ◌≤◌, ◌⊎◌, Bool, true, Some, None, List, [], ◌∷◌, refl}
 use Rattle.std.specs.Prelude.{if◌then◌else◌, ◌==◌, nat_lt, slice_index, slice_set}
 use Rattle.std.proofs.Common.{arith, get_or, inl, inr, sym, ◌∙◌, ap, subst, suc}
@@ -88,8 +88,8 @@ at_pred link l row follows =
       along = λ h. absurd (omega arith);
     }
 
--- What the general proofs need to know of LockFreeList. No thread holds a lock. While a `ceiling` walks, no node of the
--- chain is marked.
+-- What the general proofs need to know about LockFreeList. No thread holds a lock. While a `ceiling` walks, no node of
+-- the chain is marked.
 abbrev pub shape : Shape
 shape = record {
   may = λ l x. ⊥;

@@ -57,7 +57,7 @@ keys_on key (unlinks pred curr q) h a p = let p' = q.published_from a p in h a p
 not_both : {done : Bool} → done ≡ true → done ≡ false → ⊥
 not_both y n = let z : true ≡ false = sym y ∙ n in cc
 
--- What a thread knows of its call, with the rows of the step table that do the same taken together.
+-- What a thread knows about its call. Rows of the step table that do the same are combined.
 pub data Place (v : View) (done : Bool) (l : Local) : Type 0 where
   idle : l.pc ≡ 0 → Place v done l
   begins : l.pc ≡ 1 → done ≡ false → Place v done l

@@ -39,7 +39,7 @@ abbrev Fits : Bool → Sizes → (ℕ → ℕ) → List ℕ → ℕ → Local �
 Fits reads sz key ws m l = (lock_free_steps sz ≤ m)
     ⊎ ((l.pc ≢ 0) × (counted reads l.call ≡ 1) × Timed (node_count sz) key ws m l)
 
--- Returns how much one successful exchange can add to the numbers of steps that are enough for all threads.
+-- Returns by how much one successful exchange can increase the total number of steps that the threads need.
 abbrev price : Sizes → ℕ
 price sz = sz.threads * round (node_count sz)
 
@@ -103,7 +103,7 @@ fits_later reads sz key ws ws' m l (inr f) = inr (
   ],
 )
 
--- The begin of a call does not increase the potential.
+-- The start of a call does not increase the potential.
 module _ (reads : Bool) (op : Opening) (last k : ℕ) (es : ℕ → Event) (r : Run lock_free op es last) (upto : k ≤ last) (t : ℕ)
     (c : Call)
     (en : Enabled (state_at lock_free op es k) (Begin t c)) (p : ℕ)
@@ -180,7 +180,7 @@ module _ (reads : Bool) (op : Opening) (last k : ℕ) (es : ℕ → Event) (r : 
   abbrev EndsNow : Type 0
   EndsNow = Answers lock_free S t × (counted reads (local_of S t).call ≡ 1)
 
-  -- A number of steps that is enough for thread t after its step: less than before by one, if the step is counted.
+  -- A number of steps that is enough for thread t after its step: one less than before, if the step is counted.
   record Own : Type 0 where
     left_now : ℕ
     less : left_now + counted reads (local_of S t).call ≤ f.time t
@@ -260,7 +260,7 @@ module _ (reads : Bool) (op : Opening) (last k : ℕ) (es : ℕ → Event) (r : 
     disturbed : (u : ℕ) → u < op.threads → u ≢ t → Fits reads (sizes op) f.key S'.words (f.time u + round size) (local_of S u)
     disturbed u un d = fits_later reads (sizes op) f.key S.words S'.words (f.time u) (local_of S u) (f.times u un)
 
-    -- The potential after the step, from the numbers of nodes that can still be marked and unlinked.
+    -- How the potential after the step follows from how many nodes can still be marked and unlinked.
     later : (more : ℕ) (mark leave : ℕ → ℕ)
         → price (sizes op) * (total leave size + total mark op.threads) + total (time_then more) op.threads
         + counted reads (local_of S t).call ≤ p
@@ -295,7 +295,7 @@ module _ (reads : Bool) (op : Opening) (last k : ℕ) (es : ℕ → Event) (r : 
         markers_then
         (λ a an ia. f.nodes a an (quiet_keeps W V (quiet-ordered V W i.memory.ordered q) (quiet_back V W q) a ia))
 
-    -- A successful exchange pays for the additional walks: one thread less can mark a node, or one node less can be
+    -- A successful exchange pays for the additional walks: one thread fewer can mark a node, or one node fewer can be
     -- unlinked.
     disturbs : (mark leave : ℕ → ℕ) → total leave size + total mark op.threads + 1 ≤ total f.may_leave size + total f.may_mark
         op.threads

@@ -51,9 +51,9 @@ left size key l = slice_index (0 ∷ (4 * size + 3) ∷ (2 * ahead key size (key
     ∷ (2 * ahead key size (key l.node) + 5) ∷ (2 * ahead key size (key l.node) + 6) ∷ 5 ∷ 4 ∷ 3 ∷ 2 ∷ 3 ∷ 2
     ∷ (1 + then_again size l.reply) ∷ (then_again size l.reply) ∷ []) l.pc
 
--- What the general proofs need to know of OptimisticList. The walk is valid, which means that validation will succeed,
--- if pred is in the chain, curr is the next node, and the second walk will reach pred. After its decision, a thread
--- that releases its locks has a reply.
+-- What the general proofs need to know about OptimisticList. The walk is valid, which means that validation will
+-- succeed, if pred is in the chain, curr is the next node, and the second walk will reach pred. After its decision, a
+-- thread that releases its locks has a reply.
 abbrev shape : Shape
 shape = record {
   may = NodeLocks (within 5 14) (within 6 15);
@@ -87,7 +87,7 @@ module _ {sz : Sizes} {ws : List ℕ} {used : ℕ → ℕ} {t : ℕ} {vs : ℕ �
   even : (a : ℕ) → V.published a → node_link ws a ≡ 2 * (node_link ws a / 2)
   even a p = let z : node_link ws a % 2 ≡ 0 = h.memory.marked a p in omega arith
 
-  -- The number of nodes with greater keys is smaller for curr than for pred.
+  -- Moving from pred to curr decreases the number of nodes with greater keys.
   curr_less : Found V (target l.call) l.pred l.curr l.ckey → rest size ws l.curr < rest size ws l.pred
   curr_less f =
       let below : node_key ws l.pred < target l.call = f.spot.below in

@@ -3,7 +3,7 @@ use Rattle.std.specs.Prelude.{◌≡◌, ◌≢◌, ℕ, ◌/◌, ◌<◌, ◌�
 use Rattle.std.proofs.Common.{arith, sym, ap, subst, refl}
 use Rattle.lset_steps.specs.Chain.{View, Segment, InChain, IsOrdered}
 
--- States that the links lead from node i over exactly the nodes ns, none of them the tail, to node j.
+-- States that the links lead from node i through exactly the nodes ns, none of them the tail, to node j.
 abbrev pub Leads : (ℕ → ℕ) → ℕ → List ℕ → ℕ → Type 0
 Leads link i [] j = i ≡ j
 Leads link i (a ∷ ns) j = (i ≢ 1) × Leads link (link i / 2) ns j

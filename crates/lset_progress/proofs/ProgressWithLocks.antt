@@ -1,5 +1,5 @@
--- The laws of progress of a list with locks, from what each of its rows does: calls end alone, and some thread can
--- always make a step that is not a failed attempt to take a lock.
+-- The laws of progress of a list with locks, from what each of its rows does: a call ends if it runs alone, and some
+-- thread can always make a step that is not a failed attempt to take a lock.
 use Rattle.std.specs.Prelude.{◌≡◌, ◌≢◌, ℕ, ◌+◌, ◌<◌, ◌≤◌, ◌⊎◌, List, slice_index, length, Some, refl}
 use Rattle.std.proofs.Common.{arith, inl, inr, sym, ◌∙◌, ap, subst, zero, suc}
 use Rattle.lset_words.proofs.Numbers.{same_or_not}
@@ -38,7 +38,7 @@ abbrev expected : Action → ℕ → ℕ
 expected (Exchange x old new) other = old
 expected a other = other
 
--- States that the action is no attempt to take a lock, or that the lock is free.
+-- States that the action is not an attempt to take a lock, or that the lock is free.
 abbrev pub IsFree : List ℕ → Action → Type 0
 IsFree ws (Load w) = Unit {0}
 IsFree ws (Store w v) = Unit {0}
@@ -84,7 +84,7 @@ module _ (S : Shape) (T : Table) (sz : Sizes) (ws : List ℕ) (t : ℕ) (l : Loc
   late_or_keeps (Store w v) (inr y) = inr (stay ws w v y.0)
   late_or_keeps (Exchange w from to) row = inr (tried ws w from to row.is_lock)
 
-  -- States that the step ends the call, or that the call continues with fewer steps to make.
+  -- States that the step ends the call, or that the call continues with fewer steps remaining.
   abbrev Comes : List ℕ → Fed → Type 0
   Comes ws' f = ((r : Reply) × (f.answer ≡ Some r)) ⊎ Goes S size (node_key ws) ws l (node_key ws') ws' f.local
 
@@ -218,8 +218,8 @@ module _ (T : Table) (law : Lawful T) (S : Shape) (most : Sizes → ℕ) (shows 
     abbrev SomeMeant : Type 0
     SomeMeant = (u : ℕ) × (u < op.threads) × Meant u × GetsOn T now u
 
-    -- If the holder of the lock that a thread waits for waits as well, it waits for the lock of a node that is later in
-    -- the list. By induction, some holder does not wait.
+    -- If a thread waits for a lock whose holder waits too, the holder waits for the lock of a later node in the list.
+    -- By induction, some holder does not wait.
     climbs : (n u w : ℕ) → Waits u w → rank_of w < n → SomeMeant
     climbs zero u w y less = absurd (omega arith)
     climbs (suc n) u w y less =

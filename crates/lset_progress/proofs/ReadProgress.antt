@@ -27,7 +27,7 @@ use Rattle.lset_progress.proofs.Standing.{Standing}
 abbrev pub Plain : List ℕ → Type 0
 Plain ws = (b : ℕ) → Path (node_link ws) 0 b → node_link ws b % 2 ≡ 0
 
--- Returns how many steps of a `contains` or a `ceiling` remain after the next one, by its row.
+-- Returns how many steps of a `contains` or a `ceiling` remain after the next one, depending on its row.
 abbrev pub reads_left : ℕ → (ℕ → ℕ) → Local → ℕ
 reads_left size key l =
     if l.pc == 20 then 2 * ahead key size (key l.curr)
@@ -40,11 +40,11 @@ reads_left size key l =
 abbrev pub Along : (ℕ → ℕ) → Local → Type 0
 Along link l = When (nat_lt 22 l.pc) (Path link 0 l.curr)
 
--- States that n steps are enough: those that remain of a walk in the chain, or of any walk and one more.
+-- States that n steps are enough for the rest of a walk in the chain, or for the rest of any walk and one more walk.
 abbrev pub ReadTimed : ℕ → ℕ → (ℕ → ℕ) → List ℕ → ℕ → Local → Type 0
 ReadTimed round size key ws n l = (Along (node_link ws) l × (reads_left size key l < n)) ⊎ (reads_left size key l + round < n)
 
--- States that a step of a `contains` or a `ceiling` leads to another of their rows, with fewer steps to make.
+-- States that a step of a `contains` or a `ceiling` leads to another of their rows, with fewer steps remaining.
 module _ (round size : ℕ) (key : ℕ → ℕ) (ws : List ℕ) where
   pub record ReadGoes (l l' : Local) : Type 0 where
     pub row : IsReadRow l'.pc

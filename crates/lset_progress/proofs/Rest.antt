@@ -25,7 +25,7 @@ SameKeys key v = (a : ℕ) → v.published a → key a ≡ v.key a
 pub few_by : (size : ℕ) (key : ℕ → ℕ) (a : ℕ) → a < size → rest_by size key a < size
 few_by size key a h = ahead_few key size (key a) a h (omega arith)
 
--- Fewer nodes have greater keys than a node's next node than have greater keys than the node itself.
+-- Moving from a node to the next node decreases the number of nodes with greater keys.
 module _ (marks : Bool) (sz : Sizes) (ws : List ℕ) (used : ℕ → ℕ) (m : Memory marks sz ws used) where
   abbrev V : View
   V = view sz ws used

@@ -1,5 +1,5 @@
--- What the proof of a list with locks has to show of each row: which locks the thread holds after the row, and how many
--- steps of its call remain. The laws of progress follow from this (see ProgressWithLocks).
+-- What the proof of a list with locks must show about each row: which locks the thread holds after the row, and how
+-- many steps of its call remain. The laws of progress follow from this (see ProgressWithLocks).
 use Rattle.std.specs.Prelude.{◌≡◌, ◌≢◌, ℕ, ◌+◌, ◌-◌, ◌/◌, ◌<◌, ◌≤◌, ◌⊎◌, ◌&&◌, nat_le, nat_lt, Bool, true, false, MatchBool}
 use Rattle.std.specs.Prelude.{Some, None, List, slice_index, slice_set}
 use Rattle.std.proofs.Common.{arith, inl, inr, subst, sym, ap, suc, refl}
@@ -69,8 +69,8 @@ pub after_pred : {A : Type 0} (size : ℕ) (ws : List ℕ) (curr pred x : ℕ) �
 after_pred size ws curr pred x less (inl p) = ranked size ws curr pred x p.0 less
 after_pred size ws curr pred x less (inr c) = absurd c.1
 
--- What the general proofs need to know of a list. `may`: the locks that a thread can hold. `late`: the call has
--- decided, and takes no more locks. `calm`: what the thread's next step needs of the words. `valid`: the walk will
+-- What the general proofs need to know about a list. `may`: the locks that a thread can hold. `late`: the call has
+-- decided, and takes no more locks. `calm`: what the thread's next step requires of the words. `valid`: the walk will
 -- succeed, in terms of the links. `left`: how many steps of such a walk remain after the next one, from the number of
 -- nodes and their keys. `round`: the steps of one more walk.
 pub record Shape : Type 1 where
@@ -89,8 +89,8 @@ abbrev pub Any : ℕ → Type 0
 Any x = Unit {0}
 
 module _ (S : Shape) (size : ℕ) where
-  -- States that the call ends within n steps: those that remain of a walk that will succeed, or of any walk and one
-  -- more.
+  -- States that the call ends within n steps. They are enough for the rest of a walk that will succeed, or for the rest
+  -- of any walk and one more walk.
   abbrev pub TimedBy : (ℕ → ℕ) → (ℕ → ℕ) → ℕ → Local → Type 0
   TimedBy key link n l = (S.valid link l × (S.left size key l < n)) ⊎ (S.left size key l + S.round size < n)
 
@@ -110,8 +110,8 @@ module _ (S : Shape) (size : ℕ) where
   no_time key link l (inl v) = let h : S.left size key l < 0 = v.1 in omega arith
   no_time key link l (inr h) = omega arith
 
-  -- States what a step does that does not end its call, from l and ws to l' and ws'. A walk that will succeed still
-  -- does, and any other walk starts again.
+  -- States what a step that does not end its call does. The step leads from l and ws to l' and ws'. A walk that would
+  -- succeed before the step still does, and any other walk starts again.
   pub record Goes (key : ℕ → ℕ) (ws : List ℕ) (l : Local) (key' : ℕ → ℕ) (ws' : List ℕ) (l' : Local) : Type 0 where
     pub busy : l'.pc ≢ 0
     pub late : S.late l → LateBy S (S.left 0 (λ a. 0) l) l'
@@ -207,7 +207,7 @@ module _ {S : Shape} {size : ℕ} {key : ℕ → ℕ} {ws : List ℕ} {l : Local
 pub unlocks : {A B C : Type 0} → B → C → A ⊎ (B × C)
 unlocks is_lock stores = inr (is_lock, stores)
 
--- What the proof of a list has to show of one row: the number of steps that remain, and what the step does.
+-- What the proof of a list must show about one row: the number of steps that remain, and what the step does.
 pub record RowOf (S : Shape) (size : ℕ) (T : Table) (sz : Sizes) (ws : List ℕ) (t most : ℕ) (l : Local) : Type 0 where
   pub time : Timed S size ws most l
   pub by : RowBy S size T sz ws t l (T.next l)

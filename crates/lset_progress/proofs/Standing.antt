@@ -1,4 +1,4 @@
--- What a thread with a pending call knows at a moment of a run. The proofs of the rows begin with this.
+-- What a thread with a pending call knows at a moment of a run. The proofs of the rows start from these facts.
 use Rattle.std.specs.Prelude.{◌≡◌, ◌≢◌, ℕ, ◌%◌, ◌<◌, ◌≤◌, Bool, List}
 use Rattle.lset_words.specs.Log.{begun_at, has_changed}
 use Rattle.lset_words.specs.Words.{Sizes, Opening, sizes}

@@ -1,4 +1,4 @@
--- Sums of a number for each thread or node below n.
+-- Sums over all threads, or over all nodes below n.
 use Rattle.std.specs.Prelude.{◌≡◌, ◌≢◌, ℕ, ◌+◌, ◌*◌, ◌<◌, ◌≤◌, ◌==◌, if◌then◌else◌, refl}
 use Rattle.std.proofs.Common.{arith, inl, inr, ap, zero, suc}
 use Rattle.lset_words.proofs.Numbers.{same_or_not, if_same, if_other}
@@ -26,7 +26,7 @@ total_most b c (suc n) d h =
     let m : suc n * d ≡ d + n * d = grind arith in
     omega arith
 
--- The sum after a step that decreases one number by x and increases each other by at most d.
+-- Bounds the sum after a step that decreases one number by at least x and increases every other by at most d.
 pub total_step : (b c : ℕ → ℕ) (n u d x : ℕ) → u < n → c u + x ≤ b u → ((v : ℕ) → v < n → v ≢ u → c v ≤ b v + d)
     → total c n + x ≤ total b n + n * d
 total_step b c zero u d x l e h = absurd (omega arith)
@@ -42,7 +42,7 @@ total_step b c (suc n) u d x l e h =
           omega arith)
     ]
 
--- The sum after a step that decreases one number by 1 and changes no other.
+-- The sum decreases by at least 1 if a step decreases one number by at least 1 and changes no other.
 pub total_less : (b c : ℕ → ℕ) (n u : ℕ) → u < n → c u + 1 ≤ b u → ((v : ℕ) → v ≢ u → c v ≡ b v) → total c n + 1 ≤ total b n
 total_less b c n u l e h =
     let x : total c n + 1 ≤ total b n + n * 0 =

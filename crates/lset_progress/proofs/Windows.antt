@@ -31,8 +31,8 @@ ends_later {k = k} {n = n} e = record {
 }
 
 module _ (T : Table) (count : State → Event → ℕ) (op : Opening) (es : ℕ → Event) (Phase : State → ℕ → Type 0) where
-  -- States that event e is a counted step that ends its call, or leads to a potential that is smaller by what the event
-  -- counts.
+  -- States that event e is a counted step that ends its call, or that the potential decreases by at least what e counts
+  -- (1 for a counted step, else 0).
   abbrev pub Then : ℕ → ℕ → Event → Type 0
   Then k p e = ((t : ℕ) × (e ≡ Go t) × Answers T (state_at T op es k) t × (count (state_at T op es k) e ≡ 1))
       ⊎ ((p' : ℕ) × (p' + count (state_at T op es k) e ≤ p) × Phase (after T (state_at T op es k) e) p')

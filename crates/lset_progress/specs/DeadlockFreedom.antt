@@ -28,9 +28,9 @@ abbrev pub moves : (Call → ℕ) → Table → State → Event → ℕ
 moves calls T s (Begin t call) = 0
 moves calls T s (Go t) = unless_failed s.words (T.next (local_of s t)) (calls (local_of s t).call)
 
--- [Livelock freedom]: states that among any `most` successive counted steps, one ends its call, whichever threads make
--- the steps and whatever else happens in between. A step is counted if `calls` is 1 for its call and the step is not a
--- failed attempt to take a lock.
+-- [Livelock freedom]: states that among any `most` successive counted steps, at least one ends its call, whichever
+-- threads make the steps and whatever else happens in between. A step is counted if `calls` is 1 for its call and the
+-- step is not a failed attempt to take a lock.
 abbrev pub IsLivelockFree : (Call → ℕ) → Table → (Sizes → ℕ) → Type 0
 IsLivelockFree calls T most = EndsAmong (moves calls T) T most
 
@@ -50,8 +50,8 @@ IsDeadlockFree calls T = (op : Opening) (k t : ℕ) (es : ℕ → Event) → IsF
     → IsPending (state_at T op es k) t → calls (local_of (state_at T op es k) t).call ≡ 1
     → (n : ℕ) × SomeEnds (moves calls T) T op es k n
 
--- Returns a bound for n threads on the number of counted steps until a call ends. After its decision, a call makes at
--- most 5 steps. Between two such steps of any threads, each thread makes at most `most` steps, as many as a call that
--- runs alone.
+-- Returns a bound for n threads on the number of counted steps until a call ends. After a call has decided what to do,
+-- it makes at most 5 steps. Between two such steps of any threads, each thread makes at most `most` steps, the maximum
+-- for a call that runs alone.
 abbrev pub lock_window : (Sizes → ℕ) → Sizes → ℕ
 lock_window most sz = sz.threads * most sz * (5 * sz.threads + 1)

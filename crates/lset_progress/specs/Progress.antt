@@ -49,7 +49,7 @@ abbrev pub NoMarkInChain : View → Type 0
 NoMarkInChain v = (b : ℕ) → InChain v b → v.link b % 2 ≡ 0
 
 -- [Calls end unhindered]: states, for a list without locks, that a call ends within `most` steps if its thread runs
--- alone, in whatever state the other threads are (obstruction freedom). For a `ceiling`, the chain must not contain a
+-- alone, whatever state the other threads are in (obstruction freedom). For a `ceiling`, the chain must not contain a
 -- marked node: a `ceiling` starts again at a marked node, and does not unlink it.
 abbrev pub CallsEndUnhindered : Table → (Sizes → ℕ) → Type 0
 CallsEndUnhindered T most = (op : Opening) (k t : ℕ) (es : ℕ → Event) → Run T op es k → t < op.threads
@@ -111,14 +111,14 @@ pub record SomeEnds (count : State → Event → ℕ) (T : Table) (op : Opening)
   pub counts : count (state_at T op es at) (es at) ≡ 1
   pub ends : Answers T (state_at T op es at) thread
 
--- States that among any `most` successive counted steps of a run, one ends its call.
+-- States that among any `most` successive counted steps of a run, at least one ends its call.
 abbrev pub EndsAmong : (State → Event → ℕ) → Table → (Sizes → ℕ) → Type 0
 EndsAmong count T most = (op : Opening) (k n : ℕ) (es : ℕ → Event) → Run T op es (k + n)
     → most (sizes op) ≤ steps_among count T op es k n → SomeEnds count T op es k n
 
--- [Lock freedom]: states that among any `most` successive steps of `add` and `remove`, one ends its call, whichever
--- threads make the steps and whatever else happens in between. The same is required of steps of `add`, `remove` and
--- `contains`.
+-- [Lock freedom]: states that among any `most` successive steps of `add` and `remove`, at least one ends its call,
+-- whichever threads make the steps and whatever else happens in between. The same is required of steps of `add`,
+-- `remove` and `contains`.
 abbrev pub IsLockFree : Table → (Sizes → ℕ) → Type 0
 IsLockFree T most = (reads : Bool) → EndsAmong (steps_of reads) T most
 

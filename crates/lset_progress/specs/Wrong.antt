@@ -30,9 +30,9 @@ spinning = record {
   effect = lock_free.effect;
 }
 
--- A broken LockFreeList. An `add` that has decided writes its thread's number into pred's lock word (row 11 of the step
--- table), and continues only if it then reads its own number in this word (row 12). Otherwise it writes the number
--- again.
+-- A broken LockFreeList. An `add` that has decided to add its key writes its thread's number into pred's lock word (row
+-- 11 of the step table), and continues only if it then reads its own number in this word (row 12). Otherwise it writes
+-- the number again.
 abbrev pub claims_first : Fed → Fed
 claims_first f = record { local = if f.local.pc == 5 then record f.local { pc = 11 } else f.local; answer = f.answer }
 
@@ -128,7 +128,8 @@ yielding = record {
   effect = lazy.effect;
 }
 
--- States that the law is false for this machine, whatever number of steps is allowed. Three more laws follow.
+-- States that `CallsEndAlone` is false for this machine, whatever number of steps is allowed. The negations of three
+-- more laws follow.
 abbrev pub NoCallsEndAlone : Table → Type 0
 NoCallsEndAlone T = (most : Sizes → ℕ) → CallsEndAlone T most → ⊥
 

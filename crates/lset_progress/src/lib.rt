@@ -68,8 +68,8 @@ pub fn lazy_calls_end_alone()
     ensures { CallsEndAlone lazy lazy_steps }
 {}
 
-/// Theorem: a call of a LockFreeList that runs alone ends within `4N + 5` steps, in whatever state the other threads
-/// are. For a `ceiling`, the chain must not contain a marked node: a `ceiling` starts again at a marked node, and
+/// Theorem: a call of a LockFreeList that runs alone ends within `4N + 5` steps, whatever state the other threads are
+/// in. For a `ceiling`, the chain must not contain a marked node: a `ceiling` starts again at a marked node, and
 /// unlinks no node. (Obstruction freedom, by Herlihy, Luchangco and Moir; the list is Harris's and Michael's.)
 #[tactic(auto, using(crate::proofs::LockFreeProgress::lock_free_calls_end))]
 pub fn lock_free_calls_end_alone()
@@ -77,9 +77,9 @@ pub fn lock_free_calls_end_alone()
 {}
 
 /// Theorem: among any `n(2N + 2)(N + n) + n(4N + 5)` successive steps of `add` and `remove` by the n threads of a
-/// LockFreeList, one ends its call, whichever threads make the steps and whatever else happens in between. The same is
-/// true of steps of `add`, `remove` and `contains`. (Lock freedom of Harris's and Michael's list, as Herlihy and Shavit
-/// define it.)
+/// LockFreeList, at least one ends its call, whichever threads make the steps and whatever else happens in between. The
+/// same is true of steps of `add`, `remove` and `contains`. (Lock freedom of Harris's and Michael's list, as Herlihy
+/// and Shavit define it.)
 #[tactic(auto, using(crate::proofs::LockFreedom::lock_free_is_lock_free))]
 pub fn lock_free_list_is_lock_free()
     ensures { IsLockFree lock_free lock_free_window }
@@ -99,8 +99,8 @@ pub fn some_coarse_call_gets_on()
     ensures { SomeThreadGetsOn coarse }
 {}
 
-/// Theorem: among any `n(2N + 3)(5n + 1)` successive steps by the n threads of a CoarseList, if failed attempts to take
-/// the lock are not counted, one ends its call. (Freedom from livelock.)
+/// Theorem: among any `n(2N + 3)(5n + 1)` successive steps by the n threads of a CoarseList, not counting failed
+/// attempts to take the lock, at least one ends its call. (Freedom from livelock.)
 #[tactic(auto, using(crate::proofs::CoarseProgress::coarse_livelock_free))]
 pub fn coarse_list_is_livelock_free()
     ensures { IsLivelockFree each_call coarse (lock_window coarse_steps) }
@@ -120,8 +120,8 @@ pub fn some_fine_call_gets_on()
     ensures { SomeThreadGetsOn fine }
 {}
 
-/// Theorem: among any `n(4N + 3)(5n + 1)` successive steps by the n threads of a FineList, if failed attempts to take a
-/// lock are not counted, one ends its call. (Freedom from livelock.)
+/// Theorem: among any `n(4N + 3)(5n + 1)` successive steps by the n threads of a FineList, not counting failed attempts
+/// to take a lock, at least one ends its call. (Freedom from livelock.)
 #[tactic(auto, using(crate::proofs::FineProgress::fine_livelock_free))]
 pub fn fine_list_is_livelock_free()
     ensures { IsLivelockFree each_call fine (lock_window fine_steps) }
@@ -141,8 +141,8 @@ pub fn some_optimistic_call_gets_on()
     ensures { SomeThreadGetsOn optimistic }
 {}
 
-/// Theorem: among any `n(8N + 9)(5n + 1)` successive steps by the n threads of an OptimisticList, if failed attempts to
-/// take a lock are not counted, one ends its call. (Freedom from livelock.)
+/// Theorem: among any `n(8N + 9)(5n + 1)` successive steps by the n threads of an OptimisticList, not counting failed
+/// attempts to take a lock, at least one ends its call. (Freedom from livelock.)
 #[tactic(auto, using(crate::proofs::OptimisticProgress::optimistic_livelock_free))]
 pub fn optimistic_list_is_livelock_free()
     ensures { IsLivelockFree each_call optimistic (lock_window optimistic_steps) }
@@ -162,8 +162,8 @@ pub fn some_lazy_call_gets_on()
     ensures { SomeThreadGetsOn lazy }
 {}
 
-/// Theorem: among any `n(4N + 15)(5n + 1)` successive steps of `add` and `remove` by the n threads of a LazyList, if
-/// failed attempts to take a lock are not counted, one ends its call, whatever else happens in between. The same is
+/// Theorem: among any `n(4N + 15)(5n + 1)` successive steps of `add` and `remove` by the n threads of a LazyList, not
+/// counting failed attempts to take a lock, at least one ends its call, whatever else happens in between. The same is
 /// true of steps of `add`, `remove` and `contains`. (Freedom from livelock.)
 pub fn lazy_list_is_livelock_free()
     ensures { (reads : Bool) → IsLivelockFree (counted reads) lazy (lock_window lazy_steps) }
@@ -179,45 +179,45 @@ pub fn lazy_list_is_deadlock_free()
     ensures counted { (reads : Bool) → IsDeadlockFree (counted reads) lazy }
 {}
 
-/// Lemma: the law of `lock_free_calls_end_alone` is false for a broken LockFreeList. After a failed attempt to unlink a
-/// marked node, its walk repeats the attempt instead of starting again from the head.
+/// Lemma: the theorem `lock_free_calls_end_alone` does not hold for a broken LockFreeList. After a failed attempt to
+/// unlink a marked node, its walk repeats the attempt instead of starting again from the head.
 #[tactic(auto, using(crate::proofs::WrongMachines::spinning_is_refused))]
 pub fn a_spinning_walk_is_refused()
     ensures { NoCallsEndUnhindered spinning }
 {}
 
-/// Lemma: the law of `lock_free_list_is_lock_free` is false for a broken LockFreeList whose walk repeats a failed
-/// attempt to unlink a marked node. This is so with and without the steps of `contains`.
+/// Lemma: the theorem `lock_free_list_is_lock_free` does not hold for a broken LockFreeList whose walk repeats a failed
+/// attempt to unlink a marked node, whether or not the steps of `contains` are counted.
 #[tactic(auto, using(crate::proofs::WrongMachines::spinning_is_not_lock_free))]
 pub fn a_spinning_walk_is_not_lock_free()
     ensures { NotLockFree spinning }
 {}
 
-/// Lemma: the law of `lock_free_list_is_lock_free` is false for a broken LockFreeList in which two calls of `add` can
-/// hinder each other forever. Before an `add` links its node, it writes its thread's number into the lock word of the
-/// node before, and continues only if it then reads its own number in this word.
+/// Lemma: the theorem `lock_free_list_is_lock_free` does not hold for a broken LockFreeList in which two calls of `add`
+/// can hinder each other forever. Before an `add` links its node, it writes its thread's number into the lock word of
+/// the previous node, and continues only if it then reads its own number in this word.
 #[tactic(auto, using(crate::proofs::Livelock::claiming_is_not_lock_free))]
 pub fn two_that_claim_a_place_are_not_lock_free()
     ensures { NotLockFree claiming }
 {}
 
-/// Lemma: the law of `optimistic_calls_end_alone` is false for a broken OptimisticList that keeps a lock after a failed
-/// validation.
+/// Lemma: the theorem `optimistic_calls_end_alone` does not hold for a broken OptimisticList that keeps a lock after a
+/// failed validation.
 #[tactic(auto, using(crate::proofs::WrongMachines::keeping_is_refused))]
 pub fn a_kept_lock_is_refused()
     ensures { NoCallsEndAlone keeping }
 {}
 
-/// Lemma: the law of `some_lazy_call_gets_on` is false for a broken LazyList whose `remove` takes its two locks in the
-/// opposite order.
+/// Lemma: the theorem `some_lazy_call_gets_on` does not hold for a broken LazyList whose `remove` takes its two locks
+/// in the opposite order.
 #[tactic(auto, using(crate::proofs::WrongMachines::crossed_is_refused))]
 pub fn crossed_locks_are_refused()
     ensures { SomeThreadGetsOn crossed → ⊥ }
 {}
 
-/// Lemma: freedom from livelock and freedom from deadlock are false for a broken LazyList whose `remove` takes its two
-/// locks in the opposite order, and in which a thread that finds its second lock taken releases the first and starts
-/// again. In a fair run, two threads can repeat this forever.
+/// Lemma: a broken LazyList is free neither from livelock nor from deadlock. Its `remove` takes its two locks in the
+/// opposite order, and a thread that finds its second lock taken releases the first and starts again. In a fair run,
+/// two threads can repeat this forever.
 pub fn two_that_yield_are_not_deadlock_free()
     ensures bounded { (reads : Bool) → NotLivelockFree (counted reads) yielding }
     ensures fair { (reads : Bool) → IsDeadlockFree (counted reads) yielding → ⊥ }

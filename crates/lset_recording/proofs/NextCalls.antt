@@ -35,7 +35,7 @@ may_come calls moment pending are latest x before plain follows =
 
 -- ---- Lemmas about the judge of the calls so far
 
--- When the judge has accepted a call, it has advanced to the begin of this call.
+-- After the judge has accepted a call, the judge's moment is the start of this call.
 pub one_more : (opening : List ℕ) (calls : List CallRecord) (x : CallRecord) (s t : Judge) → IsJudgeKept opening calls (Some s)
     → (x.thread < all_threads → IsJudgeOf all_threads opening calls s → IsJudgeOf all_threads opening (calls ++ x ∷ []) t)
     → x.thread < all_threads → moment_of t.stream ≡ x.begun

@@ -181,7 +181,7 @@ whole_line bytes line r is lacks short none =
 
 -- ---- Lemmas about the line of a completed call within a piece
 
--- States that the line has this call, in each section that allows calls.
+-- States that the line is read as this call, in each section that allows calls.
 abbrev pub Tells : List ℕ → StreamCall → Type 0
 Tells line x = (p : Section) → takes_calls p ≡ true → line_told p line ≡ Ok (told.Call x)
 

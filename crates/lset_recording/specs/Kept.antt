@@ -1,4 +1,4 @@
--- What the reader of a recording knows after some bytes of the text, as the invariant of its state.
+-- The invariant of a recording reader's state: what the reader knows after some bytes of the text.
 use Rattle.std.specs.Prelude.{◌≡◌, ◌≢◌, ℕ, ◌+◌, ◌<◌, ◌≤◌, ◌^◌, ◌⊎◌, Bool, true, false, List, [], ◌++◌, length, Option, Some, None, Contains, ◌==◌, not, count_by}
 use Rattle.std.specs.Prelude.{Result, Err}
 use Rattle.std.specs.List.Sorted.{IsStrictlyIncreasing}
@@ -19,12 +19,12 @@ use Rattle.lset_recording.specs.declared.reader.RecordingReader.{RecordingReader
 use Rattle.lset_recording.specs.Texts.{Recording, IsRecording, all_threads}
 use Rattle.lset_recording.specs.Reading.{SoFar, Reads, Says, first_line, is_done, is_title, IsVerdictOnRecording}
 
--- States that the moment is the begin of one of these calls, or 0.
+-- States that the moment is the start of one of these calls, or 0.
 abbrev pub IsLatest : List CallRecord → ℕ → Type 0
 IsLatest calls moment = (moment ≡ 0) ⊎ ((x : CallRecord) × Contains calls x × (moment ≡ x.begun))
 
--- States that the judge has judged exactly these calls, that its moment is the begin of one of them or 0, and that
--- there are at most as many calls as this moment. Before the first call, the reader has no judge.
+-- States that the judge has judged exactly these calls, that the judge's moment is the start of one of them or 0, and
+-- that there are at most as many calls as this moment. Before the first call, the reader has no judge.
 abbrev pub IsJudgeKept : List ℕ → List CallRecord → Option Judge → Type 0
 IsJudgeKept opening calls None = calls ≡ []
 IsJudgeKept opening calls (Some j) =
@@ -55,7 +55,7 @@ pub record IsKept (c : Recording) (j : Judging) : Type 0 where
   pub left : AreKeys c.keys
   pub cut_off : j.cut_off ≡ c.cut_off
 
--- States that the reader has no judge yet, if its section is one before the calls.
+-- States that the reader has no judge yet, if it is in a section before the calls.
 abbrev pub IsFirst : Section → Option Judge → Type 0
 IsFirst part.Title judge = judge ≡ None
 IsFirst part.Opening judge = judge ≡ None
@@ -71,7 +71,8 @@ pub record IsJudging (s : SoFar) (j : Judging) : Type 0 where
   pub first : IsFirst s.section j.judge
   pub number : j.number ≡ first_line + lines_of s
 
--- States that the reader has stored the bytes of the line that has no newline yet, or has noted that they are too many.
+-- States that the reader has stored the bytes of the line that has no newline yet, or has noted that there are too
+-- many.
 abbrev pub IsHeld : List ℕ → List ℕ → Bool → Type 0
 IsHeld held kept false = held ≡ kept
 IsHeld held kept true = LONGEST_LINE < length held
@@ -102,7 +103,7 @@ IsLineOf bytes piece line = (first_line + newlines bytes ≤ line) × (line < fi
 abbrev pub HasFailed : RecordingReader → LineFault → Type 0
 HasFailed r e = r.failed ≡ Some e
 
--- States that every text that begins with these bytes has this error. Nothing is stated of a failed allocation.
+-- States that every text that begins with these bytes has this error. Nothing is stated about a failed allocation.
 abbrev pub IsRefusedAt : List ℕ → LineFault → Type 0
 IsRefusedAt bytes e = e.cause ≢ wrong.Memory → (more : List ℕ) → Says (bytes ++ more) (Err e)
 

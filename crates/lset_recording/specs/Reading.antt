@@ -43,7 +43,7 @@ moment = piece.number 1 LAST_MOMENT
 abbrev pub none : Piece
 none = piece.word dash
 
--- Returns the value of a line that has a call: `t` has the thread, name, key and begin of the call, `end` its end.
+-- Returns the value of a call's line: `t` has the thread, name, key and start of the call, `end` its end.
 abbrev pub call_told : {X : Type 0} → ℕ × (CallWord × (ℕ × (ℕ × X))) → Option (ℕ × Reply) → RecordingLine
 call_told t end = told.Call (record {
   thread = t.0;
@@ -52,7 +52,7 @@ call_told t end = told.Call (record {
   ended = end;
 })
 
--- Returns the form of a line that has a call. `end` is the form of the last fields, for the call's end and reply.
+-- Returns the form of a call's line. `end` is the form of the last fields, for the call's end and reply.
 abbrev pub call_form : Form → Form
 call_form end = piece.word (codes "call") ∷ piece.any ∷ piece.call ∷ piece.any ∷ moment ∷ end
 
@@ -75,7 +75,7 @@ end_kind = (piece.word (codes "end") ∷ [], λ t. told.End)
 abbrev pub cut_kind : LineKind RecordingLine
 cut_kind = (piece.word (codes "cut") ∷ [], λ t. told.Cut)
 
--- The kinds of lines that can still come when the final keys have begun (`from_keys`) and when the calls have begun
+-- The kinds of lines that can still come once the reader has reached the final keys (`from_keys`) or the calls
 -- (`from_calls`). Sections have a fixed order, and each can be empty. A recording that was cut off has no final keys.
 abbrev pub from_keys : List (LineKind RecordingLine)
 from_keys = key_kind ∷ end_kind ∷ []
@@ -135,7 +135,7 @@ with_line c (told.Key k) = record c { keys = c.keys ++ k ∷ [] }
 with_line c told.End = c
 with_line c told.Cut = record c { cut_off = true }
 
--- What the reader knows after some lines: the section that it is in, and the recording up to here.
+-- What the reader knows after some lines: the section that it is in, and the recording so far.
 pub record SoFar : Type 0 where
   pub section : Section
   pub told : Recording
@@ -149,8 +149,8 @@ nothing_told = record {
   told = record { opening = []; calls = []; keys = []; cut_off = false };
 }
 
--- States that a line agrees with the recording so far: keys must increase, and the calls must form a history, in the
--- order in which they began.
+-- States that a line agrees with the recording so far: keys must increase, and the calls must form a history, ordered
+-- by start.
 abbrev pub GoesOn : Recording → RecordingLine → Type 0
 GoesOn c told.Title = Unit {0}
 GoesOn c (told.Opening k) = is_above c.opening k ≡ true
@@ -164,7 +164,7 @@ abbrev pub cause_of : RecordingLine → Cause
 cause_of (told.Call x) = wrong.History
 cause_of l = wrong.Opening
 
--- States that a line's numbers are in range, and that its call, if completed, is no `ceiling` and returned true or
+-- States that a line's numbers are in range, and that its call, if completed, is not a `ceiling` and returned true or
 -- false.
 abbrev pub IsFormed : RecordingLine → Type 0
 IsFormed told.Title = Unit {0}

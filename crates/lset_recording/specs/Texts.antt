@@ -1,4 +1,4 @@
--- [Recording] and its text: the calls that threads made to a set, in the order in which they began.
+-- [Recording] and its text: the calls that threads made to a set, ordered by start.
 use Rattle.std.specs.Prelude.{ℕ, ◌^◌, Bool, if◌then◌else◌, List, [], ◌∷◌, ◌++◌, map, codes, Option, Some, None, All}
 use Rattle.std.specs.Fmt.{decimal}
 use Rattle.std.specs.List.Sorted.{IsStrictlyIncreasing}
@@ -14,7 +14,7 @@ use Rattle.lset_judge.specs.Verdict.{IsPlain}
 use Rattle.lset_judge.specs.Stream.{IsBefore}
 
 pub record Recording : Type 0 where
-  -- The opening keys. The calls follow, then the keys of the set after all calls.
+  -- The opening keys. The next fields are the calls, and the keys of the set after all calls.
   pub opening : List ℕ
   pub calls : List CallRecord
   pub keys : List ℕ
@@ -26,7 +26,7 @@ abbrev pub all_threads : ℕ
 all_threads = 2 ^ 32
 
 -- States what a recording must satisfy: the opening keys and the final keys increase strictly, the calls are a history
--- with moments below 2^63, and each completed call is no `ceiling` and returned true or false.
+-- with moments below 2^63, no completed call is a `ceiling`, and each completed call returned true or false.
 pub record IsRecording (c : Recording) : Type 0 where
   pub opening : IsStrictlyIncreasing c.opening
   pub calls : IsHistory all_threads c.calls

@@ -15,7 +15,7 @@ pub(crate) struct Judging {
     pub(crate) calls: u64,
     pub(crate) keys: Vec<u32>,
     pub(crate) cut_off: bool,
-    // The number of the line that comes next.
+    // The number of the next line.
     pub(crate) number: u64,
     ghost opens: { IsStrictlyIncreasing opening.items },
     ghost left: { IsStrictlyIncreasing keys.items },

@@ -1,6 +1,6 @@
 //! Recordings of the calls to a set, as texts that begin with `listset-calls 1`. A reader judges the calls line by
-//! line. It stores the keys, the pending calls, and at most one completed call of each key. Its memory grows with the
-//! number of keys, of threads and of pending calls, but not with the number of calls. (This project's own format.)
+//! line. It stores the keys, the pending calls, and at most one completed call on each key. Its memory grows with the
+//! numbers of keys, threads and pending calls, but not with the number of calls. (This project's own format.)
 #![tactic(auto)]
 
 mod kept;

@@ -22,10 +22,10 @@ fn next_line(bytes: &[u8]) -> Option<(&[u8], &[u8])>
     Some((&bytes[..at], &bytes[at + 1..]))
 }
 
-/// A reader of a recording, whose text is passed in pieces of any length. The reader judges the calls as they come. It
-/// stores the keys, the pending calls, at most one completed call of each key, and at most `LONGEST_LINE` bytes of an
-/// incomplete line. Its memory grows with the number of keys, of threads and of pending calls, but not with the number
-/// of calls. The first line of a recording is `listset-calls 1`. (This project's own format.)
+/// A reader of a recording. Its caller passes the text in pieces of any length, and the reader judges the calls as they
+/// come. It stores the keys, the pending calls, at most one completed call on each key, and at most `LONGEST_LINE`
+/// bytes of an incomplete line. Its memory grows with the numbers of keys, threads and pending calls, but not with the
+/// number of calls. The first line of a recording is `listset-calls 1`. (This project's own format.)
 #[derive(Drop)]
 pub struct RecordingReader {
     judging: Judging,
@@ -55,7 +55,7 @@ impl RecordingReader {
         LineFault::at(self.judging.number(), cause)
     }
 
-    /// Returns whether the reader is at the beginning of a line, so that it stores no bytes.
+    /// Returns whether the reader is at the start of a line, and therefore has stored no bytes.
     fn holds_none(&self) -> bool
         ensures { IsTrue result → (self.now.line.items ≡ []) × (self.now.is_long ≡ false) }
     {
@@ -74,7 +74,7 @@ impl RecordingReader {
         }
     }
 
-    /// Reads the newline of the line whose bytes are stored, and so completes the line.
+    /// Reads a newline, which completes the line whose bytes are stored.
     fn newline_in(&mut self) -> Result<(), LineFault>
         ensures taken { OnOk result ((bytes : List ℕ) → IsRead bytes self.old → IsRead (bytes ++ 10 ∷ []) self.new) }
         ensures refused { IfErr result (λ fault. (bytes : List ℕ) → IsRead bytes self.old → IsRefusedAt (bytes ++ 10 ∷ []) fault) }
@@ -92,7 +92,8 @@ impl RecordingReader {
         }
     }
 
-    /// Reads a whole line, without its newline, from the piece and without a copy. No bytes of the line may be stored.
+    /// Reads a whole line, without its newline, directly from the piece, without copying it. The reader must not have
+    /// stored any bytes of the line.
     fn whole_line_in(&mut self, line: &[u8]) -> Result<(), LineFault>
         requires lacks { Lacks 10 line.now }
         requires none { self.old.line.items ≡ [] }
@@ -108,7 +109,7 @@ impl RecordingReader {
         }
     }
 
-    /// Reads the rest of a line, without its newline, and so completes the line.
+    /// Completes a line: reads its remaining bytes, given without the newline.
     fn line_in(&mut self, line: &[u8]) -> Result<(), LineFault>
         requires { Lacks 10 line.now }
         ensures taken { OnOk result ((bytes : List ℕ) → IsRead bytes self.old → IsRead (bytes ++ line.now ++ 10 ∷ []) self.new) }
@@ -123,8 +124,8 @@ impl RecordingReader {
         self.newline_in()
     }
 
-    /// Reads lines with completed calls from the beginning of a piece, as many as follow each other. Returns the bytes
-    /// after them. The reader must be at the beginning of a line, in a section that allows calls.
+    /// Reads consecutive lines with completed calls from the start of a piece, up to the first other line. Returns the
+    /// remaining bytes. The reader must be at the start of a line, in a section that allows calls.
     fn quick_calls_in<'a>(&mut self, piece: &'a [u8]) -> Result<&'a [u8], LineFault>
         requires none { self.old.line.items ≡ [] }
         requires short { self.old.is_long ≡ false }
@@ -144,8 +145,8 @@ impl RecordingReader {
         Ok(rest)
     }
 
-    /// Reads lines with completed calls from the beginning of a piece, if the reader is at the beginning of a line and
-    /// its section allows calls. Returns the bytes that remain.
+    /// Reads lines with completed calls from the start of a piece, if the reader is at the start of a line and its
+    /// section allows calls. Returns the remaining bytes.
     fn calls_in<'a>(&mut self, piece: &'a [u8]) -> Result<&'a [u8], LineFault>
         ensures taken { IfOk result (λ rest. (done : List ℕ) × (piece.now ≡ done ++ rest.now)
             × ((bytes : List ℕ) → IsRead bytes self.old → IsRead (bytes ++ done) self.new)) }
@@ -221,8 +222,9 @@ impl RecordingReader {
         self.judging.finish()
     }
 
-    /// Ends the text here, and returns the verdict: whether some order of the calls explains them and leaves the final
-    /// keys. If the recording was cut off, its final keys are unknown, and any will do. Allocates; does not block.
+    /// Ends the text here, and returns the verdict: whether some order of the calls explains their replies and the
+    /// final keys. If the recording was cut off, its final keys are unknown, and any are accepted. Allocates; does not
+    /// block.
     ///
     /// # Errors
     ///

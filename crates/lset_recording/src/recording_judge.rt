@@ -22,7 +22,7 @@ const FIRST_LINE: u64 = 1;
 /// The verdict on a recording, with the number of its calls.
 #[derive(Debug, Drop)]
 pub struct RecordingAnswer {
-    /// Whether some order of the recording's calls explains them and, if not, why.
+    /// Whether the recorded calls are linearizable (some order explains them) and, if not, why.
     pub verdict: Verdict,
     /// The number of calls in the recording.
     pub calls: u64,
@@ -196,7 +196,7 @@ impl Judging {
         Ok(())
     }
 
-    /// Returns the number of the line that comes next.
+    /// Returns the number of the next line.
     pub(crate) fn number(&self) -> u64
         ensures { result ≡ self.now.number }
     {

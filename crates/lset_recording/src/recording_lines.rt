@@ -29,8 +29,8 @@ pub const LONGEST_LINE: usize = 128;
 /// The title: the first line of a recording, without its newline.
 const TITLE: &[u8] = b"listset-calls 1";
 
-/// A section of a recording, named after the lines that it has. A reader is in section `Opening` after the title, and
-/// in `Done` after the last line.
+/// A section of a recording, named after its lines. A reader is in section `Opening` after the title, and in `Done`
+/// after the last line.
 #[derive(Clone, Copy)]
 pub enum Section {
     Title,
@@ -92,7 +92,7 @@ impl Section {
     }
 }
 
-/// The fields of a call's line from the thread to the moment at which the call begins.
+/// The fields of a call's line, from the thread to the start of the call.
 #[derive(Clone, Copy)]
 struct CallPieces<'a> {
     thread: &'a [u8],
@@ -257,8 +257,8 @@ fn title_told(line: &[u8]) -> Result<Line, Cause>
 /// # Errors
 ///
 /// Returns `Header` if the first line is not the title. For a later line, returns `Line` if the line has more than
-/// `LONGEST_LINE` bytes or is of no kind that can come next, and `Number` if a field that must be a number is none or
-/// is out of range.
+/// `LONGEST_LINE` bytes or is of no kind that can come next, and `Number` if a field that must be a number is not one
+/// or is out of range.
 pub fn line_told(section: Section, line: &[u8]) -> Result<Line, Cause>
     ensures { result ≡ line_told section line.now }
 {

@@ -44,7 +44,7 @@ room_for_events : {L : Type 0} (b : Bool) (s t : BodyValue L) → cond b (Err To
 room_for_events true s t is = absurd cc
 room_for_events false s t is = (refl, ok_is s t is)
 
--- States that a content can be written in version v: it is within the limits, and v has its opening keys and lines.
+-- States that the content s can be written in version v: it is within the limits, and v has its opening keys and lines.
 pub record HasText {L : Type 0} (text : EventLines L) (v : Version) (Good : L → Type 0) (s : BodyValue L) : Type 0 where
   pub opens : Opens (record { threads = s.header.threads; quota = s.header.quota; keys = s.keys })
   pub opening : HasOpening v s.keys
@@ -108,7 +108,7 @@ module _ {L : Type 0} (text : EventLines L) (v : Version) (title : List ℕ) (pi
   -- ---- Lemmas about a single line
 
   -- States that reading the line x changes the content from s to t, that t can be written, and that its text is the
-  -- text of s and x.
+  -- text of s followed by x.
   abbrev Adds : BodyValue L → List ℕ → BodyValue L → Type 0
   Adds s x t = HasText text v Good t × (text_lines t ≡ text_lines s ++ x ∷ [])
 
@@ -227,7 +227,7 @@ module _ {L : Type 0} (text : EventLines L) (v : Version) (title : List ℕ) (pi
       (λ s u x has e. (line_adds s u x has e).0) (λ s u e. ok_is s u e) bytes t is in
       (found.2, found.0)
 
-  -- If a content is within the limits, its text can be read.
+  -- If the content of a text is within the limits, the text can be read.
   pub body_again : (t : BodyValue L) → Lacks 10 title → HasText text v Good t
       → (cut_at 10 (text_of (text_lines t)) ≡ header_lines title t.header ++ (body_lines t ++ [] ∷ []))
       × (text_from (texts text v title) (header_lines title t.header ++ (body_lines t ++ [] ∷ [])) ≡ Ok t)

@@ -1,5 +1,5 @@
--- Lemmas for the loop that reads the lines after the header: which line a reported error has, and that the text itself
--- never causes the error `Memory`.
+-- Lemmas for the loop that reads the lines after the header: which line a reported error names, and that the text
+-- itself never causes the error `Memory`.
 use Rattle.std.proofs.Common.{arith, ◌≡◌, ℕ, ◌+◌, inl, inr, Bool, true, false, cond, ltb, List, [], ◌∷◌, length, Option, Some}
 use Rattle.std.proofs.Common.{None, Result, Err, refl, codes}
 use Rattle.std.specs.Prelude.{MatchOption}

@@ -35,7 +35,7 @@ opening_rests n q t = idle_rests q t (range_with_len 0 n)
 abbrev pub Resting : State → ℕ → Type 0
 Resting s n = (t : ℕ) → t < n → (local_of s t).pc ≡ 0
 
--- The state before the first turn: no event was made, and all calls can still begin.
+-- The state before the first turn: no event has happened yet, and every call can still begin.
 pub record IsUnbegun (turns n calls left : ℕ) (lines : List Line) (s : State) : Type 0 where
   pub turn : turns ≡ 0
   pub all_left : left ≡ calls

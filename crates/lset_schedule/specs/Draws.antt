@@ -13,7 +13,7 @@ use Rattle.lset_words.specs.declared.Call.TheVariants.{Add, Remove, Contains}
 abbrev pub seeded : ℕ → Stream
 seeded seed = stream_of (steps_u32 pcg32) (pcg32_of_seed (pcg32_seed 16 seed))
 
--- Returns a call of this key. A random number selects its kind: add, remove or contains.
+-- Returns a call on this key. A random number selects its kind: add, remove or contains.
 abbrev pub call_by : ℕ → Key → Call
 call_by choice key = if choice % 3 == 0 then Add key else (if choice % 3 == 1 then Remove key else Contains key)
 

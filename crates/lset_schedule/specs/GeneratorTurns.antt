@@ -14,7 +14,7 @@ HasOpenCall s t = (local_of s t).pc ≢ 0
 abbrev pub IsIdle : State → ℕ → ℕ → Type 0
 IsIdle s t left = ((local_of s t).pc ≡ 0) × (left ≡ 0)
 
--- States that e is a possible event of a turn that has drawn thread t: a step of its pending call, or the begin of a
+-- States that e is a possible event of a turn that has drawn thread t: a step of its pending call, or the start of a
 -- call if `left` calls can still begin.
 abbrev pub IsNextEvent : State → ℕ → ℕ → ℕ → Event → Type 0
 IsNextEvent s t left keys (event.Begin u call) = (u ≡ t) × ((local_of s t).pc ≡ 0) × (0 < left) × ((key_of call).0 < keys)

@@ -63,7 +63,7 @@ fn is_over<M: Machine>(world: &World<M>, threads: u32, events: usize, left: u32)
 }
 
 /// Returns the event of the generator's turn if the turn has drawn `thread`: a step if the thread has a pending call,
-/// else the begin of a random call. Returns `None` if the thread has no pending call and `left`, the number of calls
+/// else the start of a random call. Returns `None` if the thread has no pending call and `left`, the number of calls
 /// that can still begin, is 0.
 fn next_event<M: Machine, R: Rng>(
     world: &World<M>,
@@ -86,7 +86,7 @@ fn next_event<M: Machine, R: Rng>(
     Some(Event::Begin(thread, draw_call(keys, rng)))
 }
 
-/// Changes the state of the list by one event, which must be enabled.
+/// Executes one event, which must be enabled, on the list.
 fn make<M: Machine>(world: &mut World<M>, event: Event)
     requires enabled { Enabled world.old.state event }
     requires threads { length world.old.state.locals ≡ world.old.sizes.threads }

@@ -99,17 +99,16 @@ fn schedule(alloc: Global, bytes: &[u8]) -> Result<Schedule, ScheduleFault>
 ///
 /// As in `crates/first_program`:
 ///
-///    let schedule = read_schedule(alloc, text.as_bytes())?;
-///    Ok(replay(alloc, &schedule)?)
+/// let schedule = read_schedule(alloc, text.as_bytes())?; Ok(replay(alloc, &schedule)?)
 ///
 /// # Errors
 ///
 /// Returns the first line with an error, and the error. A line that has bytes but no newline has the cause `NotEnded`.
 /// For other lines, the first cause in the order of `Cause` applies. A missing header line has the cause of that line.
-/// A line that only version 2 has is `Event` in version 1. An opening key below an event is `Event` in either version.
-/// `Number` if a thread or a key is not a number up to 4294967295, or the number of steps is not from 1 to 10000.
-/// `TooMany` if there are more than 1,000,000 events or 1,048,576 opening keys. `Memory` if an allocation fails; the
-/// line then has no other error.
+/// In version 1, a line that exists only in version 2 has the cause `Event`. In either version, an opening key below an
+/// event has the cause `Event`. The cause is `Number` if a thread or a key is not a number up to 4294967295, or the
+/// number of steps is not from 1 to 10000, `TooMany` if there are more than 1,000,000 events or 1,048,576 opening keys,
+/// and `Memory` if an allocation fails. A line with the cause `Memory` has no other error.
 #[tactic(auto, using(crate::proofs::ScheduleTextLaws::found_in, crate::proofs::ScheduleTextLaws::only_in))]
 pub fn read_schedule(alloc: Global, bytes: &[u8]) -> Result<Schedule, ScheduleFault>
     // If a schedule is returned, it is within the limits, and the bytes are its text.
@@ -117,7 +116,7 @@ pub fn read_schedule(alloc: Global, bytes: &[u8]) -> Result<Schedule, ScheduleFa
     // The text of every schedule within the limits is read as this schedule, unless an allocation fails.
     ensures only { (p : Plan) → IsSchedule p → bytes.now ≡ schedule_text p
         → MatchResult result (λ s. view s ≡ p) (λ e. e.cause ≡ Cause.Memory) }
-    // The result is that of the definition `reading`, unless an allocation fails.
+    // The result is the one that `reading` defines, unless an allocation fails.
     ensures exact { Gives view result (reading bytes.now) }
     // The error `Memory` names a line after the header. Neither this line nor a line above it has another error.
     ensures memory { IfErr result (λ e. e.cause ≡ Cause.Memory → IsGoodLine bytes.now e.line) }
@@ -125,7 +124,8 @@ pub fn read_schedule(alloc: Global, bytes: &[u8]) -> Result<Schedule, ScheduleFa
     schedule(alloc, bytes)
 }
 
-/// Lemma: a text is read only as the schedule that is written as this text, and the text of every schedule can be read.
+/// Lemma: reading inverts writing for schedules. A text that can be read is the text of the schedule read, and the text
+/// of every schedule can be read.
 pub fn schedules_read_back()
     ensures { SchedulesReadBack }
 {}

@@ -26,7 +26,7 @@ impl Line {
     }
 }
 
-/// Returns the first line of the text of a schedule of this version, without its newline.
+/// Returns the title line of a schedule of this version, without the newline.
 pub(crate) fn title(version: Version) -> &'static str
     ensures { result.now ≡ title version }
 {

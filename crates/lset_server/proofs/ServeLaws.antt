@@ -135,8 +135,8 @@ bound_next' s d most n n' total h e small =
 pub as_many : {H T : Type 0} (seat_of : H → T) (hs : List H) (ss : List T) → map seat_of hs ≡ ss → length hs ≡ length ss
 as_many seat_of hs ss e = sym (length-map hs seat_of) ∙ ap (λ l. length l) e
 
--- After all workers were joined, the sender's pass has all parts again. Its tally has the numbers of all connections as
--- sent.
+-- After all workers were joined, the sender's pass has all parts again. Its tally lists the numbers of all connections
+-- as sent.
 pub whole_again : (n many : ℕ) (v u x y : Tally) (received : List ℕ) (k : ℕ) → v ≡ tally PARTS [] [] → n ≤ MOST_THREADS →
     u ≡ tally (v.parts - n) v.sent v.received
     → x ≡ tally u.parts (u.sent ++ numbers_below many) u.received → k ≡ n →
@@ -186,8 +186,8 @@ times-below (suc n) m lt =
     below : (n ≢ m) → m < n
     below other = omega (arith, lt, other)
 
--- If the number of received connections is the number of sent ones, each connection was received exactly once, and the
--- queue is empty.
+-- If the numbers of received and sent connections are equal, each connection was received exactly once, and the queue
+-- is empty.
 pub received_once : (n : ℕ) (v : Tally) (received left : List ℕ) → v ≡ tally PARTS (numbers_below n) received →
     n ≡ length received
     → ((h : ℕ → ℕ) → weigh h v.sent ≡ weigh h v.received + weigh h left) → ReceivedOnce n v

@@ -21,7 +21,7 @@ pub record IsServed (k : Opening) (records : List Record) (calls : ℕ) (keys : 
   pub count : calls ≡ sum_by (λ cs. length cs) added
   pub explained : IsOneLegalOrder k (followed records added) keys
 
--- All workers have ended: their seats have been gathered, and each connection was received exactly once.
+-- All workers have ended: their seats have been merged into one, and each connection was received exactly once.
 pub record HasGathered (starts : List Record) (end : Option Record) (v : Tally) (asked sessions calls : ℕ) : Type 0 where
   pub added : List (List CallMade)
   pub each : length added ≡ length starts

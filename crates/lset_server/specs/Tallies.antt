@@ -22,7 +22,7 @@ number_of message.Close = []
 abbrev pub numbers : {S : Type 0} → List (Message S) → List ℕ
 numbers = flat_map number_of
 
--- Returns the sum of the weights of the numbers, if h is the weight of each number.
+-- Returns the sum of the weights of the numbers. `h` maps each number to its weight.
 abbrev pub weigh : (ℕ → ℕ) → List ℕ → ℕ
 weigh h [] = 0
 weigh h (x ∷ xs) = h x + weigh h xs

@@ -16,7 +16,7 @@ use std::sync::Wait;
 /// has threads.
 pub(crate) const PARTS: u64 = MOST_THREADS as u64 + 1;
 
-/// An accepted connection with its number. Connections are numbered from 0, in the order in which they are accepted.
+/// An accepted connection with its number. Connections are numbered from 0, in order of acceptance.
 #[derive(Drop)]
 pub(crate) struct Connection<S> {
     pub number: u64,
@@ -51,7 +51,8 @@ impl<S> Protocol<Message<S>, Tally> for NothingLost {
     ghost first = { tally PARTS [] [] };
 }
 
-/// Splitting a part off a pass for a new pass, and joining two passes. A pass is a right to use the channel.
+/// How the tallies change when a part of a pass is split off as a new pass, and when two passes are joined. A pass is a
+/// right to use the channel.
 pub(crate) struct Parting;
 
 impl Split<Tally> for Parting {
@@ -72,7 +73,7 @@ impl Join<Tally> for Parting {
     ghost spent = { tally 0 [] [] };
 }
 
-/// Sending a message, which the sender's pass records.
+/// How the sender's tally changes when the sender sends a message.
 pub(crate) struct Sending;
 
 impl<S> Outcome<Message<S>, Tally> for Sending {
@@ -83,7 +84,7 @@ impl<S> Lesson<Message<S>, Tally> for Sending {
     ghost fact = { λ v items. ⊤ };
 }
 
-/// Receiving a message, which the receiver's pass records.
+/// How the receiver's tally changes when the receiver gets a message.
 pub(crate) struct Receiving;
 
 impl<S> Outcome<Message<S>, Tally> for Receiving {

@@ -26,7 +26,7 @@ use thiserror::Error;
 /// The cause of a `ServeFault`.
 #[derive(Clone, Copy, Debug, PartialEq, Eq, Error)]
 pub enum ServeCause {
-    /// The seats do not hold all seats of the set. No connection was accepted.
+    /// The given seats, with the seats merged into them, are not all seats of the set. No connection was accepted.
     #[error("the seats do not hold all seats of the set")]
     Seats,
     /// The system did not accept a connection.
@@ -35,7 +35,7 @@ pub enum ServeCause {
     /// The system refused to start a thread.
     #[error("the system refused to start a thread")]
     Spawn,
-    /// The channel returned a connection, or another message, in place of sending it to a worker.
+    /// The channel returned a connection, or another message, instead of sending it to a worker.
     #[error("the channel returned a connection")]
     Send,
     /// An allocation failed.
@@ -139,8 +139,8 @@ fn send_all<R: Wait>(
     close_all(rt, to, pass, workers)
 }
 
-/// Starts the workers, sends them `sessions` connections, and joins them. Returns the pass of the channel, which has
-/// all parts again, and the seat into which all seats were gathered.
+/// Starts the workers, sends them `sessions` connections, and waits for them to end. Returns the pass (the right to use
+/// the channel), which has all parts again, and the seat into which all seats were merged.
 fn serve_in<'s, E, R: Threads + Wait + Clock + Sync, M: Running + Send + Sync>(
     alloc: Global,
     scope: &Scope<'s, E>,
@@ -218,17 +218,18 @@ fn serve_all<R: Threads + Wait + Clock + Sync, M: Running + Send + Sync>(
 
 /// Serves a set to `sessions` connections, with one worker thread for each of `seats`.
 ///
-/// `seats` must belong to `set`. Connections are numbered from 0, and wait in a channel with as many places as `seats`
-/// has seats. Each worker runs `buffered_session` on its seat, for one connection after another. A session that ends
-/// with a read or write error does not end the server. At the end, the seats are gathered and the set is closed. Blocks
-/// until all connections have been accepted and all workers have ended. Each worker blocks for its client.
+/// `seats` must belong to `set`. Connections are numbered from 0, and wait in a channel with one place for each of
+/// `seats`. Each worker runs `buffered_session` on its seat, for one connection after another. A session that ends with
+/// a read or write error does not end the server. At the end, the seats are merged into one (gathered) and the set is
+/// closed. Blocks until all connections have been accepted and all workers have ended. Each worker blocks while it
+/// waits for its client.
 ///
 /// # Errors
 ///
 /// Returns a `ServeFault` with one of these causes:
 ///
-/// - `Seats`: if and only if the seats do not hold all seats of the set. No connection was accepted, and the set and
-///   the seats are returned.
+/// - `Seats`: if and only if `seats`, with the seats merged into them, are not all seats of the set. No connection was
+///   accepted, and the set and the seats are returned.
 /// - `Accept`, `Spawn`: the system refused a connection or a thread.
 /// - `Send`: the channel returned a connection.
 /// - `Left`: the workers received fewer connections than were accepted.

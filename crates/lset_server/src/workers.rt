@@ -24,7 +24,8 @@ use std::sync::Wait;
 use std::thread::{Promise, PromisedHandle, Scope, Threads};
 use std::time::Clock;
 
-/// The result of a worker thread: its pass of the channel, its seat, and how many sessions and calls it has completed.
+/// The result of a worker thread: its pass (a right to use the channel), its seat, and how many sessions and calls it
+/// has completed.
 #[derive(Drop)]
 pub(crate) struct WorkerResult<M: Running> {
     pub pass: Token<TcpStream>,
@@ -123,7 +124,7 @@ fn work<R: Wait + Clock, M: Running>(
     }
 }
 
-/// The sum of all workers' sessions and calls, and the seat into which their seats were gathered.
+/// The sum of all workers' sessions and calls, and the seat into which their seats were merged.
 #[derive(Drop)]
 pub(crate) struct Gathered<M: Running> {
     pub seat: Option<Seat<M>>,
@@ -205,7 +206,8 @@ impl<'s, R: Threads + Wait + Clock + Sync, M: Running + Send + Sync> Pool<'s, R,
         Ok(workers)
     }
 
-    /// Joins the worker threads, joins their passes of the channel to `pass`, and gathers their seats.
+    /// Waits for the worker threads to end, joins their passes of the channel to `pass`, and merges their seats into
+    /// one.
     pub fn join_all(&self, pass: &mut Token<TcpStream>, workers: Vec<Worker<M>>) -> Gathered<M>
         requires pass { IsSeatAt (sends_on self.now.to) pass.old × (0 < (view pass.old).parts) }
         requires owed { All (λ h. (receives_on h.promise.from.value ≡ sends_on self.now.to)

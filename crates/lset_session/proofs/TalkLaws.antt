@@ -28,7 +28,7 @@ use Rattle.lset_session.specs.declared.sessions.Talk.{Talk}
 
 -- ---- Lemmas about a text to which bytes are appended
 
--- If q has no newline, it is part of the first line of q and the bytes after it.
+-- Prepending bytes without a newline to a text prepends them to its first line.
 cut_more : (q x : List ℕ) (xs : List (List ℕ)) (more : List ℕ) → cut_at 10 more ≡ x ∷ xs → Lacks 10 q
     → cut_at 10 (q ++ more) ≡ (q ++ x) ∷ xs
 cut_more [] x xs more e lacks = e
@@ -63,7 +63,7 @@ turns_line left p more lacks short = by_parts (cut_at 10 more) refl (some_part 1
         let few = le-ltb LONGEST_LINE (length p) short in
         rw (first, e, few) refl
 
--- Bytes after the last newline cause no turn, unless they are too long for a line.
+-- Bytes after the last newline cause no turn (no answered line), unless they are too long for a line.
 pub turns_rest : (left : ℕ) (p : List ℕ) → Lacks 10 p → length p ≤ LONGEST_LINE → turns_at left (cut_at 10 (p ++ [])) ≡ []
 turns_rest left p lacks short =
     let few = le-ltb LONGEST_LINE (length p) short in

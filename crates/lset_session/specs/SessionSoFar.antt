@@ -35,8 +35,8 @@ Told left bytes (Some w) left' pending talk =
     IsLast w × ((more : List ℕ) → (later : List Turn) × (turns_at left (cut_at 10 (bytes ++ more)) ≡ turns_in talk ++ later)
     × (w ≢ why.WriteFault → (later ≡ []) × (end_of (turns_in talk) ≡ w)))
 
--- The state of a session after it has processed these bytes: o is None if it continues, otherwise the reason of its
--- end. It could answer `left` lines before and `left'` lines afterwards. `talk` has its calls and answers.
+-- The state of a session after it has processed these bytes: o is None if the session continues, otherwise the reason
+-- why it ended. It could answer `left` lines before and `left'` lines afterwards. `talk` has its calls and answers.
 pub record Heard (left : ℕ) (bytes : List ℕ) (o : Option EndReason) (left' : ℕ) (pending : List ℕ) (r r' : Record)
     (w w' : Option (List ℕ)) (calls calls' : ℕ) : Type 0 where
   pub talk : List Exchange
@@ -63,8 +63,8 @@ pub record IsTalk (t : Talk) : Type 0 where
 abbrev pub Nearer : Talk → Talk → ℕ → Type 0
 Nearer t u n = (LONGEST_LINE + 1) * u.left + t.len + n ≤ (LONGEST_LINE + 1) * t.left + u.len
 
--- States that the session has processed these bytes, which changed its state from t to u, the record of its seat from r
--- to r', and the written bytes from w to w'.
+-- States that the session has processed these bytes, which changed its state from t to u, the record of its seat (the
+-- calls with replies) from r to r', and the written bytes from w to w'.
 abbrev pub Hears : List ℕ → Option EndReason → Talk → Talk → Record → Record → Option (List ℕ) → Option (List ℕ) → Type 0
 Hears bytes o t u r r' w w' = Heard t.left (pending_of t ++ bytes) o u.left (pending_of u) r r' w w' t.calls u.calls
 
@@ -78,6 +78,6 @@ abbrev pub failed_by : Option EndReason → Bool
 failed_by (Some why.WriteFault) = true
 failed_by other = false
 
--- Returns why a session ends that writes a last line: `w` if the whole line was written, else WriteFault.
+-- Returns why a session ends after it has written its last line: `w` if the whole line was written, else WriteFault.
 abbrev pub ending : Bool → EndReason → Option EndReason
 ending whole w = Some (if whole then w else why.WriteFault)

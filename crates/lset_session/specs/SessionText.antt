@@ -48,8 +48,9 @@ pub data Turn : Type 0 where
   long : Turn
   limit : Turn
 
--- Returns the turns of a session (its answered lines) from a line with request q on. `later` are the turns of the lines
--- after it. QUIT is the last turn of a session. If the session can answer only one more line, the limit follows q.
+-- Returns the turns (answered lines) of a session, starting at the line with request q. `later` contains the turns of
+-- the following lines. QUIT is the last turn of a session. If the session can answer only one more line, the turn of q
+-- is followed by the turn that reports the limit.
 abbrev pub turns_after : ℕ → Request → List Turn → List Turn
 turns_after left request.Quit later = line request.Quit ∷ []
 turns_after left other later = line other ∷ (if left == 1 then limit ∷ [] else later)
@@ -66,8 +67,8 @@ turns_at left (first ∷ next ∷ more) =
 unfoldable pub turns_of : List ℕ → List Turn
 turns_of bytes = turns_at MOST_LINES (cut_at 10 bytes)
 
--- Returns the reason for which a session ends after a turn (an answered line), or `otherwise` if the session does not
--- end with this turn.
+-- Returns the reason why a session ends after a turn (an answered line), or `otherwise` if the session does not end
+-- with this turn.
 abbrev pub end_after : Turn → EndReason → EndReason
 end_after (line request.Quit) otherwise = why.Quit
 end_after (line other) otherwise = otherwise

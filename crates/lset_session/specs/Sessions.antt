@@ -17,14 +17,15 @@ abbrev pub Wrote : EndReason → Option (List ℕ) → Option (List ℕ) → Lis
 Wrote why.WriteFault w w' talk = CutAnswers w w' talk
 Wrote end w w' talk = Appends w w' (answers_in talk)
 
--- Returns the reason for which the text that was read ends a session. This is the session's reason `end`, except after
--- a failed read: then no line has ended the session, and the result is `End`.
+-- Returns the reason why the text that was read ends a session. This is the session's reason `end`, except after a
+-- failed read: then no line has ended the session, and the result is `End`.
 abbrev pub text_end : EndReason → EndReason
 text_end why.ReadFault = why.End
 text_end end = end
 
 -- A session that has ended for the reason `end` after this number of calls. s and s' are the remaining input before and
--- after the session, r and r' the records of its seat, and w and w' the bytes written to its client.
+-- after the session, r and r' the records of its seat (the calls with replies), and w and w' the bytes written to its
+-- client.
 pub record IsSession (end : EndReason) (calls : ℕ) (s s' : Option (List ℕ)) (r r' : Record) (w w' : Option (List ℕ)) : Type 0 where
   -- The bytes that the session has read, and its turns with their answers.
   pub bytes : List ℕ
@@ -35,7 +36,7 @@ pub record IsSession (end : EndReason) (calls : ℕ) (s s' : Option (List ℕ)) 
   pub recorded : r' ≡ with_calls r (calls_in talk)
   pub count : calls ≡ length (calls_in talk)
   pub wrote : Wrote end w w' talk
-  -- Unless a write has failed, the bytes end the session for the reason `end`. After a failed read, they end it for
-  -- `End`.
+  -- Unless a write has failed, the bytes end the session for the reason `end`. After a failed read, they end it for the
+  -- reason `End`.
   pub ends : end ≢ why.WriteFault → end_of (turns_of bytes) ≡ text_end end
   pub drained : end ≡ why.End → IsAtEnd s'

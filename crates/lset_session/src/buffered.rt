@@ -18,7 +18,7 @@ use std::sync::Wait;
 /// The size of the answer buffer in bytes.
 const ROOM: usize = 4096;
 
-/// A buffer of answers that were not written yet, their writer, and whether a write has failed.
+/// A buffer of answers that have not been written yet, their writer, and whether a write has failed.
 #[derive(Drop)]
 struct Buffer<O: Sink> {
     bytes: [u8; ROOM],

@@ -42,8 +42,8 @@ pub trait Sink {
         ensures failed { MatchOption result (has_failed self.new ≡ true) (λ n. has_failed self.new ≡ false) };
 }
 
-/// A reader or writer of the standard library, as a `Source` or `Sink`. Each error is a failure. A write that accepts
-/// no byte is a failure, too.
+/// A reader or writer of the standard library, as a `Source` or `Sink`. Each error counts as a failure, and so does a
+/// write that accepts no bytes.
 #[derive(Drop)]
 pub struct Device<T> {
     inner: T,

@@ -234,8 +234,8 @@ pub fn session<R: Wait, I: Source, O: Sink, S: SetCalls>(
     // [Session]: the calls that were made and the bytes that were written are those that the input demands.
     ensures session { IsSession result.why result.calls (I.remaining reader.old) (I.remaining reader.new)
         (S.record_of seat.old) (S.record_of seat.new) (O.written writer.old) (O.written writer.new) }
-    // The session ends with `ReadFault` exactly if the reader has failed, and with `WriteFault` exactly if the writer
-    // has failed.
+    // The session ends with `ReadFault` if and only if the reader has failed, and with `WriteFault` if and only if the
+    // writer has failed.
     ensures read_fault { IsTrue (I.has_failed reader.new) ↔ (result.why ≡ EndReason.ReadFault) }
     ensures write_fault { IsTrue (O.has_failed writer.new) ↔ (result.why ≡ EndReason.WriteFault) }
     ensures few { result.calls ≤ MOST_LINES }

@@ -14,7 +14,7 @@ use Rattle.lset_steps.proofs.QuietMove.{chain_on}
 use Rattle.lset_steps.proofs.Replies.{Adding, Removing, decided_cases, absent_between, ceiling_fits}
 
 -- After the decision, either the call has a reply that is correct now, or the thread knows what the rows for adding or
--- removing need.
+-- removing require.
 pub decides : {marks : Bool} {sz : Sizes} {ws : List ℕ} {used : ℕ → ℕ} (m : Memory marks sz ws used) (t : ℕ) {pred curr : ℕ}
     (rows : Targets) (c : ℕ) (l : Local) → InChain (view sz ws used) pred → pred ≢ 1 → node_link ws pred ≡ 2 * curr
     → node_key ws pred < target l.call → node_link ws curr % 2 ≡ 0 → c ≡ node_key ws curr → target l.call ≤ c

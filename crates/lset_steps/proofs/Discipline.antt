@@ -74,7 +74,7 @@ pub record StepOf (T : Table) (marks : Bool) (At : Outline) (sz : Sizes) (t : �
 abbrev pub Before : Outline → ℕ → ℕ → (ℕ → View) → View → Local → Type 0
 Before At q t vs v l = (first : ℕ) × (now : ℕ) × (done : Bool) × At q t vs first now v done l
 
--- What the proof of a list has to show of its proof outline: what each thread knows is true when the list opens, and
+-- What the proof of a list must show about its proof outline: what each thread knows is true when the list opens, and
 -- each event preserves it.
 pub record Discipline (T : Table) (marks : Bool) (At : Outline) : Type 1 where
   pub idle_at : (op : Opening) → Opens op → (t : ℕ) (vs : ℕ → View)
@@ -137,7 +137,7 @@ answered_on false q vs first now t call pc (Some r) a = (
       record { moment = f.moment; from = f.from; upto = (let u : f.moment ≤ now = f.upto in omega arith); fits = f.fits }),
 )
 
--- Choosing between two values by a test, and replacing the private state of one thread.
+-- Lemmas about choosing between two values by a test, and about replacing the private state of one thread.
 pub pick_yes : {A : Type 0} (b : Bool) (x y : A) → b ≡ true → (if b then x else y) ≡ x
 pick_yes b x y e = rw e refl
 

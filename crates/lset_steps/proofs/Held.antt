@@ -180,7 +180,7 @@ module _ {marks : Bool} {sz : Sizes} {ws : List ℕ} {used : ℕ → ℕ} (m : M
   pub held_from : {a : ℕ} → node_lock ws a ≡ t + 1 → InChain (view sz ws used) a → Held (view sz ws used) t a
   held_from {a} mine i = record { mine = mine; at = i; published = in_chain_published (view sz ws used) m.ordered a i }
 
-  -- If a thread that holds the lock of pred reads pred's link, the link leads to the node curr of `Behind`.
+  -- If a thread that holds the lock of pred reads pred's link, the link leads to a node curr that satisfies `Behind`.
   pub behind_from : {pred key : ℕ} → Held (view sz ws used) t pred → node_link ws pred % 2 ≡ 0 → node_key ws pred < key
       → key < tail_word
       → Behind (view sz ws used) t key pred (node_link ws pred / 2)
@@ -241,7 +241,7 @@ module _ {marks : Bool} {sz : Sizes} {ws : List ℕ} {used : ℕ → ℕ} (m : M
     (b.walk.held.mine, b.mine),
   )
 
--- What a thread still knows of its locked nodes after its own steps that do not write them.
+-- What a thread still knows about its locked nodes after its own steps that do not write them.
 module _ {marks : Bool} {sz : Sizes} {ws : List ℕ} {used : ℕ → ℕ} (m : Memory marks sz ws used) {t : ℕ} (tn : t < sz.threads) where
   pub leaves_locked : (a : ℕ) → node_lock ws a ≡ 0
       → Leaves (view sz ws used) (view sz (slice_set ws (lock_index a) (t + 1)) used) t

@@ -43,7 +43,7 @@ unmarked_before vs n b m t r l h p even = elim (even_or_not ((vs m).link b)) [
     even_or_not x = grind arith
 
 -- Hindsight: if a node was once in the chain, each link that it has later is one that it had while it was in the chain.
--- By induction over the moments: a link changes only while its node is in the chain.
+-- Proof by induction on the moments: a link changes only while its node is in the chain.
 hindsight-by : (vs : ℕ → View) (n b d m t : ℕ) → Course vs n → t ≡ m + d → t ≤ n → InChain (vs m) b
     → Seen vs m t b ((vs t).link b)
 hindsight-by vs n b zero m t r e l i =

@@ -1,4 +1,4 @@
--- Proof that a lock word is t + 1 from the step with which thread t takes the lock to the store of 0 that releases it,
+-- Proof that a lock word is t + 1 from the step in which thread t takes the lock until the store of 0 that releases it,
 -- and 0 at all other times.
 use Rattle.std.specs.Prelude.{◌≡◌, ◌≢◌, ℕ, ◌+◌, ◌<◌, ◌≤◌, ◌⊎◌, if◌then◌else◌, ◌==◌, List, slice_index, slice_set, length, refl}
 use Rattle.std.proofs.Common.{arith, inl, inr, sym, ◌∙◌, ap, subst, zero, suc, get_or-set_other, get_or-set_same}

@@ -1,4 +1,5 @@
--- What changes when a node of the chain is marked: its key leaves the set, but the chain and the order of keys stay.
+-- What changes when a node of the chain is marked: its key leaves the set, but the chain and the order of keys do not
+-- change.
 use Rattle.std.proofs.Common.{◌≡◌, ◌≢◌, ℕ, ◌+◌, ◌/◌, ◌%◌, ◌<◌, ◌≤◌, inl, inr, sym, ap, subst, ◌∙◌, arith}
 use Rattle.lset_words.proofs.Numbers.{same_or_not}
 use Rattle.lset_steps.specs.Chain.{View, InChain, InContent, IsOrdered}

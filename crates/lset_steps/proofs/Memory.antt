@@ -91,7 +91,7 @@ pub record Memory (marks : Bool) (sz : Sizes) (ws : List ℕ) (used : ℕ → �
   pub tail_key : node_key ws 1 ≡ tail_word
   pub tail_link : node_link ws 1 ≡ 2
   pub marked : UnmarkedInChain marks (view sz ws used)
-  -- In a list that does not mark nodes, no node has a mark, not even one that no add has used yet.
+  -- In a list that does not mark nodes, no node has a mark, not even a node that no add has used yet.
   pub unmarked : marks ≡ false → (i : ℕ) → i < node_count sz → node_link ws i % 2 ≡ 0
 
 module _ (marks : Bool) (sz : Sizes) (ws : List ℕ) (used : ℕ → ℕ) (m : Memory marks sz ws used) where
@@ -320,7 +320,7 @@ module _ (marks : Bool) (sz : Sizes) (ws : List ℕ) (used : ℕ → ℕ) (m : M
   even_at c e at = let z : UnmarkedInChain false (view sz ws used) =
       subst (λ b. UnmarkedInChain b (view sz ws used)) e m.marked in z c (chain_published c at)
 
-  -- Each step of `WordStep` makes one of the moves of `Moves`, which speak of nodes instead of words.
+  -- Each step of `WordStep` makes one of the moves of `Moves`, which are stated in terms of nodes instead of words.
   pub moved : (a : Action) (ws' : List ℕ) (used' : ℕ → ℕ) (ch : Option (Key × Bool)) → WordStep marks sz t ws used a ws' used' ch
       → Move marks (view sz ws used) (view sz ws' used') ch
   moved a ws' used' ch (reads x i) = quiet
@@ -384,7 +384,7 @@ module _ (marks : Bool) (sz : Sizes) (ws : List ℕ) (used : ℕ → ℕ) (m : M
   lock_use a ws' used' ch (cuts b p c d w at first inn follows next) = no_lock ws a t p (2 * d) w
   lock_use a ws' used' ch (drops b p c d k y w at first inn follows next key) = no_lock ws a t p (2 * d) w
 
-  -- The number of the thread's successful adds increases by one if the step adds a key, and otherwise stays.
+  -- The number of the thread's successful adds increases by one if the step adds a key, and otherwise stays the same.
   pub mine_counted : (a : Action) (ws' : List ℕ) (used' : ℕ → ℕ) (ch : Option (Key × Bool))
       → WordStep marks sz t ws used a ws' used' ch → used' t ≡ count_after ch (used t)
   mine_counted a ws' used' ch (puts b p c k w at nt follows r ready key above under) = one_more_same used t

@@ -1,5 +1,5 @@
--- Moves: the ways in which one step can change the nodes of a list. And what a thread can know about earlier moments.
--- Only proofs use these definitions.
+-- Moves: the ways in which one step can change the nodes of a list. This file also defines what a thread can know about
+-- earlier moments. Only proofs use these definitions.
 use Rattle.std.specs.Prelude.{◌≡◌, ◌≢◌, ℕ, ◌+◌, ◌*◌, ◌/◌, ◌%◌, ◌<◌, ◌≤◌, ◌⊎◌, Bool, true, false, Option, Some, None}
 use Rattle.lset_words.specs.declared.Key.{Key}
 use Rattle.lset_steps.specs.Chain.{View, InChain, InContent, IsOrdered, Seen}
@@ -63,7 +63,7 @@ pub record Unlinks (v w : View) (pred curr : ℕ) : Type 0 where
   pub grows : (i : ℕ) → v.published i → w.published i
   pub published_from : (i : ℕ) → w.published i → v.published i
 
--- The moves of a list, each with the key that it adds to the set or removes. `marks` is whether the list marks nodes
+-- The moves of a list, each with the key that it adds to the set or removes. `marks` says whether the list marks nodes
 -- before it unlinks them. Otherwise, the unlinking removes the key.
 pub data Move (marks : Bool) (v w : View) : Option (Key × Bool) → Type 0 where
   quiet : Quiet v w → Move marks v w None
@@ -105,14 +105,14 @@ pub record Lacked (vs : ℕ → View) (first now k : ℕ) : Type 0 where
   pub upto : at ≤ now
   pub lacks : InContent (vs at) k → ⊥
 
--- What a `contains` of k knows at row 20 of the step table, before it loads the link of curr. The node curr was in the
--- chain at some moment since the call began at `first`, and its key is smaller than k.
+-- What a `contains` of key k knows at row 20 of the step table, before it loads the link of curr. The node curr was in
+-- the chain at some moment since the call began at `first`, and its key is smaller than k.
 pub record At20 (vs : ℕ → View) (first now k curr : ℕ) : Type 0 where
   pub past : InPast vs first now curr
   pub low : (vs past.at).key curr < k + 1
 
--- What a `contains` of k knows at row 21 of the step table, before it loads the key of curr. It has read a link to curr
--- in a node with a smaller key than k, and that node had this link while it was in the chain.
+-- What a `contains` of key k knows at row 21 of the step table, before it loads the key of curr. It has read a link to
+-- curr in a node with a smaller key than k, and that node had this link while it was in the chain.
 pub record At21 (vs : ℕ → View) (first now k curr : ℕ) : Type 0 where
   pub from : ℕ
   pub word : ℕ
@@ -120,14 +120,14 @@ pub record At21 (vs : ℕ → View) (first now k curr : ℕ) : Type 0 where
   pub next : word / 2 ≡ curr
   pub low : (vs seen.at).key from < k + 1
 
--- What a `contains` of k knows at row 22 of the step table, before it loads the mark of curr. The node curr has the key
--- k, and was in the chain at some moment since the call began at `first`.
+-- What a `contains` of key k knows at row 22 of the step table, before it loads the mark of curr. The node curr has the
+-- key k, and was in the chain at some moment since the call began at `first`.
 pub record At22 (vs : ℕ → View) (first now k curr : ℕ) : Type 0 where
   pub past : InPast vs first now curr
   pub found : (vs past.at).key curr ≡ k + 1
 
--- What a `ceiling` of k knows at row 25 of the step table, before it loads the mark of curr. The node curr was in the
--- chain at some moment since the call began, and its key word is `ckey`, which is not smaller than that of k.
+-- What a `ceiling` of key k knows at row 25 of the step table, before it loads the mark of curr. The node curr was in
+-- the chain at some moment since the call began, and its key word is `ckey`, which is not smaller than that of k.
 pub record At25 (vs : ℕ → View) (first now k curr ckey : ℕ) : Type 0 where
   pub past : InPast vs first now curr
   pub walk : At21 vs first now k curr

@@ -26,8 +26,8 @@ use Rattle.lset_steps.specs.Promises.{FrozenNodes, NoLinkIsMarked, InRange, Thre
 use Rattle.lset_steps.specs.Promises.{UnlinkedNodesStay, SeenInThePast, UnmarkedNodesInChain, ChangeIsNamed, NamedChange, RepliesFit}
 use Rattle.lset_steps.specs.Promises.{IsContains, TrueMeansChange, HasAccount, ContentIsListed, ListedContent}
 
--- A run up to moment k that is continued by a step of thread t, whether or not the given run continues so. Thus laws of
--- steps apply to the thread's next step.
+-- A run up to moment k, continued by a step of thread t, whether or not the given run continues with this step. So the
+-- laws of steps apply to the thread's next step.
 module _ (T : Table) (law : Lawful T) (op : Opening) (last k t : ℕ) (es : ℕ → Event) (r : Run T op es last) (l : k ≤ last)
     (below : t < op.threads) where
   abbrev more : ℕ → Event

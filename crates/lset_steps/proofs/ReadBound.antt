@@ -127,7 +127,7 @@ tally_on {v} {w} {size} {below} g a = record {
   amount_is = a.amount_is;
 }
 
--- States that this row of the step table is one of a `ceiling` without locks.
+-- States that this is a row of the step table for a `ceiling` without locks.
 abbrev IsCeilingRow : ℕ → Type 0
 IsCeilingRow pc = (pc ≡ 23) ⊎ (pc ≡ 24) ⊎ (pc ≡ 25)
 
@@ -295,8 +295,8 @@ module _ (T : Table) (law : Lawful T) (rows : HasReadRows T) (op : Opening) wher
     opening_local : local_of (state_at T op es 0) t ≡ idle op.quota t
     opening_local = get_or-map-range_with_len (idle op.quota) 0 op.threads t t (idle 0 0) th (omega arith)
 
-    -- After one more event, the thread's progress is still described by `Walked`. By cases: the thread's own begin, its
-    -- own step, or an event of another thread.
+    -- After one more event, the thread's progress is still described by `Walked`. Proof by cases: the event is the
+    -- start of the thread's own call, the thread's own step, or an event of another thread.
     walked_after : (k : ℕ) → k < last → (e : Event) → es k ≡ e → Enabled (state_at T op es k) e
         → Walked (views T op es k) size (steps_since es t k) (local_of (state_at T op es k) t)
         → Walked (views T op es k) size (steps_after e t (steps_since es t k)) (local_of (after T (state_at T op es k) e) t)

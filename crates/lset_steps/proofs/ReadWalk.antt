@@ -70,7 +70,7 @@ loads_seen T At d rows shows op last k t a es r l th busy reads next =
     (local_of (state_at T op es k) t)
     (read_row T (lawful_of T At d) rows op last k t es r l th busy reads) (i.threads t th).at)
 
--- States that thread t begins no call between moments `at` and k, so that its last call is the same at both.
+-- States that thread t does not begin a call between moments `at` and k, so that its last call is the same at both.
 record SameCall (log : Log) (t at k : ℕ) : Type 0 where
   begun : begun_at log t k ≡ begun_at log t at
   call : last_call log t k ≡ last_call log t at

@@ -19,9 +19,9 @@ use Rattle.lset_steps.proofs.Memory.{at_lock, at_own_key, at_own_link}
 use Rattle.lset_steps.proofs.AfterWrite.{set_other, key_after_link, link_after_link, lock_after_link, list_lock_after_link, link_after_key}
 use Rattle.lset_steps.proofs.AfterWrite.{key_after_key, lock_after_key, list_lock_after_key, key_after_lock, link_after_lock}
 
--- What a step from view v to view w by another thread leaves unchanged for thread u with quota q: keys, the locks that
--- u holds, the links of the nodes that u has locked and whether they are in the chain, how many adds of u have
--- succeeded, and the node for its next add.
+-- What a step by another thread, from view v (the list before) to view w (the list after), leaves unchanged for thread
+-- u with quota q: keys, the locks that u holds, the links of the nodes that u has locked and whether they are in the
+-- chain, how many adds of u have succeeded, and the node for its next add.
 pub record Rely (v w : View) (q u : ℕ) : Type 0 where
   pub goes : KeepsNodes v w
   pub used : w.used u ≡ v.used u
@@ -92,7 +92,7 @@ module _ (marks : Bool) (sz : Sizes) (ws : List ℕ) (used : ℕ → ℕ) (m : M
   alien : (c a : ℕ) → node_lock ws c ≡ t + 1 → node_lock ws a ≡ u + 1 → a ≢ c
   alien c a x y e = d (let f : node_lock ws a ≡ node_lock ws c = ap (node_lock ws) e in omega arith)
 
-  -- A step of t under the locks leaves everything unchanged that u relies on. By cases: `at_word` for lock words,
+  -- A step of t under the locks leaves unchanged everything that u relies on. Proof by cases: `at_word` for lock words,
   -- `at_link` for links of published nodes. A node that t writes or unlinks is locked by t and therefore not by u
   -- (`alien`).
   pub rely_of : (a : Action) (ws' : List ℕ) (used' : ℕ → ℕ) (ch : Option (Key × Bool))

@@ -13,8 +13,9 @@ use Rattle.lset_steps.proofs.Memory.{WordStep, Memory, reads, fails, takes, give
 use Rattle.lset_steps.proofs.Memory.{drops, own_of, row_once, no_own, moved, goes_on, others_counted}
 use Rattle.lset_steps.proofs.AfterWrite.{key_after_link, link_after_link, link_after_key, key_after_key, key_after_lock, link_after_lock}
 
--- What a step from view v to view w by another thread leaves unchanged for thread u with quota q, even without locks:
--- keys, the links of marked nodes, how many adds of u have succeeded, and the node for its next add.
+-- What a step by another thread, from view v (the list before) to view w (the list after), leaves unchanged for thread
+-- u with quota q, even without locks: keys, the links of marked nodes, how many adds of u have succeeded, and the node
+-- for its next add.
 pub record Remains (v w : View) (q u : ℕ) : Type 0 where
   pub goes : KeepsNodes v w
   pub marked : (a : ℕ) → v.published a → v.link a % 2 ≡ 1 → w.link a ≡ v.link a

@@ -1,4 +1,4 @@
--- Proof that a list satisfies the law of a machine if its threads share the words by a protocol. States what has to be
+-- Proof that a list satisfies the law of a machine if its threads share the words by a protocol. States what must be
 -- shown for each row of the step table, and proves that this is enough.
 use Rattle.std.specs.Prelude.{◌≡◌, ◌≢◌, ℕ, suc, ◌+◌, ◌<◌, ◌≤◌, Bool, true, false, Option, Some, None, List, ◌||◌, if◌then◌else◌}
 use Rattle.std.specs.Prelude.{◌==◌, slice_set, refl}
@@ -43,8 +43,8 @@ pub due_on : (done : Bool) (q : ℕ) (vs : ℕ → View) (first now t : ℕ) (ca
 due_on true q vs first now t call r d = d
 due_on false q vs first now t call r d = fitted_on q vs first now (suc now) t call r (omega arith) d
 
--- States what is known of a call that is about to release its locks: it has a correct reply, or it has changed nothing
--- and will start again.
+-- States what is known about a call that is about to release its locks: it has a correct reply, or it has changed
+-- nothing and will start again.
 abbrev pub Outcome : Bool → ℕ → (ℕ → View) → ℕ → ℕ → ℕ → Call → Option Reply → Type 0
 Outcome done q vs first now t call None = done ≡ false
 Outcome done q vs first now t call (Some reply) = Due done q vs first now t call reply
@@ -103,9 +103,9 @@ Stands P At = (q t : ℕ) (vs : ℕ → View) (first now : ℕ) (v w : View) (do
 abbrev pub Onward : Sizes → ℕ → Local → Local → Type 0
 Onward sz t l l' = Registers sz t l' × (l'.call ≡ l.call) × (l'.used ≡ l.used) × (l'.pc ≢ 0)
 
--- What has to be shown of one row of the step table: thread t, in private state `l`, makes the step. The row continues
--- the call, changes the set, ends the call, or does both of the latter. Each case has the row's action, its effect on
--- the words, the thread's next private state, and what the outline says after the step.
+-- What must be shown about one row of the step table: thread t, in private state `l`, makes the step. The row continues
+-- the call, changes the set, ends the call, or changes the set and ends the call. Each case has the row's action, its
+-- effect on the words, the thread's next private state, and what the outline says after the step.
 pub data Turn (T : Table) (P : Protocol T.marks) (At : Outline) (sz : Sizes) (t : ℕ) (vs : ℕ → View) (first now : ℕ) (ws : List ℕ)
     (used : ℕ → ℕ) (done : Bool) (l : Local) : Type 0 where
   passes : (a : Action) (ws' : List ℕ) (l' : Local)
@@ -154,9 +154,9 @@ tries {P = P} {sz = sz} {t = t} {ws = ws} {used = used} locks a on same inn acts
       ((locks sz t ws used a inn).1 other) again stays
 ]
 
--- What the proof of a list has to show for its protocol. What a thread knows at its row (the outline) is true when a
--- call begins. Each row is a step of the protocol, and preserves what its own thread knows. Steps of other threads
--- preserve it, too.
+-- What the proof of a list must show for its protocol. What a thread knows at its row (the outline) is true when a call
+-- begins. Each row is a step of the protocol, and preserves what its own thread knows. Steps of other threads preserve
+-- it, too.
 pub record Follows (T : Table) (P : Protocol T.marks) (At : Outline) : Type 1 where
   pub idle_at : (op : Opening) → Opens op → (t : ℕ) (vs : ℕ → View)
       → At op.quota t vs 0 0 (view_of (sizes op) (opening op)) false (idle op.quota t)

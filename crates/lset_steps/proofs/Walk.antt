@@ -86,8 +86,8 @@ from21_more vs n first now k curr r l a top s =
     (no_tail (vs a.seen.at) (r.ordered a.seen.at (omega arith)) a.from k (top a.seen.at (omega arith)) a.low) a.seen
     (omega arith) (subst (λ x. k + 1 < (vs now).key x) (sym a.next) s)
 
--- Row 24 of the step table: a `ceiling` loads the key of curr. The node had been in the chain when the previous node's
--- link led to it.
+-- Row 24 of the step table: a `ceiling` loads the key of curr. Node curr was in the chain when the link of the previous
+-- node led to it.
 pub behind_published : (vs : ℕ → View) (n first now k curr : ℕ) → Course vs n → now ≤ n → (a : At21 vs first now k curr)
     → ((t : ℕ) → t ≤ n → k + 1 < (vs t).key 1) → (vs a.seen.at).published curr
 behind_published vs n first now k curr r l a top =

@@ -15,7 +15,7 @@ use Rattle.lset_steps.proofs.ContentLists.{content_increases}
 use Rattle.lset_steps.proofs.Segments.{segment-append}
 use Rattle.lset_steps.proofs.QuietMove.{not_one}
 
--- The loop invariant: the walk has reached node curr, and has collected these items from the nodes before.
+-- The loop invariant: the walk has reached node curr, and has collected these items from the nodes before curr.
 pub record HasPicked {A : Type 0} (answers : ChainKey → Option A → Type 0) (v : View) (items : List A) (curr : ℕ) : Type 0 where
   pub nodes : List ℕ
   pub seg : Segment v 0 nodes curr
@@ -154,7 +154,7 @@ module _ (answers : ChainKey → Option ChainKey → Type 0) (v : View) (items :
       let keys : unmarked_keys items ≡ keys_in v w.nodes = ap (λ ks. unmarked_keys ks) keys_are ∙ sym (unmarked v w.nodes) in
       ((w.nodes, w.is_chain, keys), subst IsStrictlyIncreasing (sym keys) w.increasing)
 
--- States that the walk has reached node curr, and has collected the keys of the unmarked nodes before.
+-- States that the walk has reached node curr, and has collected the keys of the unmarked nodes before curr.
 abbrev pub WalkedTo : View → List ℕ → ℕ → Type 0
 WalkedTo v items curr = HasPicked (λ met answer. answer ≡ unmarked_key met) v items curr
 

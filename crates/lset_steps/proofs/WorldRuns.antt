@@ -1,4 +1,5 @@
--- Proof that the state of a world is always the last state of a run, also after each of its steps.
+-- Proof that the state of a world (a list with its threads) is always the last state of a run, also after each of its
+-- steps.
 use Rattle.std.specs.Prelude.{◌≡◌, ℕ, ◌<◌, List, [], ◌∷◌, ◌++◌, length, refl, All, ◌^◌, Bool, true, false, if◌then◌else◌}
 use Rattle.std.specs.Prelude.{◌==◌, slice_index, slice_set, suc}
 use Rattle.std.specs.List.Sorted.{IsStrictlyIncreasing}
@@ -57,7 +58,8 @@ is_run_opening T op opens =
       locals = none.locals;
     }
 
--- A world that opens with these keys belongs to a run without events, if the keys are as many as its sizes say.
+-- A world that opens with these keys belongs to a run without events, if the number of keys agrees with the world's
+-- sizes.
 pub is_run_of_keys : (T : Table) (sz : Sizes) (keys : List ℕ) → length keys ≡ sz.opening → IsWithin sz → IsStrictlyIncreasing keys
     → All (λ (k : ℕ). k < 2 ^ 32) keys
     → IsRun T (record { sizes = sz; state = opening (opening_of sz keys) })

@@ -1,5 +1,6 @@
 -- Laws of lists whose `contains` makes only loads. With n threads of quota q and m opening keys, a `contains` makes at
--- most 2(nq + m) + 2 steps, whatever the other threads do. And each node that the call passes was in the chain.
+-- most 2(nq + m) + 2 steps, whatever the other threads do. Each node that the call passes was in the chain at some
+-- moment of the call.
 use Rattle.std.specs.Prelude.{◌≡◌, ◌≢◌, ℕ, zero, suc, ◌+◌, ◌*◌, ◌<◌, ◌≤◌, if◌then◌else◌, ◌==◌}
 use Rattle.lset_steps.specs.declared.Action.TheVariants.{Load}
 use Rattle.lset_steps.specs.declared.Event.{Event}
@@ -25,8 +26,8 @@ steps_since es t (suc k) = steps_after (es k) t (steps_since es t k)
 abbrev pub most_reads : Sizes → ℕ
 most_reads sz = 2 * (sz.threads * sz.quota + sz.opening) + 2
 
--- [Bounded contains]: thread t has a pending `contains` whose next step is a load, and it has made fewer steps than the
--- bound. Hence no `contains` ever makes more steps than the bound.
+-- [Bounded contains]: the next step of thread t's pending `contains` is a load, and the call has made fewer steps than
+-- the bound. Hence no `contains` ever makes more steps than the bound.
 pub record ReadsNext (T : Table) (op : Opening) (es : ℕ → Event) (k t : ℕ) : Type 0 where
   pub loads : (word : ℕ) × (T.next (local_of (state_at T op es k) t) ≡ Load word)
   pub few : steps_since es t k < most_reads (sizes op)

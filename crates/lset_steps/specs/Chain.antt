@@ -16,9 +16,9 @@ node_link ws a = slice_index ws (link_index a)
 abbrev pub node_lock : List ℕ → ℕ → ℕ
 node_lock ws a = slice_index ws (lock_index a)
 
--- What the laws need to know of a list at one moment: the key, link and lock word of each node, the lock of the whole
--- list, how many adds of each thread have succeeded, and which nodes are published, which means that they have been in
--- the chain at some time.
+-- What the laws need to know about a list at one moment: the key, link and lock word of each node, the lock of the
+-- whole list, how many adds of each thread have succeeded, and which nodes are published, which means that they have
+-- been in the chain at some time.
 pub record View : Type 1 where
   pub key : ℕ → ℕ
   pub link : ℕ → ℕ
@@ -27,9 +27,9 @@ pub record View : Type 1 where
   pub used : ℕ → ℕ
   pub published : ℕ → Type 0
 
--- States that a node is published, which means that it has been in the chain at some time. Published are the head, the
--- tail, the nodes of the opening keys, and the slots that the threads have used: slot j of a thread with more than j
--- successful adds.
+-- States that a node is published, which means that it has been in the chain at some time. The published nodes are the
+-- head, the tail, the nodes of the opening keys, and the slots that the threads have used: slot j of a thread with more
+-- than j successful adds.
 abbrev pub Published : Sizes → (ℕ → ℕ) → ℕ → Type 0
 Published sz used i = (i < 2) ⊎ ((t : ℕ) × (j : ℕ) × (t < sz.threads) × (j < used t) × (i ≡ slot_node sz.quota t j))
     ⊎ ((j : ℕ) × (j < sz.opening) × (i ≡ opening_node sz j))
@@ -92,9 +92,9 @@ counts_of vs moment thread = (vs moment).used thread
 abbrev pub FitsIn : ℕ → View → ℕ → Call → Reply → Type 0
 FitsIn quota v thread call reply = Fits quota (InContent v) (v.used thread) call reply
 
--- [Unlinked stays]: compares node i at two moments, if it is published at the first (`v`), which means that it has been
--- in the chain. At the second moment (`w`) it has the same key and is still published. If it was unlinked, it is still
--- unlinked and has the same link. In a list that marks nodes, a marked node still has the same link.
+-- [Unlinked stays]: compares node i at two moments, `v` and a later `w`. The node must be published at `v`, which means
+-- that it has been in the chain. At `w`, the node has the same key and is still published. If it was unlinked, it is
+-- still unlinked and has the same link. In a list that marks nodes, a marked node still has the same link.
 pub record UnlinkedStays (marks : Bool) (v w : View) (i : ℕ) : Type 0 where
   pub published : w.published i
   pub key : w.key i ≡ v.key i

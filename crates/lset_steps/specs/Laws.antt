@@ -101,15 +101,16 @@ StepAt T op es k t =
     StepLaws T op es k t (state_at T op es k) (local_of (state_at T op es k) t)
     (T.effect (local_of (state_at T op es k) t) (seen_next T (state_at T op es k) t))
 
--- The laws of a call's begin by a thread in private state `l`.
+-- The laws of the start of a call by a thread in private state `l`.
 pub record BeginLaws (begin : Call → Local → Local) (call : Call) (l : Local) : Type 0 where
   pub called : (begin call l).call ≡ call
   pub used : (begin call l).used ≡ l.used
   pub opened : (begin call l).pc ≢ 0
-  -- The state after the begin depends only on the call and on the thread's number, quota and number of successful adds.
+  -- The state after the start of a call depends only on the call and on the thread's number, quota and number of
+  -- successful adds.
   pub alike : begin call l ≡ begin call (record (idle l.quota l.thread) { used = l.used })
 
--- The law of a machine: properties of every begin, every state and every step of each of its runs, and of nodes at two
+-- The law of a machine: properties of every start of a call, of every state and step of a run, and of nodes at two
 -- moments of a run. `lset_steps::laws` has the consequences that a user of the law needs.
 pub record Lawful (T : Table) : Type 0 where
   pub begins : (call : Call) (l : Local) → BeginLaws T.begin call l

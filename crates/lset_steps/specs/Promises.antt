@@ -1,4 +1,4 @@
--- The consequences of the law of a machine, each under its own name. In all of them, `op` is how the set opens, `es`
+-- The consequences of the law of a machine, each under its own name. In all of them, `op` says how the set opens, `es`
 -- are the events of a run of `last` events, and k is a moment: the state after k events.
 use Rattle.std.specs.Prelude.{◌≡◌, ◌≢◌, ℕ, zero, suc, ◌+◌, ◌%◌, ◌^◌, ◌<◌, ◌≤◌, ◌⊎◌, true, false, if◌then◌else◌, ◌==◌, List, []}
 use Rattle.std.specs.Prelude.{◌∷◌, ◌++◌, map, Option, Some, Contains, slice_index}
@@ -41,7 +41,7 @@ pub record ChainIsSorted (v : View) : Type 0 where
 abbrev pub SortedChain : Table → Type 0
 SortedChain T = (op : Opening) (last k : ℕ) (es : ℕ → Event) → Run T op es last → k ≤ last → ChainIsSorted (views T op es k)
 
--- [Lock words]: a lock word is t + 1 from the step with which thread t takes the lock to the store of 0 that releases
+-- [Lock words]: a lock word is t + 1 from the step in which thread t takes the lock until the store of 0 that releases
 -- it, and 0 at all other times. This function returns lock word x after an action of thread t. `old` is the word before
 -- the action.
 abbrev pub held : ℕ → ℕ → ℕ → Action → ℕ
@@ -65,8 +65,8 @@ LockWords T = (op : Opening) (last k x : ℕ) (es : ℕ → Event) → Run T op 
     x < word_count (sizes op)
     → slice_index (state_at T op es k).words x ≡ holder T op es x k
 
--- States that in each step, an exchange on a lock word is an attempt to take the lock, and a store to a lock word is a
--- 0 by the thread that holds the lock.
+-- States that in each step, an exchange on a lock word is an attempt to take the lock, and a store to a lock word
+-- stores 0 and is made by the thread that holds the lock.
 abbrev pub LockUses : Table → Type 0
 LockUses T = (op : Opening) (last k t : ℕ) (es : ℕ → Event) → Run T op es last → k < last → es k ≡ Go t
     → LockUse (state_at T op es k).words t (T.next (local_of (state_at T op es k) t))
@@ -104,7 +104,7 @@ abbrev pub UnmarkedNodesInChain : Table → Type 0
 UnmarkedNodesInChain T = (op : Opening) (last k : ℕ) (es : ℕ → Event) → Run T op es last → k ≤ last
     → UnmarkedInChain T.marks (views T op es k)
 
--- States that in a list that does not mark nodes, no node has a mark, not even one that no add has used yet.
+-- States that in a list that does not mark nodes, no node has a mark, not even a node that no add has used yet.
 abbrev pub NoLinkIsMarked : Table → Type 0
 NoLinkIsMarked T = (op : Opening) (last k i : ℕ) (es : ℕ → Event) → Run T op es last → k ≤ last → T.marks ≡ false →
     i < node_count (sizes op)
@@ -154,7 +154,7 @@ TrueMeansChange T = (op : Opening) (last k t : ℕ) (es : ℕ → Event) (change
     → (has_changed (log_of T op es) t (suc k) ≡ true) ⊎ IsContains (last_call (log_of T op es) t k)
 
 -- States that every run has an account: each event changes the keys of the set as its call allows, and each reply is
--- correct at some moment of its call. These are all laws together, without nodes or locks.
+-- correct at some moment of its call. This combines all the laws, without mentioning nodes or locks.
 abbrev pub HasAccount : Table → Type 0
 HasAccount T = (op : Opening) (last : ℕ) (es : ℕ → Event) → Run T op es last
     → Account op last (log_of T op es) (contents_of (views T op es)) (counts_of (views T op es))

@@ -24,7 +24,7 @@ nothing l seen = None
 -- them.
 pub record HasReading (T : Table) : Type 0 where
   pub begins : (call : Call) (l : Local) → T.begin call l ≡ begun_reading call l
-  -- A `contains` loads the link of a node, beginning with the head.
+  -- A `contains` loads the link of a node, starting at the head.
   pub row_20 : Does T 20 (λ l. Load (link_index l.curr)) (λ l seen. continued (record l { pc = 21; curr = seen / 2 })) nothing
   -- A `contains` loads the key of the next node, and compares the key with its own.
   pub row_21 : Does T 21 (λ l. Load (key_index l.curr)) read_key nothing

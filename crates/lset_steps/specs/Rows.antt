@@ -29,9 +29,9 @@ goes_to pc reply l = record l { pc = pc; reply = reply }
 abbrev pub ceiling_at : ℕ → Reply
 ceiling_at word = if nat_lt word tail_word then At (record { 0 = word - 1 }) else Nothing
 
--- Decides how a call continues, from whether its key was found and whether the thread's quota allows another add
--- (`room`). An `add` or a `remove` that will change the set continues at row `adds` or `removes` of the step table. All
--- other calls have a reply now, and continue at row `leaves`.
+-- Decides how a call continues, depending on whether its key was found and whether the thread's quota allows another
+-- add (`room`). An `add` or a `remove` that will change the set continues at row `adds` or `removes` of the step table.
+-- All other calls have a reply now, and continue at row `leaves`.
 abbrev pub decided : ℕ → ℕ → ℕ → Call → Bool → Bool → ℕ → Local → Local
 decided adds removes leaves (Add k) found room key l =
     if found then goes_to leaves (Some False) l else if room then goes_to adds None l else goes_to leaves (Some Full) l

@@ -18,7 +18,7 @@ use Rattle.lset_steps.specs.declared.Event.{Event}
 use Rattle.lset_steps.specs.declared.Event.TheVariants.{Begin, Go}
 
 -- A machine: a list set as a table of steps. `begin` begins a call, `next` is the thread's next access to a word,
--- `feed` is the thread's state after the access, and `effect` is the key that the step adds or removes. `marks` is
+-- `feed` is the thread's state after the access, and `effect` is the key that the step adds or removes. `marks` says
 -- whether the list marks nodes before it unlinks them.
 pub record Table : Type 0 where
   pub marks : Bool
@@ -136,7 +136,7 @@ pub record Run (T : Table) (op : Opening) (es : ℕ → Event) (last : ℕ) : Ty
 abbrev pub event_at : List Event → ℕ → Event
 event_at es k = slice_index_or es k (Go 0)
 
--- Returns what the log of a run records of an event: who began which call, or who made a step with which change and
+-- Returns what the log of a run records about an event: who began which call, or who made a step with which change and
 -- reply.
 abbrev pub entry_of : Table → State → Event → Entry
 entry_of T s (Begin t call) = began t call

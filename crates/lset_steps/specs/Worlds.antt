@@ -32,8 +32,8 @@ abbrev pub thread_of : Event → ℕ
 thread_of (Begin t call) = t
 thread_of (Go t) = t
 
--- States that this is the error of an event that is not enabled. If several apply, it is the first of NoThread, Busy
--- and Idle.
+-- States that this is the error returned for an event that is not enabled. If several errors apply, it is the first of
+-- NoThread, Busy and Idle.
 abbrev pub Refused : WorldState → Event → StepFault → Type 0
 Refused w e NoThread = w.sizes.threads ≤ thread_of e
 Refused w (Begin t call) Busy = (t < w.sizes.threads) × ((local_of w.state t).pc ≢ 0)
@@ -83,7 +83,7 @@ abbrev pub AnswersAs : {A : Type 0} → (ChainKey → Option A → Type 0) → (
 AnswersAs {A} answers pick = (met : ChainKey) (answer : Option A) → answers met answer → answer ≡ pick met
 
 -- States that the items are what a function `pick` selects from the keys along the chain, in this order. `answers` is
--- all that is known of `pick`: which answers it can have for a key.
+-- all that is known about `pick`: which answers it can have for a key.
 pub record IsPickedFromChain {A : Type 0} (answers : ChainKey → Option A → Type 0) (v : View) (items : List A) : Type 0 where
   pub nodes : List ℕ
   pub is_chain : IsChain v nodes

@@ -33,8 +33,8 @@ pub fn sorted_chain<M: Machine>()
     ensures { SortedChain M.table }
 {}
 
-/// Lemma: a lock word is `t + 1` from the step with which thread `t` takes the lock to the store of 0 that releases it.
-/// At all other moments the word is 0.
+/// Lemma: a lock word is `t + 1` from the step in which thread `t` takes the lock until the store of 0 that releases
+/// it. At all other moments the word is 0.
 pub fn lock_words<M: Machine>()
     ensures { LockWords M.table }
 {}
@@ -52,8 +52,8 @@ pub fn unlinked_nodes_stay<M: Machine>()
     ensures { UnlinkedNodesStay M.table }
 {}
 
-/// Lemma: once a node is unlinked, its link never changes again. In a list that marks nodes, this is so from the moment
-/// at which the node is marked. (Harris; O'Hearn and others.)
+/// Lemma: once a node is unlinked, its link never changes again. In a list that marks nodes, the link never changes
+/// once the node is marked. (Harris; O'Hearn and others.)
 pub fn frozen_nodes<M: Machine>()
     ensures { FrozenNodes M.table }
 {}
@@ -70,7 +70,7 @@ pub fn unmarked_nodes_in_chain<M: Machine>()
     ensures { UnmarkedNodesInChain M.table }
 {}
 
-/// Lemma: in a list that does not mark nodes, no node has a mark, not even one that no add has used yet.
+/// Lemma: in a list that does not mark nodes, no node has a mark, not even a node that no add has used yet.
 pub fn no_link_is_marked<M: Machine>()
     ensures { NoLinkIsMarked M.table }
 {}

@@ -16,8 +16,8 @@ use lset_words::{Call, Key, Kind, Layout, Reply};
 pub use world::{ChainKey, StepFault, World, opening_words};
 
 /// The private state of a thread: its number, its quota and how many slots it has used; its call and the reply; the
-/// program counter `pc`, which is the row of the step table that is next, or 0 if no call is pending; and the registers
-/// `pred` to `ckey`.
+/// program counter `pc`, which is the next row of the step table (0 if no call is pending); and the registers `pred` to
+/// `ckey`.
 #[derive(Clone, Copy)]
 pub struct Local {
     pub thread: u32,
@@ -109,8 +109,8 @@ pub trait Machine {
     fn begin(call: Call, local: &Local) -> Local
         ensures { result ≡ table.begin call local.now };
 
-    /// Returns the access to a word that the thread, which must have a pending call, makes next. `local` must be the
-    /// thread's private state at some moment of a run.
+    /// Returns the thread's next access to a word. The thread must have a pending call, and `local` must be its private
+    /// state at some moment of a run.
     fn next(local: &Local) -> Action
         requires { Occurs table local.now }
         ensures { result ≡ table.next local.now };

@@ -56,7 +56,7 @@ pub fn read_action(local: &Local) -> Action
 }
 
 /// Returns the outcome of a step in which a `ceiling` read the key word `seen`. The call continues with the next node
-/// if the key is smaller than its own, replies `Nothing` at the tail, and otherwise reads the node's mark.
+/// if the key is smaller than the call's, replies `Nothing` at the tail, and otherwise reads the node's mark.
 #[inline(always)]
 fn ceiling_key(local: &Local, seen: u64) -> Fed
     ensures { result ≡ ceiling_key local.now seen }

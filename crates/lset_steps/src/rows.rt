@@ -17,8 +17,8 @@ pub fn own_slot(local: &Local) -> u64
     slot_node(local.quota, local.thread, local.used)
 }
 
-/// Returns an attempt to take the lock of `node`, which must be below `2^62`: an exchange of 0, a free lock, for the
-/// thread's number plus 1. (Herlihy and Shavit's node locks.)
+/// Returns the action that attempts to take the lock of `node`: an exchange of 0 (a free lock) for the thread's number
+/// plus 1. `node` must be below `2^62`. (Herlihy and Shavit's node locks.)
 #[inline(always)]
 pub fn try_lock(node: u64, local: &Local) -> Action
     requires { node < 2 ^ 62 }

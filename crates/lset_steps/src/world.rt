@@ -141,7 +141,7 @@ fn opening_word_at(layout: &Layout, keys: &[u32], i: u64) -> u64
 }
 
 /// Returns the words of a list before any event: a chain from the head through the nodes of the opening keys to the
-/// tail, free locks, and zeros in unused slots. `keys` must be as many as the layout's opening keys. Allocates one
+/// tail, free locks, and zeros in unused slots. `keys` must contain exactly `layout.opening()` keys. Allocates one
 /// vector of `layout.words()` words, at most 6,291,465. If that fails, returns `AllocError`.
 pub fn opening_words(alloc: Global, layout: &Layout, keys: &[u32]) -> Result<Vec<u64>, AllocError>
     requires { length keys.now ≡ layout.now.opening }
@@ -195,7 +195,7 @@ fn access(words: &mut Vec<u64>, action: Action) -> u64
     }
 }
 
-/// Returns the value that an access will see, without performing it.
+/// Returns the value that an access will see, without performing the access.
 fn sight(words: &[u64], action: Action) -> u64
     requires { word_named action < length words.now }
     ensures { result ≡ seen_by words.now action }
@@ -219,9 +219,10 @@ impl<M: Machine> World<M> {
         World::opened(alloc, layout, &[])
     }
 
-    /// Returns a list that opens with `keys`, before any event: no thread has a pending call. `keys` must increase
-    /// strictly, and be as many as the layout's opening keys. They are in the set from moment 0, and any thread can
-    /// remove them. Allocates the words and the threads' states. If an allocation fails, returns `AllocError`.
+    /// Returns a list that opens with `keys`, before any event: no thread has a pending call. `keys` must contain
+    /// exactly `layout.opening()` keys, in strictly increasing order. These keys are in the set from moment 0, and any
+    /// thread can remove them. Allocates the words and the threads' states. If an allocation fails, returns
+    /// `AllocError`.
     pub fn opened(alloc: Global, layout: Layout, keys: &[u32]) -> Result<World<M>, AllocError>
         requires many { length keys.now ≡ layout.opening }
         requires rising { IsStrictlyIncreasing keys.now }
@@ -299,8 +300,7 @@ impl<M: Machine> World<M> {
         self.walk(|met| Some(met))
     }
 
-    /// Walks along the chain from head to tail, and collects the answers of `pick` to the keys in between. `None` is
-    /// left out.
+    /// Walks along the chain, and calls `pick` with each key between head and tail. Collects all results except `None`.
     fn walk<T: Copy, F: Fn(ChainKey) -> Option<T>>(&self, pick: F) -> Result<Vec<T>, AllocError>
         requires { F.IsAlwaysCallable pick }
         ensures { IfOk result (λ v.
@@ -322,7 +322,7 @@ impl<M: Machine> World<M> {
         Ok(picked)
     }
 
-    /// Lemma: a world satisfies the laws of every state of every run. The function does nothing.
+    /// Lemma: the state of a world satisfies the laws that hold in every state of every run. The function does nothing.
     fn keeps_its_laws(&self)
         ensures { StateLaws M.table.marks self.now.sizes self.now.state }
     {

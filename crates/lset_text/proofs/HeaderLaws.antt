@@ -100,8 +100,8 @@ told_again line cause read x y more told is = rw is refl
 abbrev Found : Type 0
 Found = Header × List (List ℕ)
 
--- What remains of reading a header after each of its lines: after the quota line (here), the threads line, the kind
--- line, and the title.
+-- What is left to do after each of the four header lines has been read. This function is for the quota line. The
+-- functions for the threads line, the kind line and the title follow.
 abbrev after_quota : Kind → ℕ → ℕ × List (List ℕ) → Result Found LineFault
 after_quota kind threads quota = Ok (record { kind = kind; threads = threads; quota = quota.0 }, quota.1)
 

@@ -17,8 +17,8 @@ pub made_ok : {X Y : Type 0} (f : X → Y) (r : Result X Cause) (y : Y) → made
 made_ok f (Ok x) y e = (x, refl, ok_is (f x) y e)
 made_ok f (Err d) y e = absurd cc
 
--- What the proofs need to know about a kind of line: its form can be read back, and each value made of fields that the
--- version can spell has the property `Good`, and is spelled by these fields.
+-- What the proofs need to know about a kind of line. Its form can be read back. Each value made from fields that the
+-- version can spell has the property `Good`, and its spelling consists of these fields.
 abbrev pub Knows : {X : Type 0} → Version → (X → List (List ℕ)) → (X → Type 0) → LineKind X → Type 0
 Knows v pieces Good k = IsForm k.0 × ((t : Told k.0) → AllFit v k.0 t → (spell k.0 t ≡ pieces (k.1 t)) × Good (k.1 t))
 
@@ -83,7 +83,7 @@ first_made v none pieces Good (k ∷ ks) x known (inl m) =
     ap (first_of v none (k ∷ ks)) (sym spelled) ∙ here ∙ ap Ok m.1
 first_made v none pieces Good (k ∷ ks) x known (inr m) = rw m.0 (first_made v none pieces Good ks x known.1 m.1)
 
--- If `P` holds of every spelling of valid fields, `P` holds of the spelling of each value that some kind makes.
+-- If `P` holds for every spelling of valid fields, `P` holds for the spelling of each value that some kind makes.
 made_spells : {X : Type 0} (v : Version) (pieces : X → List (List ℕ)) (Good : X → Type 0) (P : List (List ℕ) → Type 0)
     → ((k : LineKind X) → IsForm k.0 → (t : Told k.0) → AllFit v k.0 t → P (spell k.0 t))
     → (ks : List (LineKind X)) (x : X) → AllByRecursion (Knows v pieces Good) ks → IsMade v pieces ks x → P (pieces x)
@@ -140,7 +140,7 @@ first_as f v none (k ∷ ks) ps =
     kind_seen f k.1 Number (have_form v k.0 ps) (all_told v k.0 ps) (first_of v none (map (kind_as f) ks) ps)
     (first_of v none ks ps) (first_as f v none ks ps)
 
--- What the proofs know of kinds of lines (`Knows`) is still true if a function `f` is applied to their values.
+-- What the proofs know about kinds of lines (`Knows`) is still true if a function `f` is applied to their values.
 module _ {X Y : Type 0} (f : X → Y) (v : Version) (pieces : X → List (List ℕ)) (seen : Y → List (List ℕ))
     (same : (x : X) → pieces x ≡ seen (f x)) where
   pub knows_as : (Good : X → Type 0) (Fine : Y → Type 0) → ((x : X) → Good x → Fine (f x)) → (ks : List (LineKind X))

@@ -1,4 +1,4 @@
--- Laws of a loop that reads a text line by line, for every grammar. `Stands` is the invariant of the loop.
+-- Lemmas about a loop that reads a text line by line, for every grammar. `Stands` is the invariant of the loop.
 use Rattle.std.proofs.Common.{◌≡◌, ℕ, ◌+◌, ◌<◌, ◌≤◌, ◌⊎◌, inl, inr, Bool, true, false, cond, eqb, List, [], ◌∷◌, ◌++◌, length}
 use Rattle.std.proofs.Common.{get_or, Result, Ok, Err, refl, sym, ap, subst, ◌∙◌, append_assoc, length-append, arith}
 use Rattle.std.specs.List.{AllByRecursion}
@@ -113,7 +113,7 @@ is_good {S} g first text read line s t rest x after parts is stands =
       rw (← more) (faultless_from g line (line + 1) t (cut_at 10 after) (omega arith)),
     )
 
--- Laws for a line at which reading stops: the line has an error, or an allocation failed.
+-- Lemmas about a line at which reading stops: the line has an error, or an allocation failed.
 module _ {S : Type 0} (g : Grammar S) (first : ℕ) (text : List ℕ) (read : Result S LineFault) (line : ℕ) (s : S)
     (rest x after : List ℕ) (parts : cut_at 10 rest ≡ x ∷ cut_at 10 after) (stands : Stands g first text read line s rest)
     (cause : Cause) where
@@ -144,7 +144,7 @@ ended g line other true s t e = (refl, map_fault_ok (fault line) (g.ends s) t e)
 ended g line other false s t e = absurd cc
 
 -- Suppose that each accepted line preserves `P`, and that the text of a state grows by each accepted line. Then the
--- lines that were read are the text of the last state, and `P` holds of this state.
+-- lines that were read are the text of the last state, and `P` holds for this state.
 pub lines_hold : {S : Type 0} (g : Grammar S) (P : S → Type 0) (text : S → List (List ℕ))
     → ((s t : S) (x : List ℕ) → P s → g.step s x ≡ Ok t → P t × (text t ≡ text s ++ x ∷ []))
     → ((s t : S) → g.ends s ≡ Ok t → s ≡ t)

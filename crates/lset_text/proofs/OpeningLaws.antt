@@ -1,4 +1,4 @@
--- Laws of the lines that list the opening keys, and of strictly increasing keys.
+-- Lemmas about the lines that list the opening keys, and about strictly increasing keys.
 use Rattle.std.proofs.Common.{rules, ◌≡◌, ℕ, zero, suc, ◌+◌, ◌-◌, ◌<◌, ◌^◌, true, List, [], ◌∷◌, ◌++◌, length, length-append}
 use Rattle.std.proofs.Common.{get_or, refl, ap, ◌∙◌, arith}
 use Rattle.std.specs.Prelude.{nat_lt}

@@ -1,4 +1,4 @@
--- Laws of cutting a text into lines, cutting a line into fields, and joining the parts again.
+-- Lemmas about cutting a text into lines, cutting a line into fields, and joining the parts again.
 use Rattle.std.proofs.Common.{◌≡◌, ℕ, ◌+◌, ◌-◌, ◌<◌, ◌≤◌, Bool, true, false, cond, eqb, ltb, not, ◌&&◌, List, [], ◌∷◌, ◌++◌}
 use Rattle.std.proofs.Common.{length, take, drop, Some, None, refl, sym, ap, ◌∙◌, append_assoc, arith, length-append}
 use Rattle.std.specs.Prelude.{position}
@@ -37,8 +37,7 @@ some_part byte text = omega (arith, length-slice_split (λ b. eqb b byte) text)
 
 -- ---- Lemmas about bytes that do not occur in a text
 
--- Returns whether a byte does not occur in a text. Unlike `Lacks`, a function that can be computed for a text in the
--- code.
+-- Returns whether a byte is absent from a text. Unlike `Lacks`, this function can be computed for a text in the code.
 abbrev pub is_free : ℕ → List ℕ → Bool
 is_free byte [] = true
 is_free byte (b ∷ bs) = not (eqb b byte) && is_free byte bs

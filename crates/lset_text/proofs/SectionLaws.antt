@@ -1,4 +1,5 @@
--- Laws of sections of a file. A section has one line for each item of a list, such as one `key K` line for each key.
+-- Lemmas about the sections of a file. A section has one line for each item of a list, such as one `key K` line for
+-- each key.
 use Rattle.std.proofs.Common.{◌≡◌, ℕ, ◌<◌, ◌≤◌, ◌^◌, List, [], ◌∷◌, ◌++◌, map, length, true, Ok, refl, sym, ap, subst, arith}
 use Rattle.std.proofs.Common.{append_assoc, length-append}
 use Rattle.std.specs.List.{AllByRecursion}
@@ -47,7 +48,8 @@ pub later_pushed : {X T : Type 0} (xs : List X) (x : X) (s t : T) → t ≡ late
 later_pushed [] x s t = refl
 later_pushed (y ∷ ys) x s t = refl
 
--- ---- If each item's line leads to the next state, the lines of a section lead to the last state, provided its limit is not exceeded
+-- ---- If each item's line leads to the next state, the lines of a section lead to the last state, provided the
+-- section's limit is not exceeded
 
 pub section_leads : {S X : Type 0} (g : Grammar S) (state : List X → S) (line : X → List ℕ) (P : X → Type 0) (most : ℕ)
     (xs : List X) → length xs ≤ most → AllByRecursion P xs

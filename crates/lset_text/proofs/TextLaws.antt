@@ -66,8 +66,8 @@ good_after g bytes rest h (Err e) is good = λ m.
 
 -- ---- Proof that reading and writing are inverse
 
--- What was read is the text of the result. If `P` holds of the header's start state and each line preserves `P`, `P`
--- holds of the result.
+-- The file that was read is the text of the result. If `P` holds for the header's start state and each line preserves
+-- `P`, `P` holds for the result.
 pub text_found : {S : Type 0} (g : TextGrammar S) (P : S → Type 0) (text : S → List (List ℕ))
     → ((h : Header) → IsHeader h → P (g.start h) × (text (g.start h) ≡ header_lines g.title h))
     → ((s t : S) (x : List ℕ) → P s → g.lines.step s x ≡ Ok t → P t × (text t ≡ text s ++ x ∷ []))

@@ -43,7 +43,7 @@ spelled kind k = kind_text k
 spelled call w = call_word_text w
 spelled reply r = reply_text r
 
--- States that the version can spell this value in this field.
+-- States that this version of a file format can spell this value in this field.
 abbrev pub Fits : Version → (p : Piece) → Tells p → Type 0
 Fits v (word w) t = Unit {0}
 Fits v (number low high) n = (low ≤ n) × (n ≤ high)

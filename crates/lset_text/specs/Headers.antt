@@ -69,7 +69,7 @@ line_due line cause [] = Err (fault line cause)
 line_due line cause (rest ∷ []) = Err (fault line (if length rest == 0 then cause else wrong.NotEnded))
 line_due line cause (x ∷ y ∷ more) = Ok (x, y ∷ more)
 
--- Reads a value from the next header line by `read`, and returns the value with the parts after that line.
+-- Reads a value from the next header line with `read`, and returns the value with the parts after that line.
 unfoldable pub told_by_line : {A : Type 0} → ℕ → Cause → (List ℕ → Option A) → List (List ℕ)
     → Result (A × List (List ℕ)) LineFault
 told_by_line line cause read parts = do

@@ -1,5 +1,5 @@
--- The kinds of lines in a file, such as `begin` or `go`. Each kind has a form, and a function that makes a value of the
--- fields.
+-- The kinds of lines in a file, such as `begin` or `go`. Each kind has a form, and a function that makes a value from
+-- the fields.
 use Rattle.std.specs.Prelude.{ℕ, List, [], ◌∷◌, Result, Ok, Err, if◌then◌else◌}
 use Rattle.lset_text.specs.declared.words.Version.{Version}
 use Rattle.lset_text.specs.declared.causes.Cause.{Cause}
@@ -11,7 +11,7 @@ use Rattle.lset_text.specs.Results.{or_fail}
 abbrev pub LineKind : Type 0 → Type 0
 LineKind X = (f : Form) × (Told f → X)
 
--- Returns the kind of line that makes `f x` when `k` makes `x`.
+-- Applies `f` to the values of a kind of line: if `k` makes `x`, the result makes `f x`.
 abbrev pub kind_as : {X Y : Type 0} → (X → Y) → LineKind X → LineKind Y
 kind_as f k = (k.0, λ t. f (k.1 t))
 
@@ -19,9 +19,9 @@ abbrev pub made : {X Y : Type 0} → (X → Y) → Result X Cause → Result Y C
 made f (Ok x) = Ok (f x)
 made f (Err e) = Err e
 
--- Reads a line that was cut into fields. The first kind whose form looks like the line makes the value. If no kind
--- does, the line is refused with the cause `none`. If one does, but a field that must be a number is no number or is
--- out of range, the line is refused with `Number`.
+-- Reads a line that was cut into fields. The first kind whose form matches the line makes the value. If no kind
+-- matches, the line is refused with the cause `none`. If one matches, but a field that must be a number is not one or
+-- is out of range, the line is refused with `Number`.
 abbrev pub first_of : {X : Type 0} → Version → Cause → List (LineKind X) → List (List ℕ) → Result X Cause
 first_of v none [] pieces = Err none
 first_of v none (k ∷ ks) pieces =

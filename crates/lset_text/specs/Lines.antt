@@ -13,8 +13,8 @@ pub record Grammar (S : Type 0) : Type 0 where
   pub step : S → List ℕ → Result S Cause
   pub ends : S → Result S Cause
 
--- Reads lines into the state `s`. The first has the number `line`. The last part is the text after the last newline,
--- and must be empty.
+-- Reads lines, starting in the state `s`. `line` is the number of the first line. The last part is the text after the
+-- last newline, and must be empty.
 unfoldable pub lines_from : {S : Type 0} → Grammar S → ℕ → S → List (List ℕ) → Result S LineFault
 lines_from g line s [] = map_fault (fault line) (g.ends s)
 lines_from g line s (rest ∷ []) = map_fault (fault line) (if length rest == 0 then g.ends s else Err NotEnded)
@@ -37,8 +37,8 @@ IsFaultlessTo line (Err e) = line < e.line
 abbrev pub IsGoodLine : {X : Type 0} → ℕ → List (List ℕ) → Result X LineFault → ℕ → Type 0
 IsGoodLine first parts read line = (first ≤ line) × (line + 1 < first + length parts) × IsFaultlessTo line read
 
--- The invariant of a loop that reads a text line by line: if the loop reads `rest`, beginning with this line in this
--- state, the result is the same as that of reading the whole text.
+-- The invariant of a loop that reads a text line by line: reading `rest` from the current line and state returns the
+-- same result as reading the whole text from its start.
 pub record Stands {S : Type 0} (g : Grammar S) (first : ℕ) (text : List ℕ) (read : Result S LineFault) (line : ℕ) (s : S)
     (rest : List ℕ) : Type 0 where
   pub so_far : lines_from g line s (cut_at 10 rest) ≡ read

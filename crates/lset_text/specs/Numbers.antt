@@ -5,7 +5,7 @@ use Rattle.std.specs.Fmt.{decimal}
 use Rattle.std.specs.Str.{all_ascii_digits}
 use Rattle.std.specs.Str.Parse.{digits_value}
 
--- Returns whether a field is `0`, or consists of digits and begins with another digit than `0`.
+-- Returns whether a field is `0`, or consists of digits and does not start with `0`.
 abbrev pub is_number : List ℕ → Bool
 is_number piece = nat_lt 0 (length piece) && (all_ascii_digits piece && (length piece == 1 || not (slice_index piece 0 == 48)))
 

@@ -41,7 +41,7 @@ call_word_text word.Remove = codes "remove"
 call_word_text word.Contains = codes "contains"
 call_word_text word.Ceiling = codes "ceiling"
 
--- Returns the name of a call. `with_key` is the inverse: it makes a call of a name and a key.
+-- Returns the name of a call. `with_key` is the inverse: it makes a call from a name and a key.
 abbrev pub word_of : Call → CallWord
 word_of (call.Add k) = word.Add
 word_of (call.Remove k) = word.Remove
@@ -121,7 +121,7 @@ HasReply One reply.Nothing = ⊥
 HasReply version r = Unit {0}
 
 -- States that reading inverts writing for kinds of lists: a field is read as a kind if and only if it is the kind's
--- name. `CallsReadBack` and `RepliesReadBack` state the same of calls and replies.
+-- name. `CallsReadBack` and `RepliesReadBack` state the same for calls and replies.
 abbrev pub KindsReadBack : Type 0
 KindsReadBack = (k : Kind) (piece : List ℕ)
     → (kind_of (kind_text k) ≡ Some k) × (kind_of piece ≡ Some k → piece ≡ kind_text k)

@@ -17,16 +17,16 @@ pub enum Cause {
     Threads,
     /// The fourth line is not `quota` and a number from 0 to 16384: `quota 16385`.
     Quota,
-    /// The line is not of a kind that can follow the lines above it: `take 0 5`; `go  0 1` (two spaces); `opening 5`
-    /// below an event; an empty line.
+    /// No such line can follow the lines above it: `take 0 5`; `go 0 1` (two spaces); `opening 5` below an event; an
+    /// empty line.
     Event,
-    /// In a report or a recording, the line is not of a kind that can follow the lines above it: `place 0 maybe`;
-    /// `place 0 true` below a `key` line; in version 1 `place 0 at-5`; in a recording `call 0 add 5 1 8 full`.
+    /// In a report or a recording, no such line can follow the lines above it: `place 0 maybe`; `place 0 true` below a
+    /// `key` line; in version 1 `place 0 at-5`; in a recording `call 0 add 5 1 8 full`.
     Line,
     /// The field is not a number, or is out of range: `begin 0 add 05`, `go 0 10001`, `place 01 true`.
     Number,
-    /// This line exceeds the limit of events, opening keys, calls, places or keys in a file: the hundredth line `go 0
-    /// 10000`.
+    /// With this line, the file has too many events, opening keys, calls, `place` lines or `key` lines: the hundredth
+    /// line `go 0 10000`.
     TooMany,
     /// The key is not above the opening key before it: `opening 9` twice.
     Opening,
@@ -35,15 +35,16 @@ pub enum Cause {
     History,
     /// The line has no newline at its end, or the text ends too early: a report or a recording without `end`.
     NotEnded,
-    /// No thread has this number: `go 1 1` with `threads 1`.
+    /// No thread has this number, as in `go 1 1` with `threads 1`.
     NoThread,
     /// The thread already has a pending call: `begin 0 add 5`, then `begin 0 add 6`.
     Busy,
-    /// The thread has no pending call: `go 0 8`, if the call has only seven steps.
+    /// The thread has no pending call, for example in `go 0 8` if its call has only seven steps.
     Idle,
     /// A broken list (with a check removed) cannot make this step: it would access a word outside its table.
     Lost,
-    /// The thread cannot reach the given step: `go 1 out`, if the thread waits for a lock of another thread.
+    /// The thread cannot reach the given step, for example in `go 1 out` if it waits for a lock that another thread
+    /// holds.
     Waits,
     /// An allocation failed at this line or above it. The program does not print the line: it prints `out of memory`.
     Memory,

@@ -55,7 +55,7 @@ pub fn number_of_line(line: &[u8], word: &[u8], low: u32, high: u32) -> Option<u
 }
 
 /// Splits the next header line, number `line`, off a text. Returns the line and the text after it. If the text is
-/// empty, returns an error with this cause.
+/// empty, returns an error with the given cause.
 fn due(text: &[u8], line: u64, cause: Cause) -> Result<(&[u8], &[u8]), LineFault>
     ensures value { MatchResult result
         (λ p. line_due line cause (cut_at 10 text.now) ≡ Ok (p.0.now, cut_at 10 p.1.now))
@@ -107,7 +107,7 @@ pub fn read_header<'a>(title: &[u8], text: &'a [u8]) -> Result<(Header, &'a [u8]
     header_due(title, text)
 }
 
-/// Lemma: if the text of a header is read, the result is this header, whatever text follows. The function does nothing.
+/// Lemma: reading the text of a header returns this header, whatever text follows. The function does nothing.
 #[tactic(auto, using(crate::proofs::HeaderLaws::header_from_text))]
 pub fn headers_read_back()
     ensures { HeadersReadBack }

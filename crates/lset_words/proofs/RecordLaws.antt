@@ -1,4 +1,5 @@
--- A seat's record is extended by two lists of calls in the same way as by their concatenation.
+-- Extending a seat's record by two lists of calls, one after the other, is the same as extending it by their
+-- concatenation.
 use Rattle.std.proofs.Common.{◌≡◌, List, [], ◌∷◌, ◌++◌, refl}
 use Rattle.lset_words.specs.Records.{CallMade, Record, called, with_calls}
 

@@ -10,7 +10,7 @@ use Rattle.lset_words.specs.declared.Reply.TheVariants.{True, False, Full, At, N
 use Rattle.lset_words.specs.Log.{Log, Entry, Change, last_call, begun_at, is_open, has_changed}
 use Rattle.lset_words.specs.Log.Entry.{began, stepped}
 
--- A set of keys, given as the predicate of its members.
+-- A set of keys, as a predicate that is true of its members.
 abbrev pub Content : Type 1
 Content = ℕ → Type 0
 
@@ -27,7 +27,8 @@ Changes (Some (k, true)) before after =
 Changes (Some (k, false)) before after =
     before k.0 × (after k.0 → ⊥) × ((j : ℕ) → j ≢ k.0 → (before j → after j) × (after j → before j))
 
--- Returns how many successful adds a thread has made after this change of its own. `count` is the number before.
+-- Returns how many successful adds a thread has made after one of its calls made this change. `count` is the number
+-- before the change.
 abbrev pub count_after : Option Change → ℕ → ℕ
 count_after None count = count
 count_after (Some (k, true)) count = count + 1
@@ -65,8 +66,8 @@ Contents = ℕ → Content
 abbrev pub Counts : Type 0
 Counts = ℕ → ℕ → ℕ
 
--- States that the reply is correct at some moment from `first` to `last`: a sequential set with the content of that
--- moment returns this reply.
+-- States that the reply is correct at some moment from `first` to `last`: a sequential set with the keys of that moment
+-- returns this reply.
 pub record FitsSometime (quota : ℕ) (contents : Contents) (counts : Counts) (first last thread : ℕ) (call : Call)
     (reply : Reply) : Type 0 where
   pub moment : ℕ
@@ -82,8 +83,8 @@ RightReply true quota contents counts first last thread call (Some reply) = repl
 RightReply false quota contents counts first last thread call (Some reply) =
     FitsSometime quota contents counts first last thread call reply
 
--- Thread `t` begins a call between moments `k` and `k + 1`. Before that, it has no pending call. Content and counts do
--- not change.
+-- Thread `t` begins a call between moments `k` and `k + 1`. Before that, it has no pending call. The set's keys and the
+-- counts of successful adds do not change.
 pub record Begins (threads : ℕ) (log : Log) (contents : Contents) (counts : Counts) (k t : ℕ) : Type 0 where
   pub of_a_thread : t < threads
   pub idle : is_open log t k ≡ false
@@ -97,7 +98,7 @@ pub record Steps (threads quota : ℕ) (log : Log) (contents : Contents) (counts
   -- The thread has a pending call.
   pub of_a_thread : t < threads
   pub under_way : is_open log t k ≡ true
-  -- Content and counts change as `change` says, and in no other way.
+  -- The set's keys and the count of the thread's successful adds change as `change` says, and in no other way.
   pub content : Changes change (contents k) (contents (suc k))
   pub own_count : counts (suc k) t ≡ count_after change (counts k t)
   pub other_counts : (u : ℕ) → u < threads → u ≢ t → counts (suc k) u ≡ counts k u
@@ -106,7 +107,8 @@ pub record Steps (threads quota : ℕ) (log : Log) (contents : Contents) (counts
   -- The reply, if any, is correct.
   pub right : RightReply (has_changed log t (suc k)) quota contents counts (begun_at log t k) (suc k) t (last_call log t k) reply
 
--- States that entry `k` of the log, the event between moments `k` and `k + 1`, is a valid begin or a valid step.
+-- States that entry `k` of the log, the event between moments `k` and `k + 1`, is a valid start of a call or a valid
+-- step.
 abbrev pub Enters : ℕ → ℕ → Log → Contents → Counts → ℕ → Entry → Type 0
 Enters threads quota log contents counts k (began t call) = Begins threads log contents counts k t
 Enters threads quota log contents counts k (stepped t change reply) = Steps threads quota log contents counts k t change reply
@@ -119,5 +121,5 @@ pub record Account (o : Opening) (last : ℕ) (log : Log) (contents : Contents) 
   pub opens : (k : ℕ) → (contents 0 k → InList o.keys k) × (InList o.keys k → contents 0 k)
   -- At moment 0, no thread has added a key.
   pub none_yet : (t : ℕ) → t < o.threads → counts 0 t ≡ 0
-  -- Each of the first `last` entries of the log is a valid begin or a valid step.
+  -- Each of the first `last` entries of the log is a valid start of a call or a valid step.
   pub enters : (k : ℕ) → k < last → Enters o.threads o.quota log contents counts k (log k)

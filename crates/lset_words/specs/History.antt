@@ -1,4 +1,4 @@
--- Histories of calls, and what it means that an order of calls linearizes a history (Herlihy and Wing). Pending calls
+-- Histories of calls, and what it means for an order of calls to linearize a history (Herlihy and Wing). Pending calls
 -- can be completed by a reply or left out.
 use Rattle.std.specs.Prelude.{◌≡◌, ◌≢◌, ℕ, ◌<◌, List, map, length, Some, None, Contains, All, AllPairs, IfSome}
 use Rattle.std.specs.Prelude.{IsSomeAnd, slice_index_or}
@@ -16,7 +16,7 @@ no_call = record { thread = 0; call = call.Contains (record { 0 = 0 }); begun = 
 abbrev pub call_numbered : List CallRecord → ℕ → CallRecord
 call_numbered history number = slice_index_or history number no_call
 
--- The conditions that each call of a history must meet by itself.
+-- The conditions that each call of a history must meet on its own.
 pub record IsCall (threads : ℕ) (x : CallRecord) : Type 0 where
   pub of_a_thread : x.thread < threads
   pub counted : 0 < x.begun
@@ -24,7 +24,7 @@ pub record IsCall (threads : ℕ) (x : CallRecord) : Type 0 where
 
 -- The conditions on a call `x` of a history and an earlier call `y`.
 pub record Follows (y x : CallRecord) : Type 0 where
-  -- Calls are numbered in the order in which they begin.
+  -- The call that begins first has the smaller number.
   pub increasing : y.begun < x.begun
   -- The two calls begin and end at different moments.
   pub begins_alone : IfSome y.ended (λ (e : ℕ × Reply). e.0 ≢ x.begun)
@@ -37,7 +37,7 @@ pub record MayFollow (threads : ℕ) (earlier : List CallRecord) (x : CallRecord
   pub call : IsCall threads x
   pub follows : All (λ y. Follows y x) earlier
 
--- [History]: numbered calls that come from a list of begins and ends at increasing moments.
+-- [History]: numbered calls that come from a sequence of starts and ends, no two at the same moment.
 pub record IsHistory (threads : ℕ) (calls : List CallRecord) : Type 0 where
   pub each : All (IsCall threads) calls
   pub pairs : AllPairs Follows calls
@@ -46,7 +46,7 @@ pub record IsHistory (threads : ℕ) (calls : List CallRecord) : Type 0 where
 abbrev pub Precedes : CallRecord → CallRecord → Type 0
 Precedes earlier later = IsSomeAnd earlier.ended (λ (e : ℕ × Reply). e.0 < later.begun)
 
--- Returns the call at a place of an order, with the thread that made the call and the reply at that place.
+-- Returns the call of one element of an order, with the thread that made the call and its reply in the order.
 abbrev pub answered : List CallRecord → Placed → Answered
 answered history p = record {
   thread = (call_numbered history p.call).thread;
@@ -56,7 +56,7 @@ answered history p = record {
 
 -- `order` is a linearization of `history`, from the state `start` of the set.
 pub record Linearizes (quota : ℕ) (start : SetState) (history : List CallRecord) (order : List Placed) : Type 0 where
-  -- The order has only calls of the history.
+  -- The order contains only calls of the history.
   pub known : All (λ (p : Placed). p.call < length history) order
   -- Each call occurs at most once.
   pub once : AllPairs (λ (p r : Placed). p.call ≢ r.call) order

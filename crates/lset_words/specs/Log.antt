@@ -1,6 +1,6 @@
 -- The log of a run, and the calls in the log. Entry k of a log is the event between moments k and k + 1. Moment k is
--- the state after the first k events. An entry records what a user of the set can see of an event: begins, changes of
--- keys and replies, but no nodes and no locks.
+-- the state after the first k events. An entry records what a user of the set can see of an event: the start of a call,
+-- the change of a key, or a reply. It mentions no nodes and no locks.
 use Rattle.std.specs.Prelude.{ℕ, zero, suc, ◌==◌, ◌||◌, ◌&&◌, Bool, true, false, if◌then◌else◌, List, [], ◌∷◌, ◌++◌, map, Option}
 use Rattle.std.specs.Prelude.{Some, None, is_none}
 use Rattle.lset_words.specs.declared.Key.{Key}
@@ -21,8 +21,8 @@ pub data Entry : Type 0 where
 abbrev pub Log : Type 0
 Log = ℕ → Entry
 
--- A call of a run, with three moments: just after the call begins, makes its change, and makes its last step. A moment
--- is `None` if the call has not made this step yet.
+-- A call of a run, with the moments just after it began, changed the set, and made its last step. The last two are
+-- `None` until the call has made that step.
 pub record TracedCall : Type 0 where
   pub thread : ℕ
   pub call : Call
@@ -50,7 +50,7 @@ abbrev pub calls_after : ℕ → Entry → List TracedCall → List TracedCall
 calls_after moment (began t call) xs = xs ++ record { thread = t; call = call; begun = moment; changed = None; ended = None } ∷ []
 calls_after moment (stepped t change reply) xs = map (λ x. if is_under_way t x then traced_on moment change reply x else x) xs
 
--- Returns the calls that have begun by moment k, in the order in which they begin, as they are at moment k.
+-- Returns the calls that have begun by moment k, ordered by start, each in its state at moment k.
 abbrev pub calls_at : Log → ℕ → List TracedCall
 calls_at log zero = []
 calls_at log (suc k) = calls_after (suc k) (log k) (calls_at log k)
@@ -63,8 +63,9 @@ record_of x = record { thread = x.thread; call = x.call; begun = x.begun; ended 
 abbrev pub history_at : Log → ℕ → List CallRecord
 history_at log k = map record_of (calls_at log k)
 
--- The last call of thread `t`, pending or completed: the call itself (here), the moment just after it begins, whether
--- it is pending, and whether it has made a change (below). `before` is the value before the entry.
+-- Four functions describe the last call of thread `t`, pending or completed. This one returns the call itself. The ones
+-- below return the moment just after it began, whether it is pending, and whether it has made a change. `before` is the
+-- value before the entry.
 abbrev pub call_after : Entry → ℕ → Call → Call
 call_after (began u call) t before = if u == t then call else before
 call_after (stepped u change reply) t before = before

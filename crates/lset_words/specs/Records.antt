@@ -1,5 +1,6 @@
--- [Record] of a seat, the right to call as one thread: the thread, its own calls with their replies, and the records of
--- the seats that were merged into it (gathered). `Keeps` defines when an order of calls agrees with a record.
+-- The [Record] of a seat (the right to call as one thread): the thread, its own calls with their replies, and the
+-- records of the seats that were merged into it (gathered). `Keeps` defines when an order of calls agrees with a
+-- record.
 use Rattle.std.specs.Prelude.{◌≡◌, ℕ, ◌==◌, ◌⊎◌, List, [], ◌∷◌, ◌++◌, filter, map}
 use Rattle.lset_words.specs.declared.Call.{Call}
 use Rattle.lset_words.specs.declared.Reply.{Reply}
@@ -10,8 +11,9 @@ pub record CallMade : Type 0 where
   pub call : Call
   pub reply : Reply
 
--- What a seat has done. `fresh` is the record of a thread without calls, `called` appends a call that the thread made
--- itself, and `gathered` appends the record of a seat that was merged into this one.
+-- What a seat (the right to call as one thread) has done. `fresh` is the record of a thread without calls, `called`
+-- appends a call that the thread made itself, and `gathered` appends the record of a seat that was merged into this
+-- one.
 pub data Record : Type 0 where
   fresh : ℕ → Record
   called : Record → CallMade → Record
@@ -53,8 +55,8 @@ calls_by u order = filter (λ (a : Answered). a.thread == u) order
 abbrev pub placed_by : ℕ → CallMade → Answered
 placed_by u c = record { thread = u; call = c.call; reply = c.reply }
 
--- States that the order contains, of all calls by the record's thread, exactly those that the record lists as its own,
--- in the same sequence.
+-- States that the calls of the record's thread in the order are exactly those that the record lists as its own, in the
+-- same sequence.
 abbrev pub HasOwnCalls : List Answered → Record → Type 0
 HasOwnCalls order r = calls_by (thread_of r) order ≡ map (placed_by (thread_of r)) (own_calls r)
 

@@ -55,7 +55,7 @@ RefusesSizes s fault.Opening = (0 < s.threads) × (s.threads ≤ MOST_THREADS) �
 abbrev pub key_word_of : Key → ℕ
 key_word_of k = k.0 + 1
 
--- The word that stores the tail's key: 2^32 + 1, above that of each user key.
+-- The word that stores the tail's key: 2^32 + 1, larger than the word of any user key.
 abbrev pub tail_word : ℕ
 tail_word = 4294967297
 

@@ -19,8 +19,7 @@ pub enum Effect {
     Changes(Presence),
     /// The call found the key present or absent, and changed nothing.
     Sees(Presence),
-    /// The reply shows nothing about the key: the call is a `ceiling`, or the reply is one that no set returns to this
-    /// call.
+    /// The reply shows nothing about the key: the call is a `ceiling`, or no set returns this reply to this call.
     Other,
 }
 

@@ -1,7 +1,7 @@
 use crate::{Call, Reply};
 
-/// A call of a history (Herlihy and Wing): its thread, the call, and the moments at which it begins and ends. Moments are
-/// counted in events from 1. A call without an end is pending.
+/// A call of a history (Herlihy and Wing): its thread, the call, and when it begins and ends. Moments count events,
+/// from 1. A call without an end is pending.
 #[derive(Clone, Copy, Debug, PartialEq, Eq)]
 pub struct CallRecord {
     pub thread: u32,

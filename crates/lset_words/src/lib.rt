@@ -1,4 +1,4 @@
-//! Keys, calls, replies, the layout of a list's words, and the records of histories.
+//! Keys, calls, replies, the layout of a list's words, and histories of calls.
 //!
 //! This crate's specs define the terms of the main theorem: the sequential set, the history of a run, an order of the
 //! calls that explains the history, and the content. A run is defined in `lset_steps`. The crates that prove the
@@ -29,8 +29,8 @@ pub use table::{Layout, key_index, link_index, lock_index, slot_node, words_are_
 /// The maximum number of threads of a list.
 pub const MOST_THREADS: u32 = 64;
 
-/// The maximum quota. A thread's quota is the number of its adds that can succeed over the life of a list. Each of them
-/// uses up a slot, a node that belongs to the thread.
+/// The maximum quota: how many adds of one thread can succeed over the life of a list. Each successful add uses up a
+/// slot, a node that belongs to the thread.
 pub const MOST_QUOTA: u32 = 16_384;
 
 /// The maximum number of opening keys of a list.
@@ -40,7 +40,7 @@ pub const MOST_OPENING: u32 = 1_048_576;
 /// opening key.
 pub const MOST_NODES: u64 = 2 + MOST_THREADS as u64 * MOST_QUOTA as u64 + MOST_OPENING as u64;
 
-/// The maximum number of 64-bit words of a list: 3, and 3 for each node.
+/// The maximum number of 64-bit words of a list: 3 for the list as a whole, and 3 for each node.
 pub const MOST_WORDS: u64 = 3 + 3 * MOST_NODES;
 
 /// The number of the head node in every list.
@@ -49,7 +49,7 @@ pub const HEAD: u64 = 0;
 /// The number of the tail node in every list.
 pub const TAIL: u64 = 1;
 
-/// The index of the word that is CoarseList's only lock.
+/// The index of the word that CoarseList uses as its only lock.
 pub const LOCK: u64 = 0;
 
 /// A key of a set: any `u32`.
@@ -76,7 +76,7 @@ pub enum Kind {
     LockFree,
 }
 
-/// A call of a set: `add`, `remove` or `contains` of a key (Herlihy and Shavit's interface), or `ceiling`, which asks
+/// A call on a set: `add`, `remove` or `contains` with a key (Herlihy and Shavit's interface), or `ceiling`, which asks
 /// for the smallest key at or above a given one.
 #[derive(Clone, Copy, Debug, PartialEq, Eq)]
 pub enum Call {
@@ -88,7 +88,7 @@ pub enum Call {
 }
 
 impl Call {
-    /// Returns the key that the call is made with.
+    /// Returns the key of the call.
     pub fn key(self) -> Key
         ensures { result ≡ key_of self }
     {
@@ -148,7 +148,7 @@ pub fn layout_opening(threads: u32, quota: u32, opening: u32) -> Result<Layout, 
     Ok(Layout::of(threads, quota, opening))
 }
 
-/// Returns whether the keys increase strictly.
+/// Returns whether the keys are strictly increasing.
 pub fn increases(keys: &[u32]) -> bool
     ensures { IsTrue result ↔ IsStrictlyIncreasing keys.now }
 {

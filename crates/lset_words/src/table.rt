@@ -5,7 +5,7 @@ ghost use Rattle.lset_words.specs.Words.{SlotsApart};
 use crate::{MOST_NODES, MOST_WORDS};
 use std::marker::Model;
 
-/// Returns the index of the word that has the key of node `node`. `node` must be below `2^62`.
+/// Returns the index of the word that stores the key of node `node`. `node` must be below `2^62`.
 pub fn key_index(node: u64) -> u64
     requires { node < 2 ^ 62 }
     ensures { result ≡ key_index node }
@@ -13,7 +13,7 @@ pub fn key_index(node: u64) -> u64
     3 + 3 * node
 }
 
-/// Returns the index of the word that has the link of node `node`. `node` must be below `2^62`.
+/// Returns the index of the word that stores the link of node `node`. `node` must be below `2^62`.
 pub fn link_index(node: u64) -> u64
     requires { node < 2 ^ 62 }
     ensures { result ≡ link_index node }
@@ -21,7 +21,7 @@ pub fn link_index(node: u64) -> u64
     4 + 3 * node
 }
 
-/// Returns the index of the word that has the lock of node `node`. `node` must be below `2^62`.
+/// Returns the index of the word that stores the lock of node `node`. `node` must be below `2^62`.
 pub fn lock_index(node: u64) -> u64
     requires { node < 2 ^ 62 }
     ensures { result ≡ lock_index node }

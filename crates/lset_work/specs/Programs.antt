@@ -27,7 +27,8 @@ worked (r ∷ rs) [] replies = []
 worked (r ∷ rs) (p ∷ ps) [] = []
 worked (r ∷ rs) (p ∷ ps) (a ∷ more) = with_calls r (made p a) ∷ worked rs ps more
 
--- States that the number of programs is the number of seats, and that these seats hold all seats of the set.
+-- States that the number of programs equals the number of seats, and that these seats, with the seats merged into them,
+-- are all seats of the set.
 abbrev pub Fit : SetValue → List SeatValue → ℕ → Type 0
 Fit set seats programs = (programs ≡ length seats) × (sum_by (λ (s : SeatValue). s.held) seats ≡ set.shape.threads)
 
@@ -51,7 +52,7 @@ abbrev pub HasSeenAll : Option SeatValue → SeatValue → Type 0
 HasSeenAll None s = ⊥
 HasSeenAll (Some last) s = StartsWith last.events s.events
 
--- The programs have run on the seats, and all seats have been gathered into `last`.
+-- The programs have run on the seats, and all seats have been merged into `last`.
 pub record HaveRun (set : SetValue) (seats : List SeatValue) (programs : List (List Call)) (last : Option SeatValue)
     (replies : List (List Reply)) : Type 0 where
   pub fit : length programs ≡ length seats
@@ -71,7 +72,7 @@ pub record IsWorkInTime (T : Table) (k : Opening) (seats : List SeatValue) (reco
   pub begins : All (λ (s : SeatValue). StartsWith events s.events) seats
   pub order : IsOneOrderInTime T k events records keys
 
--- States that `work` can fail for this cause after it has started threads. `may_shut` is whether the gate can return
+-- States that `work` can fail for this cause after it has started threads. `may_shut` says whether the gate can return
 -- false.
 abbrev pub IsOfThreads : Bool → WorkCause → Type 0
 IsOfThreads may_shut Programs = ⊥

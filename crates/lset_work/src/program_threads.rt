@@ -94,7 +94,7 @@ fn run_program<R: Wait, M: Running, G: Gate>(
     }
 }
 
-/// What all threads share: the set, the gate, and the runtime with which they wait.
+/// What all threads share: the set, the gate, and the runtime that they use to wait.
 #[derive(Drop)]
 pub(crate) struct Shared<'s, R, M: Running, G: Gate> {
     pub rt: &'s R,
@@ -159,14 +159,14 @@ impl<'s, R: Wait + Sync, M: Running + Send + Sync, G: Gate + Sync> Shared<'s, R,
     }
 }
 
-/// The replies of all programs, and the seat into which all seats were gathered.
+/// The replies of all programs, and the seat into which all seats were merged.
 #[derive(Drop)]
 pub(crate) struct Gathered<M: Running> {
     pub seat: Option<Seat<M>>,
     pub replies: Vec<Vec<Reply>>,
 }
 
-/// Joins the threads and gathers their seats. Returns `None` if the gate has returned false.
+/// Waits for the threads to end and merges their seats into one. Returns `None` if the gate has returned false.
 pub(crate) fn join_all<R: Threads, M: Running, G: Gate>(
     rt: &R,
     set: &LiveSet<M>,

@@ -23,7 +23,7 @@ pub struct Outcome {
     pub keys: Vec<u32>,
 }
 
-/// Runs each program on its seat in a thread of `scope`, and gathers the seats.
+/// Runs each program on its seat in a thread of `scope`, and merges the seats into one.
 fn run_in<'s, E, R: Threads + Wait + Sync, M: Running + Send + Sync, G: Gate + Sync>(
     scope: &Scope<'s, E>,
     rt: &'s R,
@@ -52,7 +52,7 @@ fn run_in<'s, E, R: Threads + Wait + Sync, M: Running + Send + Sync, G: Gate + S
     Ok(gathered)
 }
 
-/// Runs each program on its seat in its own thread, and gathers the seats when all threads have ended.
+/// Runs each program on its seat in its own thread, and merges the seats into one when all threads have ended.
 fn run_all<R: Threads + Wait + Sync, M: Running + Send + Sync, G: Gate + Sync>(
     rt: &R,
     set: &LiveSet<M>,
@@ -79,18 +79,18 @@ fn run_all<R: Threads + Wait + Sync, M: Running + Send + Sync, G: Gate + Sync>(
 
 /// Makes the calls of each program on its seat. All programs run at the same time, each on its own thread.
 ///
-/// Before each call, `gate` decides whether the program continues. At the end, the seats are gathered and the set is
-/// closed. Some legal order (Herlihy and Wing) has exactly the calls in the seats' records and those of the programs
-/// with their replies, keeps the order of each seat's calls, and leaves the final keys. A program has at most
-/// 4,294,967,295 calls. Blocks until all threads have ended. A thread can block for locks of the set, and for as long
-/// as the gate does.
+/// Before each call, `gate` decides whether the program continues. At the end, the seats are merged into one (gathered)
+/// and the set is closed. Some legal order (Herlihy and Wing) has exactly the calls in the seats' records and those of
+/// the programs with their replies, keeps the order of each seat's calls, and leaves the final keys. A program has at
+/// most 4,294,967,295 calls. Blocks until all threads have ended. A thread can block on the set's locks, and while the
+/// gate blocks.
 ///
 /// # Errors
 ///
 /// Returns a `WorkFault` with one of these causes:
 ///
-/// - `Programs`: if and only if the number of programs differs from the number of seats, or the seats do not hold all
-///   seats of the set. No call was made, and the set and the seats are returned.
+/// - `Programs`: if and only if the number of programs differs from the number of seats, or the seats, with the seats
+///   merged into them, are not all seats of the set. No call was made, and the set and the seats are returned.
 /// - `Spawn`: the system refused to start a thread. The threads that had been started have ended.
 /// - `Gate`: the gate returned false, and the thread that it stopped made no further call. All threads have ended.
 /// - `Memory`: an allocation failed. All memory, including that for the final keys, is allocated before the first
@@ -112,10 +112,10 @@ pub fn work<R: Threads + Wait + Sync, M: Running + Send + Sync, G: Gate + Sync>(
     ensures outcome { IfOk result (λ o. IsOneLegalOrder set.shape (worked
         (map (λ s. s.past) seats.items) (map (λ p. p.items) programs.items) (map (λ v. v.items) o.replies.items)) o.keys.items) }
     // The order also linearizes a history that begins with the events that the seats had seen. Calls that had ended in
-    // these events come before calls that began later, even if a seat knew of them only from a receipt.
+    // these events come before calls that began later, even if a seat knew of them only from a receipt of another seat.
     ensures in_time { IfOk result (λ o. IsWorkInTime M.table set.shape seats.items (worked
         (map (λ s. s.past) seats.items) (map (λ p. p.items) programs.items) (map (λ v. v.items) o.replies.items)) o.keys.items) }
-    // The cause is `Programs` exactly if the numbers of programs, seats and threads of the set do not match.
+    // The cause is `Programs` if and only if the numbers of programs, seats and threads of the set do not match.
     ensures fitting { IsOk result → Fit set seats.items (length programs.items) }
     ensures refused { IfErr result (λ f. f.cause ≡ WorkCause.Programs ↔ ¬ (Fit set seats.items (length programs.items))) }
     ensures back { IfErr result (λ f. GivesBack (set, seats) f.cause f.back) }

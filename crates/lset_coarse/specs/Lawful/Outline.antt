@@ -33,8 +33,8 @@ abbrev pub LeavesHolder : Sizes → ℕ → List ℕ → (ℕ → ℕ) → Actio
 LeavesHolder sz t ws used a ws' used' change = WordStep false sz t ws used a ws' used' change
     × ((u : ℕ) → u ≢ t → slice_index ws 0 ≡ u + 1 → (ws' ≡ ws) × (used' ≡ used))
 
--- States that all that the holder of the lock relies on is the same in both views: keys, links, the lock, and the
--- numbers of used slots.
+-- States that everything the holder of the lock relies on is the same in both views (the list at two moments): keys,
+-- links, the lock, and the numbers of used slots.
 pub record Same (v w : View) : Type 0 where
   pub keys : w.key ≡ v.key
   pub links : w.link ≡ v.link

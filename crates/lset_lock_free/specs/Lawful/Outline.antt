@@ -218,8 +218,8 @@ module _ (sz : Sizes) (t : ℕ) (vs : ℕ → View) (first now : ℕ) (ws : List
   abbrev Fitting : Reply → Type 0
   Fitting r = FitsSometime sz.quota (contents_of vs) (counts_of vs) first now t l.call r
 
-  -- The decision is right, since at some moment of the call the key was in the set if it was found, and not in the set
-  -- if it was not.
+  -- The decision is right: at some moment of the call, the key was in the set if the call found it, and absent if the
+  -- call did not.
   decided_at : (s at : ℕ) → first ≤ at → at ≤ now → (vs at).used t ≡ used t
       → ((s == target l.call) ≡ true → InContent (vs at) (key_of l.call).0)
       → ((s == target l.call) ≡ false → InContent (vs at) (key_of l.call).0 → ⊥)

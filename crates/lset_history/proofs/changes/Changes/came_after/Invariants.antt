@@ -4,7 +4,7 @@ use Rattle.lset_history.specs.Changes.{moments_of}
 use Rattle.lset_history.proofs.CeilingSearch.{IsFrom, CameUpTo}
 use Rattle.lset_history.proofs.changes.Changes.came_after.Given as goal
 
--- Loop invariant: none of the keys below the next one that the set has after the last change was in the set at
+-- Loop invariant: of the keys that the set has after the last change, none below the next one was in the set at
 -- `moment`.
 abbrev pub invariant-loop-next : goal.invariant-loop-next
 invariant-loop-next l = record {
