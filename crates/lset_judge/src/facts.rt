@@ -1,11 +1,11 @@
 //! Facts about the calls of a key, from which clashes are found.
 
-ghost use Rattle.std.specs.Prelude.{◌≡◌, IfSome, IsTrue, Some};
+ghost use Rattle.std.specs.Prelude.{◌≡◌, ◌↔◌, IfSome, IsTrue, MatchOption, Some};
 ghost use Rattle.lset_words.specs.Effects.{effect_of};
 ghost use Rattle.lset_words.specs.Words.{key_of};
-ghost use Rattle.lset_judge.specs.Clash.{left_so};
+ghost use Rattle.lset_judge.specs.Clash.{left_so, other};
 ghost use Rattle.lset_judge.specs.Code.{state_of, event_as};
-ghost use Rattle.lset_judge.specs.Facts.{begun_by, facts_of, first_of, is_call, reply_kept, until_of, word_kept, ComesAfter, EndsBy, IsEnded, IsFound, IsFoundLeft, IsStanding};
+ghost use Rattle.lset_judge.specs.Facts.{begun_by, facts_of, first_of, is_call, reply_kept, until_of, word_kept, ComesAfter, EndsBy, IsClashing, IsEnded, IsFound, IsFoundLeft, IsStanding};
 
 use crate::clash::{Clash, leaves, needs, other};
 use crate::event::Event;
@@ -15,7 +15,7 @@ use lset_words::{Call, Key, Presence, Reply};
 
 /// Returns whether both calls have ended, the first no later than the second.
 fn ends_by(first: StreamCall, second: StreamCall) -> bool
-    ensures { IsTrue result → EndsBy first.ended second.ended }
+    ensures { IsTrue result ↔ EndsBy first.ended second.ended }
 {
     match (first.ended, second.ended) {
         (Some((first, _)), Some((second, _))) => first <= second,
@@ -104,7 +104,7 @@ impl KeyState {
     /// `first`. Without a kept call, returns whether no such call has begun.
     fn is_standing(&self, first: Option<StreamCall>, key: Key) -> bool
         requires { first ≡ first_of key.0 (facts_of self.now) }
-        ensures { IsTrue result → IsStanding key.0 (facts_of self.now) }
+        ensures { IsTrue result ↔ IsStanding key.0 (facts_of self.now) }
     {
         let until = self.until(other(self.was));
         match first {
@@ -116,7 +116,7 @@ impl KeyState {
     /// Returns whether the facts show that the second call comes after the first in real time, or also clashes with it
     /// in the opposite order. True without a first call.
     fn comes_after(&self, first: Option<StreamCall>, second: StreamCall) -> bool
-        ensures { IsTrue result → ComesAfter (facts_of self.now) first second }
+        ensures { IsTrue result ↔ ComesAfter (facts_of self.now) first second }
     {
         let Some(first) = first else {
             return true;
@@ -135,9 +135,9 @@ impl KeyState {
             && ends_by(first, second)
     }
 
-    /// Returns the clash of a call that ends, if the facts show one.
+    /// Returns the clash of a call that ends exactly if the facts show one.
     pub(crate) fn clash_of(&self, second: StreamCall) -> Option<Clash>
-        ensures { IfSome result (IsFound (facts_of self.now) second) }
+        ensures { MatchOption result (IsClashing (facts_of self.now) second → ⊥) (IsFound (facts_of self.now) second) }
     {
         if needs(second) != Some(other(self.was)) {
             return None;
@@ -154,17 +154,17 @@ impl KeyState {
         })
     }
 
-    /// Stores the clash of a call that ends, if the facts show one. This is a separate function so that other ends need
+    /// Stores the clash of a call that ends exactly if the facts show one. This is a separate function so that other ends need
     /// no stack space for a clash.
     pub(crate) fn store_clash(&self, second: StreamCall, clash: &mut Option<Clash>)
-        ensures { IfSome clash.new (IsFound (facts_of self.now) second) }
+        ensures { MatchOption clash.new (IsClashing (facts_of self.now) second → ⊥) (IsFound (facts_of self.now) second) }
     {
         *clash = self.clash_of(second);
     }
 
-    /// Returns the clash with a final state of the key, if the facts show one.
+    /// Returns the clash with a final state of the key exactly if the facts show one.
     pub(crate) fn clash_left(&self, key: Key, left: Presence) -> Option<Clash>
-        ensures { IfSome result (IsFoundLeft key.0 (facts_of self.now) left) }
+        ensures { MatchOption result (left ≡ other self.now.was → IsStanding key.0 (facts_of self.now) → ⊥) (IsFoundLeft key.0 (facts_of self.now) left) }
     {
         let first = self.first(key);
         if left != other(self.was) || !self.is_standing(first, key) {
