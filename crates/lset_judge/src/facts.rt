@@ -1,12 +1,12 @@
 //! Facts about the calls on a key. From these facts the judge finds a clash: two calls on the key that rule out every
 //! order.
 
-ghost use Rattle.std.specs.Prelude.{◌≡◌, IfSome, IsTrue, Some};
+ghost use Rattle.std.specs.Prelude.{◌≡◌, ◌↔◌, IfSome, IsTrue, MatchOption, Some};
 ghost use Rattle.lset_words.specs.Effects.{effect_of};
 ghost use Rattle.lset_words.specs.Words.{key_of};
-ghost use Rattle.lset_judge.specs.Clash.{left_so};
+ghost use Rattle.lset_judge.specs.Clash.{left_so, other};
 ghost use Rattle.lset_judge.specs.Code.{state_of, event_as};
-ghost use Rattle.lset_judge.specs.Facts.{begun_by, facts_of, first_of, is_call, reply_kept, until_of, word_kept, ComesAfter, EndsBy, IsEnded, IsFound, IsFoundLeft, IsStanding};
+ghost use Rattle.lset_judge.specs.Facts.{begun_by, facts_of, first_of, is_call, reply_kept, until_of, word_kept, ComesAfter, EndsBy, IsClashing, IsEnded, IsFound, IsFoundLeft, IsStanding};
 
 use crate::clash::{Clash, leaves, needs, other};
 use crate::event::Event;
@@ -16,7 +16,7 @@ use lset_words::{Call, Key, Presence, Reply};
 
 /// Returns whether both calls have ended, and the first has ended first or at the same moment.
 fn ends_by(first: StreamCall, second: StreamCall) -> bool
-    ensures { IsTrue result → EndsBy first.ended second.ended }
+    ensures { IsTrue result ↔ EndsBy first.ended second.ended }
 {
     match (first.ended, second.ended) {
         (Some((first, _)), Some((second, _))) => first <= second,
@@ -106,7 +106,7 @@ impl KeyState {
     /// `first` starts. If `first` is `None`, returns whether no such call has started.
     fn is_standing(&self, first: Option<StreamCall>, key: Key) -> bool
         requires { first ≡ first_of key.0 (facts_of self.now) }
-        ensures { IsTrue result → IsStanding key.0 (facts_of self.now) }
+        ensures { IsTrue result ↔ IsStanding key.0 (facts_of self.now) }
     {
         let until = self.until(other(self.was));
         match first {
@@ -118,7 +118,7 @@ impl KeyState {
     /// Returns whether the second call comes after the first in real time, or the two calls also clash in the opposite
     /// order according to these facts. Returns true if `first` is `None`.
     fn comes_after(&self, first: Option<StreamCall>, second: StreamCall) -> bool
-        ensures { IsTrue result → ComesAfter (facts_of self.now) first second }
+        ensures { IsTrue result ↔ ComesAfter (facts_of self.now) first second }
     {
         let Some(first) = first else {
             return true;
@@ -137,10 +137,10 @@ impl KeyState {
             && ends_by(first, second)
     }
 
-    /// Returns the clash of the stored call (the kept call) with the call `second`, which ends now, if according to
-    /// these facts no order can have both.
+    /// Returns the clash of the stored call (the kept call) with the call `second`, which ends now. Returns `None` exactly
+    /// if these facts show no clash.
     pub(crate) fn clash_of(&self, second: StreamCall) -> Option<Clash>
-        ensures { IfSome result (IsFound (facts_of self.now) second) }
+        ensures { MatchOption result (IsClashing (facts_of self.now) second → ⊥) (IsFound (facts_of self.now) second) }
     {
         if needs(second) != Some(other(self.was)) {
             return None;
@@ -157,18 +157,18 @@ impl KeyState {
         })
     }
 
-    /// Stores the clash of the kept call with the call `second`, which ends now, in `clash`, if these facts show one. A
-    /// separate function, so that the ends of other calls need no stack space for a `Clash`.
+    /// Stores in `clash` the clash of the kept call with the call `second`, which ends now. Stores `None` exactly if these
+    /// facts show no clash. A separate function, so that the ends of other calls need no stack space for a `Clash`.
     pub(crate) fn store_clash(&self, second: StreamCall, clash: &mut Option<Clash>)
-        ensures { IfSome clash.new (IsFound (facts_of self.now) second) }
+        ensures { MatchOption clash.new (IsClashing (facts_of self.now) second → ⊥) (IsFound (facts_of self.now) second) }
     {
         *clash = self.clash_of(second);
     }
 
-    /// Returns the clash of the stored call (the kept call) with the key's final state `left`, if according to these
-    /// facts no order can have both.
+    /// Returns the clash of the stored call (the kept call) with the key's final state `left`. Returns `None` exactly if
+    /// these facts show no clash.
     pub(crate) fn clash_left(&self, key: Key, left: Presence) -> Option<Clash>
-        ensures { IfSome result (IsFoundLeft key.0 (facts_of self.now) left) }
+        ensures { MatchOption result (left ≡ other self.now.was → IsStanding key.0 (facts_of self.now) → ⊥) (IsFoundLeft key.0 (facts_of self.now) left) }
     {
         let first = self.first(key);
         if left != other(self.was) || !self.is_standing(first, key) {

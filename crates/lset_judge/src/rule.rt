@@ -1,6 +1,6 @@
 //! The judge's rule for one key: which pending change takes effect, and when it must.
 
-ghost use Rattle.std.specs.Prelude.{◌≡◌, suc, true, IfOk, IfSome, OnOk, Some, None};
+ghost use Rattle.std.specs.Prelude.{◌≡◌, suc, true, false, IfOk, IfSome, OnOk, Some, None};
 ghost use Rattle.std.specs.Prelude.{if◌then◌else◌};
 ghost use Rattle.lset_judge.specs.Rule.{options, turned_if, fits, found, entered, opened};
 ghost use Rattle.lset_judge.specs.Leaving.{may_be_left};
@@ -8,7 +8,7 @@ ghost use Rattle.lset_judge.specs.Code.{state_of, event_as};
 ghost use Rattle.lset_words.specs.Effects.{is_there};
 ghost use Rattle.lset_words.specs.declared.effect.Presence.{Presence};
 ghost use Rattle.lset_words.specs.declared.effect.Presence.TheVariants.{Present, Absent};
-ghost use Rattle.lset_judge.specs.Facts.{facts_of, facts_opened, begun_by, IsEnded, IsFound};
+ghost use Rattle.lset_judge.specs.Facts.{facts_of, facts_opened, begun_by, IsClashing, IsEnded, IsFound};
 
 use crate::clash::Clash;
 use crate::event::Event;
@@ -182,6 +182,7 @@ impl KeyState {
             ≡ (if goes_on then Some (state_of self.new) else None)) }
         ensures ended { OnOk result (IsEnded call (begun_by (event_as event) (facts_of self.old)) (facts_of self.new)) }
         ensures found { OnOk result (IfSome clash.new (IsFound (begun_by (event_as event) (facts_of self.old)) call)) }
+        ensures missed { IfOk result (λ goes_on. goes_on ≡ false → clash.new ≡ None → IsClashing (begun_by (event_as event) (facts_of self.old)) call → ⊥) }
     {
         let goes_on = self.meet(alloc, before, event)?;
         if matches!(event, Event::Ends(_)) {

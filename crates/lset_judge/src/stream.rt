@@ -13,7 +13,7 @@ ghost use Rattle.lset_words.specs.Effects.{presence};
 ghost use Rattle.lset_judge.specs.Code.{event_as};
 ghost use Rattle.lset_judge.specs.Events.{kind_as, kind_if, until_if, begin_event, end_event};
 ghost use Rattle.lset_judge.specs.Leaving.{may_be_left};
-ghost use Rattle.lset_judge.specs.Facts.{begun_by, clash_met, facts_for, facts_opened, BeginIsKnown, EndIsKept, EndIsKnown, IsEnded, IsFound, IsFoundLeft, IsStreamKept};
+ghost use Rattle.lset_judge.specs.Facts.{begun_by, clash_met, facts_for, facts_opened, BeginIsKnown, EndIsKept, EndIsKnown, IsClashing, IsEnded, IsFound, IsFoundLeft, IsStreamKept};
 ghost use Rattle.lset_judge.specs.Stream.{record_of, stream_history, behind_all, state_for, pending_of, key_in, event_of, IsBefore, IsMet, IsStreamOf, MayCome, failed_verdict, verdict_of_key, moment_of, pending_in, IsStreamVerdict, IsStreamVerdictCutOff, IsMetBy, IsToldBy};
 ghost use Rattle.lset_judge.specs.Verdict.{is_plain};
 ghost use Rattle.lset_judge.specs.declared.stream.StreamFault.TheVariants.{Memory};
@@ -258,7 +258,8 @@ fn note_begin(
 /// Records the end of a call on a key for which the judge's rule has failed. Returns a clash that involves this call,
 /// if the facts show one.
 fn note_end(states: &mut HashMap<u32, KeyState>, call: StreamCall) -> Option<Clash>
-    ensures { EndIsKept states.old call states.new result }
+    ensures kept { EndIsKept states.old call states.new result }
+    ensures missed { result ≡ None → IsClashing (facts_for states.old (key_of call.call).0) call → ⊥ }
 {
     let key = call.call.key().0;
     if let Some(state) = states.get_mut(&key) {
@@ -266,7 +267,7 @@ fn note_end(states: &mut HashMap<u32, KeyState>, call: StreamCall) -> Option<Cla
         state.keep(call);
         return clash;
     }
-    None
+    KeyState::opened(Presence::Absent).clash_of(call)
 }
 
 /// The result of processing the end of a call.
@@ -295,6 +296,8 @@ fn meet_new_key_end(
     ensures others { OnOk result ((k : ℕ) → k ≢ (key_of call.call).0 → state_for states.new k ≡ state_for states.old k) }
     ensures ended { OnOk result (IsEnded call (begun_by (event_as event) (facts_for states.old (key_of call.call).0)) (facts_for states.new (key_of call.call).0)) }
     ensures found { OnOk result (IfSome clash.new (IsFound (begun_by (event_as event) (facts_for states.old (key_of call.call).0)) call)) }
+    ensures missed { IfOk result (λ m. m.goes_on ≡ false → clash.new ≡ None
+        → IsClashing (begun_by (event_as event) (facts_for states.old (key_of call.call).0)) call → ⊥) }
     ensures other_facts { OnOk result ((k : ℕ) → k ≢ (key_of call.call).0 → facts_for states.new k ≡ facts_for states.old k) }
 {
     let key = call.call.key().0;
@@ -323,6 +326,8 @@ fn meet_key_end(
     ensures others { OnOk result ((k : ℕ) → k ≢ (key_of call.call).0 → state_for states.new k ≡ state_for states.old k) }
     ensures ended { OnOk result (IsEnded call (begun_by (event_as event) (facts_for states.old (key_of call.call).0)) (facts_for states.new (key_of call.call).0)) }
     ensures found { OnOk result (IfSome clash.new (IsFound (begun_by (event_as event) (facts_for states.old (key_of call.call).0)) call)) }
+    ensures missed { IfOk result (λ m. m.goes_on ≡ false → clash.new ≡ None
+        → IsClashing (begun_by (event_as event) (facts_for states.old (key_of call.call).0)) call → ⊥) }
     ensures other_facts { OnOk result ((k : ℕ) → k ≢ (key_of call.call).0 → facts_for states.new k ≡ facts_for states.old k) }
 {
     let key = call.call.key().0;
@@ -483,6 +488,7 @@ impl Stream {
         ensures by { OnOk result (IsMetBy self.old.states (key_in next) next.end (event_of next) self.new.states None self.new.failed) }
         ensures known { OnOk result (EndIsKept self.old.states next.call self.new.states self.new.clash
             × ((k : ℕ) → k ≢ (key_of next.call.call).0 → facts_for self.new.states k ≡ facts_for self.old.states k)) }
+        ensures missed { OnOk result (self.new.failed ≢ None → self.new.clash ≡ None → IsClashing (facts_for self.old.states (key_in next)) next.call → ⊥) }
     {
         if self.clash.is_some() {
             self.forget_clash();
@@ -510,6 +516,7 @@ impl Stream {
         requires { self.old.failed ≡ Some failed }
         ensures met { IsMet self.old (key_in next) next.end (event_of next) self.new }
         ensures known { EndIsKnown self.old.states next.call self.new.states self.old.failed self.old.clash self.new.clash }
+        ensures missed { failed.key.0 ≡ key_in next → self.new.clash ≡ None → IsClashing (facts_for self.old.states (key_in next)) next.call → ⊥ }
     {
         if failed.key.0 == next.key() && self.clash.is_none() {
             self.clash = note_end(&mut self.states, next.call);
@@ -521,6 +528,9 @@ impl Stream {
     fn end(&mut self, next: Pending) -> Result<(), AllocError>
         ensures met { OnOk result (IsMet self.old (key_in next) next.end (event_of next) self.new) }
         ensures known { OnOk result (EndIsKnown self.old.states next.call self.new.states self.old.failed self.old.clash self.new.clash) }
+        // If the rule has failed for the call's key and no clash is stored, the facts show no clash of the call.
+        ensures missed { OnOk result (IfSome self.new.failed (λ f. f.key.0 ≡ key_in next → self.new.clash ≡ None
+            → IsClashing (facts_for self.old.states (key_in next)) next.call → ⊥)) }
     {
         if let Some(failed) = self.failed {
             self.end_after_failure(next, failed);
