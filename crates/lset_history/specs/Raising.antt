@@ -18,7 +18,7 @@ IsNextPresent changes key None = (j : ℕ) → key < j → is_present_now change
 IsNextPresent changes key (Some k) = (key < k) × ((j : ℕ) → key < j → j < k → is_present_now changes j ≡ false)
 
 -- Returns whether key `j` refutes the claim that, at this moment, `found` is the smallest present key at or above
--- `key`. The claim is that there is no such key if `found` is `None`.
+-- `key`. If `found` is `None`, the claim is that no such key exists.
 abbrev pub is_against : (ℕ → List ℕ) → ℕ → Option ℕ → ℕ → ℕ → Bool
 is_against changes key None j moment = if nat_lt j key then false else is_present changes j moment
 is_against changes key (Some x) j moment =

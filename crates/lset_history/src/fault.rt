@@ -42,7 +42,7 @@ pub enum OrderFault {
     /// order.
     #[error("call {0} has another reply")]
     WrongReply(u32),
-    /// This call is before a call that had already ended when this call began.
+    /// In the order, this call comes before a call that had already ended when this call began.
     #[error("call {0} stands before a call that it follows")]
     TooEarly(u32),
     /// The final keys differ from the keys of the sequential set after all calls, or do not increase strictly.

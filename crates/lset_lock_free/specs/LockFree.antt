@@ -38,7 +38,7 @@ abbrev pub at_link : ℕ → Local → Fed
 at_link seen l =
     if seen % 2 == 0 then continued (record l { pc = 4; succ = seen / 2 }) else continued (record l { pc = 3; succ = seen / 2 })
 
--- Returns the outcome of a step after its decision: the call continues, or ends with its reply.
+-- Returns the outcome of a step in which the call has decided what to do: the call continues, or ends with its reply.
 abbrev pub decision_of : Local → Fed
 decision_of l = record { local = l; answer = if l.pc == 0 then l.reply else None }
 

@@ -79,7 +79,7 @@ fn at_link(local: &Local, seen: u64) -> Fed
     })
 }
 
-/// Returns the outcome of a step after its decision: the call continues, or ends with its reply.
+/// Returns the outcome of a step in which the call has decided what to do: the call continues, or ends with its reply.
 #[inline(always)]
 fn decision_of(local: Local) -> Fed
     ensures { result ≡ decision_of local }

@@ -30,7 +30,7 @@ Reaches part.Calls c = (c.keys ≡ []) × (c.cut_off ≡ false)
 Reaches part.Keys c = c.cut_off ≡ false
 Reaches part.Done c = Unit {0}
 
--- States which parts of a recording are still empty when this line comes.
+-- States which parts of a recording are still empty before this line.
 abbrev Finds : Line → Recording → Type 0
 Finds told.Title c = Reaches part.Title c
 Finds (told.Opening k) c = Reaches part.Opening c

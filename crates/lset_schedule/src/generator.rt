@@ -128,14 +128,14 @@ fn generated_lines<M: Machine, R: Rng>(
     Ok(lines)
 }
 
-/// Draws a random schedule of at most 10,000 events, one on each line. The same arguments return the same schedule. Its
-/// list is `M`, its version is 1, and `replay` accepts each of its events.
+/// Draws a random schedule of at most 10,000 events, one on each line. The same arguments always return the same
+/// schedule. Its list is `M`, its version is 1, and `replay` accepts each of its events.
 ///
 /// `threads` must be 1 to 64, `quota` 0 to 16,384, and `keys` at least 1. All random numbers come from one generator,
 /// seeded with `seed`. The schedule is drawn in turns, at most 100,000. Each turn draws a thread. If the thread has a
-/// pending call, the call makes a step. Otherwise, if fewer than `calls` calls have begun, the thread begins a call, and two
-/// more numbers select its kind and its key below `keys`. The schedule ends when no call is pending and none can begin.
-/// Allocates.
+/// pending call, the call makes a step. Otherwise, if fewer than `calls` calls have begun, the thread begins a call,
+/// and two more numbers select its kind and its key below `keys`. The schedule ends when no call is pending and none
+/// can begin. Allocates.
 ///
 /// # Errors
 ///

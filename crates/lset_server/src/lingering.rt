@@ -13,7 +13,7 @@ use std::time::{Clock, Duration, Instant};
 /// The maximum number of bytes that are read and ignored after the last answer.
 const MOST_DROPPED: usize = 1_048_576;
 
-/// The maximum time in seconds for which bytes are read and ignored after the last answer.
+/// The maximum time, in seconds, during which bytes are read and ignored after the last answer.
 const MOST_SECONDS: u64 = 1;
 
 /// A connection whose reads fail once its time is up.

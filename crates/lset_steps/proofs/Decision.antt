@@ -1,5 +1,5 @@
--- What follows when a call decides at two neighbours in the chain: pred has a smaller key than the call's, and curr,
--- the next node, does not. Shared by the proofs of all lists whose calls decide at two such nodes.
+-- What follows when a call decides what to do at two neighbours in the chain: pred has a smaller key than the call's,
+-- and curr, the next node, does not. Shared by the proofs of all lists whose calls decide at two such nodes.
 use Rattle.std.specs.Prelude.{◌≡◌, ◌≢◌, ℕ, ◌*◌, ◌/◌, ◌%◌, ◌<◌, ◌≤◌, ◌⊎◌, Bool, true, false, Some, None, List, [], ◌==◌, nat_lt, refl}
 use Rattle.std.proofs.Common.{arith, inl, inr, sym, ◌∙◌, ap}
 use Rattle.lset_words.proofs.Numbers.{same_number, other_number, lower_number, not_lower_number}

@@ -101,7 +101,7 @@ StepAt T op es k t =
     StepLaws T op es k t (state_at T op es k) (local_of (state_at T op es k) t)
     (T.effect (local_of (state_at T op es k) t) (seen_next T (state_at T op es k) t))
 
--- The laws of the start of a call by a thread in private state `l`.
+-- The laws that hold when a thread in private state `l` begins a call.
 pub record BeginLaws (begin : Call → Local → Local) (call : Call) (l : Local) : Type 0 where
   pub called : (begin call l).call ≡ call
   pub used : (begin call l).used ≡ l.used
