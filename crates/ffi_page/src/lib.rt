@@ -112,13 +112,12 @@ pub extern "C" fn listset_why(alloc: Global, text: &[u8], room: &mut [u8], statu
 }
 
 /// Diagnoses a refused recording and writes a record, with status 1. The record has these lines, in this order:
-/// `headline TEXT`; `call THREAD OPERATION KEY BEGIN END REPLY MARK` for each call to show, in the order of their
-/// begins (MARK is `-`, `expected BOOL`, `leaves STATE` or `finds STATE`, where STATE is `present` or `absent`, or
-/// `either`); `also THREAD OPERATION KEY BEGIN END REPLY` for each change of another key at the same time (of many, the
-/// longest); `fact TEXT` for each fact; and, if there is a likely cause, `likely TEXT` and `because TEXT`. END and
-/// REPLY are `-` for a pending call. If a line has the wrong form or some order explains the calls, writes nothing and
-/// sets status 0. Judge the text first: this function does not check that keys increase, nor that each call can follow
-/// the calls before it.
+/// `headline TEXT`; `call THREAD OPERATION KEY BEGIN END REPLY MARK` for each call to show, ordered by start (MARK is
+/// `-`, `expected BOOL`, `leaves STATE` or `finds STATE`, where STATE is `present` or `absent`, or `either`); `also
+/// THREAD OPERATION KEY BEGIN END REPLY` for each change of another key at the same time (of many, the longest); `fact
+/// TEXT` for each fact; and, if there is a likely cause, `likely TEXT` and `because TEXT`. END and REPLY are `-` for a
+/// pending call. If a line has the wrong form or some order explains the calls, writes nothing and sets status 0. Judge
+/// the text first: this function does not check that keys increase, nor that each call can follow the calls before it.
 #[unsafe(no_mangle)]
 pub extern "C" fn listset_why_record(
     alloc: Global,
@@ -152,7 +151,7 @@ pub extern "C" fn listset_why_from(
 /// Checks a report and writes the verdict as a record. If the report's order explains its calls, the record is `verdict
 /// own`. Otherwise the status is 1 and the record has these parts:
 /// - `order ERROR CALL ..`, the order's first error with its details: the reply in the order, its place and the set's
-///   reply; or the call's begin, the other call and its end;
+///   reply; or the call's start, the other call and its end;
 /// - `set K ..`, only for `SetReply` and `WrongSet`;
 /// - `verdict another`, `verdict unknown` or `verdict none`, which state what is known of all other orders;
 /// - after `verdict none`: `reply N` if no set returns the reply of call N, nothing if the final keys are not in increasing

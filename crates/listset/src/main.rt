@@ -11,7 +11,6 @@ use tool_base::{Trouble, deliver, put};
 
 // The commit of the sources, and whether they are proved. A build that knows both overwrites these bytes in the program
 // (`build/version_stamp.py`), so the lengths are fixed.
-// (`build/version_stamp.py`), so the lengths are fixed.
 const BUILT: &str = "commit 0000000000000000000000000000000000000000\nproof unknown\n";
 
 // The message for an argument that std cannot return as a `String`. (std cannot open a file with such a name either.)
@@ -19,7 +18,6 @@ const NOT_UTF8: &[u8] = b"listset: an argument is not UTF-8\n";
 
 /// Returns the arguments after the program's name. The error has the kind `InvalidData` if an argument is not UTF-8. An
 /// error of any other kind means that an allocation failed.
-/// any other kind means that an allocation failed.
 fn words_given(rt: &HostRuntime) -> io::Result<Vec<String>> {
     Ok(std::env::args(rt)?.skip(1).collect(rt.alloc())?)
 }

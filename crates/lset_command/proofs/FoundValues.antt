@@ -44,7 +44,7 @@ first_and_rest : (name : Text) (left after : List Text) → Some name ≡ slice_
 first_and_rest name [] after first rest = absurd cc
 first_and_rest name (x ∷ xs) after first rest = cc
 
--- The values found for some arguments, and for one more.
+-- After one more argument, the values found so far and the values of the remaining arguments still make up all values.
 pub one_more : (rows : List Row) (all had has : List Text) (name : Text) (left after : List Text) → had
     ++ values_by_names rows left ≡ all
     → Some name ≡ slice_get left 0 → after ≡ drop 1 left → has ≡ had ++ values_by name rows → has

@@ -144,7 +144,7 @@ values_in rows = flat_map (λ row. values_by row.id rows) rows
 abbrev pub is_on : Text → List Row → Bool
 is_on name rows = option_map_or (λ text. bytes_eq text (codes "true")) (first_of name rows) false
 
--- The flags that are on, the value of FILE, and the values of the options, as far as they are present.
+-- Which flags are on, the value of FILE, and the values of the options. A missing value is `None`.
 pub record OptionValues : Type 0 where
   pub file : Option Text
   pub svg : Bool

@@ -1,5 +1,5 @@
--- The jobs that command lines ask for. Some commands are missing here: broken lists, `judge --only` and others are safe
--- and tested, but nothing is proved of what they print.
+-- The jobs that command lines ask for. Some commands are left out: broken lists, `judge --only` and others are safe and
+-- tested, but nothing is proved about what they print.
 use Rattle.std.specs.Prelude.{Bool, true, false, List, Option, Some, None, Result, Ok, Err}
 use Rattle.clap.specs.Words.{Text}
 use Rattle.lset_command.specs.CommandLine.{Choice, OptionValues}

@@ -64,7 +64,7 @@ pub(crate) fn explained<H: Files>(
     }
 }
 
-/// If the answer is a refusal, appends the advice to use a file. For recordings that were read from a pipe.
+/// If the answer is a refusal, appends the advice to use a file. Used for recordings that were read from a pipe.
 pub(crate) fn pointed(made: Result<Answer, Trouble>) -> Result<Answer, Trouble>
     ensures { (bytes : List ℕ) → Judges bytes (view made) → Judges bytes (view result) }
 {

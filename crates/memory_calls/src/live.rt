@@ -80,8 +80,8 @@ fn call_each_within<M: Running>(
     call_within(alloc, calls, set, seat, Call::Remove(key), Reply::True)
 }
 
-/// Makes the calls whose results are typed, from a seat that can still add keys or has used up its quota. The set has
-/// the same keys at the end.
+/// Makes the calls with typed results. The seat can still add keys, or has used up its quota. The set has the same keys
+/// at the end.
 fn call_typed<M: Running, R: Wait>(
     rt: &R,
     alloc: Global,
@@ -102,7 +102,7 @@ fn call_typed<M: Running, R: Wait>(
     check(!seat.remove(rt, set, Key(3)))
 }
 
-/// Passes a receipt from each of two seats to the other seat.
+/// Passes a receipt (a record of what a seat has seen) from each of two seats to the other seat.
 fn pass_receipts<M: Running>(
     alloc: Global,
     calls: &mut Calls,
@@ -142,7 +142,7 @@ fn answer_session<M: Running, R: Wait>(
     check(written.as_slice() == b"TRUE\nFALSE\nTRUE\nBAD\nTRUE\nBYE\n".as_slice())
 }
 
-/// Gathers both seats into one and closes the set.
+/// Merges both seats into one and closes the set.
 fn gather_and_close<M: Running>(
     alloc: Global,
     calls: &mut Calls,
@@ -172,7 +172,7 @@ fn running_set<M: Running, R: Wait>(rt: &R, alloc: Global, calls: &mut Calls) ->
     gather_and_close(alloc, calls, set, zero, one)
 }
 
-/// Makes calls with `key`, whose results are typed. The key is absent before and present afterwards.
+/// Makes calls with typed results on `key`, which is absent before and present afterwards.
 fn add_typed<M: Running, R: Wait>(
     rt: &R,
     set: &LiveSet<M>,

@@ -27,8 +27,8 @@ impl Calls {
         }
     }
 
-    /// Returns `true` if the latest call may return `Memory`. Only one allocation fails in a run, so only one call may
-    /// return `Memory`.
+    /// Records that the latest call returned `Memory`. Returns `false` if a call did so before: only one allocation
+    /// fails in a run.
     pub fn may_be_refused(&mut self) -> bool {
         if self.refused.is_some() {
             return false;

@@ -5,7 +5,7 @@ use crate::test_histories::{FIVE, reply_of};
 use lset_judge::{Count, find_count};
 use tool_judge::put_count;
 
-/// Returns a completed call of key 5. The reply is true if `is_true`, otherwise false.
+/// Returns a completed call on key 5. The reply is true if `is_true`, otherwise false.
 fn ended(thread: u32, call: Call, begun: u64, end: u64, is_true: bool) -> StreamCall {
     StreamCall {
         thread,
@@ -73,7 +73,7 @@ fn opening_and_final_keys_are_counted(rt: HostRuntime) -> Result<(), Fail> {
     Ok(())
 }
 
-/// Returns a random call of key 5 that runs between two moments, with a random reply. Some calls are pending.
+/// Returns a random call on key 5 that runs between two moments, with a random reply. Some calls are pending.
 fn any_call(random: &mut Pcg32, thread: u32, one: u64, other: u64) -> StreamCall {
     let call = match random.next_u32() % 4 {
         0 | 1 => Call::Add(FIVE),
@@ -94,7 +94,7 @@ fn any_call(random: &mut Pcg32, thread: u32, one: u64, other: u64) -> StreamCall
     }
 }
 
-/// Returns a few random calls of key 5 in the order of their begins. Moments start at 1.
+/// Returns a few random calls on key 5, ordered by start. Moments count from 1.
 fn any_calls(alloc: Global, random: &mut Pcg32) -> Result<Vec<StreamCall>, AllocError> {
     let count = 2 + random.next_u32() % 7;
     let mut moments: Vec<u64> = Vec::new(alloc);

@@ -1,4 +1,4 @@
-//! Readers and writers for tests, which fail when they are called for a given time.
+//! Readers and writers for tests. Each of them fails at one chosen call.
 
 use crate::prelude::*;
 use std::io::{self, ErrorKind, Read, Write};

@@ -13,7 +13,7 @@ fn add_of_six(thread: u32, begun: u64, ended: Option<(u64, Reply)>) -> StreamCal
     }
 }
 
-/// Calls of key 6 with a reply that the judge does not accept from this operation.
+/// Calls on key 6 with a reply that the judge does not accept for this operation.
 const NOT_PLAIN: [(Call, Reply); 5] = [
     (Call::Add(Key(6)), Reply::Full),
     (Call::Remove(Key(6)), Reply::Nothing),
@@ -33,7 +33,7 @@ fn not_plain(made: (Call, Reply), begun: u64, end: u64) -> StreamCall {
     }
 }
 
-/// Returns calls to add after a call of thread 3 that runs from moment 2 to 7, each with the error to expect. If
+/// Returns wrong calls to try after a call of thread 3 that runs from moment 2 to 7, each with the expected error. If
 /// possible, a call also has errors that are checked later.
 fn with_faults(made: (Call, Reply)) -> [(StreamCall, StreamFault); 10] {
     let late = LAST_MOMENT + 1;
@@ -66,7 +66,8 @@ fn the_first_fault_of_a_call_is_named(rt: HostRuntime) -> Result<(), Fail> {
     judge.add(add_of_six(4, 3, Some((8, Reply::True))))?;
     let both = add_of_six(3, 5, Some((8, Reply::True)));
     assert!(rt; judge.add(both) == Err(StreamFault::Taken));
-    // The call has two errors: another call ends at the moment of its begin, and the thread's earlier call overlaps it.
+    // The call has two errors: another call ends at the moment at which it starts, and the thread's earlier call
+    // overlaps it.
     judge.add(add_of_six(5, 4, Some((6, Reply::True))))?;
     let begins_taken = add_of_six(3, 6, Some((9, Reply::True)));
     assert!(rt; judge.add(begins_taken) == Err(StreamFault::Taken));

@@ -165,7 +165,7 @@ fn sequential_sets_and_judged_histories_are_right_at_each_size(
     Ok(())
 }
 
-/// Returns a judge that was told `size` calls of `contains` that find their keys, and `size` pending adds.
+/// Returns a judge that has received `size` calls of `contains` that find their keys, and `size` pending adds.
 fn judge_of(alloc: Global, size: u32) -> Result<Judge, Fail> {
     let mut judge = Judge::new(alloc, &increasing_keys(alloc, size)?)?;
     for number in 0..2 * size {

@@ -13,7 +13,7 @@ impl<const N: u64> Rounds for UpTo<N> {
     const MOST: u64 = N;
 }
 
-/// The opening keys. The traversal to a key compares one key per round: all smaller keys and the first that is not
+/// The opening keys. To reach a key, a call compares one key per round: all smaller keys and the first that is not
 /// smaller.
 const KEYS: [u32; 5] = [10, 20, 30, 40, 50];
 
@@ -55,7 +55,7 @@ fn contains_of_a_marking_list_ignores_the_bound(rt: HostRuntime) {
     walks_on::<LockFreeList, HostRuntime>(&rt, rt.alloc());
 }
 
-/// Returns a set and a seat. The call of the other seat ran out of rounds and still holds its locks.
+/// Returns a set and one of its two seats. A call from the other seat ran out of rounds and still holds its locks.
 fn stuck<M: Bounded, R: Abort>(rt: &R, alloc: Global) -> (LiveSet<M>, Seat<M>) {
     let (set, zero, one) = two_seats_on::<M, R>(rt, alloc, &KEYS);
     let made = set.call_within::<Spin, UpTo<2>>(one, Call::Add(Key(25)), &Spin::new());

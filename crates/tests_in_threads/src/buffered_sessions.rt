@@ -96,7 +96,7 @@ fn are_answered_in_both<R: Host>(rt: &R, alloc: Global, turns: &[Turn<'_>], call
     are_answered_in_time(rt, alloc, turns, calls, false);
 }
 
-/// Reads one line; then as many lines as the buffer has bytes; then a part of a line.
+/// The session reads one line, then as many lines as the buffer has bytes, then a part of a line.
 #[test]
 fn answers_are_written_before_each_read(rt: HostRuntime) {
     let texts: &[Turn<'_>] = &[(b"\n", 4), (&[b'\n'; 4096], 4 * 4096), (b"\nA", 4)];

@@ -65,7 +65,8 @@ impl<'a, R: Clock> Meeting<'a, R> {
         }
     }
 
-    /// Lets a thread arrive and wait for all others. Returns `true` if they arrive, or if this thread arrived before.
+    /// Registers that a thread has arrived, and waits for all others. Returns `true` if they arrive, or if this thread
+    /// arrived before.
     pub fn come(&self, thread: u32) -> bool {
         if self.came[(thread % 64) as usize].swap(true, Ordering::SeqCst) {
             return true;

@@ -10,8 +10,8 @@ pub fn last_of<M: Machine, R: Abort>(
     seats.pop().expect(rt, "no seat is left")
 }
 
-/// Opens a set that contains `keys` for two threads. Returns the set and the threads' seats 0 and 1, which can add 4
-/// keys each.
+/// Opens a set that contains `keys` for two threads. Returns the set and the seats 0 and 1 (a seat is the right to call
+/// as one thread). Each seat can add 4 keys.
 pub fn two_seats_on<M: Machine, R: Abort>(
     rt: &R,
     alloc: Global,
@@ -23,7 +23,7 @@ pub fn two_seats_on<M: Machine, R: Abort>(
     (set, zero, one)
 }
 
-/// Opens an empty set for two threads. Returns the set and the threads' seats 0 and 1, which can add 4 keys each.
+/// Opens an empty set for two threads. Returns the set and the seats 0 and 1, which can add 4 keys each.
 pub fn two_seats<M: Machine, R: Abort>(rt: &R, alloc: Global) -> (LiveSet<M>, Seat<M>, Seat<M>) {
     two_seats_on::<M, R>(rt, alloc, &[])
 }
@@ -50,7 +50,7 @@ pub fn make_calls<M: Running, R: Host>(
     }
 }
 
-/// Gathers all seats into one seat. Returns `None` if `seats` is empty.
+/// Merges all seats into one seat. Returns `None` if `seats` is empty.
 pub fn gathered<M: Machine>(set: &LiveSet<M>, mut seats: Vec<Seat<M>>) -> Option<Seat<M>> {
     let mut all = None;
     while let Some(seat) = seats.pop() {

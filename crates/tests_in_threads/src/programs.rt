@@ -23,7 +23,7 @@ pub fn worked<M: Running + Send + Sync, R: Host, G: Gate + Sync>(
     }
 }
 
-/// Opens an empty set for `seats` threads. Returns the set and the threads' seats, which can add 4 keys each.
+/// Opens an empty set for `seats` threads. Returns the set and a seat for each thread, which can add 4 keys each.
 fn in_a_row<M: Running, R: Abort>(rt: &R, alloc: Global, seats: u32) -> (LiveSet<M>, Vec<Seat<M>>) {
     open::<M>(alloc, seats, 4).expect(rt, "not opened")
 }
@@ -80,8 +80,8 @@ fn two_programs_return_their_replies_and_the_final_key(rt: HostRuntime) {
     at_each_list!(answers, rt);
 }
 
-/// Asserts that the number of programs did not match the number of seats. The error must return the set, which has two
-/// seats, and `seats` seats.
+/// Asserts that `work` failed because the number of programs differs from the number of seats. The error must return
+/// the set, which has two seats, and all `seats` seats that `work` received.
 fn gave_all_back<R: Abort>(rt: &R, fault: WorkFault<LazyList>, seats: usize) {
     assert!(rt; fault.cause == WorkCause::Programs);
     let (set, back) = fault.back.expect(rt, "nothing came back");
@@ -202,7 +202,7 @@ fn a_gate_that_refuses_a_call_ends_only_its_program(rt: HostRuntime) {
     }
 }
 
-/// Opens a set with three seats. Returns two seats: seat 2, which has gathered seat 1, and seat 0.
+/// Opens a set with three seats. Returns seat 2, into which seat 1 was merged, and then seat 0.
 fn two_before_zero<M: Running, R: Abort>(rt: &R, alloc: Global) -> (LiveSet<M>, Vec<Seat<M>>) {
     let (set, mut seats) = in_a_row::<M, R>(rt, alloc, 3);
     let mut two = last_of(rt, &set, &mut seats);
@@ -291,8 +291,8 @@ fn balance_of(programs: &[Vec<Call>], replies: &[Vec<Reply>]) -> [u64; 50] {
     balance
 }
 
-/// Lets four threads call with the same 50 keys. Asserts that a key is present if it was added once more than removed,
-/// and absent if it was added and removed equally often.
+/// Lets four threads make calls on the same 50 keys. Asserts that a key is present if it was added once more than
+/// removed, and absent if it was added and removed equally often.
 fn add_up<M: Running + Send + Sync, R: Host>(rt: &R, alloc: Global) {
     let (set, seats) = open::<M>(alloc, 4, 2_000).expect(rt, "not opened");
     let drawn = programs(alloc, 4, 2_000, 50, 7).expect(rt, "not drawn");

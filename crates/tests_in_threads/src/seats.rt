@@ -8,7 +8,7 @@ use lset_live::Receipt;
 use lset_rule::TableSeat;
 use std::mem::size_of;
 
-/// Calls of one seat with the key 9, and their replies.
+/// One seat's calls on key 9, and their replies.
 pub const ADDS: [(Call, Reply); 1] = [(Call::Add(Key(9)), Reply::True)];
 
 pub const FINDS: [(Call, Reply); 1] = [(Call::Contains(Key(9)), Reply::True)];
@@ -90,8 +90,8 @@ fn close_with_a_missing_seat_returns_set_and_seat(rt: HostRuntime) {
     at_each_list!(comes_back, rt);
 }
 
-/// Copies a receipt three times. Of the four receipts, one is dropped, one is accepted by the other seat, one is
-/// accepted by the seat that issued it, and one still exists when the set is closed.
+/// Copies a receipt (a record of what a seat has seen) three times. Of the four receipts, one is dropped, one is
+/// accepted by the other seat, one by the seat that issued it, and one still exists when the set is closed.
 fn are_passed_on<M: Running, R: Host>(rt: &R, alloc: Global) {
     let (set, mut zero, mut one) = two_seats::<M, R>(rt, alloc);
     make_calls(rt, &set, &mut one, &ADDS);
@@ -111,8 +111,8 @@ fn receipts_can_be_copied_dropped_and_taken(rt: HostRuntime) {
     at_each_list!(are_passed_on, rt);
 }
 
-/// Asserts that a receipt of a seat that has seen less has no effect. A receipt records what its seat had seen when the
-/// receipt was made.
+/// Asserts that accepting an old receipt has no effect. A receipt records only what its seat had seen when the receipt
+/// was made.
 fn may_be_old<M: Running, R: Host>(rt: &R, alloc: Global) {
     let (set, mut zero, mut one) = two_seats::<M, R>(rt, alloc);
     let early = set.receipt(&mut zero);

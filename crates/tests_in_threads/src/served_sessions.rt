@@ -9,7 +9,7 @@ use lset_server::{ServeCause, Served, serve};
 /// The kind of set that the servers in these tests serve.
 type Set = LiveSet<LazyList>;
 
-/// Opens an empty set for `seats` threads. Returns the set and the threads' seats, which can add 4 keys each.
+/// Opens an empty set for `seats` threads. Returns the set and a seat for each thread, which can add 4 keys each.
 fn opened<R: Abort>(rt: &R, alloc: Global, seats: u32) -> (Set, Vec<Seat<LazyList>>) {
     open::<LazyList>(alloc, seats, 4).expect(rt, "not opened")
 }

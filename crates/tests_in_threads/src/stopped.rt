@@ -116,8 +116,8 @@ impl<'a, R: Clock> Pause for Stopping<'a, R> {
     }
 }
 
-/// Makes a call from each of two seats, in two threads. The thread that stops first begins. The other thread begins
-/// when the first one has stopped.
+/// Makes a call from each of two seats, in two threads. The thread that is to stop first starts first. The other thread
+/// starts when the first one has stopped.
 fn both_call<M: Running + Send + Sync, R: Host>(
     rt: &R,
     set: &LiveSet<M>,
@@ -257,8 +257,8 @@ fn a_ceiling_misses_a_key_added_before_its_position(rt: HostRuntime) {
     both_are::<LockFreeList, HostRuntime>(&rt, rt.alloc(), &[9], both);
 }
 
-/// Asserts that seat 0 attempts at least three times to take a lock that seat 1 holds. Seat 1 takes the lock, of the
-/// list or of the head, in its step number `locks_at`.
+/// Asserts that seat 0 attempts at least three times to take a lock that seat 1 holds. Seat 1 takes this lock (the lock
+/// of the list or of its head) in step number `locks_at`.
 fn waits_at_a_lock<M: Running + Send + Sync, R: Host>(rt: &R, alloc: Global, locks_at: u64) {
     let (set, zero, one) = two_seats_on::<M, R>(rt, alloc, &[]);
     let stopping = Stopping::new(rt, NEVER, locks_at);
@@ -292,7 +292,7 @@ fn reads<M: RunningReads, R: Clock + Wait>(
     (looked, asked, sought)
 }
 
-/// Removes the key 10 from seat 1. This call stops after step `stops_at` until seat 0 has looked for 10. The set also
+/// Seat 1 removes the key 10. This call stops after step `stops_at` until seat 0 has looked for 10. The set also
 /// contains 20.
 fn reads_beside<M: RunningReads + Send + Sync, R: Host>(
     rt: &R,

@@ -4,7 +4,7 @@ use crate::kinds::{Place, TextKind};
 use crate::lined::{Lines, field, moment_at, number_at};
 use std::alloc::AllocError;
 
-/// The indices of the fields that contain the thread, the begin and the end in a call's line.
+/// The indices of three fields in a call's line: the call's thread, start and end.
 #[derive(Clone, Copy)]
 pub(crate) struct CallFields {
     pub(crate) thread: usize,
@@ -91,8 +91,8 @@ pub(crate) fn put_moments(
     put_order(out, lines, place, fields, begin)
 }
 
-/// Explains why a call conflicts with earlier calls. Calls must be listed in the order of their begins, and a thread
-/// can have only one call at a time.
+/// Explains why a call conflicts with earlier calls. Calls must be listed in order of start, and a thread can have only
+/// one call at a time.
 fn put_order(
     out: &mut String,
     lines: &Lines<'_>,
@@ -125,7 +125,7 @@ fn put_order(
     }
 }
 
-/// Appends a command that sorts the calls of a recording to the line written before.
+/// To the line written before, appends a shell command that sorts the calls of a recording.
 fn put_sorting(out: &mut String, place: Place<'_>) -> Result<(), AllocError> {
     if place.kind != TextKind::Recording {
         return Ok(());

@@ -179,7 +179,7 @@ fn has_inner_cr(line: &[u8]) -> bool {
     false
 }
 
-/// Returns `true` if the first word of a line is a word of listset written with capital letters.
+/// Returns `true` if the first word of a line is a listset keyword written with capital letters.
 fn has_capitals(line: &[u8]) -> bool {
     let first = field_or_empty(line, 0);
     let words = [

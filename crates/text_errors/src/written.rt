@@ -26,12 +26,12 @@ struct NumberField {
     high: u64,
 }
 
-/// Creates the description of a field with a thread, a key or a call number.
+/// Describes a field that contains a thread, a key or a call number.
 fn plain(name: &'static str, index: usize) -> NumberField {
     in_range(name, index, 0, 4_294_967_295)
 }
 
-/// Creates the description of a number field with this range.
+/// Describes a field that contains a number in this range.
 fn in_range(name: &'static str, index: usize, low: u64, high: u64) -> NumberField {
     NumberField {
         name,

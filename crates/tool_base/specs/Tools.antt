@@ -48,15 +48,15 @@ line_of (Err t) = trouble_text t
 abbrev pub AppendsFront : Option (List ℕ) → Option (List ℕ) → List ℕ → Type 0
 AppendsFront old new text = (front : List ℕ) × (rest : List ℕ) × (text ≡ front ++ rest) × Appends old new front
 
--- A result is delivered. An answer's text is written to the output, or a prefix of it if a write fails. The line of an
--- error, also of a failed write to the output, is written to stderr, or a prefix of it. The exit status is that of the
--- outcome.
+-- How a command delivers its result. The text of an answer goes to the output. An error, including a failed write to
+-- the output, goes to stderr as one line. If a write fails, only a prefix has been written. The exit status is that of
+-- the outcome.
 abbrev pub IsDelivered : Made → Option (List ℕ) → Option (List ℕ) → Option (List ℕ) → Option (List ℕ) → ℕ → Type 0
 IsDelivered made output_old output_new faults_old faults_new status =
     (outcome : Outcome) × Delivers made output_old output_new outcome
     × AppendsFront faults_old faults_new (line_of outcome) × (status ≡ status_of outcome)
 
--- A command ends: it has made one of its correct results and delivered it.
+-- A command ends: it computes a result that is correct by `IsMade` and delivers this result.
 abbrev pub Ends : (Made → Type 0) → Option (List ℕ) → Option (List ℕ) → Option (List ℕ) → Option (List ℕ) → ℕ → Type 0
 Ends IsMade output_old output_new faults_old faults_new status =
     (made : Made) × IsMade made × IsDelivered made output_old output_new faults_old faults_new status
@@ -69,11 +69,12 @@ IsTaken bytes = length bytes ≤ LONGEST
 abbrev pub IsTooLong : List ℕ → Trouble → Type 0
 IsTooLong bytes t = (t ≡ TooLong) × (LONGEST < length bytes)
 
--- The result of a command for a text: the error `TooLong`, or its result for the bytes of a text that is not too long.
+-- A result is correct for a text if it is the error `TooLong` and the text is too long, or if the text is short enough
+-- and `Makes` accepts the result.
 abbrev pub OnText : (List ℕ → Made → Type 0) → List ℕ → Made → Type 0
 OnText Makes bytes made = ((t : Trouble) × (made ≡ Err t) × IsTooLong bytes t) ⊎ (IsTaken bytes × Makes bytes made)
 
--- The result of a command for an input: `CannotRead`, `Memory`, or its result for the bytes of the input.
+-- A result is correct for an input if it is `CannotRead` or `Memory`, or if it is correct for the bytes of the input.
 abbrev pub OnInput : (List ℕ → Made → Type 0) → List ℕ → Made → Type 0
 OnInput Makes bytes made = (made ≡ Err CannotRead) ⊎ ((made ≡ Err Memory) ⊎ OnText Makes bytes made)
 

@@ -23,7 +23,7 @@ of_line number c = Line number c
 abbrev pub of_line_fault : LineFault → Trouble
 of_line_fault fault = of_line fault.line fault.cause
 
--- The error for the case that no schedule can be generated.
+-- The program's error if no schedule can be generated.
 abbrev pub of_generator : GenFault → Trouble
 of_generator generator.Threads = Bad value.Threads
 of_generator generator.Quota = Bad value.Quota

@@ -131,7 +131,7 @@ pub struct FaultName {
     name: &'static [u8],
 }
 
-/// The kinds of lines in `FAULTS`, after the lines of its heading.
+/// The kinds of lines in `FAULTS`, not counting its heading.
 #[derive(Clone, Copy, PartialEq, Eq)]
 enum FaultLine {
     /// The title of a section, or the empty line before it.
@@ -161,7 +161,8 @@ fn from_name(line: &[u8]) -> &[u8] {
     line.strip_prefix(b"line 1: ").unwrap_or(line)
 }
 
-/// Returns the name with which a `FAULTS` line starts if it equals `name`, ignoring case. Otherwise returns `None`.
+/// If a line of `FAULTS` starts with `name`, ignoring case, returns the name as this line spells it. Otherwise returns
+/// `None`.
 fn name_of_line<'a>(line: &'a [u8], name: &[u8]) -> Option<&'a [u8]> {
     let line = from_name(line);
     let (first, rest) = (line.get(..name.len())?, line.get(name.len()..)?);
@@ -204,8 +205,8 @@ fn parts() -> &'static [u8] {
     rest
 }
 
-/// Reads the argument of `faults`: the name of a cause, of a message or of a section in upper or lower case, or a whole
-/// error line. Returns the error `ValueName::Cause` if no title and no entry in `FAULTS` starts with that name.
+/// Reads the argument of `faults`: the name of a cause, message or section (in either case), or a whole error line.
+/// Returns `ValueName::Cause` if no section title and no entry of `FAULTS` starts with that name.
 pub fn read_fault_name(word: &[u8]) -> Result<FaultName, ValueName> {
     let word = name_in(word);
     let mut rest = parts();
@@ -222,8 +223,8 @@ pub fn read_fault_name(word: &[u8]) -> Result<FaultName, ValueName> {
     Err(ValueName::Cause)
 }
 
-/// Appends a line of `FAULTS`. Appends the section's title first, unless `title` is empty because the title was
-/// appended before.
+/// Appends a line of `FAULTS`, preceded by its section's title. If the title is already in `out`, `title` must be
+/// empty.
 fn put_line(out: &mut Vec<u8>, title: &[u8], line: &[u8]) -> Result<(), AllocError> {
     if !title.is_empty() {
         if !out.is_empty() {
@@ -237,8 +238,8 @@ fn put_line(out: &mut Vec<u8>, title: &[u8], line: &[u8]) -> Result<(), AllocErr
     Ok(())
 }
 
-/// Appends the lines of `FAULTS` about a name. If the name is a section's title, this is the whole section. In every
-/// other section, these are the section's title and the entries with this name.
+/// Appends the lines of `FAULTS` about a name. A section with this title is appended whole. From any other section,
+/// only the entries with this name are appended, below the section's title.
 fn put_named(out: &mut Vec<u8>, name: &[u8]) -> Result<(), AllocError> {
     let (mut title, mut is_whole, mut is_told) = (b"".as_slice(), false, false);
     let mut rest = parts();

@@ -9,7 +9,7 @@ use std::io::{Read, Write};
 
 /// A command that computes its answer from the whole input.
 pub trait Tool {
-    /// Specifies which results are correct for these bytes. By default, every result is.
+    /// Defines which results are correct for an input with these bytes. By default, every result is correct.
     ghost answers: { Self → List ℕ → Made → Type 0 } = { λ tool bytes made. Unit {0} };
 
     /// Computes the answer for an input. Allocates.

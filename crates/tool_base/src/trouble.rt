@@ -37,7 +37,7 @@ pub enum SystemCause {
     /// The number of programs differs from the number of seats, or some seats of the set are missing. (A seat is the
     /// right to call the set as one thread.)
     Programs,
-    /// The gate through which every call must pass did not admit a call.
+    /// The gate, which decides before each call whether the call is made, refused a call.
     Gate,
     /// The final keys of a round are more than a set can open with.
     Opening,

@@ -51,7 +51,8 @@ pub(crate) fn steps_out(
     Ok(number_at(made.line(made.count()), 2))
 }
 
-/// Explains why the thread of a draft's line does not reach the row: it waits for a lock, or its call ends earlier.
+/// Explains why a thread does not reach the row that a draft's line names: the thread waits for a lock, or its call
+/// ends first.
 pub(crate) fn put_lock(
     alloc: Global,
     out: &mut String,

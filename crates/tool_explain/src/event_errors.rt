@@ -92,7 +92,7 @@ fn put_no_thread(out: &mut String, lines: &Lines<'_>, place: Place<'_>) -> Resul
     )
 }
 
-/// Returns the number of the last line before the error that begins a call of the thread in the line with the error.
+/// Returns the number of the last line before the error in which the same thread begins a call.
 fn begun_before(lines: &Lines<'_>, place: Place<'_>) -> Option<usize> {
     let thread = number_at(place.line, 1)?;
     lines.last_before(place.number, |line| {

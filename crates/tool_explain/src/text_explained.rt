@@ -81,7 +81,7 @@ fn no_answer(alloc: Global) -> Result<Answer, Trouble> {
     Ok(Answer { text, status: 0 })
 }
 
-/// Returns an empty answer, or the first error in the opening keys that `serve` reads.
+/// Returns the first error in the opening keys that `serve` reads. If there is none, returns an empty answer.
 fn said_of_keys(alloc: Global, lines: &Lines<'_>) -> Result<Answer, Trouble> {
     match wrong_key(lines) {
         Some((number, cause)) => Err(Trouble::Line(number as u64, cause)),

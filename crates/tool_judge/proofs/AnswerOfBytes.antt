@@ -39,7 +39,7 @@ answered bytes c said a says is made = (
   },
 )
 
--- A property of all extensions of these bytes holds for the input from which the bytes were read.
+-- If a property holds for every extension of the bytes that were read, it holds for the whole input.
 pub if_read : (all rest : Option (List ℕ)) (bytes : List ℕ) (P : List ℕ → Type 0) → Consumes all rest bytes
     → ((more : List ℕ) → P (bytes ++ more)) → IfSome all P
 if_read None rest bytes P read each = tt

@@ -34,12 +34,12 @@ abbrev pub end_of : ℕ → Option (ℕ × Reply) → ℕ
 end_of begun None = begun
 end_of begun (Some e) = e.0
 
--- True if the second call begins at or before the end of the first, or if the first is pending.
+-- True if the second call starts at or before the end of the first, or if the first is pending.
 abbrev pub overlap : Option (ℕ × Reply) → ℕ → Bool
 overlap None begun = true
 overlap (Some e) begun = nat_le begun e.0
 
--- ---- A call as text: its thread, operation, key, reply, begin and end
+-- ---- A call as text: its thread, operation, key, reply, start and end
 abbrev pub thread_text : ℕ → List ℕ
 thread_text thread = codes "thread " ++ decimal thread ++ codes " "
 
@@ -123,7 +123,8 @@ abbrev pub nor_text : Presence → List ℕ
 nor_text Present = codes ", and no such add overlaps "
 nor_text Absent = codes ", and no such remove overlaps "
 
--- The words that state that no call changes the key in the one order, and in the other order.
+-- The words for two overlapping calls: no call changes the key between them if the first takes effect before the second
+-- (`turned_there`), nor if it takes effect after it (`turned_back`).
 unfoldable pub turned_there : ℕ → Presence → ℕ → ℕ → List ℕ
 turned_there key need from to = no_change key need ++ codes "that returned true or is pending overlaps " ++ between from to
 

@@ -66,7 +66,7 @@ fn end_of(made: StreamCall) -> u64
     }
 }
 
-/// Returns `true` if the second call begins at or before the end of the first, or if the first is pending.
+/// Returns `true` if the second call starts at or before the end of the first, or if the first is pending.
 fn overlap(first: StreamCall, second: StreamCall) -> bool
     ensures { result ≡ lines.overlap first.ended second.begun }
 {
@@ -105,7 +105,7 @@ fn between(alloc: Global, from: u64, to: u64) -> Result<Vec<u8>, AllocError>
     Ok(text.into_bytes())
 }
 
-/// Returns a call's reply, begin and end as text.
+/// Returns a call's reply, start and end as text.
 fn end_text(alloc: Global, begun: u64, ended: Option<(u64, Reply)>) -> Result<Vec<u8>, AllocError>
     ensures { IfOk result (λ text. text.items ≡ lines.end_text begun ended) }
 {
@@ -125,7 +125,7 @@ fn end_text(alloc: Global, begun: u64, ended: Option<(u64, Reply)>) -> Result<Ve
     }
 }
 
-/// Returns a call as text: its thread, operation, key, reply, begin and end.
+/// Returns a call as text: its thread, operation, key, reply, start and end.
 #[tactic(auto, unfolding(crate::specs::Clashes::made_text))]
 fn call_text(alloc: Global, made: StreamCall) -> Result<Vec<u8>, AllocError>
     ensures { IfOk result (λ text. text.items ≡ lines.made_text made) }
@@ -169,7 +169,7 @@ fn needs_text(alloc: Global, key: u32, need: Presence) -> Result<Vec<u8>, AllocE
     }
 }
 
-/// Returns the line that states whether the set contains the key at first.
+/// Returns the line that states whether the set contains the key at the start.
 fn opening_text(alloc: Global, key: u32, was: Presence) -> Result<Vec<u8>, AllocError>
     ensures { IfOk result (λ text. text.items ≡ lines.opening_text key was) }
 {
@@ -201,8 +201,8 @@ fn final_text(alloc: Global, key: u32, need: Presence) -> Result<Vec<u8>, AllocE
     }
 }
 
-/// Returns the first of three lines: the first call and the state in which it leaves the key. The state at first is
-/// printed if `first` is `None`.
+/// Returns line 1 of 3: the first call and the state in which it leaves the key. If `first` is `None`, returns the
+/// key's state at the start.
 fn first_line(
     alloc: Global,
     key: u32,
@@ -222,8 +222,8 @@ fn first_line(
     }
 }
 
-/// Returns the second of three lines: the second call and the state in which it needs the key. The state at the end is
-/// printed if `second` is `None`.
+/// Returns line 2 of 3: the second call and the state in which it needs the key. If `second` is `None`, returns the
+/// key's state at the end.
 fn second_line(
     alloc: Global,
     key: u32,
@@ -243,8 +243,8 @@ fn second_line(
     }
 }
 
-/// Returns the words that name the operation missing between the two calls: the one that brings the key into the state
-/// `need`.
+/// Returns the words that name the missing call: the `add` or `remove` that would bring the key into the state `need`
+/// between the two calls.
 fn no_change(alloc: Global, key: u32, need: Presence) -> Result<Vec<u8>, AllocError>
     ensures { IfOk result (λ text. text.items ≡ lines.no_change key need) }
 {
@@ -299,7 +299,7 @@ fn time_text(
     }
 }
 
-/// Returns the third of three lines, which states that no call changes the key between the two calls.
+/// Returns line 3 of 3, which states that no call changes the key between the two calls.
 fn third_line(
     alloc: Global,
     key: u32,
@@ -348,7 +348,7 @@ fn needs_key(alloc: Global, key: u32) -> Result<Vec<u8>, AllocError>
     Ok(text.into_bytes())
 }
 
-/// Returns the words for the states in which a call needs and leaves the key.
+/// Returns the words for the state in which a call needs the key and the state in which it leaves the key.
 #[tactic(auto, unfolding(crate::specs::Clashes::needs_and_leaves))]
 fn needs_and_leaves(
     alloc: Global,
@@ -366,8 +366,8 @@ fn needs_and_leaves(
     Ok(text)
 }
 
-/// Returns the words that name the operation missing in the other order of two overlapping calls. `need` is the state
-/// in which the later call needs the key.
+/// Returns the words that name the call missing if the second of two overlapping calls takes effect first: the `add` or
+/// `remove` that would bring the key into the state `need`.
 fn nor_text(alloc: Global, need: Presence) -> Result<Vec<u8>, AllocError>
     ensures { IfOk result (λ text. text.items ≡ lines.nor_text need) }
 {
@@ -377,8 +377,8 @@ fn nor_text(alloc: Global, need: Presence) -> Result<Vec<u8>, AllocError>
     }
 }
 
-/// Returns the words that state that no call which brings the key into the state `need` overlaps the time `from` to
-/// `to`. They are for the case that the first call takes effect first.
+/// Returns the words for the case that the first call takes effect first: no call that could bring the key into the
+/// state `need` overlaps the moments `from` to `to`.
 #[tactic(auto, unfolding(crate::specs::Clashes::turned_there))]
 fn turned_there(
     alloc: Global,
@@ -395,8 +395,8 @@ fn turned_there(
     Ok(text)
 }
 
-/// Returns the words that state that no call which changes the key back overlaps the time `from` to `to`. They are for
-/// the case that the second call takes effect first.
+/// Returns the words for the case that the second call takes effect first: no call that could bring the key into the
+/// state `back` overlaps the moments `from` to `to`.
 #[tactic(auto, unfolding(crate::specs::Clashes::turned_back))]
 fn turned_back(alloc: Global, back: Presence, from: u64, to: u64) -> Result<Vec<u8>, AllocError>
     ensures { IfOk result (λ text. text.items ≡ lines.turned_back back from to) }
@@ -439,7 +439,7 @@ fn turned_second(
     Ok(text)
 }
 
-/// Returns the lines of two overlapping calls that contradict each other whichever of them comes first.
+/// Returns the lines about two overlapping calls that contradict each other whichever of them takes effect first.
 fn lines_turned(
     alloc: Global,
     key: u32,

@@ -6,10 +6,10 @@ use std::alloc::{AllocError, Global};
 /// The maximum number of calls in a list that is printed whole.
 const NAMED: usize = 4;
 
-/// The number of calls that are printed at the beginning and at the end of a longer list.
+/// The number of calls that are printed from the start, and from the end, of a longer list.
 const NAMED_OF_MANY: usize = 2;
 
-/// Writes a call's thread, begin and end.
+/// Writes a call's thread, start and end.
 fn put_when(out: &mut String, made: StreamCall) -> Result<(), AllocError> {
     let (thread, begun) = (made.thread, made.begun);
     match made.ended {
@@ -19,7 +19,7 @@ fn put_when(out: &mut String, made: StreamCall) -> Result<(), AllocError> {
     Ok(())
 }
 
-/// Writes a call with its reply, thread, begin and end.
+/// Writes a call with its reply, thread, start and end.
 fn put_made(out: &mut String, made: StreamCall) -> Result<(), AllocError> {
     let (word, key) = (call_word(made.call), made.call.key().0);
     write!(out, "{word} {key}")?;
@@ -100,7 +100,7 @@ fn put_calls(out: &mut String, count: &Count) -> Result<(), AllocError> {
     Ok(())
 }
 
-/// Writes how often the key must change back between the counted calls, and when.
+/// Writes how often the key must change back between the counted calls, and during which moments.
 fn put_need(out: &mut String, count: &Count) -> Result<(), AllocError> {
     let (key, state) = (count.key.0, state_word(other(count.was)));
     write!(out, "  need key {key} to become {state}")?;
@@ -117,7 +117,7 @@ fn put_need(out: &mut String, count: &Count) -> Result<(), AllocError> {
     Ok(())
 }
 
-/// Writes the time in which the calls that change the key back must run.
+/// Writes the moments during which the calls that change the key back must run.
 fn put_stretch(out: &mut String, count: &Count, is_one: bool) -> Result<(), AllocError> {
     let s = if is_one { "s" } else { "" };
     match (count.since, count.until) {
@@ -129,7 +129,7 @@ fn put_stretch(out: &mut String, count: &Count, is_one: bool) -> Result<(), Allo
     Ok(())
 }
 
-/// Writes the calls that can have changed the key back. There are too few of them.
+/// Writes the calls that could have changed the key back. They are too few.
 fn put_backs(out: &mut String, count: &Count) -> Result<(), AllocError> {
     let (word, key) = (call_word(maker(count, other(count.was))), count.key.0);
     let all = count.backs.len();
@@ -160,8 +160,8 @@ fn put_backs(out: &mut String, count: &Count) -> Result<(), AllocError> {
 }
 
 /// Writes the three lines of a contradiction by counting: the calls that need the key in one state, how often the key
-/// must change back between them, and the too few calls that can have changed it back. Long lists of calls are
-/// shortened. Allocates.
+/// must change back between them, and the calls that could have changed it back, which are too few. Shortens long lists
+/// of calls. Allocates.
 pub fn put_count(out: &mut String, count: &Count) -> Result<(), AllocError> {
     write!(out, "contradiction: ")?;
     put_calls(out, count)?;

@@ -86,8 +86,8 @@ fn answer_of(alloc: Global, reader: RecordingReader, detail: Detail) -> Result<A
 /// whatever keys it leaves. Allocates. Does not block.
 ///
 /// After `ok N calls`, the answer states how many calls overlap a change of their key. It adds advice if these are
-/// fewer than 5 of 100, and a remark if the recording was cut off. After `not linearizable`, the answer names the key
-/// whose calls have no order, and the moment up to which they have none. If a contradiction was found, the answer also
+/// fewer than 5 of 100, and a remark if the recording was cut off. After `not linearizable`, the answer names a key
+/// whose calls no order explains, and the moment up to which none does. If a contradiction was found, the answer also
 /// shows the two calls: the first leaves the key in one state, the second needs the other, and no call can have changed
 /// it in between.
 ///

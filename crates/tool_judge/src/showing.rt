@@ -27,7 +27,8 @@ pub enum Claim {
     NotLinearizable(Refusal, Option<Clash>),
     /// Some order explains the calls and leaves the final keys.
     Explained,
-    /// It is unknown whether some order does: the judge does not decide calls of `ceiling` and knows no quota.
+    /// It is unknown whether some order explains the calls: the judge does not decide calls of `ceiling` and does not
+    /// check quotas.
     Unknown,
 }
 

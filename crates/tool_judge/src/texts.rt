@@ -27,7 +27,8 @@ fn is_few(overlapped: u64, calls: u64) -> bool {
     overlapped.saturating_mul(20) < calls
 }
 
-/// Returns the other lines of the answer if some order explains the recording.
+/// Returns the lines after `ok N calls`: how many calls overlap a change of their key, advice if these are few, and a
+/// remark if the recording was cut off.
 fn notes(
     alloc: Global,
     calls: u64,

@@ -1,4 +1,4 @@
--- Version 2 of the schedule format has a word for every call.
+-- Version 2 of the schedule format has a keyword for every operation.
 use Rattle.std.proofs.Common.{◌≡◌, ℕ, List, [], ◌∷◌, length, refl}
 use Rattle.std.specs.List.{AllByRecursion}
 use Rattle.lset_words.specs.declared.Call.{Call}

@@ -27,7 +27,7 @@ fn make_plain<M: Machine>(world: &mut World<M>, line: Line, left: u32) -> Result
     }
 }
 
-/// Makes the events of one line of a draft, at most `left` events. Returns the schedule's line to which this line
+/// Makes the events of one line of a draft, at most `left` events. Returns the schedule line to which the draft line
 /// expands.
 fn make_line<M: Machine>(world: &mut World<M>, line: DraftLine, left: u32) -> Result<Line, Cause> {
     let most = left.min(MOST_STEPS);

@@ -46,7 +46,7 @@ fn put_access(out: &mut Chunk, action: Action, seen: u64) {
     put_value(out, word, seen);
 }
 
-/// Writes a thread's node register and its value, if the value changed.
+/// Writes the name and the new value of a register that holds a node. Writes nothing if the value did not change.
 fn put_node_change(out: &mut Chunk, name: &str, before: u64, after: u64) {
     if before != after {
         put(out, name);
@@ -54,7 +54,7 @@ fn put_node_change(out: &mut Chunk, name: &str, before: u64, after: u64) {
     }
 }
 
-/// Writes a thread's key register and its value, if the value changed.
+/// Writes the name and the new value of a register that holds a key. Writes nothing if the value did not change.
 fn put_key_change(out: &mut Chunk, name: &str, before: u64, after: u64) {
     if before != after {
         put(out, name);

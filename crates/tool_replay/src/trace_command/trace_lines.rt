@@ -69,7 +69,7 @@ pub struct Lines<'a, S> {
 }
 
 impl<S: Sink> Lines<'_, S> {
-    /// Begins a trace whose destination is `sink`.
+    /// Starts a trace whose destination is `sink`.
     pub fn to(sink: &mut S) -> Lines<'_, S> {
         Lines {
             chunk: Chunk::new(),

@@ -2,7 +2,8 @@ use Rattle.lset_schedule.specs.Plan.{view}
 use Rattle.lset_schedule.proofs.VersionLaws.{schedule_has_words}
 use Rattle.tool_replay.proofs.replay_command.ReplayTool.answer.Goals as goal
 
--- The report can be written: a schedule that was read uses only words of its version, and so does its report.
+-- The report can be written: a schedule that was read uses only keywords of its version, and its report uses the same
+-- keywords.
 pub write_report-requires : goal.write_report-requires
 write_report-requires c =
     c.in-Ok.ensures.in_words (schedule_has_words (view c.in_ok-schedule.schedule) c.in_ok-schedule.ensures.found.0)
