@@ -10,7 +10,7 @@ import { announce, askNow, askSoon, LONG_TEXT, now, say, sayError } from "./now.
 import { OWN_TASK } from "./reducer.js";
 import { openTask } from "./work.js";
 
-const REPLY_WIDTH = 60; // of a call in the picture of a report: what stands right of its bar
+const REPLY_WIDTH = 60; // pixels right of a bar, for the reply in the picture of a report
 
 export function saveText(name, text, type = "text/plain") {
   const link = document.createElement("a");
@@ -115,7 +115,6 @@ function refusalIn(text) {
   return [...refused.slice(0, 1), ...(why === null ? [] : reasonsOf(why))].join("; ");
 }
 
-// Scrolls to the first clashing call, if the picture is wider than its box.
 function scrollToClash() {
   const box = byId("picture");
   const clash = box.querySelector(".bar.clash");

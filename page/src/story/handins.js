@@ -7,7 +7,7 @@ import { askNow } from "../page/now.js";
 import { counted, inLetters } from "../run/markup.js";
 import { bookCourse, taskOfJudged, tasksOf } from "./assignment.js";
 
-const MANY = 10; // a schedule that one in so many students has is no sign of a copy
+const MANY = 10; // if one in so many students has a schedule, that is no sign of a copy
 
 const stripped = (name) => name.replace(/^.*\//, "").replace(/\.[A-Za-z]+$/, "");
 
@@ -76,7 +76,7 @@ function judgePart(own, lessons, solution, tasks, odd) {
   const task = (line.startsWith("judge ") ? taskOfJudged(line, tasks ?? [])?.id : undefined) ?? verdict.task;
   if (tasks !== null && task !== null && !tasks.some(({ id }) => id === task)) return void odd.others.add(task);
   const title = task === null ? line.slice(0, 40) : (tasks?.find(({ id }) => id === task)?.title ?? titleOf(task, [{ lessons }]));
-  const isOwn = verdict.schedule !== undefined && !verdict.isVeryAnswer; // what two may have in common only by copying
+  const isOwn = verdict.schedule !== undefined && !verdict.isVeryAnswer; // two students can share such a schedule only by copying
   if (verdict.isSolved) own.solved.set(task, isOwn ? oneByOne(verdict.schedule) : null);
   else {
     if (task === null) own.faults++;

@@ -18,7 +18,7 @@ def test_the_judge_button_is_visible(visitor):
 def test_a_run_to_judge_opens_at_its_top(visitor):
     visitor.size(1366, 760)
     visitor.open("#judge")
-    for link in ("#judge-seed-go", "#scene .card[href='#example=snip&judge']"):
+    for link in ("[data-do=seed]", "#scene .card[href='#example=snip&judge']"):
         visitor.click(link)
         visitor.wait("return document.body.dataset.screen === 'stage'")
         assert visitor.script("return scrollY") == 0 and visitor.in_window("#judge-task"), link

@@ -6,6 +6,7 @@ HEADER = "listset-schedule 1\nlist {}\nthreads 2\nquota 4\n"
 
 
 def run_text(visitor, text):
+    visitor.unfold("#schedule-box")
     visitor.type("#schedule", text)
     visitor.press("Control+Enter")
 
@@ -39,6 +40,7 @@ def test_refused_texts_are_reported_with_their_lines(visitor):
 
 def test_the_readers_own_schedule_is_kept(visitor):
     visitor.open("#example=snip&event=3")
+    visitor.unfold("#new-box")
     visitor.choose("#new-list", "optimistic")
     visitor.click("#new")
     assert visitor.text("#where") == "event 0 of 0" and visitor.text("#title").startswith("OptimisticList")
