@@ -32,7 +32,7 @@ function begin({ id, given }) {
   const { panel } = learning;
   panel.lesson = panel.lessonNamed(id);
   const { lesson } = panel;
-  const own = given.text ?? panel.own.tries.get(id) ?? null;
+  const own = given.text ?? panel.own.tries.get(id) ?? panel.own.solutions.get(id) ?? null;
   Object.assign(shown, { verdict: null, ticks: new Set() });
   const more = /ceiling/.test(lesson.begun + (lesson.solution ?? "") + lesson.question) ? ["ceiling"] : [];
   const operations = ["add", "remove", "contains", ...more];
