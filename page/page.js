@@ -141,13 +141,13 @@ end                        the last line (cut, in place of it and of the keys: t
   does not lock the node that it takes out; that of screen 5 is OptimisticList without its second walk.
   That the page draws what the program says is only tested. <a href="#read">More</a></p></details>`,pw=["A balanced tree, one lock","","","","",9.1,4.1],_d=(e,...t)=>u("tr",{},u("th",{scope:"row"},e),...t.map(n=>u("td",{},n)));function mw([e,t,n,s,o]){let r=de.findIndex(a=>a.id===o)+1;return _d(`<a href="#story=${r}">${e}</a> <span class="small">${t}</span>`,n,s)}function Nl(e){let t=de.filter(({id:s})=>e[s]).length,n=uw.map(([s,o,r])=>u("a",{class:"way",href:s},u("b",{},o),u("span",{},r)));return`<section class="screen end"><h1 class="title" tabindex="-1">So, why not just one lock?</h1>
     <p class="lead">Because while one thread works, all others wait. Each list removes some of that waiting, and pays for it with more locks or
-    with one more check. Without them, numbers get lost.</p>
+    one more check. Without them, numbers get lost.</p>
     <table class="five"><thead><tr><th>The list</th><td>Who waits?</td><td>What does it pay for that?</td></tr></thead>
     <tbody>${wr.map(mw).join("")}</tbody></table>
     <h2>You have done ${t} of ${de.length}. And now?</h2><div class="ways">${n.join("")}</div>
     <h2>When is one lock enough?</h2>
-    <p class="prose">While calls are short. With 16 numbers, the extra locks and checks cost more than the waiting that they save, and only lock-free
-    was faster. With 1,000 numbers calls are long: of the lists, lazy and lock-free win. A balanced tree behind one lock is faster than each list.</p>
+    <p class="prose">While calls are short. With 16 numbers, the extra locks and checks cost more than they save, and only lock-free was faster. With
+    1,000 numbers, lazy and lock-free win, and a balanced tree behind one lock beats each list.</p>
     <table class="five"><caption>Millions of calls a second, measured with four threads on four processors, a third of the calls of each kind</caption>
     <thead><tr><th>The list</th><td>16 numbers</td><td>1,000 numbers</td></tr></thead>
     <tbody>${[...wr,pw].map(([s,,,,,o,r])=>_d(s,o,r)).join("")}</tbody></table>${fw}
