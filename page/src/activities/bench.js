@@ -21,8 +21,8 @@ import { titleOfScene } from "../story/scene.js";
 const bench = { key: "", figure: null };
 
 function figureOfTask(run) {
-  const { kind } = run.trace;
-  const key = [now.task.kind, now.task.id, kind].join();
+  const { kind, threads } = run.trace;
+  const key = [now.task.kind, now.task.id, kind, threads].join();
   if (bench.figure !== null && bench.key === key) return bench.figure;
   bench.figure?.end();
   bench.key = key;
