@@ -71,7 +71,7 @@ function takeEmpty() {
 
 const NO_ENGINE = (cause) => `<h1 class="title">This browser does not run the lists</h1>
   <p class="lead">Each step on this page is computed by a proved program, as WebAssembly, and this browser does not start it (${escaped(cause)}). Every
-  browser since 2020 can, unless WebAssembly is turned off. <a href="how-it-works.html">How the lists work</a> can be read without it.</p>`;
+  browser since 2024 can, unless WebAssembly is turned off. <a href="how-it-works.html">How the lists work</a> can be read without it.</p>`;
 
 async function startPage() {
   document.body.dataset.ready = "begun";
