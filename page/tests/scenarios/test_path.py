@@ -88,7 +88,7 @@ def test_the_story_shows_why_two_locks_are_needed(visitor):
     guess(visitor, "2")
     visitor.click("#go-on")
     visitor.wait("return location.hash === '#story=4.2'")
-    visitor.step("bbbaaaabbb")
+    visitor.step("bbbaaabb")
     visitor.revealed()
     assert visitor.text(".why b") == "The remove of 8 is lost: B’s call returned true, and 8 is still in the list."
     assert visitor.text(".ledger .odd") == "8" and visitor.is_seen(".list .lost")
@@ -98,7 +98,7 @@ def test_the_story_shows_why_two_locks_are_needed(visitor):
     visitor.revealed()
     visitor.click("#go-on")
     visitor.wait("return location.hash === '#story=4.3'")
-    visitor.step("bbbaaaabbbb")
+    visitor.step("bbbaaabb")
     visitor.revealed()
     assert visitor.text(".why b").startswith("8 is lost") and visitor.is_seen(".ledger .gap")
     visitor.click("#go-on")
