@@ -50,7 +50,7 @@ export function traceIn(text) {
 export function comparedTrace(given, own) {
   const [theirs, ours] = [given, own].map((text) => text.split("\n").filter((line) => !/^(chain|refused|end)\b/.test(line)));
   const line = theirs.findIndex((one, index) => one !== ours[index]);
-  if (line === -1) return "The proved replayer makes the same trace.";
+  if (line === -1) return "The proved replayer makes the same events.";
   const event = Math.max(line + 1 - ours.findIndex((one) => one.startsWith("event ")), 1);
   return `This is the proved replayer’s run. The trace in the file differs from event ${event} on.`;
 }

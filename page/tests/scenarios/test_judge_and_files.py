@@ -83,7 +83,7 @@ def test_files_of_each_kind_are_opened(visitor):
     trace = visitor.inside("return listsets.now.run.trace.text")
     report = visitor.inside("return listsets.askNow('listset_replay', listsets.now.run.text).text")
     opened(visitor, "own.trace", trace)
-    assert "makes the same trace" in visitor.text("#said") and visitor.text("#where").endswith(f"of {trace.count('event ')}")
+    assert "makes the same events" in visitor.text("#said") and visitor.text("#where").endswith(f"of {trace.count('event ')}")
     opened(visitor, "other.trace", trace.replace("saw tail", "saw head", 1))
     assert "differs from event" in visitor.text("#said")
     opened(visitor, "wrong.trace", trace.replace("thread 0", "thread x"))
