@@ -1,4 +1,4 @@
-// What the engine prints of the classic examples, by make_traces.js: shown where a browser cannot run it.
+// What the engine prints of the classic examples, by make_traces.js: for the links of the pages made from docs/.
 
 export const EXAMPLES = `
 failed-tries              coarse      two adds of one key: the second's tries of the lock fail

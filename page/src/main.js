@@ -6,7 +6,7 @@ import { drawJudging, listenToJudging } from "./activities/judging.js";
 import { MAPS } from "./activities/maps.js";
 import { followAddress, openCourseFile, openFirst, openRecorded } from "./activities/open.js";
 import { startEngine } from "./engine/engine.js";
-import { fillExamples, listenToBar, listenToFiles, listenToSettings, listenToWork, placeParts, showQuestion, stopUnable } from "./page/controls.js";
+import { fillExamples, listenToBar, listenToFiles, listenToSettings, listenToWork, showQuestion, stopUnable } from "./page/controls.js";
 import { byId } from "./page/dom.js";
 import { refreshReport } from "./page/files.js";
 import { keysOf, pressKey } from "./page/play.js";
@@ -34,7 +34,7 @@ const SCENES = {
   notes: notesView, handout: handoutView,
 };
 
-const LISTEN = [listenToBar, listenToBench, listenToWork, listenToFiles, listenToSettings, listenToJudging, listenToCourses, listenToScene, placeParts];
+const LISTEN = [listenToBar, listenToBench, listenToWork, listenToFiles, listenToSettings, listenToJudging, listenToCourses, listenToScene];
 
 function listen() {
   for (const begin of LISTEN) begin();
@@ -71,7 +71,7 @@ function takeEmpty() {
 
 const NO_ENGINE = (cause) => `<h1 class="title">This browser does not run the lists</h1>
   <p class="lead">Each step on this page is computed by a proved program, as WebAssembly, and this browser does not start it (${escaped(cause)}). Every
-  browser since 2020 can, unless WebAssembly is turned off. <a href="how-it-works.html">How the lists work</a> can be read without it.</p>`;
+  browser since 2024 can, unless WebAssembly is turned off. <a href="how-it-works.html">How the lists work</a> can be read without it.</p>`;
 
 async function startPage() {
   document.body.dataset.ready = "begun";

@@ -80,7 +80,7 @@ function checkFile(ask, name) {
   const said = inPage("comparedTrace")(given, own);
   const event = departureOf(ask, new Trace(text, 2));
   check(`${name}: as one of the whole list: ${said}`, said.endsWith(`differs from event ${event} on.`));
-  check(`${name}: the correct list's own trace`, inPage("comparedTrace")(own, own) === "The proved replayer makes the same trace.");
+  check(`${name}: the correct list's own trace`, inPage("comparedTrace")(own, own) === "The proved replayer makes the same events.");
   for (const wrong of ["", text.slice(14), text.replace("thread 0", "thread x"), text.replace(/pc \d+/, ""), text.replace("event 2 ", "event 2 of ")]) {
     check(`${name}: no trace: ${wrong.slice(0, 200)}`, inPage("traceIn")(wrong) === null);
   }

@@ -223,7 +223,7 @@ function checkRefusals(ask) {
   check(`left otherwise: ${left}`, left.join() === unchanged.join());
 }
 
-// Checks the sentences about answers that no short text produces.
+// Checks the page's sentences about answers that the engine returns only after long or failing runs.
 function checkAnswers(ask) {
   const said = (text) => inPage("verdictOnCalls")(ask, { text: `${text}\n` }, TITLE);
   const { kind, reasons, calls } = said("verdict none\nkey 7\nclash true\nfirst call 2 add 7 50 60 true\nsecond call 3 contains 7 65 70 false");

@@ -1,5 +1,5 @@
-// node page/tools/make_traces.js writes made/traces.js: the names of the classic examples, and the engine's trace of each. A
-// browser that cannot run the engine shows the examples from made/traces.js.
+// node page/tools/make_traces.js writes made/traces.js: the names of the classic examples, and the engine's trace of each. The
+// pages made from docs/ take their links to events from it.
 "use strict";
 
 const fs = require("fs");
@@ -17,7 +17,7 @@ function tracesText() {
     return `  ${JSON.stringify(name)}: \`\n${trace}\`.slice(1),\n`;
   });
   return (
-    "// What the engine prints of the classic examples, by make_traces.js: shown where a browser cannot run it.\n" +
+    "// What the engine prints of the classic examples, by make_traces.js: for the links of the pages made from docs/.\n" +
     `\nexport const EXAMPLES = \`\n${list}\`.slice(1);\n\nexport const TRACES = {\n${lines.join("")}};\n`
   );
 }

@@ -2,8 +2,8 @@
 import { LECTURE } from "../data/lecture.js";
 import { LISTS } from "../../made/rows.js";
 import { loadMore, more } from "../engine/more.js";
-import { anotherSeed, partsOfSeed, scheduleOfSeed, seedOf } from "../run/address.js";
-import { counted, listOptions } from "../run/markup.js";
+import { anotherSeed, partsOfSeed, scheduleOfSeed } from "../run/address.js";
+import { counted } from "../run/markup.js";
 import { scheduleOfTrace } from "../run/schedule_text.js";
 import { momentAt, sentenceOf } from "../run/sentences.js";
 import { drawOrder, drawTable, drawThreads } from "../draw/tables.js";
@@ -20,10 +20,9 @@ import { titleOfScene } from "../story/scene.js";
 
 const bench = { key: "", figure: null };
 
-// Returns the figure of the task. A new task gets a new figure.
 function figureOfTask(run) {
-  const { kind } = run.trace;
-  const key = [now.task.kind, now.task.id, kind].join();
+  const { kind, threads } = run.trace;
+  const key = [now.task.kind, now.task.id, kind, threads].join();
   if (bench.figure !== null && bench.key === key) return bench.figure;
   bench.figure?.end();
   bench.key = key;
@@ -81,20 +80,6 @@ function showListing(moment) {
 export function listenToBench() {
   byId("go-on-here").onpointerdown = byId("go-on-here").onclick = aimGoOn;
   for (const name of ["table-box", "listing-box", "threads-box"]) byId(name).ontoggle = show;
-}
-
-export function seedForm(id, verb) {
-  return `<div class="start-row"><label>list <select id="${id}-list">${listOptions()}</select></label>
-    <label>number <input id="${id}-number" type="number" min="1" max="999999999" placeholder="any"></label>
-    <button id="${id}-go" class="primary">${verb}</button></div>`;
-}
-
-export function listenToSeedForm(id, suffix) {
-  byId(`${id}-go`).onclick = () => {
-    const kind = byId(`${id}-list`).value;
-    const number = Number(byId(`${id}-number`).value);
-    location.hash = `#seed=${number > 0 ? seedOf(kind, number) : anotherSeed(now.task.kind === "seed" ? now.task.id : null, kind)}${suffix}`;
-  };
 }
 
 export function openSeed(seed, count) {

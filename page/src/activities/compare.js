@@ -20,7 +20,7 @@ const PRESETS = [
 const PICTURE = '<header class="line"><h2></h2> <a class="small">Watch this run</a></header><div class="pair"></div>';
 const SIDES = ["one", "other"];
 const QUOTA = 4;
-const shown = { sides: null, figures: [] }; // `at` of the scene: how many turns are shown
+const shown = { sides: null, figures: [] }; // the scene's `at` is the number of turns shown
 const sidesPart = (name) => byId(`sides-${name}`);
 const listsOf = ({ given }) => (given.sides ?? "coarse.lazy").split(".");
 
@@ -53,7 +53,7 @@ function begin({ given }) {
   sidesPart("slider").oninput = ({ target }) => turnTo(Number(target.value));
   Object.assign(shown, { sides: null, figures: [] });
   beginSides(turns.split(".").filter((thread) => thread !== "").map(Number));
-  if (now.place.slide > 0) turnTo(0); // a slide goes through its turns
+  if (now.place.slide > 0) turnTo(0); // a slide begins before the first turn
 }
 
 function beginSides(turns = []) {

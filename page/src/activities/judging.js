@@ -117,7 +117,7 @@ class Judging {
 
   drawVerdict() {
     const { verdict, tries } = this;
-    const isAsked = homeworkOf(now.place, now.task) !== null && verdict?.isRight !== true; // what shows its answer is not there yet
+    const isAsked = homeworkOf(now.place, now.task) !== null && verdict?.isRight !== true; // buttons that reveal the answer are hidden until it is right
     for (const name of ["end", "levels"]) judgePart(name).style.visibility = isAsked ? "hidden" : "";
     const kind = { true: "right", false: "wrong" }[verdict?.isRight] ?? "";
     judgePart("verdict").className = kind;

@@ -4,7 +4,8 @@ import { LACKING } from "../../made/classics.js";
 import { BREAK_LEVELS, numberOfLevel, TEN, THREE_MORE } from "../data/levels.js";
 import { byId } from "../page/dom.js";
 import { examples } from "../page/work.js";
-import { escaped, tag } from "../run/markup.js";
+import { anotherSeed, seedOf } from "../run/address.js";
+import { escaped, listOptions, tag } from "../run/markup.js";
 import { QUESTIONS } from "../story/ask.js";
 import { bookCourse } from "../story/assignment.js";
 import { itemOf } from "../story/ask_branches.js";
@@ -13,7 +14,6 @@ import { isBrokenOnce, judgedLines, keptStory } from "../story/progress.js";
 import { learning } from "../story/learning.js";
 import { foot, head, LIST_WORDS, part } from "../story/scene.js";
 import { drawRecordedBox, listenToRecorded } from "./recording.js";
-import { listenToSeedForm, seedForm } from "./bench.js";
 
 const SIGNS = { right: ["✓", "guessed right"], wrong: ["seen", "seen"], done: ["✓", "done"] };
 
@@ -102,12 +102,14 @@ function judgeHtml() {
     <code>check</code> judges your order: every order that explains the run is accepted.`;
   const top = `<p class="line"><button data-do="runs">Find the order of a run yourself ↓</button></p>`;
   return `${head("", "Judge", top, "title")}${drawRecordedBox()}<h2 id="judge-runs">Find the order of a run yourself</h2>${lead(words)}
-    ${seedForm("judge-seed", "Judge a run")}<h2>An example, by its question</h2>${cards(examples().map(cardOf))}`;
+    <div class="start-row"><label>list <select id="judge-seed-list">${listOptions()}</select></label>
+    <label>number <input id="judge-seed-number" type="number" min="1" max="999999999" placeholder="any"></label>
+    <button class="primary" data-do="seed">Judge a run</button></div><h2>An example, by its question</h2>${cards(examples().map(cardOf))}`;
 }
 
-function beginJudge() {
-  listenToSeedForm("judge-seed", "&judge");
-  listenToRecorded();
+function openSeed() {
+  const [kind, number] = ["list", "number"].map((name) => part(`#judge-seed-${name}`).value);
+  location.hash = `#seed=${Number(number) > 0 ? seedOf(kind, Number(number)) : anotherSeed(null, kind)}&judge`;
 }
 
 // ---- Read: the documents, the terms of the page, and what is proved.
@@ -145,6 +147,6 @@ export const MAPS = {
   "ask map": mapOf(() => "Guess, then see", askHtml),
   "break map": mapOf(() => "Break it", breakHtml),
   "learn map": mapOf(() => learning.panel.course.name, learnHtml, { begin: beginLearn, end: endLearn, deeds: { book: openBook } }),
-  judge: mapOf(() => "Judge", judgeHtml, { begin: beginJudge, deeds: { runs: () => part("#judge-runs").scrollIntoView({ behavior: "smooth" }) } }),
+  judge: mapOf(() => "Judge", judgeHtml, { begin: listenToRecorded, deeds: { seed: openSeed, runs: () => part("#judge-runs").scrollIntoView({ behavior: "smooth" }) } }),
   read: mapOf(() => "Read", readHtml),
 };

@@ -8,7 +8,7 @@ import { RECORDED_EXAMPLE, recordedInWords, verdictOnCalls, withNewline } from "
 import { diagnosisIn } from "../run/why.js";
 
 const WIDEST = 800; // pixels of a drawing, before it is made larger
-const recorded = { text: "" }; // what stands in the box when another activity is shown
+const recorded = { text: "" }; // the text of the box while another activity is shown
 const recordedPart = (name) => byId(`recorded-${name}`);
 
 const PARTS = `<p class="prose">The templates in the folder <code>judge</code> of this page’s repository run a stress test on your own set. They record when each
@@ -30,7 +30,6 @@ end                        the last line (cut, in place of it and of the keys: t
 
 export const drawRecordedBox = () => tag("section", { id: "recorded-box", class: "panel" }, "<h2>Judge calls recorded from your own set</h2>", PARTS);
 
-// Returns which letter stands for which thread number of the recording.
 function threadsInWords(calls) {
   const threads = [...new Set(calls.map(({ thread }) => Number(thread)))].sort((one, other) => one - other);
   return threads.length === 0 ? [] : [`Threads: ${threads.map((thread) => `${letterOf(thread)} is thread ${thread}`).join(", ")} of the recording.`];

@@ -108,7 +108,7 @@ export function readSchedule(link) {
   }
 }
 
-// Judges a solution. A folded line can be followed by lines that do not belong to it: if the whole is wrong, `shorter` has it without them.
+// Judges a solution. Its `line` can end with lines that do not belong to it; `shorter` has it with fewer lines at its end. The first solved one counts.
 export function judgedSolution(ask, lessons, { line, shorter }) {
   const lines = [line, ...shorter];
   /** @type {any[]} */

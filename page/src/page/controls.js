@@ -62,15 +62,6 @@ export function listenToFiles() {
   byId("save-trace").onclick = () => saveText("page.trace", now.run.trace.text);
 }
 
-export function placeParts() {
-  const narrow = matchMedia("(max-width: 940px)");
-  const place = () => {
-    for (const name of ["schedule-box", "new-box", "files-box", "threads-box"]) byId(name).open = !narrow.matches;
-  };
-  narrow.addEventListener("change", place);
-  place();
-}
-
 export function fillExamples() {
   byId("examples").append(...examples().map(({ name, kind }) => new Option(`${name} (${kind})`, name)));
 }

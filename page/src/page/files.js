@@ -10,7 +10,7 @@ import { announce, askNow, askSoon, LONG_TEXT, now, say, sayError } from "./now.
 import { OWN_TASK } from "./reducer.js";
 import { openTask } from "./work.js";
 
-const REPLY_WIDTH = 60; // of a call in the picture of a report: what stands right of its bar
+const REPLY_WIDTH = 60; // pixels right of a bar, for the reply in the picture of a report
 
 export function saveText(name, text, type = "text/plain") {
   const link = document.createElement("a");
@@ -50,7 +50,7 @@ export function traceIn(text) {
 export function comparedTrace(given, own) {
   const [theirs, ours] = [given, own].map((text) => text.split("\n").filter((line) => !/^(chain|refused|end)\b/.test(line)));
   const line = theirs.findIndex((one, index) => one !== ours[index]);
-  if (line === -1) return "The proved replayer makes the same trace.";
+  if (line === -1) return "The proved replayer makes the same events.";
   const event = Math.max(line + 1 - ours.findIndex((one) => one.startsWith("event ")), 1);
   return `This is the proved replayer’s run. The trace in the file differs from event ${event} on.`;
 }
@@ -115,7 +115,6 @@ function refusalIn(text) {
   return [...refused.slice(0, 1), ...(why === null ? [] : reasonsOf(why))].join("; ");
 }
 
-// Scrolls to the first clashing call, if the picture is wider than its box.
 function scrollToClash() {
   const box = byId("picture");
   const clash = box.querySelector(".bar.clash");

@@ -67,7 +67,7 @@ export function askNow(name, ...texts) {
 
 export const LONG_TEXT = 200000; // characters of a text that takes the engine a while
 
-// Returns the engine's answer. Before a long text, what was said is drawn.
+// Returns the engine's answer. The engine gets a long text after a pause, so that the page is drawn first.
 export async function askSoon(name, text) {
   if (text.length >= LONG_TEXT) await new Promise((done) => setTimeout(done, 100));
   return askNow(name, text);

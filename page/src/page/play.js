@@ -5,7 +5,7 @@ import { goTo, isLecture, now, show } from "./now.js";
 import { setView } from "./seen.js";
 
 const play = { timer: null };
-export const isPlaying = () => play.timer !== null; // the sentence is said where the play ends, and not before
+export const isPlaying = () => play.timer !== null;
 
 function showPlay() {
   byId("play").textContent = play.timer === null ? "Play" : "Pause";
@@ -48,9 +48,9 @@ function goToTurn(step) {
 }
 
 // ---- The keys. Letters and digits can be switched off.
-export const keysOf = { scene: (event) => event, slide: (by) => by }; // what keys do in a scene, and a presenter's on a slide
+export const keysOf = { scene: (event) => event, slide: (by) => by }; // the handlers of keys in a scene, and of a presenter's keys on a slide
 const WAYS = { PageDown: 1, ArrowRight: 1, ArrowDown: 1, " ": 1, PageUp: -1, ArrowLeft: -1, ArrowUp: -1 };
-const isPress = ({ key, target }) => key === " " && target.matches(":is(button, a, summary):focus-visible"); // of what has the focus
+const isPress = ({ key, target }) => key === " " && target.matches(":is(button, a, summary):focus-visible"); // Space presses the focused button or link
 
 export function pressKey(event) {
   if (/^(TEXTAREA|INPUT|SELECT)$/.test(event.target.tagName) && event.target.id !== "slider") return;
@@ -58,7 +58,7 @@ export function pressKey(event) {
   if (event.key === "Escape" && now.place.view !== null) return toggleLecture();
   if (isLecture() && event.key in WAYS && !isPress(event)) {
     event.preventDefault();
-    if (document.activeElement.matches("button")) document.activeElement.blur(); // which the key would press too
+    if (document.activeElement.matches("button")) document.activeElement.blur(); // Space would press it too
     return keysOf.slide(WAYS[event.key]);
   }
   if (now.place.screen === "scene") return keysOf.scene(event);

@@ -43,5 +43,4 @@ export function showParts(state) {
 }
 const placed = { key: "" };
 
-// Sets the view: a slide of a lecture, or the list or the history alone (for a frame).
 export const setView = (view, slide = 0) => change("view", { view, slide });

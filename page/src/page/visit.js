@@ -11,7 +11,7 @@ import { HERE, keepUnder } from "./kept.js";
 import { now, say } from "./now.js";
 import { entryOf } from "./reducer.js";
 
-const MOMENT = 400; // milliseconds: the bar follows once nothing has moved for so long, since browsers refuse quick changes of it
+const MOMENT = 400; // milliseconds without a change before the address bar is updated: browsers refuse frequent updates
 // The current entry of the browser's history, whether the first address was read, and the packed course.
 export const visit = { timer: 0, entry: null, isRead: false, course: null };
 const addressHere = () => addressIn(now, visit);

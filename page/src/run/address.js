@@ -25,7 +25,7 @@ export class AddressFault extends Error {}
 
 // Returns the address of a schedule at an event, or null if the text is no schedule or too long.
 export function addressOf(text, event, lacks = null) {
-  if (text.length > 2 * LONGEST_ADDRESS) return null; // an address has more than half of the letters
+  if (text.length > 2 * LONGEST_ADDRESS) return null; // an address has more than half as many letters
   const [title, list, threads, quota, ...lines] = text.split("\n").slice(0, -1);
   const isOpening = (line) => line.startsWith("opening ");
   const opening = lines.filter(isOpening).map((line) => line.slice("opening ".length));
@@ -116,8 +116,8 @@ export const warningOf = (link) =>
 
 // ---- Numbered runs: the engine generates a schedule from a number. A number gives everyone the same run.
 const TRIES = 200;
-const MOST_TRIED_CALLS = 8; // of a run with more calls the first is taken
-const MOST_SEEN = 60; // events that are told apart by eye
+const MOST_TRIED_CALLS = 8; // a run with more calls is not chosen among several
+const MOST_SEEN = 60; // events that a reader can tell apart
 
 // Five calls of two threads over two keys: short enough to judge by eye.
 export const seedOf = (kind, number) => `${kind}.2.5.2.${number}`;

@@ -45,8 +45,7 @@ export function eventsAsked(text) {
   return count;
 }
 
-// ---- Drafts.
-const MOST_TRIED = 1000; // steps of a thread that does not come to where it is sent, to see for what it waits
+const MOST_TRIED = 1000; // steps that are tried until a thread reaches its row
 const DRAFT_LINE = /^go \d+ (?:out|to \d+)$/m;
 
 // Returns the schedule of a draft, or the engine's line about its first error. The engine reads drafts of correct lists only.

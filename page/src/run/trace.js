@@ -16,11 +16,11 @@ export class Trace {
     this.threads = Number(threads);
     this.quota = Number(quota);
     this.opening = [];
-    this.starts = []; // of each event, where its line begins
+    this.starts = []; // where the line of each event begins
     this.calls = [];
     this.callsOf = Array.from({ length: this.threads }, () => []);
     this.changes = []; // the events that change the set
-    this.starred = []; // the numbers of those whose line has a mark
+    this.starred = []; // the numbers of the events whose line has a mark
     this.refused = null;
     this.scan();
     if (this.opening.length > 0) this.version = 2;

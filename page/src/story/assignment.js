@@ -143,7 +143,7 @@ function html(place) {
 }
 
 function begin({ id, given }) {
-  keepStory({ homework: { id, given } }); // its tasks lead back to it
+  keepStory({ homework: { id, given } }); // the tasks of the assignment link back to it
   for (const name of ["student", "number"]) part(`#hand-${name}`).oninput = fill;
   fill();
 }

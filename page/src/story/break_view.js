@@ -108,7 +108,7 @@ function strike() {
   if (figure.spec.struck !== undefined) return;
   figure.spec.struck = missing;
   figure.part("code-note").textContent = lacks;
-  figure.part("codebox").open = !isNarrow(); // on a phone it would cover the reply
+  figure.part("codebox").open = !isNarrow(); // on a phone the code would cover the reply
   figure.draw();
 }
 

@@ -33,7 +33,6 @@ function rowOf(figure, thread) {
   return threadRow(thread, button, callText(call));
 }
 
-// Returns the row of a thread: its letter, its call, and its button or fields.
 function threadRow(thread, inside, call = "") {
   const given = { class: `thread ${colourOf(thread)}`, "data-thread": thread, role: "group", "aria-label": `thread ${letterOf(thread)}` };
   return tag("div", given, tag("span", { class: "own" }, chipOf(thread), call === "" ? "" : ` <code>${call}</code>`), " ", inside);
@@ -60,7 +59,7 @@ function chooser(figure, thread, own) {
 export function showStrip(figure) {
   const { run } = figure;
   const wide = Math.max(250, figure.stripWide / zoomOf(figure));
-  const room = 26 + 9 * `{${run.promised().join(", ")}}`.length; // right of the last event, for what is in the set then
+  const room = 26 + 9 * `{${run.promised().join(", ")}}`.length; // right of the last event: room for the keys of the set
   const scale = scaleOf(run.trace, run.count, wide - room, figure.hides, isLow() && (!figure.spec.isPath || isLecture()));
   Object.assign(scale, { edge: scale.edge + room, width: wide });
   figure.scale = scale;
@@ -72,7 +71,7 @@ const isLow = () => innerHeight < 760 || isLecture();
 const zoomOf = ({ spec, stripWide }) => (isLecture() ? innerHeight / 360 : !spec.isPath ? 1 : stripWide < 600 ? 1.34 : stripWide < 1500 ? 1.35 : 1.55);
 export const barEnds = (figure) => [(HISTORY_LEFT - 6) * zoomOf(figure), 16 * zoomOf(figure)];
 const LEGEND = '<p class="small legend">● the call changes the set · ○ earliest moment at which its answer is correct</p>';
-const MOST_CALLS = 400; // pixels: of more threads the bars scroll
+const MOST_CALLS = 400; // pixels; higher bars scroll
 
 export function scrollToLane(figure) {
   const { run, scale } = figure;

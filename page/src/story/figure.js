@@ -17,18 +17,18 @@ export const STILL = { dock: false, names: true, strip: true, prompt: false, aga
 export class Figure {
   id = `f${made.count++}`;
   active = 0; // the thread that runs to a line of the code
-  past = []; // what stood there before each deed
+  past = []; // the lines of the run before each change, for undo
   isBusy = false; // steps are being shown
   isHurried = false;
   isEnded = false;
   isOpen = true; // the reader may step
   hidesDock = false;
-  isPlayed = false; // the page steps, and not the reader
-  isGuess = false; // what would give away the answer is not shown
-  isLost = false; // the nodes that are lost are lit
+  isPlayed = false; // the page makes the steps, not the reader
+  isGuess = false; // the lines of code that would reveal the answer are not shown
+  isLost = false; // lost nodes are drawn as lost
   isSlow = false; // a node falls out of the chain, in slow motion
-  hides = true; // of the history, what comes later
-  drawn = { count: 0, chain: [], slots: 0, tight: 0 }; // the moment and the chain that were drawn last, the most nodes and the tightest form so far
+  hides = true; // the history shows no later events
+  drawn = { count: 0, chain: [], slots: 0, tight: 0 }; // the event and the chain of the last drawing; the most nodes and the tightest form of all drawings
   wide = 0; // of the list, in pixels
   tall = 0;
   stripWide = 0;
@@ -47,9 +47,9 @@ export class Figure {
     this.run = spec.run ?? new LiveRun(spec);
     this.shown = spec.shown ?? this.run.state.threads.map((_, thread) => thread);
     this.said = spec.says ?? null;
-    this.chosen = spec.chosen ?? {}; // of an idle thread, the call that stands in its fields
+    this.chosen = spec.chosen ?? {}; // for each idle thread, the call in its fields
     frameOf(this);
-    box.addEventListener("click", (event) => this.isEnded || pressed(this, event)); // the box may be the next one's by then
+    box.addEventListener("click", (event) => this.isEnded || pressed(this, event)); // the box can belong to the next figure by then
     box.addEventListener("input", ({ target }) => target.closest(".choose") !== null && chooseCall(this, target.closest("[data-thread]")));
     this.stretch = new ResizeObserver(() => {
       const { clientWidth, clientHeight } = this.part("list");
@@ -148,14 +148,14 @@ export class Figure {
     markBusy(true);
     for (let count = Math.min(from + 1, total); count <= total; count++) {
       if (this.isEnded) return;
-      const isOfLock = this.spec.plain === true && this.run.trace.event(count).word === "list.lock"; // which this list ignores
+      const isOfLock = this.spec.plain === true && this.run.trace.event(count).word === "list.lock"; // a list without its lock ignores this step
       if (count < total && (this.isHurried || wantsStill() || isOfLock)) continue;
       this.run.moveTo(count);
       this.part("said").setAttribute("aria-live", count < total ? "off" : "polite"); // of a play only the last sentence is read out
       this.isBusy = count < total;
       this.draw(true);
       this.onShown?.();
-      if (this.isSlow) await this.wait(fallTime()); // what is lost is seen before it is said
+      if (this.isSlow) await this.wait(fallTime()); // the loss is drawn before it is put into words
       if (count < total) await this.wait(BIT);
     }
     this.isBusy = false;

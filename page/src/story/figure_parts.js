@@ -75,7 +75,7 @@ export const lockShown = ({ list, plain, locks = true }) => (!locks || plain ? "
 function placeTheList(figure, { state, event: made }, isNear) {
   const { id, run, spec, wide, tall, drawn } = figure;
   if (wide === 0) return;
-  const event = made !== null && figure.shown.includes(made.thread) ? made : null; // what a thread without a button did is not lit
+  const event = made !== null && figure.shown.includes(made.thread) ? made : null; // a step of a thread without a button is not highlighted
   const box = figure.part("list");
   const { names = false, slots = 4, flat, strip, isPath = false } = spec;
   const hides = HIDDEN[String(names || (spec.list === "lock-free" && !isPath))];

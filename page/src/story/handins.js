@@ -7,7 +7,8 @@ import { askNow } from "../page/now.js";
 import { counted, inLetters } from "../run/markup.js";
 import { bookCourse, taskOfJudged, tasksOf } from "./assignment.js";
 
-const MANY = 10; // a schedule that one in so many students has is no sign of a copy
+const MOST_NAMES = 12; // of students with the same schedule
+const MANY = 10; // if one in so many students has a schedule, that is no sign of a copy
 
 const stripped = (name) => name.replace(/^.*\//, "").replace(/\.[A-Za-z]+$/, "");
 
@@ -44,7 +45,7 @@ export async function checkAll(files, assignment, sayProgress = (_at, _of) => {}
   const columns = assignment?.tasks ?? ids.map((id) => ({ id, title: titleOf(id, courses) }));
   const common = noteCopies(rows);
   for (const row of rows) row.notes.unshift(...notesOnNames(row, rows));
-  return { rows, columns, empty, common: common.map(({ task, rows: same }) => `${titleOf(task, courses)} (${counted(same.length, "student")}: ${namesOf(same)})`) };
+  return { rows, columns, empty, common: common.map(({ task, rows: same }) => `${titleOf(task, courses)} (${counted(same.length, "student")}: ${fewNames(same)})`) };
 }
 
 // Groups the texts by number and name. A text without a number gets a row of its own.
@@ -76,7 +77,7 @@ function judgePart(own, lessons, solution, tasks, odd) {
   const task = (line.startsWith("judge ") ? taskOfJudged(line, tasks ?? [])?.id : undefined) ?? verdict.task;
   if (tasks !== null && task !== null && !tasks.some(({ id }) => id === task)) return void odd.others.add(task);
   const title = task === null ? line.slice(0, 40) : (tasks?.find(({ id }) => id === task)?.title ?? titleOf(task, [{ lessons }]));
-  const isOwn = verdict.schedule !== undefined && !verdict.isVeryAnswer; // what two may have in common only by copying
+  const isOwn = verdict.schedule !== undefined && !verdict.isVeryAnswer; // two students can share such a schedule only by copying
   if (verdict.isSolved) own.solved.set(task, isOwn ? oneByOne(verdict.schedule) : null);
   else {
     if (task === null) own.faults++;
@@ -139,6 +140,7 @@ export function copiesText({ copies }, all = false) {
   const groups = copies.filter(({ isListed }) => all || isListed);
   return groups.map(({ count, of, rows }) => `${count} of ${of} with ${namesOf(rows)}`).join("; ");
 }
+const fewNames = (rows) => `${namesOf(rows.slice(0, MOST_NAMES))}${rows.length > MOST_NAMES ? ` and ${rows.length - MOST_NAMES} more` : ""}`;
 const namesOf = (rows) => rows.map(({ name, number }) => (number === "" ? name : `${name} (${number})`)).join(", ");
 
 export const sumsOf = ({ rows, columns }) => columns.map(({ id }) => rows.filter(({ solved }) => solved.has(id)).length);

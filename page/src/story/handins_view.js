@@ -7,7 +7,7 @@ import { assignmentOfLink, checkAll, copiesText, countOf, csvOf, markOf, sumsOf 
 import { part } from "./scene.js";
 
 const MOST_BYTES = 2_000_000; // of a file
-const MOST_NOTES = 3; // that the table has of a student; the CSV has all
+const MOST_NOTES = 3; // of a student in the table; the CSV has all
 const given = { files: [], tooLong: [], result: null, turn: 0 };
 const MARKS = { solved: '<b class="yes">✓</b>', wrong: '<b class="no" title="handed in, and wrong">✗</b>', none: "–" };
 const piece = (name) => part(`#in-${name}`);
@@ -28,14 +28,14 @@ export const handInsHtml = () => `<section class="panel" id="handins"><h2>What t
   have the same schedule. It cannot show who wrote a text: use it to admit students to an exam rather than for marks.</p></section>`;
 
 async function check() {
-  const turn = ++given.turn; // what was begun before and is not done yet is not shown
+  const turn = ++given.turn; // the result of an earlier check is not shown
   if (given.files.length + given.tooLong.length === 0) return;
   const link = piece("link").value.trim();
   const assignment = link === "" ? null : assignmentOfLink(link);
   if (assignment?.fault !== undefined) return showNothing(assignment.fault);
   Object.assign(piece("progress"), { hidden: false, max: 1, value: 0 });
   piece("said").textContent = `${given.files.length} files …`;
-  const isNow = () => turn === given.turn && piece("progress") !== null; // another place may be opened meanwhile
+  const isNow = () => turn === given.turn && piece("progress") !== null; // the reader can open another place meanwhile
   const result = await checkAll(given.files, assignment, (value, max) => isNow() && Object.assign(piece("progress"), { value, max }));
   if (!isNow()) return;
   piece("progress").hidden = true;
@@ -131,7 +131,7 @@ export const handInDeeds = {
   clear,
   sort({ dataset: { at } }) {
     const body = piece("table").querySelector("tbody");
-    const sign = at > given.result.columns.length + 2 ? -1 : 1; // of counts and notes the largest comes first
+    const sign = at > given.result.columns.length + 2 ? -1 : 1; // the largest counts and the longest notes come first
     const compared = (one, other) => sign * one.cells[at].innerText.localeCompare(other.cells[at].innerText, undefined, { numeric: true });
     body.append(...[...body.rows].sort(compared));
   },

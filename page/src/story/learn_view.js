@@ -9,9 +9,9 @@ import { learning } from "./learning.js";
 import { linesOf, runOfText } from "./live_run.js";
 import { backLink, drawHintAndOn, onStage, foot, head, hintAndOn, LACKS_ONE, LIST_WORDS, part, pressThread, scene, setScene, takeFreeFigure, showPrompt } from "./scene.js";
 
-const HINT = 1; // of `hints`, in the scene: the hint is shown; the answer is shown
+const HINT = 1; // values of the scene's `hints`: the hint is shown, the answer is shown
 const ANSWER = 2;
-const shown = { verdict: null, ticks: new Set() }; // of the run that is shown, and what was met before
+const shown = { verdict: null, ticks: new Set() }; // the verdict on the shown run, and the conditions that it or an earlier run met
 
 function html(place) {
   const { panel } = learning;
@@ -32,7 +32,7 @@ function begin({ id, given }) {
   const { panel } = learning;
   panel.lesson = panel.lessonNamed(id);
   const { lesson } = panel;
-  const own = given.text ?? panel.own.tries.get(id) ?? null;
+  const own = given.text ?? panel.own.tries.get(id) ?? panel.own.solutions.get(id) ?? null;
   Object.assign(shown, { verdict: null, ticks: new Set() });
   const more = /ceiling/.test(lesson.begun + (lesson.solution ?? "") + lesson.question) ? ["ceiling"] : [];
   const operations = ["add", "remove", "contains", ...more];

@@ -77,7 +77,7 @@ export class LiveRun extends ShownRun {
 
   take(lines) {
     this.lines = [...lines];
-    this.nexts = {}; // what was asked of these lines
+    this.nexts = {}; // the answers of `nextOf` for these lines
     this.trace = this.traceOf(this.lines);
     this.state = new State(this.trace);
     this.moveTo(this.trace.total);
@@ -192,7 +192,7 @@ export function waysOn(spec, lines, calls, most = Infinity) {
   for (const { lines: begun, way } of waiting) {
     const run = new LiveRun({ ...spec, lines: begun });
     if (seen.size >= most) return undefined;
-    if (seen.has(placeOf(run))) continue; // as after a press that changes nothing, of a thread that waits
+    if (seen.has(placeOf(run))) continue; // for example after a press of a thread that waits
     seen.add(placeOf(run));
     const left = (thread) => calls[thread].slice(run.trace.calls.filter((call) => call.thread === thread).length);
     const able = Object.keys(calls).map(Number).filter((thread) => !run.isIdle(thread) || left(thread).length > 0);

@@ -32,7 +32,7 @@ function nextOf({ number, at }, by) {
 }
 
 function goBy(by) {
-  if (now.place.slide > 0) return toSlide(by); // a slide has the first part alone
+  if (now.place.slide > 0) return toSlide(by); // a slide has only the first part of a screen
   location.hash = `#story=${nextOf(placeIn(now.place), by)}`;
 }
 
@@ -62,12 +62,12 @@ function begin(place) {
 function draw(state) {
   const screen = here();
   if (screen === null || state.stage === "") return;
-  if (state.stage !== "done" || part(".reveal") === null) showPrompt(promptOf(screen, state, scene.figure)); // the reader may go on after it
+  if (state.stage !== "done" || part(".reveal") === null) showPrompt(promptOf(screen, state, scene.figure)); // the reader can step on after the reveal
   drawBar(state.stage, placeIn(now.place).number, screen.onWords);
   byId("scene").dataset.stage = state.stage;
 }
 
-// Keeps the table beside the picture: both are of the same event. A table that stays the same is not read out again.
+// Draws the table for the shown event. An unchanged table stays, so that it is not read out again.
 function redrawLedger() {
   const ledger = part(".ledger");
   const { run } = scene.figure;
@@ -88,7 +88,7 @@ function looked() {
   else setScene({ stage: "task", note: "" }); // a press was taken back
 }
 
-const FEW = 30; // runs that are tried after each press, to say early that none goes wrong any more
+const FEW = 30; // runs that are tried after each press, to report early that nothing can go wrong any more
 const HOPELESS = "From here nothing can go wrong any more.";
 const startOver = (why) => setScene({ stage: "again", note: `${why} Start over. ${here().hint}` });
 const waysFrom = ({ spec, run }, most) => waysOn(spec, run.lines, spec.calls, most);

@@ -30,7 +30,7 @@ export function startAfresh(button) {
     button.textContent = "Press again to delete";
     return;
   }
-  change("run", { text: "" }); // and is not kept anew
+  change("run", { text: "" }); // so that it is not stored again
   try {
     for (const name of Object.keys(localStorage)) if (name.startsWith("listset-")) localStorage.removeItem(name);
   } catch {

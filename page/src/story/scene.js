@@ -62,11 +62,11 @@ export function renderScene({ place, scene: state }) {
   view.begin?.(place);
   view.draw?.(now.scene);
   if (!scene.isFirst && ["BODY", "MAIN"].includes(document.activeElement.tagName)) box.querySelector("h1")?.focus({ preventScroll: true });
-  scene.isFirst = false; // who comes by a key goes on at the title of what is opened
+  scene.isFirst = false; // the focus moves to the title of the opened place
 }
 
 export function openScene({ activity, id = "", given = {}, view = null, slide = 0 }) {
-  scene.key = ""; // also where it is shown already, it begins anew
+  scene.key = ""; // a place that is shown already begins anew
   change("view", { view, slide });
   dispatch("place", { activity, screen: "scene", id, given });
 }

@@ -44,7 +44,7 @@ function beginEmbed() {
   which.value = "two-removers";
   which.onchange = () => {
     part("#embed-text").textContent = snippetOf(which.value);
-    part("#embed-frame").src = `${location.pathname}?embed=${which.value}#ask=${which.value}&view=embed`; // a frame of its own, not this page
+    part("#embed-frame").src = `${location.pathname}?embed=${which.value}#ask=${which.value}&view=embed`; // another address than this page's, so that the frame loads
   };
   which.onchange();
 }
@@ -105,7 +105,7 @@ function fill() {
   piece("count").textContent = count === 0 ? "Nothing is ticked yet." : `${count} task${count === 1 ? "" : "s"}`;
   piece("link").textContent = linkTo(address);
   piece("open").href = address;
-  if (count > 0) Object.assign(part("#in-link"), { value: linkTo(address) }).oninput?.(); // and the hand-ins are of this assignment
+  if (count > 0) Object.assign(part("#in-link"), { value: linkTo(address) }).oninput?.(); // the hand-ins are checked for this assignment
   const item = (seed, at) => `<li><code>${seed}</code> <a href="#seed=${seed}" target="_blank">look</a>
     <button class="quiet small" data-do="drop" data-at="${at}" aria-label="leave out ${seed}">✕</button></li>`;
   piece("seeds").innerHTML = work.seeds.map(item).join("");

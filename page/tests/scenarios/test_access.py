@@ -70,6 +70,18 @@ def go(visitor, address):
     visitor.idle()
 
 
+def next_stop(visitor, stops):
+    """Presses Tab and returns the focused element. A second press is allowed: in Firefox the focus is in the browser's own buttons
+    after a page was left by Tab, and one more press is needed at the next page's end.
+    """
+    for _ in range(2):
+        visitor.press("Tab")
+        stop = visitor.script(FOCUSED)
+        if stop is None or stops[-1:] != [stop[0]]:
+            break
+    return stop
+
+
 @pytest.mark.parametrize("size", [(1280, 720), (683, 320), (390, 844)], ids=["1280x720", "twice-as-large", "phone"])
 def test_each_tab_stop_is_visible_and_can_be_left(visitor, size):
     fit(visitor, *size)
@@ -80,8 +92,7 @@ def test_each_tab_stop_is_visible_and_can_be_left(visitor, size):
         visitor.script("window.stops = 0; document.querySelectorAll('[data-stop]').forEach((it) => delete it.dataset.stop); document.activeElement.blur(); document.querySelector('#skip').focus()")
         stops = []
         for _ in range(150):
-            visitor.press("Tab")
-            if (stop := visitor.script(FOCUSED)) is None or stop[0] == 1 and stops:
+            if (stop := next_stop(visitor, stops)) is None or stop[0] == 1 and stops:
                 break
             if stop[2].startswith("IFRAME") or stop[2] == "INPUT hw-due":
                 continue  # a frame has its own tab stops, and so does a date field

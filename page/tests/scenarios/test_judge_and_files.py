@@ -18,7 +18,7 @@ def test_the_judge_button_is_visible(visitor):
 def test_a_run_to_judge_opens_at_its_top(visitor):
     visitor.size(1366, 760)
     visitor.open("#judge")
-    for link in ("#judge-seed-go", "#scene .card[href='#example=snip&judge']"):
+    for link in ("[data-do=seed]", "#scene .card[href='#example=snip&judge']"):
         visitor.click(link)
         visitor.wait("return document.body.dataset.screen === 'stage'")
         assert visitor.script("return scrollY") == 0 and visitor.in_window("#judge-task"), link
@@ -83,7 +83,7 @@ def test_files_of_each_kind_are_opened(visitor):
     trace = visitor.inside("return listsets.now.run.trace.text")
     report = visitor.inside("return listsets.askNow('listset_replay', listsets.now.run.text).text")
     opened(visitor, "own.trace", trace)
-    assert "makes the same trace" in visitor.text("#said") and visitor.text("#where").endswith(f"of {trace.count('event ')}")
+    assert "makes the same events" in visitor.text("#said") and visitor.text("#where").endswith(f"of {trace.count('event ')}")
     opened(visitor, "other.trace", trace.replace("saw tail", "saw head", 1))
     assert "differs from event" in visitor.text("#said")
     opened(visitor, "wrong.trace", trace.replace("thread 0", "thread x"))

@@ -88,7 +88,7 @@ def test_the_story_shows_why_two_locks_are_needed(visitor):
     guess(visitor, "2")
     visitor.click("#go-on")
     visitor.wait("return location.hash === '#story=4.2'")
-    visitor.step("bbbaaaabbb")
+    visitor.step("bbbaaabb")
     visitor.revealed()
     assert visitor.text(".why b") == "The remove of 8 is lost: B’s call returned true, and 8 is still in the list."
     assert visitor.text(".ledger .odd") == "8" and visitor.is_seen(".list .lost")
@@ -98,7 +98,7 @@ def test_the_story_shows_why_two_locks_are_needed(visitor):
     visitor.revealed()
     visitor.click("#go-on")
     visitor.wait("return location.hash === '#story=4.3'")
-    visitor.step("bbbaaaabbbb")
+    visitor.step("bbbaaabb")
     visitor.revealed()
     assert visitor.text(".why b").startswith("8 is lost") and visitor.is_seen(".ledger .gap")
     visitor.click("#go-on")
@@ -125,13 +125,22 @@ def test_show_a_step_continues_from_the_current_event(visitor):
 
 
 def test_a_mark_warns_an_add_and_a_thread_helps(visitor):
-    for address, told, word in (("#story=7.2", "sees a mark on its pred", "the mark warned A"), ("#story=9.2", "5 is unlinked", "6 is not lost")):
+    for address, told, word in (("#story=6", "pred is no longer in the list", "the second walk saved it"), ("#story=7.2", "sees a mark on its pred", "the mark warned A"), ("#story=9.2", "5 is unlinked", "6 is not lost")):
         visitor.open(address)
         seen = ""
         while not visitor.is_seen(".reveal"):
             visitor.step("a")
             seen += visitor.text(".said")
         assert told in seen and word in visitor.text(".why b"), address
+
+
+def test_the_answer_about_a_marked_node_depends_on_the_order(visitor):
+    visitor.open("#story=7")
+    for keys, said in (("a", "not marked yet"), ("bba", "had unlinked 5 already"), ("ba", "with the mark, 5 has left the set")):
+        visitor.step(keys)
+        assert said in visitor.text("#prompt"), keys
+        if keys != "ba":
+            visitor.click("#show-me", "Start over")
 
 
 def test_a_wrong_guess_gets_a_reply_and_steps_add_no_history_entries(visitor):

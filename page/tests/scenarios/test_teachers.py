@@ -103,7 +103,7 @@ def test_hand_ins_of_a_class_are_checked(visitor):
     visitor.wait("return document.querySelectorAll('.class tbody tr').length === 33", seconds=60)
     told = visitor.text("#in-said")
     assert "34 files: 33 students, 0 merged, 1 without a hand-in. 31 with all 2 tasks." in told and "notes.txt" in told
-    assert "too many students have the same one: CoarseList, #break=1" in told
+    assert "may be the obvious one: CoarseList, #break=1 (" in told
     row = lambda name: visitor.script("return [...document.querySelectorAll('.class tbody tr')].find((it) => it.innerText.includes(arguments[0])).innerText", name)
     assert "2 of 2 with Student 8 (1008), Student 9 (1009)" in row("Student 7\t") and " of 2 with" not in row("Student 6\t")
     assert "2 rows with this name, since a number is missing: max.txt, max-2.txt" in row("Max Maier")

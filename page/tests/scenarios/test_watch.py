@@ -1,4 +1,4 @@
-"""Tests the bench: single steps, the reader's own choice of thread, keys, playing a run, and the browser's history."""
+"""Tests the bench: single steps, keys, playing a run, printing, frames, and the browser's history."""
 
 
 def test_the_code_continues_from_the_current_event(visitor):

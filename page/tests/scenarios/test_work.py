@@ -1,4 +1,4 @@
-"""Tests a student's work: schedules as text, undo, long runs, what a screen reader reads, and all examples."""
+"""Tests a student's work: schedules as text, their errors, judging a run, and all examples."""
 
 import json
 
@@ -6,6 +6,7 @@ HEADER = "listset-schedule 1\nlist {}\nthreads 2\nquota 4\n"
 
 
 def run_text(visitor, text):
+    visitor.unfold("#schedule-box")
     visitor.type("#schedule", text)
     visitor.press("Control+Enter")
 
@@ -39,6 +40,7 @@ def test_refused_texts_are_reported_with_their_lines(visitor):
 
 def test_the_readers_own_schedule_is_kept(visitor):
     visitor.open("#example=snip&event=3")
+    visitor.unfold("#new-box")
     visitor.choose("#new-list", "optimistic")
     visitor.click("#new")
     assert visitor.text("#where") == "event 0 of 0" and visitor.text("#title").startswith("OptimisticList")
@@ -132,8 +134,7 @@ def test_a_numbered_run_is_the_same_for_everyone(visitor, another):
 
 
 def test_a_slow_network(visitor):
-    """On a slow network, the page says what it is about while the engine loads.
-    """
+    """While the engine loads, the page says what it is about."""
     visitor.go(f"{visitor.place}/slow.html#example=snip&event=3")
     assert "Two threads share one list" in visitor.text("#scene") and not visitor.is_seen("#bench")
     visitor.wait("return document.body.dataset.ready === 'yes'")
