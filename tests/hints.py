@@ -284,6 +284,14 @@ def test_a_terminal_shows_what_a_command_reads(script, words):
     assert f"listset: reading {READ[words]} from the terminal, up to Ctrl-D (see listset help {words.split()[0]})\n" in said, said
 
 
+def test_what_clients_write_is_shown_at_a_terminal(script):
+    (script / "keys").write_text("key 5\nkey 3\n")
+    words = ["./listset", "serve", "lazy", "1", "4", "0", "2", "keys"]
+    note = "listset: a client writes lines such as ADD 7, REMOVE 7, CONTAINS 7 and QUIT: nc -N 127.0.0.1 PORT (Debian's package netcat-openbsd). Any other line is answered by BAD (docs/TEXTS.md). After session 2 the server ends\n"
+    assert at_terminal(words, script)[1].startswith(note + "listset: line 2: Opening\n")
+    assert ran(*words, cwd=script).stderr == "listset: line 2: Opening\n"
+
+
 def test_the_size_of_a_long_recording_is_shown(script):
     long = script / "long.calls"
     long.write_text(SCHEDULE)
