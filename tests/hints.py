@@ -198,11 +198,11 @@ def test_a_file_without_the_right_to_read_it_is_explained(script):
     if os.access(script / "b.schedule", os.R_OK):
         return  # root reads every file
     _, said = at_terminal(["./listset", "replay", "b.schedule"], script)
-    assert said.startswith("listset: cannot read\nb.schedule: you have no right to read this file. If it is yours: chmod u+r b.schedule; "), said
+    assert said.startswith("listset: cannot read\nb.schedule: you have no right to read this file. If it is yours, chmod u+r gives you the right. To see whose the file and its folders are: namei -l b.schedule\n"), said
 
 
 def test_a_long_input_is_explained(script):
-    for name, text, use in (("a.schedule", SCHEDULE, "head -n 1000004 a.schedule > NEW"), ("a.report", RIGHT_REPORT, "shorten its schedule"), ("half", "x\n", "head -c 100 half")):
+    for name, text, use in (("a.schedule", SCHEDULE, "head -n 1000004 a.schedule > NEW"), ("a.report", RIGHT_REPORT, "shorten its schedule"), ("half", "x\n", "head -c 1000 half > NEW")):
         (script / name).write_text(text)
         os.truncate(script / name, 67_108_865)
         _, said = at_terminal(["./listset", "show", name], script)
