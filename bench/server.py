@@ -17,7 +17,7 @@ from measuring import KINDS, built, heading, row
 ROUNDS = 5
 CLIENTS = (1, 8)
 KEYS = "64"
-REQUESTS = {1: "20000", 100: "90000"}  # for each client, by the number of requests per write; few enough that no seat runs out of slots
+REQUESTS = {1: "20000", 100: "90000"}  # for each client, by the number of requests per write; few enough that no seat uses up its quota
 REDIS_STARTS_WITHIN = LOAD_ENDS_WITHIN = 60  # seconds
 
 

@@ -1,5 +1,5 @@
-"""Reads crates.txt: which crates there are, and which are below which. Also makes copies of the repository with some of
-the crates.
+"""Reads crates.txt, which lists the crates and, for each crate, the crates that it uses. Also makes copies of the repository
+with some of the crates.
 """
 
 import pathlib
@@ -7,7 +7,7 @@ import re
 import shutil
 
 TOP = pathlib.Path(__file__).resolve().parent.parent
-# The crates that are tests. ./gate builds them without a proof.
+# Names of the crates that are tests. ./gate builds them without a proof.
 TESTS = re.compile(r"tests_\w+|memory_calls")
 LEFT_OUT = shutil.ignore_patterns(".git", "out", "dist", "target", "__pycache__", "must-fail")
 NO_EDITS = shutil.ignore_patterns("out", "must-fail")

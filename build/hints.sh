@@ -96,7 +96,7 @@ title_of() {
 
 # Prints what is wrong in a file, and what to do: the last line of what the command explain prints. $3 and $4 are the
 # cause and the line in the error of the command $1. If the cause is Header and the file is of another kind than the
-# command reads, prints both kinds and the commands that read the file. If such a file is of no kind, prints the first
+# command reads, prints both kinds and the commands that read the file. If the kind of such a file is unknown, prints the first
 # line of what the command reads.
 explain_in_a_line() {
   local command=$1 file=$2 cause=${3-} number=${4-} said first last name use
@@ -206,7 +206,7 @@ explain_refusal() {
   echo "$file has no 'key' lines, so it says that the set is empty at the end. If its final keys are not known, write 'cut' instead of 'end': sed -i '\$s/^end\$/cut/' $file"
 }
 
-# Prints what a name means that is no file's: the command help, an example, or the only file with this name and an ending.
+# Explains a name that no file has, if it is the command help, an example, or the name of a file without its ending.
 # Prints nothing for other names.
 print_meant() {
   local command=$1 name=$2 found
@@ -387,7 +387,7 @@ explain_no_value() {
   echo "Write the value after $option. ${about:-listset help $1 says what it can be}"
 }
 
-# Prints how many arguments before this one are not options.
+# Prints the number of arguments before this one that are not options.
 count_before() {
   local it at=0
   for it in "${given[@]:1}"; do
@@ -504,7 +504,7 @@ explain_command() {
   fi
 }
 
-# Prints the names of the examples that have a broken report.
+# Prints the names of the examples that have the report of a broken list.
 print_broken() {
   local it names=""
   for it in "$top"/examples/schedules/*.broken.report; do

@@ -16,18 +16,17 @@ class List:
         self.crate, self.type = f"lset_{self.table}", f"{self.kind}List"
 
     def has_reads(self, root=TOP):
-        """Returns whether the list's contains and ceiling take no lock and have their own rows."""
+        """Returns whether `contains` and `ceiling` of the list take no lock and have rows of their own in its step table."""
         return f"impl OpenReads for {self.type}" in (root / "crates" / self.crate / "src/lib.rt").read_text()
 
 
 def lists(root=TOP):
-    """Returns the lists in the order of crates.txt. They are the crates with a proof outline."""
+    """Returns the lists in the order of crates.txt. A crate is a list if it has the file specs/Lawful/Outline.antt."""
     found = [it for it in lines_of(root) if (root / "crates" / it / "specs/Lawful/Outline.antt").is_file()]
     return [List(it.removeprefix("lset_").replace("_", "-")) for it in found]
 
 
-# The places in the code that must name a list for the program to have it, and the names there. build/new_list writes
-# these.
+# The files of code that must name each list, and the lines or items with the name. build/new_list writes them.
 CODE = {
     "crates/lset_words/src/lib.rt": ["    {kind},"],
     "crates/lset_text/src/words.rt": ['Kind::{kind} => "{word}"', "is_word_of(piece, Kind::{kind})"],
@@ -41,7 +40,7 @@ CODE = {
 }
 # The crates that use every list's crate, according to crates.txt.
 USERS = ["lset_lists", "lset_live", "tool_replay", "tool_threads"]
-# The places that describe the lists in prose, which must be written by hand.
+# The files that describe each list in prose. They must be written by hand.
 TEXTS = {
     "crates/tool_base/src/faults.rt": ["{word}"],
     "crates/lset_command/src/command_line.rt": ["{word}"],

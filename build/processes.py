@@ -18,7 +18,7 @@ def script(main):
     """
     def end(number, _):
         global _is_ending
-        _is_ending = True  # (otherwise a thread of this script would start its next command)
+        _is_ending = True  # (otherwise another thread of this script could start its next command)
         end_guarded()
         sys.exit(128 + number)
 

@@ -17,7 +17,7 @@ import version_stamp
 
 SECONDS_BETWEEN = 60  # between two lines about the crates in progress
 MINUTES_OF_A_CRATE = 3  # on one processor, on average
-# Patterns for the output of rt: a crate is done, and something is not proved. (An rt that stores proofs prints "is kept".)
+# Match lines of rt: a crate is done ("is kept" if its proof was stored earlier), and something is not proved.
 IS_DONE = re.compile(r"rt: (\w+) (?:proved|is kept: .*)")
 IS_ERROR = re.compile(r"(^|: )error[:[]|it is not proved that|^rt: \w+ NOT PROVED|^rt: .*FAILED")
 

@@ -41,7 +41,7 @@ class Block:
 
     @property
     def ghosts(self):
-        """Returns the views and laws in the block, which are not functions."""
+        """Returns the ghost items in the block: definitions for contracts, which are not functions."""
         return "".join(self.text[it.start() : braced(self.text, it.start())] for it in GHOST.finditer(self.text))
 
 

@@ -9,7 +9,7 @@
 //     uint8_t status;
 //     char *said = listset_said(listset_check, report, strlen(report), &length, &status);
 //
-// docs/FOREIGN.md says for which of these functions the printed text is proved. The caller has four duties, which
+// docs/FOREIGN.md names the functions whose printed text is proved. The caller has four duties, which
 // nothing checks:
 // - No pointer is null, even if the length beside it is 0.
 // - The room does not overlap a text. During a call, no other thread writes to the text or accesses the room or the
@@ -96,13 +96,13 @@ size_t listset_judge_from(int32_t file, char *room, size_t size, uint8_t *status
 /// explains the recording or the text is not a recording. Tested, not proved.
 size_t listset_why(const char *recording, size_t length, char *room, size_t size, uint8_t *status);
 
-/// Returns `ok` if the order in a report explains its calls, otherwise the first fault of the order.
+/// Returns `ok` if the order in a report explains its calls, otherwise the first error of the order.
 size_t listset_check(const char *report, size_t length, char *room, size_t size, uint8_t *status);
 
 /// Returns the trace of a schedule.
 size_t listset_trace(const char *schedule, size_t length, char *room, size_t size, uint8_t *status);
 
-/// Returns the trace of a schedule, with the chain after each event that changed it.
+/// Returns the trace of a schedule, with the chain of nodes after each event that changed it.
 size_t listset_trace_with_chains(const char *schedule, size_t length, char *room, size_t size, uint8_t *status);
 
 /// Expands a draft into a schedule.
@@ -141,8 +141,8 @@ size_t listset_examples(char *room, size_t size, uint8_t *status);
 /// Returns the schedule of the example with this name.
 size_t listset_example(const char *name, size_t length, char *room, size_t size, uint8_t *status);
 
-/// Returns the broken report of the example with this name. It is the report of a run without the check that the
-/// example is about.
+/// Returns a report that belongs to the example with this name: the report of a run without the check that the example
+/// is about.
 size_t listset_broken_example(const char *name, size_t length, char *room, size_t size, uint8_t *status);
 
 /// Returns a line about each error message, and a sentence about each cause.
@@ -167,7 +167,7 @@ typedef struct {
 /// The five lists.
 typedef enum LISTSET_BYTE listset_list { LISTSET_COARSE, LISTSET_FINE, LISTSET_OPTIMISTIC, LISTSET_LAZY, LISTSET_LOCK_FREE } listset_list;
 
-/// What a reply says.
+/// The possible replies of calls.
 typedef enum LISTSET_BYTE listset_answer {
   LISTSET_FALSE = 0,       ///< Of add: the key was present. Of remove and contains: it was absent.
   LISTSET_TRUE = 1,        ///< Of add: the key was absent. Of remove and contains: it was present.

@@ -72,21 +72,21 @@ inline said judge_text(std::string_view recording) { return of_text(listset_judg
 /// which operation is wrong and how often, and a likely cause. Returns an empty text if some order explains the
 /// recording or the text is not a recording.
 inline said why(std::string_view recording) { return of_text(listset_why, recording); }
-/// Returns `ok` if the order in a report explains its calls, otherwise the first fault of the order.
+/// Returns `ok` if the order in a report explains its calls, otherwise the first error of the order.
 inline said check(std::string_view report) { return of_text(listset_check, report); }
 /// Expands a draft into a schedule.
 inline said draft(std::string_view draft) { return of_text(listset_draft, draft); }
 /// Returns the schedule of the example with this name.
 inline said example(std::string_view name) { return of_text(listset_example, name); }
-/// Returns the broken report of the example with this name. It is the report of a run without the check that the
-/// example is about.
+/// Returns a report that belongs to the example with this name: the report of a run without the check that the example
+/// is about.
 inline said broken_example(std::string_view name) { return of_text(listset_broken_example, name); }
 /// Returns the names of all examples, each with its list and a description.
 inline said examples() { return said_by(listset_examples); }
 /// Returns a line about each error message, and a sentence about each cause.
 inline said faults() { return said_by(listset_faults); }
 
-/// Returns the trace of a schedule. If `with_chains`, includes the chain after each event that changed it.
+/// Returns the trace of a schedule. If `with_chains`, includes the chain of nodes after each event that changed it.
 inline said trace(std::string_view schedule, bool with_chains = false) {
   return of_text(with_chains ? listset_trace_with_chains : listset_trace, schedule);
 }
@@ -116,7 +116,7 @@ enum class list : uint8_t { coarse, fine, optimistic, lazy, lock_free };
 /// used as a condition; compare it.
 enum class [[nodiscard]] added : uint8_t { is_false, is_true, is_full };
 
-/// Thrown if a call is refused; `code` says why. LISTSET_NONE_THERE means that the seat was moved from, dropped,
+/// Thrown if a call is refused; `code` is the reason. LISTSET_NONE_THERE means that the seat was moved from, dropped,
 /// gathered or closed, or that another thread is making a call from it.
 struct fault : std::runtime_error {
   listset_fault code;
@@ -304,8 +304,8 @@ inline void renew(std::vector<seat> &seats, list kind, uint32_t count, uint32_t 
 ///
 /// A thread gets its own seat from `split`; the seat's destructor returns it. Calls wait during a renewal. The renewal
 /// waits for pending calls, but not for threads that are between two calls. A call waits for another one for at most
-/// `patience`, and then throws with LISTSET_TIMED_OUT without having been made. docs/FOREIGN.md says what is promised
-/// about the order of calls.
+/// `patience`, and then throws with LISTSET_TIMED_OUT without having been made. docs/FOREIGN.md states what is
+/// promised about the order of calls.
 class renewed_set {
   struct alignas(128) place {
     std::mutex lock;
@@ -321,9 +321,9 @@ class renewed_set {
   const uint32_t quota;
   const std::chrono::nanoseconds patience;
   std::mutex renewing; // Locked before all places are.
-  std::atomic<bool> is_wanted{false}; // A thread has waited long for the places, so the next calls of the others wait for it.
+  std::atomic<bool> is_wanted{false}; // A thread has waited long for the locks, so the next calls of other threads wait for this thread.
   std::deque<place> places;
-  // These change only while all places are locked.
+  // The stage and the number of opening keys change only while all places are locked.
   stage now = stage::open;
   size_t opened_with;
 

@@ -159,8 +159,8 @@ def check(report):
 
 
 def trace(schedule, with_chains=False):
-    """Returns the trace of a schedule, which says what each step did. `with_chains` adds the chain after each event that
-    changed it.
+    """Returns the trace of a schedule, which states what each step did. `with_chains` adds the chain of nodes after each
+    event that changed it.
     """
     return _asked("trace_with_chains" if with_chains else "trace", schedule)
 
@@ -187,8 +187,8 @@ def examples():
 
 
 def example(name, is_broken=False):
-    """Returns the schedule of the example `name`. If `is_broken`, returns its broken report instead: the report of a
-    run without the check that the example is about.
+    """Returns the schedule of the example `name`. If `is_broken`, returns instead the report of a run without the check
+    that the example is about.
     """
     return _asked("broken_example" if is_broken else "example", name)
 
@@ -566,7 +566,7 @@ class RenewedSet:
     A thread gets its own seat from `split`, and returns it with `drop` or at the end of a `with` block. Calls wait
     during a renewal. The renewal waits for pending calls, but not for threads that are between two calls. A call waits
     for another one for at most `patience` seconds, or forever if that is None, and then raises `TimedOut` without
-    having been made. docs/FOREIGN.md says what is promised about the order of calls.
+    having been made. docs/FOREIGN.md states what is promised about the order of calls.
     """
 
     def __init__(self, kind, seats, quota, keys=(), *, patience=None):

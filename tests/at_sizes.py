@@ -20,11 +20,11 @@ from harness.programs import KINDS
 GREATEST = 2**32 - 1  # the largest key
 MOST_THREADS, MOST_QUOTA, OPENING = 64, 16_384, 1_048_576
 CALLS, TIMES = 16_000, 8  # the larger number of calls in a comparison, and how many times larger it is than the smaller one
-LITTLE = 0.04, 14_000  # differences in seconds and kilobytes that are ignored
+LITTLE = 0.04, 14_000  # seconds and kilobytes: smaller values are compared as if they were these
 PROCESSOR_SECONDS = 9  # the limit for one command; an unproved program takes up to 2
 SPINNING_SECONDS = 90  # the limit for a command whose threads spin at locks, since the holder can be preempted for long on a busy machine
-# (A small process starts the program, because the memory that the system reports for a program includes that of the
-# process that started it.)
+# A small process that starts the program and reports its memory. (For a child of a large process, the system reports
+# the memory of that process too.)
 STARTER = """import json, os, resource, sys
 resource.setrlimit(resource.RLIMIT_CPU, (int(sys.argv[2]), int(sys.argv[2])))
 _, status, used = os.wait4(os.posix_spawn(sys.argv[3], sys.argv[3:], os.environ), 0)
@@ -70,7 +70,7 @@ def log_uniform(draw, most, least=1):
     return most if draw.random() < 0.1 else min(most, int(math.exp(draw.uniform(math.log(least), math.log(most + 1)))))
 
 
-# ---- calls of many shapes: the opening keys; the operation, key and reply of each call; the final keys
+# ---- Calls of many shapes. A shape returns the opening keys, each call with its key and reply, and the final keys.
 
 def shuffled(things):
     return random.Random(1).sample([*things], len(things))
@@ -86,7 +86,7 @@ SHAPES = {
     "looks": lambda n: (range(0, n, 2), [("contains", key, "false" if key % 2 else "true") for key in shuffled(range(n))], range(0, n, 2)),
     "from the greatest": lambda n: (range(n), calls_of("remove", range(n)[::-1]), []),
 }
-NEAR = {  # (no long walks)
+NEAR = {  # shapes whose calls traverse few nodes
     "one key": lambda n: ([], [("add", 5, "true"), ("remove", 5, "true")] * (n // 2), []),
     "at the least": lambda n: (range(n), calls_of("contains", [0] * n), range(n)),
     "come and go": lambda n: ([], [it for key in range(n // 3) for it in (("add", key, "true"), ("remove", key, "true"), ("ceiling", 0, "nothing"))], []),
@@ -99,7 +99,7 @@ def head(title, kind, threads, quota, opening=()):
 
 
 def recording_of(opening, calls, left, threads, at_once):
-    """Returns a recording in which calls do not overlap, or in which all threads call at the same time."""
+    """Returns a recording of these calls. They do not overlap or, if `at_once`, all threads call at the same time."""
     lines = [f"opening {key}\n" for key in opening]
     for number, (word, key, reply) in enumerate(calls):
         turn, thread = divmod(number, threads)
@@ -150,7 +150,7 @@ def test_schedules_of_each_size_are_drafted_replayed_and_checked(asked, few, kin
     """Runs short schedules of all shapes, and long ones whose calls traverse few nodes."""
     for shape in [*SHAPES.values(), *NEAR.values()]:
         runs(asked, kind, 0, shape(240))
-    words = {"coarse": ["--lacks", "lock"], "lazy": ["--lacks", "mark-in-contains"]}.get(kind, ())  # (broken lists that do the same as the right ones if calls do not overlap)
+    words = {"coarse": ["--lacks", "lock"], "lazy": ["--lacks", "mark-in-contains"]}.get(kind, ())  # (on calls that do not overlap, these broken lists behave as the intact ones)
     name = [*NEAR][KINDS.index(kind) % len(NEAR)]
     for size in [CALLS // TIMES] if few else [CALLS // TIMES, CALLS]:
         runs(asked, kind, size, NEAR[name](size), words)
@@ -159,7 +159,7 @@ def test_schedules_of_each_size_are_drafted_replayed_and_checked(asked, few, kin
 
 @pytest.mark.parametrize("kind", KINDS)
 def test_counts_of_runs_of_each_size_add_up(asked, few, kind):
-    """Runs `run` with one thread and with several, up to the limits. The counts must add up."""
+    """Runs the command `run` with one thread and with several, up to its limits."""
     draw = random.Random(kind)
     drawn = [(threads, log_uniform(draw, MOST_QUOTA), log_uniform(draw, 200), log_uniform(draw, 10_000), log_uniform(draw, 2**64 - 1),
               log_uniform(draw, 100 if threads < 9 else 3)) for threads in ([5, 64] if few else [1, 2, 5, 17, 64])]
@@ -171,7 +171,7 @@ def test_counts_of_runs_of_each_size_add_up(asked, few, kind):
         assert there == sorted({it for it in there if it < keys}) and len(there) <= threads * quota * lives
 
 
-# ---- limits
+# ---- Tests of the limits on inputs and arguments
 
 def text_of(title, threads=1, quota=0, opening=0, lines=()):
     left = [*(f"key {key}\n" for key in range(opening)), "end\n"] if title == "report 2" else []
@@ -200,7 +200,6 @@ LIMITS += [(["serve lazy 1 0 0 0 -"], OPENING, lambda it: "".join(f"key {key}\n"
 
 @pytest.mark.parametrize("commands, most, made, error", LIMITS, ids=[f"{it[0][0].split()[0]} {it[1]}" for it in LIMITS])
 def test_the_largest_number_is_accepted_and_the_next_refused(asked, few, commands, most, made, error):
-    """The largest number is accepted, and the next one is refused."""
     draw = random.Random(f"{commands} {most}")
     if few and most > 100_000 and draw.random() < 0.8:
         pytest.skip("a tenth of these limits is tried")

@@ -51,7 +51,7 @@ def pytest_runtest_logreport(report):
 
 
 def built_program(config):
-    """Returns the program with the younger sources, unless one is given. Its age is counted from when its build began."""
+    """Returns the program in --program or, by default, the one that was built last. A program is as old as the begin of its build."""
     built = [it for it in (PROVED, UNPROVED) if it.exists()]
     return config.option.program or str(max(built, key=lambda it: it.stat().st_mtime, default=PROVED))
 
@@ -100,7 +100,7 @@ def has_what_it_needs(request, lacking):
             lacking(why)
 
 
-# Commands that every machine with the tests has
+# Commands that exist on every machine that can run the tests
 ALWAYS_HERE = {"rt", "python3", "pytest", "git", "bash", "setpriv"}
 NOTES = '#!/bin/sh\necho "{name}" >>"${{TOOLS_USED:-/dev/null}}"\nexec "{place}" "$@"\n'
 
@@ -182,7 +182,7 @@ def once(tmp_path_factory, worker_id):
                 folder.mkdir()
                 kept.write_bytes(pickle.dumps(made_with_tools(make, folder, *further)))
             result, used = pickle.loads(kept.read_bytes())
-        # (with --tools, a test that takes the result has used the commands that made it)
+        # (with --tools, the commands that made the result count as used by this test)
         if used:
             with open(os.environ["TOOLS_USED"], "a") as names:
                 names.write(used)

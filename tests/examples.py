@@ -56,7 +56,7 @@ def test_a_file_is_replayed_or_checked(program, name):
 
 
 def test_examples_of_the_program_are_the_files(program):
-    """No other example has a broken report."""
+    """`example` prints the files in examples/schedules, and each report of a broken list belongs to one of them."""
     broken = {it.name.partition(".")[0]: it for it in EXAMPLES.glob("*.broken.report")}
     assert [line.split()[0] for line in lines_of(program, "example")] == NAMES and broken.keys() <= {*NAMES}
     for name in NAMES:
@@ -73,17 +73,17 @@ def test_no_order_explains_a_broken_report(program, file):
 
 @pytest.mark.parametrize("name, section", zip(NAMES, SECTIONS), ids=NAMES)
 def test_the_page_shows_the_picture_and_the_trace_of_an_example(program, name, section):
-    """The two code blocks show the picture (without the order below it) and lines of the trace."""
+    """The first code block shows the picture without the order below it, the second shows lines of the trace."""
     drawn, traced = (re.sub("^    ", "", block, flags=re.M).strip("\n").split("\n") for block in re.findall(BLOCK, section, re.M))
     schedule, picture = picture_of(program, name)
     assert [*drawn, ""] == picture[:picture.index("order")]
     trace = iter(lines_of(program, "trace", text=schedule))
-    assert [line for line in traced if line not in trace] == []  # (each line is searched after the previous one)
+    assert [line for line in traced if line not in trace] == []  # (`trace` is an iterator, so the lines must also be in its order)
 
 
 @pytest.mark.parametrize("name, kind, told", LACKING.findall(BROKEN))
 def test_the_page_describes_a_broken_list(program, name, kind, told):
-    """`check` refuses the order, and no other order explains the calls unless the page says so."""
+    """`check` refuses the order of the report. Whether another order explains the calls is as the page states."""
     file = LACKS / f"{name}.schedule"
     assert f"\nlist {kind}\n" in file.read_text()
     report = "\n".join(lines_of(program, "replay", "--lacks", name, file)) + "\n"

@@ -22,7 +22,7 @@ RIGHT_REPORT = REPORT + "call 0 0 add 5 1 8 true\nplace 0 true\nkey 5\nend\n"
 ADD = "call 0 add 5 1 4 true\n"
 RIGHT_CALLS = f"{CALLS}{ADD}key 5\nend\n"
 
-# the command, the text, the fixed line, and parts of the explanation
+# Mistakes by name: the command, its input, the error line that a pipe gets, and parts of the explanation
 ROWS = {
     "no bytes": ("replay", "", "line 1: Header", ["no bytes", "command before a pipe"]),
     "no bytes of a recording": ("judge", "", "line 1: Header", ["no bytes"]),
@@ -131,7 +131,7 @@ def test_a_mistake_is_explained(program, name):
         assert f"line {line[5:].split(':')[0]} has an error, {line.split(': ')[1]}:\n    " in said, said
 
 
-# A command in an explanation, up to the end of the line
+# Matches a command in an explanation, up to the end of the line
 COMMAND = re.compile(r"(?:sed -i|\(head|head -n|\(grep|grep|gzip|bzip2|xz|iconv|tr|echo cut) .*")
 
 
@@ -160,7 +160,7 @@ LINES_OF_KEYS = ["listening 127.0.0.1:1", "sessions 3", "calls 9", "key 1", "key
 
 
 def test_explain_finds_the_errors_in_keys_that_serve_finds(program, room, few):
-    """Draws lines that a server prints, keys and wrong lines, often in order, and sometimes without the last newline."""
+    """Draws texts of a server's lines, keys and wrong lines. Most have the right order, and some lack the last newline."""
     dice = random.Random(11)
     for _ in range(20 if few else 200):
         lines = [LINES_OF_KEYS[it] for it in sorted(dice.sample(range(len(LINES_OF_KEYS)), dice.randrange(1, 6)))]
@@ -205,7 +205,7 @@ def test_a_shell_reads_the_name_in_a_command(program, room, name):
     assert ran("sh", "-c", f"cat {NAMES[name]}", cwd=room).stdout == RIGHT_CALLS
 
 
-def test_no_text_stops_explain(program, few):
+def test_explain_succeeds_for_every_text(program, few):
     """Cuts out, repeats or replaces parts of texts. `explain` must succeed and name the same line as the command."""
     dice = random.Random(7)
     of_commands = {"replay": RIGHT, "draft": DRAFT + "begin 0 add 5\ngo 0 out\n", "check": RIGHT_REPORT, "judge": RIGHT_CALLS}

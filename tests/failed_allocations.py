@@ -65,8 +65,8 @@ def ran_where(refuse, number, *words, **how):
 
 
 def answers(program, refuse):
-    """Returns the names of the calls that CALLS prints while each allocation is refused in turn, up to the first number
-    that no call reaches.
+    """Runs CALLS again and again. In each run another allocation fails. Returns the names of the calls that CALLS prints.
+    Ends at the first number that no allocation has.
     """
     told = []
     for number in range(1, REFUSED):
@@ -80,20 +80,20 @@ def answers(program, refuse):
 
 OUT_OF_MEMORY = 3, "", "listset: out of memory\n"
 SPAWN = 1, "", "listset: work: Spawn\n"
-# The line that replaces the diagnosis of a refusal. The verdict stays the same.
+# The line below a verdict if memory for what is wrong cannot be allocated
 NOT_TOLD = "\nwhat is wrong is not told: memory ran out, or the file has changed since it was judged\n"
-LAST = 10  # this many runs in a row without an effect mean that there is no further allocation
+LAST = 10  # after so many runs in a row without an effect, the program makes no further allocation
 
 
 def out_of_memory_at_each(program, words, refuse):
-    """Returns how often a command reports that it is out of memory, while each of its allocations is refused in turn."""
+    """Runs a command again and again. In each run another of its allocations fails. Returns how many runs report that."""
     how = {"cwd": TOP / "examples/schedules", "stdin": subprocess.DEVNULL}
     due = ran_where(refuse, 0, program, *words, **how)
     goes_along = words[0] == "trace"
     met = {OUT_OF_MEMORY} | ({SPAWN} if words[0] == "run" else set()) | ({(due[0], "", "")} if due[2] else set())
     if words[0] == "judge" and due[0] == 1:
         verdict = due[1].partition("\n\n")[0] + "\n"
-        met |= {(1, verdict + NOT_TOLD, ""), (1, verdict, "")}  # (the line itself can lack memory)
+        met |= {(1, verdict + NOT_TOLD, ""), (1, verdict, "")}  # (an allocation for this line can fail too)
     told = passed = 0
     for number in range(1, 10 * REFUSED):
         found = ran_where(refuse, number, program, *words, **how)
@@ -127,7 +127,7 @@ def test_a_command_reports_each_failed_allocation(program, room, once, words):
 
 
 def test_calls_report_each_failed_allocation(once, lacking):
-    """Runs CALLS. `work` must return the set and the seats whichever allocation fails."""
+    """Runs CALLS. Whichever allocation fails, the function `work` must return the set and its seats."""
     if not CALLS.exists():
         lacking(f"{CALLS.relative_to(TOP)} is missing: tests/unproved memory_calls builds it")
     calls = answers(CALLS, once(refuser))

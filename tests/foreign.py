@@ -20,7 +20,7 @@ from judge_in_a_test import FORMS, go_words
 FOREIGN, EXAMPLES = TOP / "foreign", TOP / "examples" / "schedules"
 TESTS, FIRST, PREFIX = FOREIGN / "tests", FOREIGN / "first", pathlib.Path(os.environ.get("LISTSET_PREFIX", FOREIGN / "out"))
 needs = pytest.mark.needs
-pytestmark = pytest.mark.xdist_group("foreign")  # (they take turns: each has more threads than there are processors)
+pytestmark = pytest.mark.xdist_group("foreign")  # (one after another: each test has more threads than there are processors)
 WARN = ["-Wall", "-Wextra", "-Werror", "-O1", "-g"]
 MEMORY, RACES = "-fsanitize=address,undefined", "-fsanitize=thread"
 WRAPPED = [f"-Wl,--wrap={it}" for it in ("malloc", "realloc", "free")]
@@ -34,7 +34,7 @@ class InstalledLibraries:
         self.include = f"-I{PREFIX / 'include'}"
 
     def proof(self):
-        """Returns the line in which the library states its proof."""
+        """Returns the line in which the library states whether it is proved."""
         return "proof missing" if "without a proof" in (self.library / "pkgconfig" / "listset.pc").read_text() else "proof checked"
 
     def works(self, sanitizer):
@@ -133,7 +133,6 @@ def test_a_c_program_prints_what_the_program_prints(installed, program):
 
 @needs("gcc")
 def test_eight_threads_judge_at_once(installed):
-    """Eight threads call the judge at the same time."""
     for flags in ([], [MEMORY], [RACES]):
         if all(map(installed.works, flags)):
             well(installed.built("threads.c", *flags), *sorted(EXAMPLES.glob("*.schedule")), *sorted(EXAMPLES.glob("*.report")))
@@ -141,7 +140,6 @@ def test_eight_threads_judge_at_once(installed):
 
 @needs("gcc")
 def test_the_judge_reports_each_failed_allocation_and_leaks_nothing(installed):
-    """The judge reports each failed allocation and does not leak."""
     schedule, report = EXAMPLES / "one-add.schedule", EXAMPLES / "one-add.report"
     draft = min((TOP / "tests" / "transcripts" / "data" / "drafts").glob("*.draft"), key=lambda it: it.stat().st_size)
     flags = [MEMORY] if installed.works(MEMORY) else []
@@ -151,7 +149,7 @@ def test_the_judge_reports_each_failed_allocation_and_leaks_nothing(installed):
 
 @needs("gcc")
 def test_calls_of_threads_agree_with_counts_and_are_judged(installed):
-    """Threads call sets, in one case more threads than processors, in another a million calls. Their replies are
+    """Threads call sets: in one case there are more threads than processors, in another a million calls. The replies are
     compared with models and counts, and judged.
     """
     for flags, sizes in (([], [250_000, 4]), ([], [500, 64]), ([MEMORY], [5_000, 4]), ([RACES], [2_000, 4])):
@@ -162,14 +160,12 @@ def test_calls_of_threads_agree_with_counts_and_are_judged(installed):
 
 @needs("gcc")
 def test_wrong_arguments_and_failed_allocations_are_reported(installed):
-    """The sets refuse wrong arguments and report each failed allocation."""
     flags = [MEMORY] if installed.works(MEMORY) else []
     well(installed.built("misuse.c", *flags, *WRAPPED))
 
 
 @needs("gcc")
 def test_each_list_opens_with_the_most_keys(installed):
-    """Each list opens with the maximum number of keys."""
     well(installed.built(TOP / "tests" / "harness" / "largest_set.c"))
 
 
@@ -202,7 +198,7 @@ def test_programs_in_cpp_use_sets_and_judge(installed):
 
 @needs("g++", "gcc", "pkg-config")
 def test_calls_of_a_renewed_set_are_linearizable(installed):
-    """Sets of each list are renewed while eight threads add and remove the same keys. Their calls are judged."""
+    """Eight threads add and remove the same keys while their set is renewed: replaced by a new set with the same keys."""
     made, flags = installed.room / "made", ["-std=c++17", *WARN, "-pthread", TESTS / "renewed.cpp", *installed.flags()]
     for how, calls in (([], 50_000), (["-O0", MEMORY], 2_000), (["-O0", RACES], 500)):
         if all(map(installed.works, how[1:])):
@@ -247,7 +243,7 @@ def in_room(installed):
 
 
 def is_judged(said, proof):
-    """Checks that a test of a user's set printed the library as its judge."""
+    """Checks that a test printed that this library judged the set."""
     assert f"; judge: liblistset, {proof}" in said
 
 

@@ -1,5 +1,5 @@
-"""Tests what the script ./listset shows at a terminal: below an error a line that helps, and before a command what it
-reads. In a pipe it shows nothing more.
+"""Tests the lines that the script ./listset adds at a terminal: help below an error, and what a command reads before the
+command starts. If the output is a pipe, the script adds nothing.
 """
 
 import os
@@ -13,7 +13,7 @@ import pytest
 from explained import ADD, CALLS, RIGHT, RIGHT_CALLS, RIGHT_REPORT, SCHEDULE
 from harness.programs import SECONDS, TOP, ran, wants, well
 
-# The arguments, the fixed line, and what the terminal shows below that line.
+# Arguments of the script, the error line that a pipe gets too, and the lines that a terminal shows below it
 AT_TERMINAL = {
     "replay no-such": ["listset: cannot read\n", "no-such: there is no such file"],
     "judge .": ["listset: cannot read\n", ".: this is a folder"],
@@ -256,7 +256,7 @@ def test_a_long_line_of_a_long_recording_is_shown(script):
     assert "listset: line 1: NotEnded\nLine 1 is 'call 0 add 5 1 4 true call " in said and said.endswith("Write each call in a line of its own, which ends with LF\n"), said[:600]
 
 
-# Commands that only a built program has, errors in which clap adds a tip, and a hint that reads the file of a wrong command line.
+# Rows that Node cannot show: commands that only a built program has, errors with a tip of clap, and a hint about a wrong command line
 NOT_OF_NODE = re.compile(r"(run|serve) |shwo|--prov|show --from -5")
 
 
@@ -269,7 +269,7 @@ def test_node_without_a_program_shows_the_same_hints(program, script):
         assert by_node == (by_script[0], by_script[1].replace("./listset", "node page/listset.js")), words
 
 
-def test_a_result_at_a_terminal_is_the_result(script):
+def test_a_terminal_shows_a_result_unchanged(script):
     status, said = at_terminal(["./listset", "example", "snip"], script)
     assert (status, said) == (0, well(script / "crates/listset/out/listset", "example", "snip"))
 

@@ -34,7 +34,7 @@ NO_JUDGES = {
 JUDGES_NOT_IN_PATH = [None, "/no/such/listset.js"]
 
 
-# ---- building each language's sets once for all tests, and the command that judges one of them
+# ---- Builds the sets of each language once for all tests, and returns the command that judges one of them
 
 
 def built_rust(folder):
@@ -217,7 +217,7 @@ def test_calls_before_a_crash_or_a_hang_are_judged(form, program, of):
 
 @each(LANGUAGES)
 def test_a_process_that_ends_at_any_moment_has_every_call_once(form, program):
-    """The calls are saved part by part while it runs. A call that stands twice, or is missing, has no verdict or another."""
+    """The calls are saved part by part while the process runs. The verdict would be another if a call were saved twice or lost."""
     _, said = form.told(program, "ends", "threads=4 calls=60000 keys=4 runs=1 pauses=0", TESTS="12")
     for one in said.split("verdict: ")[1:]:
         is_early = "the set could not be created: the set ended its process" in one  # (before the first call)
@@ -285,7 +285,7 @@ def test_a_seed_repeats_the_calls(form, program):
     assert {tuple(it.split()[2:4]) for it in (first + other).splitlines() if it.startswith("call ")} >= {("add", "4"), ("remove", "0"), ("contains", "3")}
 
 
-# ---- passing on the refusal of a judge that refuses with these words
+# ---- A judge that always refuses, with the words that must be passed on
 
 REFUSED = "not linearizable\nno order explains the calls of key 1 up to moment 9\n\n  contains(1) returned true, expected false   # %s $HOME 'quoted'\n"
 REFUSES = """#!/bin/sh
@@ -317,7 +317,7 @@ def test_recordings_of_runs_that_pass_are_not_kept(form, program):
     assert list((form.room / "kept").iterdir()) == []
 
 
-# ---- finding the judge
+# ---- Tests of how a judge is found
 
 
 # Acts like the program except for the number of overlapping calls. It also prints to standard error, like ./listset
@@ -407,7 +407,7 @@ def test_an_error_without_a_verdict_is_one_sentence(form, program):
         assert kind == "none" and f"the variable {name} is {text}, but must be a number from " in said, said
 
 
-# ---- tests for a single language
+# ---- Tests for a single language
 
 
 def test_all_languages_have_the_messages_of_one_file():
@@ -475,7 +475,7 @@ def test_servers_are_judged_by_their_clients(room, program, of):
     well(sys.executable, "-B", "-m", "unittest", f"test_servers.{of}", cwd=room, env={**os.environ, "LISTSET": program, "TMPDIR": str(room), "PYTHONPATH": paths})
 
 
-# ---- as a package of each language, used by someone else's project from where it is installed
+# ---- The judge as a package of each language, installed and then used by another project
 
 CMAKE = """cmake_minimum_required(VERSION 3.18)
 project(own LANGUAGES CXX)
@@ -544,7 +544,7 @@ def test_a_project_uses_the_package_of_rust(room):
     assert [*(room / "package").glob("*.crate")]
 
 
-# ---- published sets
+# ---- Tests with published sets
 
 
 # The parts of judge/real-sets/run with the commands that each needs, and how many of its sets are correct.

@@ -12,7 +12,7 @@ import pytest
 from harness.programs import SECONDS, ran
 from harness.set_model import CHANGES, SetModel, reply_of
 
-TEXTS, SEEDS = 100, range(1, 5)  # of each seed; --few: 10
+TEXTS, SEEDS = 100, range(1, 5)  # texts for each seed; 10 with --few
 THREADS, KEYS = 4, 3
 LAST = 2**63 - 1
 TITLE = "listset-calls 1"
@@ -55,7 +55,7 @@ def with_pending(rng, calls):
 
 
 def spread(rng, calls, opening, keys):
-    """Spreads the calls over more keys. Some keys are lost or appear from nowhere."""
+    """Spreads the calls over more keys. In some recordings, a final key is missing or superfluous."""
     names = rng.sample(range(3 * KEYS), 3 * KEYS)
     others = [it for it in names[KEYS:] if rng.random() < 0.5]
     opened, left = [names[it] for it in opening] + others, {names[it] for it in keys} | {*others}
@@ -78,7 +78,7 @@ def text_of(calls, opening, keys):
     return "".join(f"{it}\n" for it in [TITLE, *(f"opening {it}" for it in opening), *map(call_line, calls), *ends])
 
 
-# ---- all orders
+# ---- The search of all orders
 
 
 def changes(it):
@@ -139,7 +139,7 @@ class Judged:
         return sum(any(it != other and other.reply and changes(other) and overlap(it, other) for other in self.calls) for it in self.calls)
 
     def lines(self):
-        """Returns the expected first lines."""
+        """Returns the first lines that `judge` must print."""
         if self.key is None:
             many, met = len(self.calls), self.overlapped()
             few = ["that is few, and a race shows only if calls meet: take fewer keys, more threads, or pauses in the set"]
@@ -149,7 +149,7 @@ class Judged:
         return ["not linearizable", f"no order explains the calls of key {self.key} {upto}"]
 
 
-# ---- two calls that contradict each other
+# ---- Checks of the lines about two calls that contradict each other
 
 STATES = {"present": True, "absent": False}
 STATE, CALL = "(present|absent)", r"thread (\d+) (\w+) (\d+) (true|false), (\d+) to (\d+)"
@@ -235,7 +235,7 @@ def test_the_verdict_and_its_lines_are_right(program, few, seed):
     assert found["without a clash"] <= (found["by a moment"] + found["left wrong"]) // 10, found
 
 
-# ---- texts that arrive in pieces
+# ---- Tests of texts that arrive in pieces
 
 def in_pieces(program, text, size):
     """Runs `judge` on a text that is written in pieces of this many bytes."""

@@ -26,7 +26,7 @@ def printed_within(kilobytes, program, *words, text=b""):
     return done.stdout
 
 
-# ---- long recordings
+# ---- The memory of `judge` for long recordings
 
 CALLS, KEYS = 800_000, 120
 
@@ -44,7 +44,7 @@ def test_judge_keeps_no_completed_call(program, room, threads, at_once):
         assert printed_within(LITTLE, program, "judge", *words, text=given).startswith(b"ok %d calls\n" % CALLS)
 
 
-# ---- events
+# ---- The memory of commands for many events
 
 OPENING, WALKS = 2_000, 100
 
@@ -61,7 +61,7 @@ def long_walks():
 def events_of(schedule):
     """Returns the number of events in a schedule with many steps per line."""
     many = WALKS + sum(map(int, re.findall(rb"^go 0 (\d+)$", schedule, re.M)))
-    assert many > 2 * OPENING * WALKS  # (the calls walk past all keys)
+    assert many > 2 * OPENING * WALKS  # (the calls traverse all keys)
     return many
 
 
@@ -71,28 +71,28 @@ def test_no_command_keeps_its_events(program, words):
     """Runs commands with hundreds of thousands of events, also on a broken list. `trace` prints tens of megabytes."""
     schedule = well(program, "draft", text=long_walks())
     many = events_of(schedule)
-    assert many > 400_000  # (a picture shows only a few)
+    assert many > 400_000  # (`show` draws at most 64 of them)
     said = printed_within(LITTLE, program, *words.split(), text=long_walks() if words == "draft" else schedule)
     due = {"draft": [schedule], "trace": [b"\nevent %d " % many, b"\nend\n"], "show": [b": %d calls" % WALKS]}
     due["replay"] = [b"call %d " % (WALKS - 1), b"place %d " % (WALKS - 1)]
     assert [it for it in due[words.split()[0]] if it not in said] == []
 
 
-# ---- rounds
+# ---- The memory of `run` for the replies of its rounds
 
 CALLS_OF_RUN, LIVES = 10_000, 100  # the maximum numbers; a reply has 8 bytes
 
 
-def test_run_keeps_the_replies_of_one_round(program):
-    """`run` keeps only the replies of one round at a time. The replies of all rounds take 8,000 KB."""
+def test_run_keeps_only_the_replies_of_one_round(program):
+    """The replies of all rounds together take 8,000 KB."""
     said = printed_within(LITTLE, program, "run", "lazy", 1, 1, CALLS_OF_RUN, 1, 1, LIVES)
     assert said.startswith(b"calls %d\n" % (CALLS_OF_RUN * LIVES))
 
 
-# ---- a server
+# ---- The memory of a server for its sessions
 
 SEATS, CALLS_AT_ONCE = 4, 2_000
-FEW, MANY, LONG_LINES = 90, 450, 9  # rounds of sessions before the first look at the memory, and after it; and sessions
+FEW, MANY, LONG_LINES = 90, 450, 9  # rounds of sessions before and after the first measurement; and sessions with a long line
 GROWTH = 1_000  # kilobytes: one page for each session of MANY rounds would be 3,600, and eight bytes for each call 4,800
 
 
@@ -121,7 +121,7 @@ CALLS_OF_SESSIONS = CALLS_AT_ONCE + 2
 
 
 def serves(server, sessions):
-    """Holds sessions one after another."""
+    """Runs sessions of a server, one after another."""
     for speak in sessions:
         with server.connect() as connection:
             connection.settimeout(SOON)

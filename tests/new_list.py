@@ -1,5 +1,5 @@
-"""Tests docs/NEW-LIST.md: every place that names the lists names all of them, and build/new_list makes a copy, adds it to
-these places, and prints what is left to do. ./gate proves the copy together with the lists in examples/lists.
+"""Tests docs/NEW-LIST.md. Every file that names the lists must name all of them. build/new_list must copy a list, add the
+copy to these files, and print the remaining work. ./gate proves the copy together with the lists in examples/lists.
 """
 
 import re
@@ -25,7 +25,7 @@ def code_in(crate):
     return "\n".join(re.sub(r"(^|\s)(--|//).*", "", line) for it in files for line in it.read_text().splitlines())
 
 
-def test_each_list_is_in_each_place():
+def test_every_place_names_each_list():
     assert [it for one in lists.lists() for it in lists.missing(one, lists.CODE) + lists.missing(one, lists.TEXTS)] == []
 
 

@@ -25,7 +25,7 @@ RECORDINGS = [recording(1), recording(2), recording(3), recording(1, is_cut=True
 @pytest.mark.parametrize("text", RECORDINGS, ids=range(len(RECORDINGS)))
 @pytest.mark.parametrize("parts", [4, 30])
 def test_the_parts_of_a_recording_have_its_verdict(program, room, text, parts):
-    """Which refusal is named, or which part has an error, can differ."""
+    """The refusal that is named, or the part with an error, can be another one."""
     recorded = room / "run.calls"
     recorded.write_text(text)
     done, due = ran(TOP / "examples/recordings/judge_by_key", recorded, parts, env={**os.environ, "LISTSET": program}), ran(program, "judge", recorded)

@@ -58,7 +58,7 @@ keys: line 2: Opening | key 5\nkey 5\n | key 5\nkey 4\nkey x\n
 keys: line 4: Opening | sessions 1\ncalls 2\nkey 3\nkey 2\n
 keys: line 5: Opening | listening a\nsessions 1\ncalls 2\nkey 3\nkey 3\n
 """
-HEADER = ["Header", "Kind", "Threads", "Quota"]  # the cause, by the number of whole lines
+HEADER = ["Header", "Kind", "Threads", "Quota"]  # the cause of the error, by the number of complete header lines
 
 
 def rows():

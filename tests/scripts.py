@@ -19,7 +19,8 @@ from harness.programs import LONG, SECONDS, TOP, comes, is_running, ran, wants, 
 
 BUILDING = "building the program once WITHOUT A PROOF"
 NO_NODE = "no program is built here, and Node is missing. Install Debian's package nodejs (18 or later), or put the folder bin of the Rattle toolchain in PATH"
-# Prints the table entry for each argument's length, plus one: 255 + 1 overflows for "show", and "replay" has no entry.
+# A small program. It prints, for each argument, the table entry for the argument's length, plus one. For "show" the
+# addition overflows (255 + 1), and for "replay" the table has no entry.
 MAIN = """#![tactic(auto)]
 
 use std::io;
@@ -78,7 +79,7 @@ class Clone:
         return ran(*words, seconds=LONG, **self.how, **how)
 
     def prove(self, at):
-        """Writes a program in place of the proved one, `at` seconds younger than now."""
+        """Writes a program in place of the proved one, with a time of `at` seconds from now."""
         self.kept.mkdir(parents=True, exist_ok=True)
         self.proved.write_text('#!/bin/sh\necho "proved: $*"\n')
         self.proved.chmod(0o755)
@@ -158,7 +159,7 @@ def test_a_missing_rt_is_named(room, words):
     assert done.returncode and "rt is missing: the Rattle toolchain; its folder bin must be in PATH" in said and "Traceback" not in said
 
 
-# Prints what the gate reports as not run.
+# A script that prints what the gate reports as not run
 NOT_RUN = """import importlib.machinery, importlib.util, sys
 loader = importlib.machinery.SourceFileLoader("gate", "gate")
 gate = importlib.util.module_from_spec(importlib.util.spec_from_loader("gate", loader))
@@ -206,7 +207,7 @@ def test_the_man_page_and_the_completions_are_printed(program, room):
     wants(ran(*make, "dash"), status=2, output="", tells=["man_page_and_completions.py man | man -l -"])
 
 
-# A test with and one without a mark for the command that it runs, and two tests that take one result
+# A test with a mark for the command that it runs, a test without one, and two tests that share a result
 TOOLS = """import subprocess
 import pytest
 
@@ -350,7 +351,7 @@ def test_an_edit_that_must_fail_changes_bodies_alone(room, old):
         assert "BadEdit: " in done.stderr, done
 
 
-# Prints the functions that an edit changes.
+# A script that prints the functions that an edit changes
 EDITED_FUNCTIONS = """import importlib.machinery, importlib.util, pathlib, sys
 sys.path.insert(0, "build")
 loader = importlib.machinery.SourceFileLoader("try_edits", "build/try_edits")

@@ -51,7 +51,7 @@ class Sentences:
             case.met[holds.__name__] += 1
 
 
-# ---- all orders of the calls of a set with several keys, a quota and ceilings
+# ---- The search of all orders, for calls of a set with several keys, a quota and ceilings
 
 
 def is_reply(word, key, reply):
@@ -62,7 +62,7 @@ def is_reply(word, key, reply):
 
 
 def left_by_orders(calls, opening, quota):
-    """Returns the possible final keys: those of all orders that explain the calls. A pending call without effect is in no
+    """Returns the possible final keys, over all orders that explain the calls. A pending call without effect is in no
     order.
     """
     calls = [it for it in calls if it.end or changes(it)]
@@ -85,7 +85,7 @@ def left_by_orders(calls, opening, quota):
     return left
 
 
-# ---- a report
+# ---- Random reports, and the properties of the lines of `check`
 
 
 def drawn_calls(rng, quota, opening):
@@ -231,7 +231,7 @@ def the_order_leaves_other_keys(case):
 
 
 @pytest.mark.parametrize("seed", SEEDS)
-def test_what_check_says_of_a_report_is_true(program, cases, few, seed):
+def test_each_line_of_check_about_a_report_is_true(program, cases, few, seed):
     rng, met = random.Random(f"checked {seed}"), collections.Counter()
     for _ in cases:
         case = Reported(rng, met)
@@ -241,7 +241,7 @@ def test_what_check_says_of_a_report_is_true(program, cases, few, seed):
     assert few or len(met) >= 5, met
 
 
-# ---- a picture of a report
+# ---- The properties of the lines in a picture of a report
 
 of_show = Sentences()
 
@@ -257,7 +257,7 @@ def has_room(case):
 
 
 @of_show(r"(\S+) list, 3 threads, quota (\d+): (\d+) calls?")
-def the_report_has_so_many_calls(case, kind, quota, calls):
+def the_report_has_this_many_calls(case, kind, quota, calls):
     return (kind, int(quota), int(calls)) == (case.kind, case.quota, len(case.calls))
 
 
@@ -267,12 +267,12 @@ def the_history_has_no_such_call(case, call, last):
 
 
 @of_show(r"refused Twice (\d+): it stands at places (\d+) and (\d+)")
-def the_call_stands_at_two_places(case, call, first, second):
+def the_call_has_these_two_places(case, call, first, second):
     return case.places(call)[:2] == [int(first), int(second)]
 
 
 @of_show(r"refused Missing (\d+): it ended at (\d+) with (\S+) and has no place")
-def the_call_ended_so_and_has_no_place(case, call, end, reply):
+def the_call_has_this_end_and_no_place(case, call, end, reply):
     return the_completed_call_has_no_place(case, call) and (int(end), reply) == case.calls[int(call)][4:]
 
 
@@ -282,14 +282,14 @@ def the_history_has_another_reply(case, call, place, says, ended):
 
 
 @of_show(r"refused WrongReply (\d+): place (\d+) says (\S+), and (at first|after .*) the set is {(.*)} and answers (\S+)")
-def the_set_answers_otherwise(case, call, place, says, after, keys, answer):
+def the_set_returns_another_reply(case, call, place, says, after, keys, answer):
     due = {0: "at first", 1: "after place 1", 2: "after places 1 and 2"}.get(int(place) - 1, f"after places 1 to {int(place) - 1}")
     here = case.order[int(place) - 1] == (int(call), says) and after == due
     return here and keys_in(keys) == sorted(case.before_place(int(place)).keys) and case.answer_at(int(place)) == answer != says
 
 
 @of_show(r"refused TooEarly (\d+): it begins at (\d+) and stands before call (\d+), which ended at (\d+)")
-def the_call_stands_before_one_that_had_ended(case, call, begin, other, end):
+def the_call_is_placed_before_one_that_had_ended(case, call, begin, other, end):
     return case.is_early(call, other) and (case.calls[int(call)].begin, case.calls[int(other)].end) == (int(begin), int(end))
 
 
@@ -314,7 +314,7 @@ def a_refused_order_has_the_place(case, place, thread, word, key, reply, is_open
 
 
 @of_show(r" +(\d+) +call (\d+) (\S+)")
-def a_refused_order_has_a_place_of_no_call(case, place, call, reply):
+def a_refused_order_has_a_place_without_a_call(case, place, call, reply):
     return case.order[int(place) - 1] == (int(call), reply) and int(call) >= len(case.calls)
 
 
@@ -358,7 +358,7 @@ def no_order_explains_what_the_report_has_by_then(case, key, moment):
 
 
 @of_show(r"no order explains the calls of key (\d+) and leaves it as it was left")
-def each_order_of_the_report_leaves_the_key_otherwise(case, key):
+def each_order_leaves_the_key_in_the_other_state(case, key):
     return case.ways(int(key)) == {int(key) not in case.keys}
 
 
@@ -376,30 +376,30 @@ def look_at(case, call):
 
 
 @of_show(f"contradiction: {CALL}, leaves key (\\d+) {STATE},")
-def the_first_call_leaves_the_key_so(case, *told):
+def the_first_call_leaves_the_key_in_this_state(case, *told):
     it = look_at(case, told[:6])
     return it and it.key == int(told[6]) and leaves(it) == STATES[told[7]]
 
 
 @of_show(f"  {CALL}, needs key (\\d+) {STATE},")
-def the_second_call_needs_the_key_so(case, *told):
+def the_second_call_needs_the_key_in_this_state(case, *told):
     it = look_at(case, told[:6])
     return it and it.key == int(told[6]) and needs(it) == STATES[told[7]]
 
 
 @of_show(f"(?:contradiction in both orders:| ) {CALL}, needs key (\\d+) {STATE} and leaves it {STATE},")
-def the_call_needs_and_leaves_the_key_so(case, *told):
+def the_call_needs_and_leaves_the_key_in_these_states(case, *told):
     it = look_at(case, told[:6])
     return it and it.key == int(told[6]) and (needs(it), leaves(it)) == (STATES[told[7]], STATES[told[8]])
 
 
 @of_show(f"contradiction: key (\\d+) is {STATE} at first,")
-def the_key_is_so_at_first(case, key, state):
+def the_key_has_this_state_at_first(case, key, state):
     return (int(key) in case.opening) == STATES[state]
 
 
 @of_show(f"  key (\\d+) is {STATE} at the end,")
-def the_key_is_so_at_the_end(case, key, state):
+def the_key_has_this_state_at_the_end(case, key, state):
     return (int(key) in case.keys) == STATES[state]
 
 
@@ -436,7 +436,7 @@ def sentences_in(shown):
 
 
 @pytest.mark.parametrize("seed", SEEDS)
-def test_what_show_says_of_a_report_is_true(program, cases, few, seed):
+def test_each_line_of_show_about_a_report_is_true(program, cases, few, seed):
     rng, met = random.Random(f"shown {seed}"), collections.Counter()
     for _ in cases:
         case = Reported(rng, met)
@@ -446,7 +446,7 @@ def test_what_show_says_of_a_report_is_true(program, cases, few, seed):
     assert few or len(met) >= 15, met
 
 
-# ---- a run: its trace, its picture and its report
+# ---- Comparisons of the trace, the picture and the report of a run
 
 
 def ends_of_trace(trace):
@@ -470,12 +470,12 @@ def ends_of_trace(trace):
 
 
 def order_of(ends):
-    """Returns the places sorted by moment. At one moment the change comes first, then the others by number."""
+    """Returns the calls in the order in which they take effect: by moment and, at one moment, the change first, then by number."""
     return sorted(ends, key=lambda it: (ends[it][1], not ends[it][2], it))
 
 
 def compare_run(program, text, *words):
-    """Checks that the trace and the picture of a run have the same calls as its report. Returns the ends in the trace."""
+    """Checks that the trace and the picture of a run have the calls of its report. Returns each call's reply and moment."""
     report, trace = ran(program, "replay", *words, text=text).stdout, ran(program, "trace", *words, text=text).stdout
     ends, places = ends_of_trace(trace), [tuple(it.split()[1:]) for it in report.splitlines() if it.startswith("place ")]
     assert places == [(str(it), ends[it][0]) for it in order_of(ends)], text
@@ -497,7 +497,7 @@ def test_traces_and_pictures_have_the_order_of_the_report(program, few, kind):
 
 
 def continued(name, seed):
-    """Returns the schedule that breaks a broken list, followed by calls of all its keys in turn."""
+    """Returns the schedule that shows the flaw of a broken list, followed by calls of all its keys, one after another."""
     text, draw = (TOP / f"examples/schedules/lacks/{name}.schedule").read_text(), random.Random(f"{name} {seed}")
     plan = read_schedule(text)
     model, lines = List(plan.kind, plan.threads, plan.quota, plan.opening, name), []
@@ -519,7 +519,7 @@ def continued(name, seed):
         for word in draw.sample(["contains", "remove", "ceiling"], 2):
             idle = [it for it in range(plan.threads) if model.threads[it].pc == 0]
             if not idle:
-                break  # (a chain without an end is walked for ever)
+                break  # (the links can form a cycle, in which a call never ends)
             thread = draw.choice(idle)
             lines.append(f"begin {thread} {word} {key}")
             model.begin(thread, ListCall(0, thread, word, key, 0))
@@ -534,7 +534,7 @@ def fits_nowhere(run, number):
 
 
 @pytest.mark.parametrize("name", LACKING)
-def test_a_reply_that_fits_nowhere_is_placed_at_its_end(program, few, name):
+def test_a_call_whose_reply_is_never_correct_is_placed_at_its_end(program, few, name):
     """Any other call that changes nothing is placed at the first moment at which its reply is correct."""
     found = 0
     for seed in range(1 if few else 4):
@@ -545,4 +545,4 @@ def test_a_reply_that_fits_nowhere_is_placed_at_its_end(program, few, name):
             if fits_nowhere(run, number):
                 found += 1
                 assert ends[number][1] == run.ends[number][0], text
-    assert few or found or name == "mark-in-remove"  # (which loses no key in its schedule)
+    assert few or found or name == "mark-in-remove"  # (its schedule loses no key)

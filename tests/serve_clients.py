@@ -22,14 +22,14 @@ ONE_LIST = "lazy"
 SEATS = 64
 CLIENTS = SEATS - 1
 REQUESTS = 300
-SHARED = 64  # keys; the clients' own keys are above
+SHARED = 64  # keys that all clients use; the keys of a single client are larger
 ROOM = 16_384
 MANNERS = ["pieces", "bytes", "all at once", "middle of a line", "random bytes"]
 BEYOND = 100_000
 LATE = 3
 
 
-# ---- many clients at the same time
+# ---- Tests of many clients at the same time
 
 
 class Sharing:
@@ -112,7 +112,7 @@ def test_clients_at_once_receive_right_answers(program, kind):
         server.ends(CLIENTS + 1, calls, calls, keys)
 
 
-# ---- more clients than seats
+# ---- Tests of more clients than seats
 
 
 def test_more_clients_than_seats_are_served(program):
@@ -135,7 +135,7 @@ def test_more_clients_than_seats_are_served(program):
         server.ends(sessions, 6 * len(served) + faulty, 6 * len(served) + 3 * faulty, served)
 
 
-# ---- one seat
+# ---- Tests of a server with one seat
 
 
 def test_many_connections_one_after_another_are_served(program):
@@ -168,8 +168,8 @@ def drips(connection, end):
 
 
 def test_clients_of_one_seat_are_served_in_turn(program):
-    """Clients use one seat with 2 slots one after another. A connection to another address of this machine is refused,
-    and so is the client after the last session.
+    """Clients use one seat, which can add 2 keys, one after another. The system refuses a connection to another address
+    of this machine, and the client after the last session.
     """
     with serving(program, ONE_LIST, 1, 2, 6) as server:
         with pytest.raises(ConnectionRefusedError):
@@ -201,7 +201,7 @@ def test_clients_of_one_seat_are_served_in_turn(program):
 
 
 def test_a_server_listens_on_the_port_in_its_arguments(program):
-    """The server listens on the port in its arguments, which was free just before."""
+    """The port was free just before."""
     with socket.create_server(("127.0.0.1", 0)) as free:
         port = free.getsockname()[1]
     with started(program, "serve", ONE_LIST, 1, ROOM, port, 1) as process:
@@ -212,7 +212,7 @@ def test_a_server_listens_on_the_port_in_its_arguments(program):
         server.ends(1, 1, 1, [])
 
 
-# ---- lines in groups
+# ---- Tests of clients that send lines in groups
 
 
 @pytest.mark.parametrize("group", [1, 1023, 6000])
@@ -257,7 +257,7 @@ def test_a_silent_client_keeps_its_session(program):
         server.ends(1, 2, 2, [7])
 
 
-# ---- a client that does not read its answers
+# ---- Tests of a client that does not read its answers
 
 
 def sends_until_stuck(connection):
@@ -272,9 +272,7 @@ def sends_until_stuck(connection):
 
 
 def test_a_client_that_reads_no_answer_holds_only_its_seat(program):
-    """A client that reads no answers occupies nothing but its seat. The other clients are served, and once it disconnects,
-    the server ends.
-    """
+    """The other clients are served. The server ends once the client has disconnected."""
     key = 4_294_967_295
     with serving(program, ONE_LIST, 2, ROOM, 5) as server:
         with server.connect() as connection:
@@ -291,7 +289,7 @@ def test_a_client_that_reads_no_answer_holds_only_its_seat(program):
         server.ends(5, 4 + 1, 4 + lines, [key])
 
 
-# ---- bytes after the end of a session
+# ---- Tests of bytes after the end of a session
 
 
 def test_answers_arrive_if_bytes_follow_the_last_line(program):

@@ -62,8 +62,8 @@ def ended_serve(program, limit):
 
 @pytest.fixture
 def limits(program):
-    """Returns limits in KiB under which the program starts (its loader needs address space too). They are half a stack
-    apart, and closer to each other near the first.
+    """Returns limits, in KiB, under which the program starts (its loader needs address space too). They increase by half
+    the size of a stack, and by less at first.
     """
     limits = [*range(2_000, 12_000, 128), *range(12_000, 4 * (THREADS + 2) * STACK, STACK // 2)]
     return [it for it in limits if ran(*limited(it, program, "example", "full")).returncode == 0]
@@ -71,7 +71,7 @@ def limits(program):
 
 @pytest.mark.parametrize("way", [ended_run, ended_serve])
 def test_run_and_serve_end_in_a_documented_way_under_each_limit(program, way, limits):
-    """Under some limits there is an outcome, and under others a thread is refused."""
+    """Some limits must allow an outcome, and others must refuse a thread."""
     ends = collections.Counter(way(program, limit) for limit in limits)
     assert ends["outcome"] and ends["thread refused"]
 

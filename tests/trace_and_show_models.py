@@ -3,8 +3,8 @@
 For an SVG, the tests compare its texts and its numbers of points and bars.
 
 The schedules are those in examples/schedules/, and random ones for the lists and the broken lists. The reports have
-random calls; most are damaged, so that each fault of an order occurs. Windows and widths are random too, as is whether
-these options are given.
+random calls; most are damaged, so that each error of an order occurs. The options --from, --to and --width are random,
+and sometimes missing.
 """
 
 import collections
@@ -47,7 +47,7 @@ def drawn_schedule(kind, seed, lacks=None, overruns=False):
 
 
 class Compared:
-    """A text and the program's output for it, compared with the models. `words` name a broken list if one runs the text."""
+    """Compares the program's output for a text with the models. `words` are the options that name a broken list, if any."""
 
     def __init__(self, program, name, text, *words):
         self.program, self.name, self.text, self.words = program, name, text, words
@@ -68,7 +68,7 @@ class Compared:
             self.compare(words, [*due, status], [*lines, ended])
 
     def picture(self, picture, asked, below=()):
-        """Compares the text picture in a window and with a width. A value that is not None is passed as an option."""
+        """Compares a text picture. `asked` has the values of --from, --to and --width; None stands for a missing option."""
         words, first, last, width = options("show", asked)
         lines, ended = self.said(*words)
         due = [2] if is_past(picture, first) else [*fitted(picture, first, last, width).text(), *below, status_of(picture)]
@@ -100,7 +100,7 @@ class Compared:
 
 
 def options(words, asked):
-    """Returns a command with options, and the window and width that they select. Options that are None are absent."""
+    """Returns a command with its options, and the moments and the width that they select. None stands for a missing option."""
     given_words = [it for name, value in zip(["--from", "--to", "--width"], asked) if value is not None for it in (name, str(value))]
     first, last, width = (default if it is None else it for it, default in zip(asked, [1, GREATEST, 100]))
     return [*words.split(), *given_words], first, last, width
@@ -141,7 +141,7 @@ def test_trace_and_pictures_match_the_model(program, schedule):
             looked.picture(picture, (None, None, width))
 
 
-# ---- pictures of reports, and of what broken lists do with schedules
+# ---- Pictures of reports, and traces and pictures of broken lists
 
 
 def compare_report(looked, report):

@@ -94,8 +94,8 @@ def test_a_few_contradictions_are_listed(program, path):
     assert "\n2 contradictions: key 3 added twice from 30 to 36; key 5 added twice from 50 to 56\n" in said, said
 
 
-def test_a_key_that_went_without_a_call_is_named_and_has_its_recording(program, path):
-    """Key 5 was there first and is missing at the end, and no call is of it."""
+def test_a_key_that_is_lost_without_a_call_is_named_and_has_a_recording(program, path):
+    """Key 5 is present at first and absent at the end, and no call has this key."""
     path.write_text(text_of([Call(0, "add", 1, 1, 2, "true")], [5], [1]))
     said, alone = ran(program, "judge", path).stdout, ran(program, "judge", "--only", "5", path)
     assert "\nkey 5 was lost: key 5 is absent at the end\n" in said and "\n1 contradiction: key 5 lost by the end\n" in said, said
@@ -104,7 +104,7 @@ def test_a_key_that_went_without_a_call_is_named_and_has_its_recording(program, 
 
 
 class OneSet:
-    """A right set. Each call is a generator, and other calls can run at each of its yields. Each subclass has one bug."""
+    """A correct set. Each call is a generator, and other calls can run at each of its yields. Each subclass has one bug."""
 
     def __init__(self, rng):
         self.rng, self.keys, self.more = rng, set(), set()

@@ -185,7 +185,7 @@ def test_the_lines_of_the_page_judge(program, room, lacking, language):
         assert well(program, "judge", own / "recorded" / "seed-1.calls").startswith("ok 48000 calls\n")
 
 
-# ---- in continuous integration: a project of a user, laid out as the page says and tested by the page's command
+# ---- Continuous integration: projects as the page describes them, tested by the command on the page
 
 
 def lay_cpp(room, own):

@@ -20,7 +20,7 @@ USE = re.compile(r"^\s*(?:ghost )?(?:pub )?use Rattle\.([^\s{;]+?)(?:\.\{([^}]*)
 KINDS = {"abbrev", "unfoldable", "opaque", "record", "data"}
 IMPORT = re.compile(r"(?:pub )?(?:use|mod|infixl|infixr|infix|syntax)\b")
 HEAD = re.compile(rf"((?:(?:pub|{'|'.join(KINDS)}) )*)({NAME})((?: [({{].*?[)}}])* :)?")
-# Functions in a cell of a table, followed by clauses in parentheses.
+# Matches functions in a cell of a table, followed by clauses in parentheses
 SAID_BY = re.compile(r"((?:`[a-z]\w+::[\w:{}, ]+`,? ?)+)(?:\(((?:`\w+`,? ?)+)\))?")
 IN_BRACKETS = re.compile(r"(?<!\w)\[([A-Z][a-z ][^][]*)\](?!\()")
 
@@ -142,7 +142,7 @@ def reached(items=""):
 
 
 def print_reached():
-    """Prints each file of definitions, with those of its definitions that public contracts reach."""
+    """Prints each file of definitions with the definitions that public contracts reach."""
     for path, module in modules().items():
         if names := [it for it in module.definitions if (path, it) in reached()]:
             print(f"{module.file}: {', '.join(names)}")

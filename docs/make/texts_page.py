@@ -1,5 +1,5 @@
-"""Makes the tables of errors in docs/TEXTS.md from the comments of the variants in the sources and the output of `listset
-faults`. Also reports where docs/TEXTS.md and docs/COMMANDS.md differ from the sources.
+"""Makes the tables of errors in docs/TEXTS.md from the sources (the comments of the causes, and the text of `listset
+faults`). Also reports differences between the sources and docs/TEXTS.md or docs/COMMANDS.md.
 """
 
 import re
@@ -13,7 +13,7 @@ def table(head, rows):
 
 
 def faults_below(top, head):
-    """Returns the entries of `listset faults` below a line that begins with `head`: the name of each fault and the first
+    """Returns the entries of `listset faults` below a line that begins with `head`: the name of each error and the first
     line of its text.
     """
     said = (top / "crates/tool_base/src/faults.rt").read_text().split(f"\n{head}")[1].split("\n\n")[0]
@@ -38,7 +38,7 @@ def table_of_causes(top):
 
 
 def table_of_orders(top):
-    """Returns the table of faults for which an order is refused, from `listset faults`."""
+    """Returns the table of the errors for which an order is refused, from `listset faults`."""
     return table(["Fault", "When"], [[f"`{name}`", when] for name, when in faults_below(top, "refused FAULT ID").items()])
 
 

@@ -122,7 +122,7 @@ static void expect_patience() {
   expect(mine.add(100) == added::is_true && rests.add(101) == added::is_true && rests.ceiling(99) == 100u, "calls that go on");
 }
 
-// Expects that a call without patience waits while a thread stays in a call, and is made after that call has ended.
+// Expects that a call without a time limit waits while another thread stays in a call, and is made after that call.
 static void expect_waits(list kind) {
   renewed_set set(kind, 2, 1);
   auto mine = set.split(), rests = set.split();

@@ -219,7 +219,7 @@ def seats_of_a_renewed_set():
     of = listset.RenewedSet("lazy", 2, 2, patience=0.02)
     mine, rests = of.split(), of.split()
     assert code(of.split) == 17 and code(of.close) == 16 and all(mine.add(key) for key in range(20))
-    with of._places[1].lock:  # (as a thread has it that stays in a call)
+    with of._places[1].lock:  # (as if a thread stayed in a call)
         for call, key in ((mine.add, 20), (rests.contains, 1)):
             assert raised(call, key) == (listset.TimedOut, "timed out: another thread was in a call for too long")
         assert 19 in mine and 20 not in mine
@@ -233,7 +233,7 @@ def seats_of_a_renewed_set():
 
 
 def waits_without_patience(kind):
-    """Expects that a call without patience waits while another thread stays in a call, and is made after that call has ended."""
+    """Expects that a call without a time limit waits while another thread stays in a call, and is made after that call."""
     of = listset.RenewedSet(kind, 2, 1)
     mine, rests = of.split(), of.split()
     assert mine.add(1)

@@ -1,6 +1,6 @@
-"""A model of the five lists. It executes the rows of docs/TABLES.md literally, one step of a thread at a time, on the
-nodes' words (key, link, lock) and a thread's registers (pred, curr, ..). A broken list is modelled by the rows that
-differ.
+"""A model of the five lists. It executes the step tables of docs/TABLES.md literally, one step of a thread at a time. A
+step uses the words of the nodes (key, link, lock) and the registers of the thread (pred, curr, ..). A broken list has
+some other rows in its table.
 """
 
 import collections
@@ -12,7 +12,7 @@ from harness.programs import TOP
 TAIL_KEY = 4294967297
 REGISTERS = ["pred", "curr", "succ", "node", "pkey", "ckey"]
 
-# ---- the five step tables, from docs/TABLES.md
+# ---- The five step tables, read from docs/TABLES.md
 
 Table = collections.namedtuple("Table", "rows begin add remove leave")
 PAGE = re.split(r"^## ", (TOP / "docs/TABLES.md").read_text(encoding="utf-8"), flags=re.M)
@@ -44,12 +44,11 @@ def table(one):
 
 TABLES = {it.word: table(it) for it in lists.lists() if it.type in SECTIONS}
 
-# The broken lists as described at the end of docs/CLASSIC.md: the list each is based on, and the rows that differ. To
-# `pass` a lock means to attempt to take it and to continue in any case. `curr^` is a link to curr with the mark in
-# pkey.
+# The broken lists of docs/CLASSIC.md: the list that each was made from, and the changed rows of its table. `pass` means to
+# attempt to take a lock and to continue in any case. `curr^` is a link to curr with the mark that register pkey has.
 LACKING = {
     "lock": ("coarse", "1 | pass list.lock | 2"),
-    "second-lock": ("fine", ""),  # (ROWS_OF_ONE_LOCK)
+    "second-lock": ("fine", ""),  # (see ROWS_OF_ONE_LOCK)
     "hand-over-hand": ("fine", """
  6 | load curr.link                         | pred = curr, curr = next(s), 14
 14 | store 0 in pred.lock                   | 3
@@ -74,8 +73,8 @@ LACKING = {
     "mark-at-key": ("lock-free", "22 | load curr.link | answers true"),
     "new-slot": ("lock-free", ""),  # (each add uses the first slot)
 }
-# On the broken list second-lock, a remove locks only pred: if the table leads to row 3, the remove continues at row 4,
-# and so on. It looks at a node's key first, and locks the node only to move past it.
+# On the broken list second-lock, a remove locks only pred: if the table leads to row 3, the remove continues at row 4, and
+# likewise for the other pairs. The remove reads the key of a node first, and locks the node only to move past it.
 ROWS_OF_ONE_LOCK = {3: 4, 4: 5, 5: 3, 12: 13}
 
 # The conditions in a table. The arguments are a thread, the value s that its step saw, the key word K, and the value
@@ -96,7 +95,7 @@ TESTS = {
     "success but for a mark": lambda it, s, key, old: s // 2 == old // 2,
 }
 
-# ---- the list
+# ---- The words and threads of a list
 
 Call = collections.namedtuple("Call", "number thread word key begun")
 
@@ -185,7 +184,7 @@ class List:
         return action, seen, reply
 
     def follow(self, it, parts, seen, old):
-        """Executes what follows a step: the first part whose condition is true. Returns the reply if the call ends."""
+        """Executes the part of a row after its step: the first alternative whose condition is true. Returns the reply if the call ends."""
         for part in parts:
             test, is_test, then = part.rpartition(": ")
             if is_test and not TESTS[test](it, seen, it.call.key + 1, old):
@@ -198,8 +197,8 @@ class List:
         return reply
 
     def do(self, it, done, seen):
-        """Executes one part. Returns the reply if the call ends. (Changes of the set are read from the chain, except on a
-        broken list.)
+        """Executes one alternative of a row. Returns the reply if the call ends. (On an intact list, the changes of the set
+        are read from the chain.)
         """
         if done.isdigit():
             it.pc = int(done)
@@ -220,7 +219,7 @@ class List:
         return None
 
     def decide(self, it, found):
-        """Decides what to do at the key word at which a traversal has stopped."""
+        """Decides how a call continues where its traversal ended. `found` is the key word of that node."""
         word, same = it.call.word, found == it.call.key + 1
         if word == "add" and not same and it.used < self.quota:
             it.pc = self.table.add

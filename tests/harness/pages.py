@@ -43,7 +43,7 @@ class PageCommand:
     lines: list = field(default_factory=list)
 
     def told(self):
-        """Returns what the command should print, according to the page."""
+        """Returns the lines that the command must print, as the page shows them."""
         return "\n".join(self.lines).rstrip("\n").split("\n") if any(self.lines) else []
 
 
@@ -92,7 +92,7 @@ def lines_of_transcript(run):
 
 
 def lines_as_shown(run):
-    """Formats what a run printed as a reader would see it."""
+    """Returns the lines of a run's output and then of its standard error."""
     return (run.stdout + run.stderr).decode("utf-8", "backslashreplace").splitlines()
 
 

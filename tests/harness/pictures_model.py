@@ -1,17 +1,17 @@
-"""A model of the text picture of `show`, written from docs/TEXTS.md alone. A picture has a column for each moment, a lane
-for each thread with begins, ends and points, the set after each change, and the order below. A Picture shows a run
-(traces_model) or a report (reports_model).
+"""A model of the text picture that `show` prints, written from docs/TEXTS.md alone. A picture has a column for each moment,
+a row for each thread with the begins, ends and linearization points of its calls, the set after each change, and the
+order below. A Picture shows a run (traces_model) or a report (reports_model).
 """
 
 import collections
 import functools
 
 GREATEST = 4294967295
-# What a picture shows: the list; the number of events (None for a report); the calls; each call's end and reply, by
-# number; the places of the order; the set at each moment; the final keys; why the order is refused; and which event is
-# refused, or None.
+# The contents of a picture: the list; the number of events (None for a report); the calls; each call's end and reply, by
+# number; the entries of the order; the set at each moment; the final keys; why the order is refused; and the refused
+# event, or None.
 Picture = collections.namedtuple("Picture", "kind threads quota events calls ends order sets keys refusal refused")
-Place = collections.namedtuple("Place", "number reply at change")  # in a refused order a place has no moment
+Place = collections.namedtuple("Place", "number reply at change")  # an entry of the order; it has no moment if the order is refused
 # Why an order is refused: the message, the moment at which the picture begins, and the number of an unknown call.
 Refusal = collections.namedtuple("Refusal", "said begun unknown")
 
@@ -99,8 +99,8 @@ class Drawn:
         return [f"refused {self.picture.refusal.said}"] if self.picture.refusal else []
 
     def side(self, place):
-        """Returns whether a place is before the drawn part (-1), in it (0) or after it (1), by its point or else by its
-        bar. Returns None for an unknown call.
+        """Returns whether an entry of the order is before the drawn moments (-1), in them (0) or after them (1). Decides by
+        the linearization point or, without one, by the call's bar. Returns None for an unknown call.
         """
         first = last = place.at
         if not self.has_points:
@@ -139,7 +139,7 @@ class Drawn:
         return [*told, *self.below(legend)]
 
     def in_svg(self):
-        """Returns texts that an SVG must contain, and its numbers of points and bars."""
+        """Returns texts that an SVG must contain, and how many circles and bars it must have."""
         legend = "filled: changes the set    open: changes nothing, its reply fits there    dashed: still open"
         points = [it for it in self.picture.order if self.has_points and self.first <= it.at <= self.last]
         bars = [it for it in self.picture.calls if it.begun <= self.last and self.picture.ends.get(it.number, [GREATEST])[0] >= self.first]
@@ -155,8 +155,8 @@ def with_rows_of(width, drawn):
 
 
 def fitted(picture, first, last, width=None):
-    """Returns the picture in a window. If no window is given and not all moments fit, the picture of a refused order
-    begins at the refusal.
+    """Returns the picture of the moments from `first` to `last`. If these are all moments and they do not fit, the picture
+    of a refused order begins at the call that the refusal names.
     """
     drawn = with_rows_of(width, Drawn(picture, first, last))
     begun = picture.refusal.begun if picture.refusal else None

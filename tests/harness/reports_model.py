@@ -1,5 +1,5 @@
-"""A model of the pictures of reports, written from docs/TEXTS.md alone: the message for the first fault of an order or, if
-there is none, the first moments at which its calls can take effect. Also damages reports at random.
+"""A model of the pictures of reports, written from docs/TEXTS.md alone: the message for the first error of an order or, if
+the order has no error, the first moments at which its calls can take effect. Also damages reports at random.
 """
 
 import collections
@@ -12,7 +12,7 @@ from harness.set_model import CHANGES, SetModel
 Report = collections.namedtuple("Report", "kind threads quota opening calls ends order keys")
 HEADER = 4  # lines
 
-# ---- reading
+# ---- Reads reports
 
 
 def read_report(text):
@@ -30,7 +30,7 @@ def read_report(text):
     return report
 
 
-# ---- the faults of an order
+# ---- Finds the errors of an order
 
 
 def faults_of(report):
@@ -55,7 +55,7 @@ def faults_of(report):
 
 
 def wrong_replies(report):
-    """Yields the calls whose reply differs from the history's or from the set's at their place, with the message."""
+    """Yields the calls whose reply in the order differs from the reply in the history or of the set, with the message."""
     held, after = SetModel(report.quota, report.opening), {0: "at first", 1: "after place 1", 2: "after places 1 and 2"}
     for place, (it, says) in enumerate(report.order):
         call, before = report.calls[it], keys_text(sorted(held.keys))
@@ -82,11 +82,11 @@ def first_fault(report):
     return next(faults_of(report), None)
 
 
-# ---- the picture
+# ---- Makes the picture of a report
 
 
 class Sets:
-    """The set at each moment, computed from the places of an order."""
+    """The set at each moment, computed from the entries of an order."""
 
     def __init__(self, report, places):
         self.opening, self.changes = report.opening, [(it.at, report.calls[it.number]) for it in places if it.change]
@@ -99,7 +99,7 @@ class Sets:
 
 
 def places_of(report):
-    """Returns the places of an order, each at the first moment that its call and the earlier places allow."""
+    """Returns the entries of an order, each at the first moment that its call and the earlier entries allow."""
     at = 0
     for it, reply in report.order:
         at = max(at, report.calls[it].begun)
@@ -112,11 +112,11 @@ def picture_of_report(it):
     return Picture(it.kind, it.threads, it.quota, None, it.calls, it.ends, places, Sets(it, places), it.keys, refusal, None)
 
 
-# ---- moments that are far apart, and damaged reports
+# ---- Spreads the moments of a report, and damages reports
 
 
 def spread(it):
-    """Spreads the moments over the range up to 400,000,000."""
+    """Multiplies the moments of a report so that they are up to 400,000,000."""
     last = max([1, *(one.begun for one in it.calls), *(end for end, _ in it.ends.values())])
     it.calls[:] = [one._replace(begun=one.begun * 400_000_000 // last) for one in it.calls]
     it.ends.update({number: (end * 400_000_000 // last, reply) for number, (end, reply) in it.ends.items()})
@@ -130,8 +130,8 @@ def report_text(it):
 
 
 def damage(draw, it):
-    """Damages a report. A place is lost, duplicated, moved, given another reply, or refers to an unknown call; or a call
-    ends with another reply; or final keys are lost, added, or reordered.
+    """Damages a report at random. An entry of the order is lost, duplicated, moved, given another reply, or names an unknown
+    call; or a call ends with another reply; or final keys are lost, added, or reordered.
     """
     at, other = (draw.randrange(max(1, len(it.order))) for _ in range(2))
     number, reply = it.order[at] if it.order else (0, "true")

@@ -25,7 +25,7 @@ class Server:
         return socket.create_connection((address, self.port), timeout=SECONDS)
 
     def ends(self, sessions, least, most, keys):
-        """Checks the server's last lines: the number of sessions, that the number of calls is within a range, and the
+        """Checks the last lines of the server: the number of sessions, the number of calls (from `least` to `most`), and the
         final keys.
         """
         lines = self.process.stdout.read().splitlines()

@@ -1,5 +1,6 @@
 """A model of a schedule's run (lists_model) and of the output of `trace`, written from docs/TEXTS.md alone: a line for
-each event with the value that its step saw, the chain after a change, and the end and the point of each call.
+each event with the value that its step read, the chain after a change, and the end and the linearization point of each
+call.
 """
 
 import collections
@@ -8,8 +9,8 @@ from harness.lists_model import REGISTERS, TAIL_KEY, Call, List
 from harness.set_model import fits_without_change
 
 Schedule = collections.namedtuple("Schedule", "version kind threads quota opening lines")
-# A run: the lines of its trace with chains, the calls and their ends, the set at each moment, the points of the calls,
-# and the refused event.
+# A run: the lines of its trace with chains, the calls and their ends, the set at each moment, the linearization points of
+# the calls, and the refused event.
 Run = collections.namedtuple("Run", "trace calls ends sets points refused events")
 
 
@@ -59,8 +60,8 @@ def content(chain):
 
 
 class Tracing:
-    """A run in progress, with the parts of its Run that are known so far. For a broken list, the set follows the
-    reported changes, whatever the chain is.
+    """A run in progress: the parts of its Run that are known so far. On an intact list, the set is computed from the chain;
+    on a broken list, from the changes that the rows report.
     """
 
     def __init__(self, plan, lacks):
@@ -77,7 +78,7 @@ class Tracing:
         return ("Busy" if is_begin else "Idle") if is_busy == is_begin else None
 
     def event(self, number, pieces):
-        """Executes a line's event, which is a begin or a step."""
+        """Executes the event of a line: the begin of a call, or one step."""
         t, moment = int(pieces[1]), len(self.sets)
         told = f"event {moment} line {number} thread {t} "
         if pieces[0] == "begin":
@@ -121,8 +122,8 @@ class Tracing:
             self.chain = later
 
     def end(self, call, reply, moment):
-        """Ends a call. A call that changed nothing has its point at the first moment at which its reply is correct. (If
-        there is no such moment in a broken list, the point is at the call's end. `full` is always correct there.)
+        """Ends a call. If the call changed nothing, its linearization point is the first moment at which its reply is
+        correct. (On a broken list, `full` is always correct, and a call without such a moment has its point at its end.)
         """
         self.ends[call.number] = (moment, reply)
         if call.number not in self.points:

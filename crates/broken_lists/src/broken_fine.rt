@@ -1,5 +1,5 @@
-//! Implements the steps of two broken FineLists: one omits the second lock in `remove`, the other does not lock hand
-//! over hand.
+//! Implements the steps of two broken FineLists: the `remove` of one locks only one node, the traversals of the other
+//! release a lock before they take the next one.
 ghost use Rattle.lset_steps.specs.Rows.{IsSmall};
 
 use lset_fine::fed_by;
@@ -27,8 +27,8 @@ fn with_one_lock(call: Call, local: Local) -> Local {
     }
 }
 
-/// Returns the state after a step of a FineList whose `remove` locks only `pred`. `seen` is the value that the step
-/// saw.
+/// Returns a thread's state after a step of a FineList whose `remove` locks `pred` but not `curr`. `seen` is the value
+/// that the step read or wrote.
 pub(crate) fn fed_with_one_lock(local: &Local, seen: u64) -> Fed
     requires { IsSmall local.now }
 {
@@ -47,8 +47,8 @@ fn through_row_14(local: Local) -> Local {
     }
 }
 
-/// Returns the state after a step of a FineList without hand-over-hand locking: a traversal unlocks `pred` before it
-/// locks `curr`. Row 14 unlocks `pred`.
+/// Returns a thread's state after a step of a FineList that releases the lock of `pred` before it takes the lock of
+/// `curr`. Row 14 of its step table releases `pred`.
 pub(crate) fn fed_pred_first(local: &Local, seen: u64) -> Fed
     requires { IsSmall local.now }
 {

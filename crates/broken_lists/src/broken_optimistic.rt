@@ -1,4 +1,4 @@
-//! Implements the steps of two broken OptimisticLists, whose validation checks too little.
+//! Implements the steps of two broken OptimisticLists whose validation checks too little.
 ghost use Rattle.lset_steps.specs.Rows.{IsSmall};
 
 use lset_optimistic::fed_by;
@@ -12,8 +12,8 @@ fn past_the_walk(local: Local) -> Local {
     }
 }
 
-/// Returns the state after a step of the list that does not traverse twice: its validation checks only that `pred`
-/// links to `curr`.
+/// Returns a thread's state after a step of the list that does not traverse the list a second time: its validation
+/// checks only that `pred` links to `curr`.
 pub(crate) fn fed_without_walk(local: &Local, seen: u64) -> Fed
     requires { IsSmall local.now }
 {
@@ -24,8 +24,8 @@ pub(crate) fn fed_without_walk(local: &Local, seen: u64) -> Fed
     }
 }
 
-/// Returns the state after the second traversal loads a key, for the list that compares keys instead of nodes. The
-/// traversal ends at the first key that is not below `pred`'s key.
+/// Returns a thread's state after its second traversal loaded a key, for the list that compares keys instead of nodes.
+/// The traversal ends at the first key that is not below `pred`'s key.
 pub(crate) fn arrived_by_key(seen: u64, local: &Local) -> Local {
     if local.pkey < seen {
         Local {

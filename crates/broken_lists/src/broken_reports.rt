@@ -1,4 +1,4 @@
-//! Reads a schedule for a broken list, runs it, and reports the run.
+//! Reads a schedule for a broken list, runs the schedule, and returns a report of the run.
 ghost use Rattle.std.specs.Prelude.{◌≡◌, IfOk};
 ghost use Rattle.lset_words.specs.Words.{Opens};
 ghost use Rattle.lset_text.specs.declared.words.Version.TheVariants.{Two};
@@ -12,7 +12,7 @@ use lset_schedule::{Schedule, Version, read_schedule};
 use lset_text::{Cause, LineFault};
 use std::alloc::{AllocError, Global};
 
-/// The number of the line that names the list.
+/// The number of the line that names the kind of list, counted from 1.
 const KIND_LINE: u64 = 2;
 
 /// Reads a schedule for a broken list. Allocates.
@@ -42,14 +42,15 @@ fn run_calls(alloc: Global, broken: BrokenList, schedule: &Schedule) -> Result<R
     calls_of(alloc, schedule, world)
 }
 
-/// Reads a schedule for a broken list, runs it, and returns a report of version 2. The report's order places the calls
-/// as `lset_replay::calls_of` does. This order does not always explain the calls. Allocates.
+/// Reads a schedule for a broken list, runs the schedule, and returns a report of version 2. The report's order lists
+/// the calls by linearization point, as `lset_replay::calls_of` computes them. This order does not always explain the
+/// calls. Allocates.
 ///
 /// # Errors
 ///
-/// Returns the errors of `read_broken_schedule`. If the run ends early, returns the line of the event at which it ends:
-/// the event is not enabled, or its step would access a word outside of the table (`Lost`). If an allocation fails in
-/// the run, returns `Memory` in line 2.
+/// Returns the errors of `read_broken_schedule`. If an event is not enabled, or its step would access a word that the
+/// list does not have (`Lost`), returns the line and the cause. If an allocation fails during the run, returns `Memory`
+/// in line 2.
 pub fn report_broken(alloc: Global, broken: BrokenList, text: &[u8]) -> Result<Report, LineFault>
     ensures { IfOk result (λ r. r.version ≡ Two) }
 {

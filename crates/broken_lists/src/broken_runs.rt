@@ -1,4 +1,4 @@
-//! Opens broken lists for schedules.
+//! Creates broken lists on which schedules can be run.
 ghost use Rattle.lset_schedule.specs.Plan.{opening_in, view};
 ghost use Rattle.lset_words.specs.Words.{Opens};
 
@@ -8,11 +8,11 @@ use lset_schedule::Schedule;
 use lset_words::layout_opening;
 use std::alloc::{AllocError, Global};
 
-/// Opens a broken list for a schedule, before the first event. The list that the schedule names is ignored.
+/// Creates a broken list for a schedule, before the first event. Ignores the list that the schedule names.
 ///
-/// `lset_replay::calls_of` collects the calls of the run and an order of them. If `check_order` refuses this order, some
-/// other order can still explain the calls. `schedule` must be within the limits, as every schedule from `read_schedule`
-/// is. Returns `AllocError` if an allocation fails.
+/// `lset_replay::calls_of` collects the calls of the run and an order of them. If `check_order` refuses this order,
+/// another order can still explain the calls. `schedule` must be within the limits, as every schedule from
+/// `read_schedule` is. Returns `AllocError` if an allocation fails.
 pub fn broken_world_of(
     alloc: Global,
     broken: BrokenList,

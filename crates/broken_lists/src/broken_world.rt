@@ -10,7 +10,7 @@ use lset_text::Cause;
 use lset_words::{Call, Layout, MOST_NODES, MOST_QUOTA, MOST_THREADS};
 use std::alloc::{AllocError, Global};
 
-/// A broken list in a run: its words and the state of each thread.
+/// A broken list during a run: its shared words and the local state of each thread.
 #[derive(Drop)]
 pub struct BrokenWorld {
     alloc: Global,
@@ -19,7 +19,7 @@ pub struct BrokenWorld {
     locals: Vec<Local>,
 }
 
-/// Returns `true` if all numbers in a thread's state are within the limits, so that computing with them cannot
+/// Returns `true` if all numbers in a thread's local state are within their limits. Computing with them then cannot
 /// overflow.
 fn is_small(local: &Local) -> bool
     ensures { IsTrue result → IsSmall local.now }
@@ -33,8 +33,8 @@ fn is_small(local: &Local) -> bool
         && local.node < MOST_NODES
 }
 
-/// Returns the value that `action` sees: the stored value for a store, otherwise the current value of the word. Returns
-/// `None` if the word is outside of the table.
+/// Returns the value that `action` reads or writes: for a store the stored value, otherwise the current value of the
+/// word. Returns `None` if the list has no such word.
 fn sight(words: &[u64], action: Action) -> Option<u64> {
     let (Action::Load(word) | Action::Exchange(word, _, _) | Action::Store(word, _)) = action;
     let held = *words.get(word as usize)?;
@@ -44,7 +44,7 @@ fn sight(words: &[u64], action: Action) -> Option<u64> {
     }
 }
 
-/// Performs the write of `action`, if any: a store, or an exchange that saw the value it expected.
+/// Performs the write of `action`, if any: a store, or a compare-and-exchange that found the value it expected.
 fn write(words: &mut Vec<u64>, action: Action, seen: u64) {
     let (word, value) = match action {
         Action::Store(word, value) => (word, value),
@@ -57,7 +57,7 @@ fn write(words: &mut Vec<u64>, action: Action, seen: u64) {
 }
 
 impl BrokenWorld {
-    /// Opens a broken list with the keys `keys`, before the first event. Returns `AllocError` if an allocation fails.
+    /// Creates a broken list that contains `keys`, before the first event. Returns `AllocError` if an allocation fails.
     pub fn opened(
         alloc: Global,
         broken: BrokenList,
@@ -93,7 +93,7 @@ impl BrokenWorld {
     }
 
     /// Makes the next step of a thread. Returns `NoThread` if the thread does not exist, `Idle` if the thread has no
-    /// pending call, and `Lost` if the step would access a word outside of the table.
+    /// pending call, and `Lost` if the step would access a word that the list does not have.
     fn go(&mut self, thread: u32) -> Result<Told, Cause> {
         let broken = self.broken;
         let local = self.locals.get_mut(thread as usize).ok_or(Cause::NoThread)?;

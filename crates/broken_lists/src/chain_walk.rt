@@ -1,4 +1,5 @@
-//! Walks through a table's words from the head on. The words are arbitrary, since a broken list need not keep a chain.
+//! Walks along the links of a broken list, beginning at the head. The words are arbitrary: a broken list can lose its
+//! chain.
 
 ghost use Rattle.std.specs.Prelude.{◌<◌, ◌^◌, IsTrue};
 
@@ -7,22 +8,22 @@ use lset_words::{key_index, link_index};
 use std::alloc::{AllocError, Global};
 use std::collections::BTreeSet;
 
-/// An invalid node number: no table has this many nodes, so a walk ends here.
+/// An invalid node number. No list has this many nodes, so a walk ends at this number.
 const NO_NODE: u64 = 1 << 32;
 
-/// A node on the walk: its key, its mark, and the number of the next node.
+/// A node that a walk reached: its key, its mark, and the number of the next node.
 #[derive(Clone, Copy)]
 struct Met {
     place: ChainKey,
     next: u64,
 }
 
-/// Returns the word at `index`, or 0 if the table is shorter.
+/// Returns the word with this index; 0 if the list has fewer words.
 fn word_at(words: &[u64], index: u64) -> u64 {
     words.get(index as usize).copied().unwrap_or(0)
 }
 
-/// Returns `true` if `node` is in the table and is neither the head nor the tail.
+/// Returns `true` if the list has this node and the node is neither the head nor the tail.
 fn is_met(words: &[u64], node: u64) -> bool
     ensures { IsTrue result → node < 2 ^ 32 }
 {
@@ -44,10 +45,10 @@ fn met_at(words: &[u64], node: u64) -> Option<Met> {
     })
 }
 
-/// Walks the chain and returns the key and the mark of each node between head and tail. The walk also ends at a link
-/// that leads out of the table.
+/// Walks the chain and returns the key and the mark of each node between head and tail. The walk also ends at a link to
+/// a node that the list does not have.
 ///
-/// The links of a broken list can form a cycle, so the walk visits at most `words.len() / 3` nodes. Returns
+/// The links of a broken list can form a cycle. Therefore the walk visits at most `words.len() / 3` nodes. Returns
 /// `AllocError` if an allocation fails.
 pub(crate) fn chain_met(alloc: Global, words: &[u64]) -> Result<Vec<ChainKey>, AllocError> {
     let mut met = Vec::new(alloc);
@@ -64,8 +65,7 @@ pub(crate) fn chain_met(alloc: Global, words: &[u64]) -> Result<Vec<ChainKey>, A
     Ok(met)
 }
 
-/// Returns the keys of the unmarked nodes in `met`, sorted and without duplicates. Returns `AllocError` if an
-/// allocation fails.
+/// Returns the keys of the unmarked nodes, sorted and without duplicates. Returns `AllocError` if an allocation fails.
 pub(crate) fn keys_of(alloc: Global, met: &[ChainKey]) -> Result<Vec<u32>, AllocError> {
     let mut keys = BTreeSet::new(alloc);
     for place in met {

@@ -1,8 +1,8 @@
-//! Implements the steps of the broken lists. In each `match`, the flaw is in the arm that does not call the intact
-//! list's function.
+//! Implements the steps of the broken lists. In each `match`, the flaw is in the arm that does not call the function of
+//! the intact list.
 //!
-//! Steps are defined for every thread state with small numbers (`IsSmall`), whatever run led to it. `seen` is the value
-//! that was loaded or stored, or the value that the word had before an exchange.
+//! Steps are defined for every thread state with small numbers (`IsSmall`), even if no run leads to that state. `seen`
+//! is the value that a load or a store used, or the value that the word had before a compare-and-exchange.
 ghost use Rattle.lset_steps.specs.Rows.{IsSmall};
 
 use crate::lists::BrokenList;
@@ -16,8 +16,8 @@ use lset_steps::rows::{begun as begun_at, lock_index};
 use lset_steps::{Action, Fed, Local};
 use lset_words::{Call, Key};
 
-/// Returns the value that a thread sees at row `row` if it overlooks the mark: `seen` without its lowest bit. At other
-/// rows, returns `seen` unchanged.
+/// Returns the value that a thread uses if it overlooks the mark at row `row` of its step table: `seen` with the lowest
+/// bit cleared. At other rows, returns `seen` unchanged.
 fn without_mark(row: u8, local: &Local, seen: u64) -> u64 {
     if local.pc == row {
         2 * (seen / 2)
@@ -26,7 +26,7 @@ fn without_mark(row: u8, local: &Local, seen: u64) -> u64 {
     }
 }
 
-/// Begins `call` like the intact list.
+/// Begins `call` as the intact list does.
 pub fn begun(broken: BrokenList, call: Call, local: &Local) -> Local {
     match broken {
         Lock | SecondLock | HandOverHand | SecondWalk | SameNode => begun_at(1, call, local),

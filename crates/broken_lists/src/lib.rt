@@ -1,8 +1,8 @@
 //! The broken lists. Each is one of the five lists with one check removed.
 //!
-//! `BrokenList` names a broken list, and `flaws` has its steps. A broken list violates the laws of a list. Therefore it
-//! is not a `Machine`, and its state is a `BrokenWorld`. `broken_world_of` opens it for a schedule. Some of its runs have
-//! calls that no order explains.
+//! `BrokenList` names a broken list, and the module `flaws` has its steps. A broken list violates laws that the trait
+//! `Machine` demands, so its state is a `BrokenWorld` instead. `broken_world_of` creates this state for a schedule. In
+//! some runs, no order explains the calls.
 #![tactic(auto)]
 
 mod broken_fine;

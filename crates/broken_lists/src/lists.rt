@@ -3,13 +3,13 @@ use lset_words::Kind;
 /// A broken list, named by the check that was removed.
 #[derive(Clone, Copy, Debug, PartialEq, Eq)]
 pub enum BrokenList {
-    /// CoarseList: a call continues without the lock.
+    /// CoarseList: a call continues even if it did not get the lock.
     Lock,
     /// FineList: `remove` locks only `pred`.
     SecondLock,
     /// FineList: a traversal unlocks `pred` before it locks `curr`.
     HandOverHand,
-    /// OptimisticList: the validation only checks that `pred` links to `curr`.
+    /// OptimisticList: the validation checks only that `pred` links to `curr`.
     SecondWalk,
     /// OptimisticList: the second traversal compares keys instead of nodes.
     SameNode,
@@ -21,13 +21,13 @@ pub enum BrokenList {
     MarkInCeiling,
     /// LockFreeList: `remove` unlinks a node without marking it first.
     Mark,
-    /// LockFreeList: `add` exchanges `pred`'s link even if `pred` is marked.
+    /// LockFreeList: `add` replaces `pred`'s link even if `pred` is marked.
     MarkInAdd,
-    /// LockFreeList: `remove` marks a node that is already marked.
+    /// LockFreeList: `remove` also marks a node that another call has already marked.
     MarkInRemove,
     /// LockFreeList: `contains` compares keys and ignores the mark.
     MarkAtKey,
-    /// LockFreeList: every `add` of a thread reuses the thread's first slot.
+    /// LockFreeList: every `add` of a thread reuses the thread's first node.
     NewSlot,
 }
 
@@ -86,7 +86,7 @@ impl BrokenList {
     }
 }
 
-/// Returns the broken list with this name; `None` if there is none.
+/// Returns the broken list with this name; `None` if no broken list has it.
 pub fn named(name: &[u8]) -> Option<BrokenList> {
     for broken in &ALL {
         if broken.name().as_bytes() == name {

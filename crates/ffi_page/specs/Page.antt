@@ -1,4 +1,4 @@
--- The result of a command, written to a buffer of a caller in another language.
+-- How the result of a command is written to a buffer of a caller in another language.
 use Rattle.std.specs.Prelude.{◌≡◌, ◌≢◌, ℕ, ◌≤◌, ◌<◌, ◌⊎◌, List, ◌++◌, length, drop, Ok, Err}
 use Rattle.std.specs.Str.Lossy.{utf8_lossy}
 use Rattle.lset_text.specs.Parts.{cut_at}
@@ -6,40 +6,40 @@ use Rattle.tool_base.specs.declared.trouble.Trouble.TheVariants.{CannotRead, Mem
 use Rattle.tool_base.specs.Tools.{Made}
 use Rattle.tool_base.specs.Trouble as trouble
 
--- The text that the program prints: the text of the answer, or the line about the error.
+-- The text that the program prints for a result: the answer's text, or the line about the error.
 abbrev pub text_of : Made → List ℕ
 text_of (Ok answer) = answer.text
 text_of (Err t) = trouble.trouble_text t
 
--- The program's exit status.
+-- The program's exit status for a result.
 abbrev pub status_of : Made → ℕ
 status_of (Ok answer) = answer.status
 status_of (Err t) = trouble.status_of t
 
--- Either the text is at the start of the buffer and the rest of the buffer is unchanged, or the text does not fit and
--- the whole buffer is unchanged.
+-- The text is at the start of the buffer and the rest of the buffer is unchanged, or the text does not fit and the
+-- whole buffer is unchanged.
 abbrev pub Handed : List ℕ → List ℕ → List ℕ → Type 0
 Handed text old new =
     ((length text ≤ length old) × (new ≡ text ++ drop (length text) old)) ⊎ ((length old < length text) × (new ≡ old))
 
--- The caller receives the text (if it fits), the status, and the length of the text.
+-- The caller receives the result: the text if it fits into the buffer, the status, and the length of the text.
 pub record IsHanded (made : Made) (old new : List ℕ) (status count : ℕ) : Type 0 where
   pub text : Handed (text_of made) old new
   pub status_is : status ≡ status_of made
   pub count_is : count ≡ length (text_of made)
 
--- The result of a command for a text. No device is read, so the error is never CannotRead.
+-- The result of a command for a text. No file is read, so the error is never CannotRead.
 abbrev pub OfText : (List ℕ → Made → Type 0) → List ℕ → Made → Type 0
 OfText Makes text made = Makes text made × (made ≢ Err CannotRead)
 
--- The arguments in the bytes, which zero bytes separate. Invalid UTF-8 is replaced by U+FFFD.
+-- The arguments in the bytes, which are separated by zero bytes. Invalid UTF-8 is replaced by U+FFFD.
 abbrev pub words_in : List ℕ → List (List ℕ)
 words_in bytes = cut_at 0 (utf8_lossy bytes)
 
--- The result of a command for its arguments, or Memory if allocating the arguments failed.
+-- The result of a command for its arguments, or Memory if storing the arguments failed.
 abbrev pub OfWords : (List (List ℕ) → Made → Type 0) → List ℕ → Made → Type 0
 OfWords Makes bytes made = (made ≡ Err Memory) ⊎ Makes (words_in bytes) made
 
--- The command returned a result, and the caller receives that result.
+-- The caller receives a result that the command can have.
 abbrev pub Hands : (Made → Type 0) → List ℕ → List ℕ → ℕ → ℕ → Type 0
 Hands IsMade old new status count = (made : Made) × IsMade made × IsHanded made old new status count

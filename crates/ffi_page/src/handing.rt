@@ -4,7 +4,7 @@ ghost use Rattle.ffi_page.specs.Page.{Handed, IsHanded};
 
 use tool_base::{Answer, Trouble, line_of};
 
-/// Copies the text to the start of the buffer if it fits. Returns the length of the text.
+/// Copies `text` to the start of the buffer `room` if the text fits. Returns the length of the text.
 fn put(text: &[u8], room: &mut [u8]) -> usize
     ensures count { result ≡ length text.now }
     ensures handed { Handed text.now room.old room.new }
@@ -16,8 +16,8 @@ fn put(text: &[u8], room: &mut [u8]) -> usize
     count
 }
 
-/// Copies the result of a tool into the caller's buffer: the text of an answer, or the line about the error. Returns
-/// the length of the text.
+/// Copies the result of a command into the caller's buffer `room`: the text of an answer, or the line about the error.
+/// Sets `status` to the exit status. Returns the length of the text.
 pub fn hand(made: Result<Answer, Trouble>, room: &mut [u8], status: &mut u8) -> usize
     ensures { IsHanded (view made) room.old room.new status.new result }
 {

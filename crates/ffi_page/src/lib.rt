@@ -1,4 +1,4 @@
-//! The commands of `listset` as C functions for a web page: they take a text and return a text and the exit status.
+//! The commands of `listset` as C functions for a web page: they read a text and return a text and the exit status.
 //!
 //! Each function writes what the program would print (or a record of it), or the line about an error, to the start of
 //! `room`. It returns the length of the text in bytes and sets `status` to the program's exit status: 0; 1 if something
@@ -35,8 +35,8 @@ use tool_base::{answer_text, list_faults};
 use tool_judge::{judge_bytes, judge_input};
 use tool_replay::{Check, Expand, Replay, Trace};
 
-/// Replays a schedule and writes its report. If the text has an error or is longer than 67,108,864 bytes, or an event
-/// is not enabled, writes the line about the first error.
+/// Replays a schedule and writes its report. If the text has an error, is longer than 67,108,864 bytes, or has an event
+/// that is not enabled, writes the line about the first error.
 #[unsafe(no_mangle)]
 pub extern "C" fn listset_replay(
     alloc: Global,
@@ -49,9 +49,9 @@ pub extern "C" fn listset_replay(
     hand(answer_text(alloc, &Replay {}, text), room, status)
 }
 
-/// Judges a recording. If some order explains it, writes `ok N calls` and lines about the recording. If none does,
-/// writes `not linearizable` and the calls that show it, with status 1. If the text has an error, writes the line about
-/// the first error.
+/// Judges a recording. If some order explains the recorded calls, writes `ok N calls` and lines about the recording. If
+/// no order does, writes `not linearizable` and the calls that show why, with status 1. If the text has an error,
+/// writes the line about the first error.
 #[unsafe(no_mangle)]
 pub extern "C" fn listset_judge(
     alloc: Global,
@@ -64,9 +64,9 @@ pub extern "C" fn listset_judge(
     hand(judge_bytes(alloc, text), room, status)
 }
 
-/// Judges the recording in the file with this descriptor (0 is standard input) like `listset_judge`. The recording can
-/// have any length. Reads the file in pieces to its end or to the first error, and blocks while reading. If `room` is
-/// too short, the answer is lost; 8,192 bytes are enough.
+/// Judges the recording in the file with this descriptor (0 is standard input), as `listset_judge` does. The recording
+/// can have any length. Reads the file in pieces to its end or to the first error, and blocks while reading. If `room`
+/// is too short, the answer is lost; 8,192 bytes are enough.
 #[unsafe(no_mangle)]
 pub extern "C" fn listset_judge_from(
     alloc: Global,
@@ -74,21 +74,22 @@ pub extern "C" fn listset_judge_from(
     room: &mut [u8],
     status: &mut u8,
 ) -> usize
-    // No contract says what a file contains. The contract of `judge_input` says what the answer is, whatever bytes are
-    // read.
+    // No contract states what a file contains. The contract of `judge_input` states the answer for all bytes that can
+    // be read.
     ensures { Hands (λ _. Unit {0}) room.old room.new status.new result }
 {
     let mut input = HostInput { file };
     hand(judge_input(alloc, &mut input), room, status)
 }
 
-/// Judges a recording and writes the verdict as a record, whose lines have a name and its values. If some order
-/// explains the recording, the record is `verdict ok`, `calls N`, `overlapped N` and `cut BOOL`.
+/// Judges a recording and writes the verdict as a record. Each line of a record has a name and values. If some order
+/// explains the recorded calls, the record is `verdict ok`, `calls N`, `overlapped N` and `cut BOOL`.
 ///
-/// Otherwise, with status 1, it is `verdict none` and `key K`, and `moment M` unless the key is refused because of its
-/// final state. If a contradiction was found, these lines follow: `clash BOOL` (whether the first call leaves the key
-/// present), `first call ..` unless the opening state takes the place of that call, and `second call ..` unless the
-/// final state does. The line for an error is that of `listset_judge`.
+/// If no order does, the status is 1 and the record is `verdict none` and `key K`, and `moment M` unless the key is
+/// refused because of its final state. If a contradiction was found, these lines follow: `clash BOOL`, which states
+/// whether the first call leaves the key present; `first call ..`, which is missing if the contradiction is with the
+/// key's opening state; and `second call ..`, which is missing if it is with the key's final state. Errors are written
+/// as `listset_judge` writes them.
 #[unsafe(no_mangle)]
 pub extern "C" fn listset_judge_record(
     alloc: Global,
@@ -101,8 +102,8 @@ pub extern "C" fn listset_judge_record(
     hand(judge_recording(alloc, text), room, status)
 }
 
-/// Diagnoses a refused recording: writes the lines that `listset judge FILE` prints after those of `listset_judge`,
-/// with status 1. If the text is not a recording or some order explains it, writes nothing and sets status 0.
+/// Diagnoses a refused recording: writes the lines that `listset judge FILE` prints below the lines of `listset_judge`,
+/// with status 1. If the text is not a recording or some order explains its calls, writes nothing and sets status 0.
 #[unsafe(no_mangle)]
 pub extern "C" fn listset_why(alloc: Global, text: &[u8], room: &mut [u8], status: &mut u8) -> usize
     ensures { Hands (λ _. Unit {0}) room.old room.new status.new result }
@@ -111,12 +112,13 @@ pub extern "C" fn listset_why(alloc: Global, text: &[u8], room: &mut [u8], statu
 }
 
 /// Diagnoses a refused recording and writes a record, with status 1. The record has these lines, in this order:
-/// `headline TEXT`; `call THREAD OPERATION KEY BEGIN END REPLY MARK` for each call shown, in the order of their begins
-/// (MARK is `-`, `expected BOOL`, `leaves STATE` or `finds STATE` with `present` or `absent`, or `either`); `also
-/// THREAD OPERATION KEY BEGIN END REPLY` for each change of another key at the same time (of many, the longest); `fact
-/// TEXT` for each fact; and, if there is a likely cause, `likely TEXT` and `because TEXT`. END and REPLY are `-` for a
-/// pending call. If a line has the wrong form or some order explains the calls, writes nothing and sets status 0. Judge
-/// the text first: that keys increase, and that each call can follow the calls before it, is not checked.
+/// `headline TEXT`; `call THREAD OPERATION KEY BEGIN END REPLY MARK` for each call to show, in the order of their
+/// begins (MARK is `-`, `expected BOOL`, `leaves STATE` or `finds STATE`, where STATE is `present` or `absent`, or
+/// `either`); `also THREAD OPERATION KEY BEGIN END REPLY` for each change of another key at the same time (of many, the
+/// longest); `fact TEXT` for each fact; and, if there is a likely cause, `likely TEXT` and `because TEXT`. END and
+/// REPLY are `-` for a pending call. If a line has the wrong form or some order explains the calls, writes nothing and
+/// sets status 0. Judge the text first: this function does not check that keys increase, nor that each call can follow
+/// the calls before it.
 #[unsafe(no_mangle)]
 pub extern "C" fn listset_why_record(
     alloc: Global,
@@ -129,11 +131,11 @@ pub extern "C" fn listset_why_record(
     hand(diagnose_recording(alloc, text), room, status)
 }
 
-/// Diagnoses the refused recording in the file with this descriptor, from the file's current position: writes the lines
-/// that `listset judge FILE` prints after a verdict of `used` lines, with status 1. If a line has the wrong form or
-/// some order explains the calls, writes nothing and sets status 0. Judge the file first: that keys increase, and that
-/// each call can follow the calls before it, is not checked. Blocks while reading. If `room` is too short, the text is
-/// lost; 8,192 bytes are enough.
+/// Diagnoses a refused recording in the file with this descriptor, from the file's current position. Writes the lines
+/// that `listset judge FILE` prints below a verdict of `used` lines, with status 1. If a line has the wrong form or
+/// some order explains the calls, writes nothing and sets status 0. Judge the file first: this function does not check
+/// that keys increase, nor that each call can follow the calls before it. Blocks while reading. If `room` is too short,
+/// the text is lost; 8,192 bytes are enough.
 #[unsafe(no_mangle)]
 pub extern "C" fn listset_why_from(
     alloc: Global,
@@ -147,16 +149,16 @@ pub extern "C" fn listset_why_from(
     hand(diagnose_file(alloc, file, used), room, status)
 }
 
-/// Checks a report and writes the verdict as a record. If the report's order explains it, the record is `verdict own`.
-/// Otherwise the status is 1 and the record has these parts:
-/// - `order FAULT CALL ..` with the details of the fault: the reply at the place, its number and the set's reply; or the
-///   begin, the other call and its end;
-/// - `set K ..`, for `SetReply` and `WrongSet` only;
-/// - what is known of all other orders: `verdict another`, `verdict unknown` or `verdict none`;
+/// Checks a report and writes the verdict as a record. If the report's order explains its calls, the record is `verdict
+/// own`. Otherwise the status is 1 and the record has these parts:
+/// - `order ERROR CALL ..`, the order's first error with its details: the reply in the order, its place and the set's
+///   reply; or the call's begin, the other call and its end;
+/// - `set K ..`, only for `SetReply` and `WrongSet`;
+/// - `verdict another`, `verdict unknown` or `verdict none`, which state what is known of all other orders;
 /// - after `verdict none`: `reply N` if no set returns the reply of call N, nothing if the final keys are not in increasing
 ///   order, and otherwise the lines of `listset_judge_record`.
 ///
-/// The line for an error is that of `listset_check`.
+/// Errors are written as `listset_check` writes them.
 #[unsafe(no_mangle)]
 pub extern "C" fn listset_check_record(
     alloc: Global,
@@ -169,7 +171,7 @@ pub extern "C" fn listset_check_record(
     hand(judge_report(alloc, text), room, status)
 }
 
-/// Checks a report: writes `ok`, or the first fault of its order with status 1. If the text has an error or is too
+/// Checks a report: writes `ok`, or the first error of its order with status 1. If the text has an error or is too
 /// long, writes the line about the first error.
 #[unsafe(no_mangle)]
 pub extern "C" fn listset_check(
@@ -183,8 +185,8 @@ pub extern "C" fn listset_check(
     hand(answer_text(alloc, &Check {}, text), room, status)
 }
 
-/// Traces a schedule and writes the trace. If an event is not enabled, the trace ends before it and the status is 1. If
-/// the text has an error or is too long, writes the line about the first error.
+/// Traces a schedule and writes the trace. If an event is not enabled, the trace ends before this event and the status
+/// is 1. If the text has an error or is too long, writes the line about the first error.
 #[unsafe(no_mangle)]
 pub extern "C" fn listset_trace(
     alloc: Global,
@@ -201,7 +203,7 @@ pub extern "C" fn listset_trace(
     hand(answer_text(alloc, &tool, text), room, status)
 }
 
-/// Traces a schedule like `listset_trace`, with the chain after each event that changed it.
+/// Traces a schedule as `listset_trace` does, and adds the chain of nodes after each event that changed it.
 #[unsafe(no_mangle)]
 pub extern "C" fn listset_trace_with_chains(
     alloc: Global,
@@ -218,13 +220,13 @@ pub extern "C" fn listset_trace_with_chains(
     hand(answer_text(alloc, &tool, text), room, status)
 }
 
-/// Draws a schedule or a report and writes the picture. The status is 1 if the report's order is refused or an event of
-/// the schedule is not enabled; a schedule is drawn up to that event. If the text has an error or is too long, writes
-/// the line about the first error.
+/// Draws a schedule or a report and writes the picture as text. The status is 1 if the report's order is refused or an
+/// event of the schedule is not enabled; a schedule is drawn up to that event. If the text has an error or is too long,
+/// writes the line about the first error.
 ///
-/// The options are the values of `--from`, `--to` and `--width`, in this order, separated by zero bytes. A value
-/// follows a `=`. An option that is empty, or missing at the end, is not set. For a wrong option, the line is `listset:
-/// bad FROM` (or `TO`, `WIDTH`), with status 2.
+/// `options` contains the values of `--from`, `--to` and `--width`, in this order, separated by zero bytes. Each value
+/// follows a `=`. An option that is empty, or missing at the end, is not set. If an option is wrong, writes `listset:
+/// bad FROM` (or `TO`, `WIDTH`) and sets status 2.
 #[unsafe(no_mangle)]
 pub extern "C" fn listset_show(
     alloc: Global,
@@ -238,7 +240,7 @@ pub extern "C" fn listset_show(
     hand(draw_text(alloc, text, false, options), room, status)
 }
 
-/// Draws a schedule or a report like `listset_show`, but as an SVG.
+/// Draws a schedule or a report as `listset_show` does, but as an SVG.
 #[unsafe(no_mangle)]
 pub extern "C" fn listset_show_svg(
     alloc: Global,
@@ -252,13 +254,13 @@ pub extern "C" fn listset_show_svg(
     hand(draw_text(alloc, text, true, options), room, status)
 }
 
-/// Runs a schedule on the broken list with this name, like `--lacks NAME`, and writes what the command prints. The
-/// arguments are the command (`replay`, `trace`, `trace_with_chains`, `show` or `show_svg`) and the options of
+/// Runs a schedule on the broken list with this name, as `--lacks NAME` does, and writes what the command prints.
+/// `words` contains the command (`replay`, `trace`, `trace_with_chains`, `show` or `show_svg`) and the options of
 /// `listset_show`, separated by zero bytes. Only `show` and `show_svg` check the report's order. If the order is
-/// refused, the last lines of `show` say whether another order explains the report.
+/// refused, the last lines of `show` state whether another order explains the report.
 ///
-/// The errors are those of the command on the intact list; `listset: bad NAME: ..` with status 2 if there is no such
-/// broken list; and `Kind` in line 2 if the schedule names another list.
+/// The errors are those of the command on the intact list; `listset: bad NAME: ..` with status 2 if no broken list has
+/// this name; and `Kind` in line 2 if the schedule names another list.
 #[unsafe(no_mangle)]
 pub extern "C" fn listset_lacking(
     alloc: Global,
@@ -273,8 +275,8 @@ pub extern "C" fn listset_lacking(
     hand(run_broken(alloc, name, text, words), room, status)
 }
 
-/// Expands a draft and writes the schedule. If the text has an error or is too long, or a line cannot be expanded,
-/// writes the line about the first error.
+/// Expands a draft and writes the schedule. If the text has an error or is too long, or one of its lines cannot be
+/// expanded, writes the line about the first error.
 #[unsafe(no_mangle)]
 pub extern "C" fn listset_draft(
     alloc: Global,
@@ -287,8 +289,8 @@ pub extern "C" fn listset_draft(
     hand(answer_text(alloc, &Expand {}, text), room, status)
 }
 
-/// Generates a random schedule and writes it. The arguments are separated by zero bytes. If one is missing or wrong,
-/// writes `listset: bad NAME` for the first such argument, with status 2.
+/// Generates a random schedule and writes it. `values` contains the arguments of `gen`, separated by zero bytes. If an
+/// argument is missing or wrong, writes `listset: bad NAME` for the first such argument and sets status 2.
 #[unsafe(no_mangle)]
 pub extern "C" fn listset_gen(
     alloc: Global,
@@ -309,8 +311,8 @@ pub extern "C" fn listset_faults(alloc: Global, room: &mut [u8], status: &mut u8
     hand(list_faults(alloc), room, status)
 }
 
-/// Explains a cause: writes the lines of `listset faults CAUSE`. If no message has this cause, writes `listset: bad
-/// CAUSE` with status 2.
+/// Explains a cause: writes the lines of `listset faults CAUSE`. If there is no such cause, writes `listset: bad CAUSE`
+/// and sets status 2.
 #[unsafe(no_mangle)]
 pub extern "C" fn listset_fault(
     alloc: Global,
@@ -323,8 +325,8 @@ pub extern "C" fn listset_fault(
     hand(fault_by(alloc, cause), room, status)
 }
 
-/// Explains a text from a file with this name: writes the kind of the file, the first line with an error, what the
-/// error is, and how to correct it.
+/// Explains a text that comes from a file with this name. Writes the kind of the file, the first line with an error,
+/// what the error is, and how to correct it.
 #[unsafe(no_mangle)]
 pub extern "C" fn listset_explain(
     alloc: Global,
@@ -338,7 +340,7 @@ pub extern "C" fn listset_explain(
     hand(explain_by(alloc, file, text), room, status)
 }
 
-/// Writes the names of all examples, each with its list and a description.
+/// Writes the names of all examples, each with its kind of list and a description.
 #[unsafe(no_mangle)]
 pub extern "C" fn listset_examples(alloc: Global, room: &mut [u8], status: &mut u8) -> usize
     ensures { Hands (λ _. Unit {0}) room.old room.new status.new result }
@@ -346,7 +348,8 @@ pub extern "C" fn listset_examples(alloc: Global, room: &mut [u8], status: &mut 
     hand(example_by(alloc, None, false), room, status)
 }
 
-/// Writes the schedule of the example with this name. If there is none, writes `listset: bad NAME` with status 2.
+/// Writes the schedule of the example with this name. If there is no such example, writes `listset: bad NAME` and sets
+/// status 2.
 #[unsafe(no_mangle)]
 pub extern "C" fn listset_example(
     alloc: Global,
@@ -359,8 +362,8 @@ pub extern "C" fn listset_example(
     hand(example_by(alloc, Some(name), false), room, status)
 }
 
-/// Writes the broken report of the example with this name. If there is no such example, or the example has no broken
-/// report, writes `listset: bad NAME` with status 2.
+/// Writes the report of a broken list that belongs to the example with this name. If the example does not exist or has
+/// no such report, writes `listset: bad NAME` and sets status 2.
 #[unsafe(no_mangle)]
 pub extern "C" fn listset_broken_example(
     alloc: Global,

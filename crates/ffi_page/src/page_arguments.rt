@@ -3,8 +3,7 @@ ghost use Rattle.ffi_page.specs.Page.{words_in};
 
 use std::alloc::{AllocError, Global};
 
-/// Returns the arguments in the bytes, which are separated by zero bytes. (An argument on a command line cannot contain
-/// a zero byte.)
+/// Splits bytes at zero bytes into arguments. (An argument on a command line cannot contain a zero byte.)
 pub fn words_in(alloc: Global, bytes: &[u8]) -> Result<Vec<String>, AllocError>
     ensures { IfOk result (λ words. map string_bytes words.items ≡ words_in bytes.now) }
 {
@@ -17,8 +16,8 @@ pub fn words_in(alloc: Global, bytes: &[u8]) -> Result<Vec<String>, AllocError>
     Ok(words)
 }
 
-/// Returns the value of option `index` (from 0). Returns `None` if the option is not set, that is, if it is missing or
-/// has no `=`.
+/// Returns the value of option `index`, counted from 0. Returns `None` if the option is not set, that is, if its
+/// argument is missing or does not begin with `=`.
 pub fn option_at(words: &[String], index: usize) -> Option<&str> {
     words.get(index)?.as_str().strip_prefix('=')
 }

@@ -6,7 +6,7 @@ use tool_judge::ShowJudged;
 use tool_replay::{ReplayBroken, Trace, print_example, read_example_request};
 use tool_show::{Show, read_show};
 
-/// Reads the options of `show` from the words at `first` and after. Returns the first wrong option as the error.
+/// Reads the three options of `show` from `words`, beginning at index `first`. The error names the first wrong option.
 fn show_by(svg: bool, words: &[String], first: usize) -> Result<Show, ValueName> {
     let from = option_at(words, first);
     let to = option_at(words, first.saturating_add(1));
@@ -14,7 +14,7 @@ fn show_by(svg: bool, words: &[String], first: usize) -> Result<Show, ValueName>
     read_show(svg, from, to, width)
 }
 
-/// Draws a schedule or a report as text or, if `svg`, as an SVG, limited by the options to some moments and a width.
+/// Draws a schedule or a report as text or, if `svg` is true, as an SVG. The options limit the moments and the width.
 /// Returns the errors of `ShowJudged`, and `Bad` if an option is wrong.
 pub fn draw_text(alloc: Global, text: &[u8], svg: bool, options: &[u8]) -> Result<Answer, Trouble> {
     let words = words_in(alloc, options)?;
@@ -22,8 +22,8 @@ pub fn draw_text(alloc: Global, text: &[u8], svg: bool, options: &[u8]) -> Resul
     answer_text(alloc, &ShowJudged { show }, text)
 }
 
-/// Runs a command for a schedule on a broken list. The command is followed by options that limit the moments and the
-/// width.
+/// Runs a command on a schedule and a broken list. The first of `words` is the command. The others are options that
+/// limit the moments and the width.
 pub fn run_broken(
     alloc: Global,
     name: &[u8],
@@ -50,7 +50,7 @@ pub fn run_broken(
     }
 }
 
-/// Returns the trace of a schedule on a broken list.
+/// Returns the trace of a schedule that runs on a broken list.
 fn trace(alloc: Global, broken: BrokenList, text: &[u8], chains: bool) -> Result<Answer, Trouble> {
     let lacks = Some(broken);
     answer_text(alloc, &Trace { chains, lacks }, text)

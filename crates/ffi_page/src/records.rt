@@ -1,4 +1,4 @@
-//! Writes verdicts as records, whose lines have a name and its values.
+//! Writes verdicts as records. Each line of a record has a name and values.
 
 use lset_judge::{Clash, Refusal, StreamCall, Verdict};
 use lset_picture::{Refusal as OrderRefusal, picture_of_report};
@@ -10,7 +10,7 @@ use std::alloc::{AllocError, Global};
 use tool_base::{Answer, Input, Trouble};
 use tool_judge::{Claim, claim_on, put_call};
 
-/// Writes one side of a contradiction, if it is a call.
+/// Writes the line of one call of a contradiction. Writes nothing if `made` is `None`.
 fn put_side(out: &mut String, side: &str, made: Option<StreamCall>) -> Result<(), AllocError> {
     let Some(call) = made else {
         return Ok(());
@@ -19,7 +19,8 @@ fn put_side(out: &mut String, side: &str, made: Option<StreamCall>) -> Result<()
     put_call(out, call)
 }
 
-/// Writes a contradiction: whether the first call (or the opening state) leaves the key present, and the two calls.
+/// Writes a contradiction: whether the first call (or the key's opening state) leaves the key present, and the two
+/// calls.
 fn put_clash(out: &mut String, clash: Clash) -> Result<(), AllocError> {
     let was = clash.was == Presence::Present;
     writeln!(out, "clash {was}")?;
@@ -27,7 +28,7 @@ fn put_clash(out: &mut String, clash: Clash) -> Result<(), AllocError> {
     put_side(out, "second", clash.second)
 }
 
-/// Writes a refusal: the key, the moment if there is one, and the contradiction.
+/// Writes a refusal: the key, the moment if the refusal has one, and the contradiction if one was found.
 fn put_none(out: &mut String, refusal: Refusal, clash: Option<Clash>) -> Result<(), AllocError> {
     let key = refusal.key.0;
     writeln!(out, "verdict none\nkey {key}")?;
@@ -49,7 +50,7 @@ fn put_set(out: &mut String, keys: &[u32]) -> Result<(), AllocError> {
     out.push_str("\n")
 }
 
-/// Writes the first fault of an order, and the set's keys at that place.
+/// Writes the first error of an order, and the keys that the set has at that place of the order.
 fn put_order(out: &mut String, refusal: &OrderRefusal) -> Result<(), AllocError> {
     match refusal {
         OrderRefusal::Unknown { call, .. } => writeln!(out, "order Unknown {call}"),
@@ -83,7 +84,7 @@ fn put_order(out: &mut String, refusal: &OrderRefusal) -> Result<(), AllocError>
     }
 }
 
-/// Writes what is known of all orders of a report.
+/// Writes what is known of all orders of a report's calls.
 fn put_claim(out: &mut String, claim: Claim) -> Result<(), AllocError> {
     match claim {
         Claim::NotIncreasing => out.push_str("verdict none\n"),
@@ -94,7 +95,7 @@ fn put_claim(out: &mut String, claim: Claim) -> Result<(), AllocError> {
     }
 }
 
-/// Judges a recording and returns the verdict as a record. Returns the errors of `judge_bytes`.
+/// Judges a recording and returns the verdict as a record. Fails as `judge_bytes` does.
 pub fn judge_recording(alloc: Global, text: &[u8]) -> Result<Answer, Trouble> {
     let mut reader = RecordingReader::new(alloc);
     reader.feed(text)?;
@@ -124,8 +125,8 @@ pub fn judge_recording(alloc: Global, text: &[u8]) -> Result<Answer, Trouble> {
     })
 }
 
-/// Checks a report and returns a record: `verdict own`, or the fault of the report's order and what is known of all
-/// other orders. Returns the errors of `Check`.
+/// Checks a report and returns a record: `verdict own`, or the error of the report's order and what is known of all
+/// other orders. Fails as the command `check` does.
 pub fn judge_report(alloc: Global, text: &[u8]) -> Result<Answer, Trouble> {
     let input = Input::new(text)?;
     let report = read_report(alloc, input.bytes())?;

@@ -1,8 +1,8 @@
 //! A first program that uses the library.
 //!
-//! One thread makes calls on a set of its own. Two threads share a set, the set is closed, and a set of another list
-//! opens with the final keys. The program then starts two threads itself, and a receipt orders their calls. Finally, it
-//! replays a recorded schedule.
+//! One thread makes calls on its own set. Two threads share a set, the set is closed, and a set of another kind of list
+//! opens with the final keys. The program then starts two threads itself, and a receipt orders their calls. Finally,
+//! the program replays a recorded schedule.
 #![tactic(auto)]
 
 ghost use Rattle.std.specs.Prelude.{◌≡◌, [], ◌∷◌, IfOk, map};
@@ -26,11 +26,11 @@ use std::alloc::Global;
 use std::sync::Wait;
 use std::thread::{Threads, join};
 
-/// A schedule of one thread on a CoarseList: the seven steps of an `add`.
+/// A schedule for one thread on a CoarseList: the seven steps of an `add`.
 const SCHEDULE: &str =
     "listset-schedule 1\nlist coarse\nthreads 1\nquota 1\nbegin 0 add 5\ngo 0 7\n";
 
-/// Makes calls on a LazyList from one thread, with a quota of two, and prints the replies.
+/// Makes calls on a LazyList from one thread, which can add two keys, and prints the replies.
 fn one_thread<R: Wait + Print>(rt: &R, alloc: Global) -> Result<()> {
     let (set, mut seats) = open::<LazyList>(alloc, 1, 2)?;
     let mut seat = seats.pop().context("the set has no seat")?;
@@ -45,8 +45,8 @@ fn one_thread<R: Wait + Print>(rt: &R, alloc: Global) -> Result<()> {
     Ok(())
 }
 
-/// Runs two programs in two threads on a set of the list `M` that opens with the keys `keys`. Each thread has a quota
-/// of two. Returns the replies to each program and the final keys.
+/// Runs two programs in two threads on a set of the list `M` that opens with `keys`. Each thread can add two keys.
+/// Returns the replies to each program and the final keys.
 fn two_threads<M: Running + Send + Sync + Drop, R: Threads + Wait + Sync>(
     rt: &R,
     alloc: Global,
@@ -54,8 +54,8 @@ fn two_threads<M: Running + Send + Sync + Drop, R: Threads + Wait + Sync>(
     first: [Call; 2],
     second: [Call; 2],
 ) -> Result<Outcome>
-    // There is one legal order that has exactly these calls with these replies, keeps the order of each thread's calls,
-    // and leaves the final keys.
+    // All these calls, with their replies, have a legal order that keeps the order of each thread's calls and leaves
+    // the final keys.
     ensures { IfOk result (λ o. IsOneLegalOrder (record { threads = 2; quota = 2; keys = keys.now })
         (worked (fresh 0 ∷ fresh 1 ∷ []) (first ∷ second ∷ []) (map (λ v. v.items) o.replies.items)) o.keys.items) }
 {
@@ -66,7 +66,7 @@ fn two_threads<M: Running + Send + Sync + Drop, R: Threads + Wait + Sync>(
     Ok(work(rt, alloc, set, seats, programs, &Always)?)
 }
 
-/// Opens an empty LazyList, and then a LockFreeList with the LazyList's final keys.
+/// Runs programs on an empty LazyList, and then on a LockFreeList that opens with the LazyList's final keys.
 fn two_lives<R: Threads + Wait + Sync>(rt: &R, alloc: Global) -> Result<(Outcome, Outcome)> {
     let first = [Call::Add(Key(5)), Call::Add(Key(7))];
     let second = [Call::Add(Key(9)), Call::Remove(Key(9))];
@@ -77,7 +77,7 @@ fn two_lives<R: Threads + Wait + Sync>(rt: &R, alloc: Global) -> Result<(Outcome
     Ok((left, again))
 }
 
-/// Adds a key. Returns the seat and a receipt of everything that the seat has seen.
+/// Adds a key. Returns the seat and a receipt, which records the events that the seat has seen.
 fn add_and_tell<M: Running, R: Wait>(
     rt: &R,
     set: &LiveSet<M>,
@@ -92,9 +92,9 @@ fn add_and_tell<M: Running, R: Wait>(
     (seat, receipt)
 }
 
-/// Starts two threads on one LazyList, each with a quota of one. Each thread adds a key. Seat one then accepts seat
-/// zero's receipt and looks for seat zero's key. In every order that `close` promises, seat zero's `add` comes before
-/// this `contains`.
+/// Starts two threads on one LazyList. Each thread can add one key and does so. Seat one then accepts seat zero's
+/// receipt and looks for seat zero's key. In every order that `close` promises, seat zero's `add` comes before this
+/// `contains`.
 fn started_threads<R: Threads + Wait + Sync + Print>(rt: &R, alloc: Global) -> Result<()> {
     let (set, mut seats) = open::<LazyList>(alloc, 2, 1)?;
     let (Some(one), Some(zero)) = (seats.pop(), seats.pop()) else {
@@ -122,7 +122,7 @@ fn started_threads<R: Threads + Wait + Sync + Print>(rt: &R, alloc: Global) -> R
 
 /// Replays a schedule and returns its report.
 fn replay_text(alloc: Global, text: &str) -> Result<Report>
-    // The text spells a schedule. The report's order is a linearization of its calls and leaves its final keys.
+    // The text is a schedule, and the order in the report is a linearization of its calls that leaves its final keys.
     ensures { IfOk result (λ r. (p : Plan) × IsSchedule p × (text.now ≡ schedule_text p) × IsExplained (view r)) }
 {
     let schedule = read_schedule(alloc, text.as_bytes())?;
@@ -132,7 +132,7 @@ fn replay_text(alloc: Global, text: &str) -> Result<Report>
 fn main(rt: HostRuntime) -> Result<()> {
     let alloc = rt.alloc();
     one_thread(&rt, alloc)?;
-    // Threads can be started only if `main` itself passes `rt` to the functions that start them.
+    // `main` passes `rt` to the functions directly: only then can they start threads.
     let (left, again) = two_lives(&rt, alloc)?;
     println!(rt;
         "the replies {:?} leave the keys {:?}",

@@ -1,5 +1,5 @@
-//! The program: passes its command line and the system's streams to `lset_dispatch`, and exits with the status that it
-//! returns.
+//! The program `listset`. Passes the command line and the system's streams to `lset_dispatch`, and exits with the
+//! status that `lset_dispatch` returns.
 #![tactic(auto)]
 
 use lset_command::VERSION;
@@ -9,14 +9,16 @@ use std::io::{self, ErrorKind, Write};
 use std::process::ExitCode;
 use tool_base::{Trouble, deliver, put};
 
-// The commit of the sources, and whether they are proved. The build overwrites these bytes in place if it knows both
+// The commit of the sources, and whether they are proved. A build that knows both overwrites these bytes in the program
+// (`build/version_stamp.py`), so the lengths are fixed.
 // (`build/version_stamp.py`), so the lengths are fixed.
 const BUILT: &str = "commit 0000000000000000000000000000000000000000\nproof unknown\n";
 
-// The error for an argument that std does not return as a `String`. (std cannot open a file with such a name either.)
+// The message for an argument that std cannot return as a `String`. (std cannot open a file with such a name either.)
 const NOT_UTF8: &[u8] = b"listset: an argument is not UTF-8\n";
 
-/// Returns the arguments after the program's name. The error has the kind `InvalidData` if an argument is not UTF-8;
+/// Returns the arguments after the program's name. The error has the kind `InvalidData` if an argument is not UTF-8. An
+/// error of any other kind means that an allocation failed.
 /// any other kind means that an allocation failed.
 fn words_given(rt: &HostRuntime) -> io::Result<Vec<String>> {
     Ok(std::env::args(rt)?.skip(1).collect(rt.alloc())?)
@@ -36,13 +38,14 @@ fn end_without_text(rt: &HostRuntime) -> ExitCode {
     ExitCode::from(2)
 }
 
-/// Exits because no memory was available for the arguments.
+/// Exits because an allocation failed while the arguments were read.
 fn end_without_memory(rt: &HostRuntime) -> ExitCode {
     let (output, stderr) = (&mut io::writer(rt), &mut rt.stderr());
     ExitCode::from(deliver(Err(Trouble::Memory), output, stderr))
 }
 
-/// Prints the text of `--version`, followed by the program's origin. Returns the exit status.
+/// Prints the text of `--version`: the name, the version, the commit and whether the program is proved. Returns the
+/// exit status.
 fn tell_origin<W: Write, E: Write>(output: &mut W, stderr: &mut E) -> u8 {
     let is_whole = put(output, b"listset ")
         && put(output, VERSION.as_bytes())
@@ -59,7 +62,7 @@ fn asks_for_origin(words: &[&str]) -> bool {
     words.len() == 2 && words[0] == "--version" && words[1] == "--long"
 }
 
-// The runtime can start threads and open sockets only if `main` itself passes it on.
+// `main` passes the runtime on directly: only then can the runtime start threads and open sockets.
 fn main(rt: HostRuntime) -> ExitCode {
     let given = match words_given(&rt) {
         Ok(given) => given,

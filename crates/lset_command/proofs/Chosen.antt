@@ -1,4 +1,4 @@
--- The command that results from parsing the program's arguments.
+-- The command that results from parsing the command line.
 use Rattle.std.proofs.Common.{◌≡◌, List, [], Option, Some, None, Result, Ok, Err, refl, true, subst, sym}
 use Rattle.std.specs.Prelude.{option_map, Box, IsErrAnd}
 use Rattle.std.specs.Box.{box_value}
@@ -17,7 +17,7 @@ use Rattle.lset_command.specs.declared.command_line.Words.{Words}
 abbrev pub chosen : Command → List Text → OptionValues → Choice
 chosen command values options = record { command = command; values = values; options = options }
 
--- What clap returns for a command that is equal to the program's.
+-- What clap returns for a command that is equal to the program's command.
 pub program_matches : (m : ArgMatches) (a : App) (words : List Text) → a ≡ listset → HasMatchesOf a words m →
     subcommand_rows_of m ≡ subcommand_of listset words
 program_matches m a words is matches = (subst (λ (x : App). HasMatchesOf x words m) is matches refl).1
@@ -56,7 +56,6 @@ pub chosen_replay : (values : List Text) (options : OptionValues) (found : Optio
     → options ≡ options_in [] → chosen Replay values options ≡ choice_of found
 chosen_replay values options found is empty none = rw (is, empty, none) refl
 
--- An error that is passed on unchanged.
 pub fails_as : (kinds : Kinds) (r : Result Words Error) (e : Error) → IsErrAnd r (λ given. given ≡ e) → HasKind kinds e →
     FailsBy kinds r
 fails_as kinds (Ok words) e same kind = absurd same

@@ -1,4 +1,4 @@
--- A clap command does not change if a setting is made that parsing ignores.
+-- Some settings of a clap command do not affect how a command line is parsed.
 use Rattle.std.proofs.Common.{◌≡◌, sym, subst, false, IfOk, Result, Ok, Err}
 use Rattle.std.specs.declared.alloc.AllocError.{AllocError}
 use Rattle.clap.specs.Words.{App}
@@ -8,13 +8,12 @@ use Rattle.clap.specs.declared.Command.TheViews.{out-Command}
 use Rattle.clap.specs.declared.builder.command.Command.TheOpen.{Command-F}
 use Rattle.lset_command.specs.CommandLine.{IsApp, Makes}
 
--- A command corresponds to an app if its fields do.
 pub by_fields : (c : Command) (fields : Command-F Command) (a : App) → out-Command c ≡ fields
     → (app_of_fields fields ≡ a) × (fields.has_globals ≡ false) → IsApp c a
 by_fields c fields a is app =
     subst (λ (f : Command-F Command). (app_of_fields f ≡ a) × (f.has_globals ≡ false)) (sym is) app
 
--- Setting the name that the usage text uses for the program does not change the command.
+-- The name in the usage text does not affect how a command line is parsed.
 pub Makes-named : (made : Result Command AllocError) (old : Command) (a : App) (Rest : Command → Type 0)
     → IfOk made (λ c. (out-Command c ≡ record (out-Command old) { bin_name = (out-Command c).bin_name }) × Rest c)
     → IsApp old a → Makes made a

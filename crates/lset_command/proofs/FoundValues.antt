@@ -1,4 +1,4 @@
--- The values that a parse has found, name by name.
+-- The values that a parse found, argument by argument.
 use Rattle.std.proofs.Common.{◌≡◌, List, [], ◌∷◌, ◌++◌, map, drop, Option, Some, None, true, false, ap, sym, ◌∙◌, append_assoc, append-nil}
 use Rattle.std.specs.Prelude.{codes, if◌then◌else◌, option_map, slice_get, unwrap_or}
 use Rattle.std.specs.Option.{option_map_or}
@@ -22,7 +22,7 @@ by_all_names f names all =
     f.entries.items
     ∙ sym (flat_map-map (λ (row : Row). values_by row.id (rows_of f)) row_of f.entries.items)
 
--- What clap's getter returns for a name that has values.
+-- What clap returns for the name of an argument that has values.
 pub got : (f : Found) (name : Text) (values : Option (List Text)) → is_option name ≡ false →
     values ≡ option_map raw_values (matched_of f name)
     → values_by name (rows_of f) ≡ unwrap_or values []
@@ -30,11 +30,9 @@ got f name values plain is =
     ap (λ b. if b then [] else unwrap_or (all_of name (rows_of f)) []) plain
     ∙ ap (λ o. unwrap_or o []) (sym (raw_values-rows f name) ∙ sym is)
 
--- Flags and options are not among the values.
 pub none_of_option : (name : Text) (rows : List Row) → is_option name ≡ true → values_by name rows ≡ []
 none_of_option name rows is = ap (λ b. if b then [] else unwrap_or (all_of name rows) []) is
 
--- What `get_str` returns for a name.
 pub told : (f : Found) (name : Text) (text : Option Text) → text ≡ first_value f name → first_of name (rows_of f) ≡ text
 told f name text is = sym (first_value-rows f name) ∙ sym is
 
@@ -46,7 +44,7 @@ first_and_rest : (name : Text) (left after : List Text) → Some name ≡ slice_
 first_and_rest name [] after first rest = absurd cc
 first_and_rest name (x ∷ xs) after first rest = cc
 
--- The values including those of one more name.
+-- The values found for some arguments, and for one more.
 pub one_more : (rows : List Row) (all had has : List Text) (name : Text) (left after : List Text) → had
     ++ values_by_names rows left ≡ all
     → Some name ≡ slice_get left 0 → after ≡ drop 1 left → has ≡ had ++ values_by name rows → has

@@ -1,5 +1,4 @@
--- The program's command line as a simple clap command: its subcommands and their values. clap's definitions say which
--- values the arguments have.
+-- The program's command line, as clap's definitions describe it: the subcommands, their arguments, flags and options.
 use Rattle.std.specs.Prelude.{◌≡◌, Result, IfOk, List, [], map, codes, Bool, true, false, ◌||◌, Option, Some, None, option_map, unwrap_or}
 use Rattle.std.specs.Prelude.{string_bytes, if◌then◌else◌, option_and_then}
 use Rattle.std.specs.List.{flat_map}
@@ -18,15 +17,15 @@ use Rattle.lset_command.specs.declared.command_line.Command.TheVariants.{Gen, Ru
 use Rattle.lset_command.specs.declared.command_line.Options.{Options}
 use Rattle.lset_command.specs.declared.command_line.Words.{Words}
 
--- A flag, `--NAME`.
+-- A flag `--NAME`.
 abbrev pub flag_rule : Text → Rule
 flag_rule name = record (new_rule name) { long = Some name; action = Some SetTrue }
 
--- An option with a value, `--NAME M`.
+-- An option with a value, `--NAME VALUE`.
 abbrev pub option_rule : Text → Rule
 option_rule name = record (new_rule name) { long = Some name; value_names = 1 }
 
--- `check [FILE]`, `draft [FILE]` and `explain [FILE]`; other commands start with the same rule
+-- `check [FILE]`, `draft [FILE]` and `explain [FILE]`; the rules of some other commands start with this one
 abbrev pub file_app : Text → App
 file_app name = with_rule (new_app name) (new_rule (codes "FILE"))
 
@@ -56,7 +55,7 @@ trace_app = with_rule (with_rule (file_app (codes "trace")) (flag_rule (codes "c
 abbrev pub example_app : App
 example_app = with_rule (with_rule (new_app (codes "example")) (new_rule (codes "NAME"))) (flag_rule (codes "broken"))
 
--- `gen KIND THREADS QUOTA CALLS KEYS SEED`; `run` starts with the same values
+-- `gen KIND THREADS QUOTA CALLS KEYS SEED`; the rule of `run` starts with this one
 abbrev pub six_values : Text → App
 six_values name =
     with_rule (with_rule (with_rule (with_rule (with_rule (with_rule (new_app name)
@@ -86,7 +85,7 @@ serve_app =
 abbrev pub faults_app : App
 faults_app = with_rule (new_app (codes "faults")) (new_rule (codes "CAUSE"))
 
--- The program, which has a version; its arguments begin after its name.
+-- The whole program: a version and all subcommands. Its arguments begin after the program's name.
 abbrev pub listset : App
 listset =
     with_subcommand (with_subcommand (with_subcommand (with_subcommand (with_subcommand
@@ -106,46 +105,46 @@ listset =
     faults_app.top)
     (file_app (codes "explain")).top
 
--- ---- the program's command in clap
+-- ---- Commands as values of clap's type
 
--- The clap command corresponds to the app and has no global argument.
+-- The value `a` describes clap's command c, whose arguments are not global.
 abbrev pub IsApp : clap.Command → App → Type 0
 IsApp c a = (app_of c ≡ a) × ((out-Command c).has_globals ≡ false)
 
--- If a command is returned, it corresponds to the app.
+-- If clap's command was created, the value `a` describes it.
 abbrev pub Makes : Result clap.Command AllocError → App → Type 0
 Makes made a = IfOk made (λ c. IsApp c a)
 
--- Adds an argument, if the command was created.
+-- If a command was created, the result is this command with one more argument.
 abbrev pub MakesWithArg : Result clap.Command AllocError → Arg → Result clap.Command AllocError → Type 0
 MakesWithArg old arg new = (a : App) (r : Rule) → Makes old a → rule_of arg ≡ r → arg.global ≡ false → Makes new (with_rule a r)
 
--- Adds a subcommand, if both commands were created.
+-- If both commands were created, the result is the one with the other as a subcommand.
 abbrev pub MakesWithSubcommand : Result clap.Command AllocError → Result clap.Command AllocError → Result clap.Command AllocError →
     Type 0
 MakesWithSubcommand old sub new = (a b : App) → Makes old a → Makes sub b → Makes new (with_subcommand a b.top)
 
--- ---- the result of a parse
+-- ---- The result of parsing a command line
 
--- The names of flags and options; all other names have values.
+-- The names of flags and options. Every other name is an argument whose values are returned in order.
 abbrev pub is_option : Text → Bool
 is_option name = bytes_eq name (codes "svg") || (bytes_eq name (codes "from") || (bytes_eq name (codes "to")
     || (bytes_eq name (codes "width") || (bytes_eq name (codes "brief") || (bytes_eq name (codes "only")
     || (bytes_eq name (codes "chain") || (bytes_eq name (codes "broken") || bytes_eq name (codes "lacks"))))))))
 
--- The values of this name among the rows of a parse.
+-- The values of one argument among all that a parse found; empty for a flag or an option.
 abbrev pub values_by : Text → List Row → List Text
 values_by name rows = if is_option name then [] else unwrap_or (all_of name rows) []
 
--- The values of a command, in order.
+-- The values of all arguments of a command, in order.
 abbrev pub values_in : List Row → List Text
 values_in rows = flat_map (λ row. values_by row.id rows) rows
 
--- True if a flag is on. clap represents this by the text `true` or `false`.
+-- True if the flag with this name is on. clap represents a flag by the text `true` or `false`.
 abbrev pub is_on : Text → List Row → Bool
 is_on name rows = option_map_or (λ text. bytes_eq text (codes "true")) (first_of name rows) false
 
--- The flags that are on, and the values of FILE and of the options if they are given.
+-- The flags that are on, the value of FILE, and the values of the options, as far as they are present.
 pub record OptionValues : Type 0 where
   pub file : Option Text
   pub svg : Bool
@@ -172,7 +171,7 @@ options_in rows = record {
   lacks = first_of (codes "lacks") rows;
 }
 
--- The command with this name; a parse only finds names that are in `listset`.
+-- The command with this name. A parse finds only the names in `listset`.
 unfoldable pub command_named : Text → Command
 command_named name =
     if bytes_eq name (codes "judge") then Judge
@@ -188,18 +187,18 @@ command_named name =
     else (if bytes_eq name (codes "explain") then Explain
     else Replay))))))))))
 
--- A command with its values, flags and options.
+-- A command with its arguments, flags and options.
 pub record Choice : Type 0 where
   pub command : Command
   pub values : List Text
   pub options : OptionValues
 
--- What a parse of the command line chooses; `replay` if no command is named.
+-- The command that was chosen on the command line: `replay` if no command is named.
 abbrev pub choice_of : Option (Text × List Row) → Choice
 choice_of None = record { command = Replay; values = []; options = options_in [] }
 choice_of (Some found) = record { command = command_named found.0; values = values_in found.1; options = options_in found.1 }
 
--- ---- the arguments in the program
+-- ---- The options as the program stores them
 
 abbrev pub options_of : Options → OptionValues
 options_of o = record {
@@ -218,7 +217,7 @@ options_of o = record {
 abbrev pub choice_in : Words → Choice
 choice_in w = record { command = w.command; values = map string_bytes w.values.items; options = options_of w.options }
 
--- The path of the file that an argument names; `-` means standard input and is not a path.
+-- The path that an argument FILE contains. `-` means standard input and is not a path.
 abbrev pub path_in : Text → Option Text
 path_in word = if bytes_eq word (codes "-") then None else Some word
 

@@ -10,7 +10,7 @@ use clap::error::ErrorKind;
 use clap::{Arg, ArgAction, ArgMatches, Error};
 use std::alloc::{AllocError, Global};
 
-/// The text of `--version` after the program's name: the version, then a line with the kit and the logic of the proof.
+/// The text that `--version` prints after the program's name: the version, then the kit and the logic of the proof.
 pub const VERSION: &str = "0.1.0\nRattle kit 13, logic dac8208d650f15bf";
 
 // Help texts for arguments and options.
@@ -60,12 +60,12 @@ const BRIEF_FLAG: &str = "Print only the verdict and its numbers, no diagnosis a
 const ONLY_OPTION: &str =
     "Print a recording of one key alone, or of the few calls that show its refusal";
 
-/// Help texts that other crates provide.
+/// Help texts that are computed by other crates.
 #[derive(Clone, Copy)]
 pub struct Helps<'a> {
     /// The help for the command `faults`.
     pub faults: &'a str,
-    /// The help for the option `--lacks`, with the names of the broken lists.
+    /// The help for the option `--lacks`, which contains the names of the broken lists.
     pub lacks: &'a str,
 }
 
@@ -74,7 +74,7 @@ pub struct Helps<'a> {
 pub enum Command {
     /// Replays a schedule. This is the default command.
     Replay,
-    /// Judges recorded calls.
+    /// Decides whether some order explains recorded calls.
     Judge,
     /// Checks the order of a report.
     Check,
@@ -88,7 +88,7 @@ pub enum Command {
     Example,
     /// Generates a schedule.
     Gen,
-    /// Runs random programs on threads.
+    /// Runs random programs in threads on one set.
     Run,
     /// Serves sessions on one set.
     Serve,
@@ -98,12 +98,12 @@ pub enum Command {
     Explain,
 }
 
-/// The flags that are on, and the values of the options as they were given. If a command does not have a flag or an
+/// The flags that are on, and the values of the options as they were typed. If a command does not have a flag or an
 /// option, the flag is off and the option is `None`.
 #[derive(Drop)]
 pub struct Options {
-    /// The argument FILE, which is also among the values. Without it, `serve` reads nothing, and the other commands
-    /// that have this argument read standard input.
+    /// The argument FILE, which `values` of `Words` contains too. Without FILE, `serve` reads nothing, and the other
+    /// commands that have this argument read standard input.
     pub file: Option<String>,
     /// Whether `show` draws an SVG.
     pub svg: bool,
@@ -113,11 +113,11 @@ pub struct Options {
     pub to: Option<String>,
     /// The maximum row length of `show`, in characters.
     pub width: Option<String>,
-    /// Whether `judge` prints the verdict without what is wrong.
+    /// Whether `judge` prints the verdict only, without what is wrong.
     pub brief: bool,
     /// The only key whose calls `judge` prints.
     pub only: Option<String>,
-    /// Whether `trace` prints the chain.
+    /// Whether `trace` prints the chain of nodes.
     pub chain: bool,
     /// Whether `example` prints the report of a broken list.
     pub broken: bool,
@@ -125,7 +125,7 @@ pub struct Options {
     pub lacks: Option<String>,
 }
 
-/// A command with its arguments as given, its flags and its options.
+/// A command, its arguments as they were typed, its flags and its options.
 #[derive(Drop)]
 pub struct Words {
     pub command: Command,
@@ -134,8 +134,8 @@ pub struct Words {
 }
 
 impl Words {
-    /// Returns the path of the file that the command reads, if any. The argument `-` means standard input; use `./-`
-    /// for a file of that name.
+    /// Returns the path of the file that the command reads; `None` if the command line has no path. The argument `-`
+    /// means standard input. (The path of a file named `-` is `./-`.)
     pub fn path(&self) -> Option<&str>
         ensures { option_map (λ path. path.now) result ≡ path_of (choice_in self.now) }
     {
@@ -144,7 +144,7 @@ impl Words {
     }
 }
 
-// Creates an argument that `clap` treats as optional.
+// Creates an argument that `clap` accepts as missing.
 fn value<'a>(alloc: Global, name: &'a str, help: &'a str) -> Arg<'a>
     ensures rule { rule_of result ≡ new_rule name.entry.now }
     ensures local { result.global ≡ false }
@@ -173,8 +173,8 @@ fn value_option<'a>(alloc: Global, name: &'a str, value_name: &'a str, help: &'a
         .help(help)
 }
 
-// Adds an argument, if the command was created. The callers use this instead of `?`, because the drops at each early
-// return would take most of their proofs.
+// Adds an argument to `command` if this command was created. The callers use this function instead of `?`: an early
+// return drops all arguments, and proving the drops would take most of the proofs.
 fn and_arg<'a>(
     command: Result<clap::Command<'a>, AllocError>,
     arg: Arg<'a>,
@@ -184,7 +184,7 @@ fn and_arg<'a>(
     command?.arg(arg)
 }
 
-// Adds a subcommand, if both commands were created.
+// Adds a subcommand to `command` if both were created.
 fn and_subcommand<'a>(
     command: Result<clap::Command<'a>, AllocError>,
     subcommand: Result<clap::Command<'a>, AllocError>,
@@ -264,8 +264,8 @@ fn example_command<'a>(alloc: Global) -> Result<clap::Command<'a>, AllocError>
         .arg(flag(alloc, "broken", BROKEN_FLAG))
 }
 
-// Creates a command whose usage text is written out. `clap` treats all values as optional and would print each in
-// brackets. The command's tool names the first missing value.
+// Creates a command whose usage text is written by hand. `clap` treats all values as optional and would print each
+// value in brackets. If a value is missing, the program reports the first missing one.
 fn command_with_usage<'a>(
     alloc: Global,
     name: &'a str,
@@ -431,7 +431,7 @@ fn program_command<'a>(alloc: Global, helps: Helps<'a>) -> Result<clap::Command<
     and_subcommand(program, explain_command(alloc))
 }
 
-// Returns `true` if this is the name of a flag or an option.
+// Returns `true` if `name` is the name of a flag or an option.
 fn is_option(name: &str) -> bool
     ensures { result ≡ is_option name.now }
 {
@@ -441,7 +441,7 @@ fn is_option(name: &str) -> bool
     )
 }
 
-// Appends the values found for a name, if the name has values.
+// Appends the values that `clap` found for an argument name, if any.
 fn push_values(
     alloc: Global,
     values: &mut Vec<String>,
@@ -473,7 +473,7 @@ fn values_of(alloc: Global, found: &ArgMatches<'_>) -> Result<Vec<String>, Alloc
     Ok(values)
 }
 
-// Returns `true` if a flag is on.
+// Returns `true` if the flag with this name is on.
 fn is_on(found: &ArgMatches<'_>, name: &str) -> bool
     ensures { result ≡ is_on name.now (rows_of (found_of found.now)) }
 {
@@ -483,7 +483,7 @@ fn is_on(found: &ArgMatches<'_>, name: &str) -> bool
     }
 }
 
-// Returns the value of an option; `None` if the option was not given.
+// Returns the value of an option; `None` if the option is missing.
 fn option_text(
     alloc: Global,
     found: &ArgMatches<'_>,
@@ -514,7 +514,7 @@ fn options_of(alloc: Global, found: &ArgMatches<'_>) -> Result<Options, AllocErr
     })
 }
 
-// Returns options with nothing set.
+// Returns options in which nothing is set.
 fn no_options() -> Options
     ensures { options_of result ≡ options_in [] }
 {
@@ -532,7 +532,7 @@ fn no_options() -> Options
     }
 }
 
-// Returns the command with this name, which `program_command` lists.
+// Returns the command with this name. `name` must be a name that `program_command` lists.
 #[tactic(auto, unfolding(crate::specs::CommandLine::command_named))]
 fn command_named(name: &str) -> Command
     ensures { result ≡ command_named name.now }
@@ -556,23 +556,23 @@ fn command_named(name: &str) -> Command
 /// Parses the command line, without the program's name, with `clap`.
 ///
 /// The commands and options are those listed in the help. An empty command line means `replay` without arguments.
-/// Arguments and options are returned as given: they can be missing or wrong. An argument that begins with `-` and is
-/// longer than that must come after `--`. Allocates.
+/// Arguments and options are returned as typed: they can be missing or wrong. An argument of two or more characters
+/// that begins with `-` must come after `--`. Allocates.
 ///
 /// # Errors
 ///
 /// The error has the text for the user and an exit code:
 /// - 0: the user asked for the help or the version;
-/// - 2: the command line is wrong, and the text says how;
-/// - any, if `is_out_of_memory`: an allocation failed.
+/// - 2: the command line is wrong, and the text states the mistake;
+/// - any, if `is_out_of_memory` returns `true`: an allocation failed.
 pub fn words_given<'a>(
     alloc: Global,
     words: &'a [&'a str],
     helps: Helps<'a>,
 ) -> Result<Words, Error>
     ensures taken { IfOk result (λ w. choice_in w ≡ choice_of (subcommand_of listset (texts words.entry.now))) }
-    // Fails exactly if clap's definition of a parse fails, and with an error of the same kind, unless an allocation
-    // failed.
+    // Fails if and only if clap's definition of a parse fails, with an error of the same kind. An allocation can fail
+    // in addition.
     ensures refused { FailsBy (fault_of listset (texts words.entry.now)) result }
 {
     let matches = program_command(alloc, helps)?.try_get_matches_from(words)?;

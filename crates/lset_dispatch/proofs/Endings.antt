@@ -1,4 +1,4 @@
--- What the arguments ask for, and how the program ends, given how its job ended.
+-- How the program ends, derived from how its job ended.
 use Rattle.std.proofs.Common.{◌≡◌, ℕ, List, Option, Some, None, Ok, Err, IfSome, refl, subst, sym, inl, inr}
 use Rattle.std.specs.Prelude.{◌≢◌}
 use Rattle.clap.specs.declared.error.kind.ErrorKind.{ErrorKind}
@@ -11,7 +11,6 @@ use Rattle.lset_dispatch.specs.Asked.{Asked, asked, asked_by}
 use Rattle.lset_dispatch.specs.Dispatch.{EndsAsked, EndsOnInput, IsHelp, JobEnds}
 use Rattle.lset_dispatch.specs.declared.job.Job.{Job}
 
--- What a known command asks for.
 pub at_command : (command known : Command) (values : List Text) (options : OptionValues) (r : Asked) → command ≡ known
     → IfSome (asked_by known values options) (λ x. r ≡ x) → IfSome (asked_by command values options) (λ x. r ≡ x)
 at_command command known values options r is said =
@@ -25,7 +24,6 @@ module _ (IsFile : Option (List ℕ) → Type 0) (input output_old output_new st
   told (Some x) r path is ends =
       subst (λ a. EndsAsked (Some a) path IsFile input output_old output_new stderr_old stderr_new status) is ends
 
-  -- what was read from the arguments of a choice, and its path
   pub ended : (a b : Choice) (r : Asked) (path : Option Text) → a ≡ b → IfSome (asked a) (λ x. r ≡ x) → path ≡ path_of a
       → EndsAsked (Some r) path IsFile input output_old output_new stderr_old stderr_new status
       → EndsOnInput b IsFile input output_old output_new stderr_old stderr_new status
@@ -34,7 +32,7 @@ module _ (IsFile : Option (List ℕ) → Type 0) (input output_old output_new st
       (told (asked a) r (path_of a) is
       (subst (λ file. EndsAsked (Some r) file IsFile input output_old output_new stderr_old stderr_new status) named ends))
 
-  -- nothing is stated about the arguments of `explain`
+  -- Nothing is proved about the command `explain`.
   pub unsaid : (a b : Choice) → a ≡ b → a.command ≡ Explain
       → EndsOnInput b IsFile input output_old output_new stderr_old stderr_new status
   unsaid a b same is =
@@ -43,20 +41,17 @@ module _ (IsFile : Option (List ℕ) → Type 0) (input output_old output_new st
       (sym is) tt)
 
 module _ (input output_old output_new stderr_old stderr_new : Option (List ℕ)) (status : ℕ) where
-  -- how a known job ended
   pub at_job : (job known : Job) → job ≡ known
       → JobEnds known input output_old output_new stderr_old stderr_new status
       → JobEnds job input output_old output_new stderr_old stderr_new status
   at_job job known is ends =
       subst (λ r. JobEnds r input output_old output_new stderr_old stderr_new status) (sym is) ends
 
--- Text on the output means that help was asked for.
 pub is_help : (k : ErrorKind) → ¬ ((k ≢ kind.DisplayHelp) × (k ≢ kind.DisplayVersion)) → IsHelp k
 is_help kind.DisplayHelp other = inl refl
 is_help kind.DisplayVersion other = inr refl
 is_help k other = absurd (other (λ e. cc, λ e. cc))
 
--- A conclusion about the bytes of an input carries over if the bytes are known.
 pub if_known : (P Q : List ℕ → Type 0) (input : Option (List ℕ)) → ((bytes : List ℕ) → P bytes → Q bytes) → IfSome input P → IfSome input Q
 if_known P Q None follows holds = tt
 if_known P Q (Some bytes) follows holds = follows bytes holds

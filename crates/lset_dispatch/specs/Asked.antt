@@ -1,5 +1,5 @@
--- What command lines ask for. Commands that are not named here, broken lists and `judge --only` have no clause: their
--- code is safe and tested, but nothing is proved about what they print.
+-- The jobs that command lines ask for. Some commands are missing here: broken lists, `judge --only` and others are safe
+-- and tested, but nothing is proved of what they print.
 use Rattle.std.specs.Prelude.{Bool, true, false, List, Option, Some, None, Result, Ok, Err}
 use Rattle.clap.specs.Words.{Text}
 use Rattle.lset_command.specs.CommandLine.{Choice, OptionValues}
@@ -12,17 +12,17 @@ use Rattle.tool_base.specs.Arguments.{random_request_of}
 use Rattle.lset_dispatch.specs.declared.job.Job.{Job}
 use Rattle.lset_dispatch.specs.declared.job.Job.TheVariants.{Replay, Judge, Verdict, Check, Gen}
 
--- A job, or the first value or option that is missing or wrong.
+-- A job, or the first argument or option that is missing or wrong.
 abbrev pub Asked : Type 0
 Asked = Result Job ValueName
 
--- `replay`, on the list that its input names
+-- `replay` on the list that the schedule names
 abbrev pub asked_replay : Option Text → Option Asked
 asked_replay None = Some (Ok (Replay None))
 asked_replay (Some name) = None
 
--- Returns the job of `judge`: with `--brief` the verdict without details, else with all details. `--only` has no
--- clause.
+-- The job of `judge`: with `--brief` the verdict alone, otherwise the verdict with all details. With `--only`, nothing
+-- is proved.
 abbrev pub asked_judge : Option Text → Bool → Option Asked
 asked_judge None true = Some (Ok Verdict)
 asked_judge None false = Some (Ok Judge)
@@ -39,11 +39,11 @@ asked_by command.Check values options = Some (Ok Check)
 asked_by command.Gen values options = Some (asked_gen (random_request_of values))
 asked_by other values options = None
 
--- The job that a command line asks for, if its command has a clause.
+-- The job that a command line asks for, if something is proved about its command.
 abbrev pub asked : Choice → Option Asked
 asked choice = asked_by choice.command choice.values choice.options
 
--- A job for which a command line can ask.
+-- A job that a command line can ask for.
 abbrev pub IsKnown : Job → Type 0
 IsKnown (Gen random) = IsAccepted random.threads random.quota random.keys
 IsKnown job = Unit {0}

@@ -1,5 +1,5 @@
--- How the program ends, depending on its command line: with the command's result for its input or arguments, or with an
--- error in the command line.
+-- How the program ends, depending on its command line: with the result of a command, or with an error in the command
+-- line.
 use Rattle.std.specs.Prelude.{◌≡◌, ◌≢◌, ℕ, ◌⊎◌, List, [], Option, Some, None, IfSome, Ok, Err}
 use Rattle.std.specs.Io.KnownBytes.{Keeps}
 use Rattle.clap.specs.Words.{Text, fault_of, kind_of, subcommand_of, HasKind}
@@ -17,18 +17,18 @@ use Rattle.lset_dispatch.specs.Asked.{Asked, asked}
 use Rattle.lset_dispatch.specs.declared.job.Job.{Job}
 use Rattle.lset_dispatch.specs.declared.job.Job.TheVariants.{Replay, Judge, Verdict, Check, Gen}
 
--- How a command ends: the two outputs before and after it, and its exit status.
+-- How a command ends: the bytes of output and stderr before and after the command, and the exit status.
 abbrev pub Ending : Type 1
 Ending = Option (List ℕ) → Option (List ℕ) → Option (List ℕ) → Option (List ℕ) → ℕ → Type 0
 
--- ---- accepted command lines
+-- ---- Accepted command lines
 
--- A command ends with its result for the input, if the bytes of the input are known.
+-- The command ends with its result for the bytes of the input.
 abbrev pub EndsOnBytes : (List ℕ → Made → Type 0) → Option (List ℕ) → Ending
 EndsOnBytes Makes input output_old output_new stderr_old stderr_new status =
     Ends (λ made. IfSome input (λ bytes. Makes bytes made)) output_old output_new stderr_old stderr_new status
 
--- How a job ends for the bytes of its input.
+-- How a job ends, depending on the bytes of its input.
 abbrev pub JobEnds : Job → Option (List ℕ) → Ending
 JobEnds (Replay None) input output_old output_new stderr_old stderr_new status =
     EndsOnBytes Replays input output_old output_new stderr_old stderr_new status
@@ -42,8 +42,8 @@ JobEnds (Gen random) input output_old output_new stderr_old stderr_new status =
     Ends (Answers (Ok random)) output_old output_new stderr_old stderr_new status
 JobEnds job input output_old output_new stderr_old stderr_new status = Unit {0}
 
--- Without a path, the job ends with its result for standard input; with a path, with its result for the content of some
--- file (no clause says that this is the file at the path, or that it is read from its start), or with `CannotRead`.
+-- A job without a path ends with its result for standard input. A job with a path ends with its result for the bytes of
+-- some file, or with `CannotRead`. (Nothing is proved about which file this is, or that it is read from its start.)
 abbrev pub EndsOn : Option Text → Job → (Option (List ℕ) → Type 0) → Option (List ℕ) → Ending
 EndsOn None job IsFile input output_old output_new stderr_old stderr_new status =
     JobEnds job input output_old output_new stderr_old stderr_new status
@@ -51,7 +51,7 @@ EndsOn (Some path) job IsFile input output_old output_new stderr_old stderr_new 
     Ends (λ made. made ≡ Err CannotRead) output_old output_new stderr_old stderr_new status
     ⊎ ((bytes : Option (List ℕ)) × IsFile bytes × JobEnds job bytes output_old output_new stderr_old stderr_new status)
 
--- The job ends in this way, or the wrong value is reported.
+-- If a command line asks for a job, the job ends as `EndsOn` states. Otherwise the program reports the wrong argument.
 abbrev pub EndsAsked : Option Asked → Option Text → (Option (List ℕ) → Type 0) → Option (List ℕ) → Ending
 EndsAsked None path IsFile input output_old output_new stderr_old stderr_new status = Unit {0}
 EndsAsked (Some (Ok job)) path IsFile input output_old output_new stderr_old stderr_new status =
@@ -63,7 +63,7 @@ abbrev pub EndsOnInput : Choice → (Option (List ℕ) → Type 0) → Option (L
 EndsOnInput choice IsFile input output_old output_new stderr_old stderr_new status =
     EndsAsked (asked choice) (path_of choice) IsFile input output_old output_new stderr_old stderr_new status
 
--- ---- refused command lines
+-- ---- Refused command lines
 
 -- The user asked for the help or the version.
 abbrev pub IsHelp : ErrorKind → Type 0
@@ -73,12 +73,13 @@ IsHelp kind = (kind ≡ DisplayHelp) ⊎ (kind ≡ DisplayVersion)
 abbrev pub IsMistake : ErrorKind → Type 0
 IsMistake kind = (kind ≢ OutOfMemory) × (kind ≢ DisplayHelp) × (kind ≢ DisplayVersion)
 
--- The result if the user asked for help: a text with status 0; for any command line, a failed allocation is also
--- possible.
+-- The result if the user asked for the help or the version: a text with status 0. A failed allocation is possible for
+-- every command line.
 abbrev pub Helps : ErrorKind → Made → Type 0
 Helps kind made = (made ≡ Err Memory) ⊎ (IsHelp kind × (text : List ℕ) × (made ≡ Ok (record { text = text; status = 0 })))
 
--- A mistake writes nothing to the output and ends with status 2. The text on stderr is clap's and has no clause.
+-- A wrong command line writes nothing to the output and ends with status 2. The text on stderr is clap's; nothing is
+-- proved about it.
 abbrev pub Refuses : ErrorKind → Ending
 Refuses kind output_old output_new stderr_old stderr_new status =
     IsMistake kind × Keeps output_old output_new × (text : List ℕ) × AppendsFront stderr_old stderr_new text × (status ≡ 2)
@@ -88,7 +89,7 @@ Declines kind output_old output_new stderr_old stderr_new status =
     Ends (Helps kind) output_old output_new stderr_old stderr_new status
     ⊎ Refuses kind output_old output_new stderr_old stderr_new status
 
--- ---- how the program runs, by clap's definition of a parse
+-- ---- The whole program: accepted or refused command lines, as clap's definitions decide
 
 abbrev pub Runs : List Text → (Option (List ℕ) → Type 0) → Option (List ℕ) → Ending
 Runs words IsFile input output_old output_new stderr_old stderr_new status =

@@ -1,5 +1,5 @@
-//! Appends lines to a refusal of `judge`: what is wrong in a file, or a hint to use a file. (A pipe can be read only
-//! once.)
+//! Appends lines to a refusal of `judge`: what is wrong in the recording of a file, or advice to use a file. (The
+//! recording is read twice, and a pipe can be read only once.)
 
 ghost use Rattle.std.specs.Prelude.{ℕ, List};
 ghost use Rattle.tool_base.specs.Tools.{view};
@@ -18,7 +18,7 @@ const OF_A_FILE: &[u8] = b"\nlistset judge FILE, with a file, also says what is 
 const FAILED: &[u8] =
     b"\nwhat is wrong is not told: memory ran out, or the file has changed since it was judged\n";
 
-/// Returns the number of lines in a refusal, and 0 for any other answer.
+/// Returns the number of lines in a refusal; 0 for any other answer.
 fn refused_lines(made: &Result<Answer, Trouble>) -> usize {
     match made {
         Ok(answer) if answer.status != 0 => {
@@ -29,7 +29,7 @@ fn refused_lines(made: &Result<Answer, Trouble>) -> usize {
     }
 }
 
-/// Returns the lines that say what is wrong in a recording, for a verdict that takes up `used` lines.
+/// Returns the lines that state what is wrong in a recording. The verdict before them has `used` lines.
 fn explanation<R: Read>(
     alloc: Global,
     input: &mut R,
@@ -41,7 +41,8 @@ fn explanation<R: Read>(
     }
 }
 
-/// If the answer is a refusal, appends what is wrong in the file's recording. Allocates. Blocks while reading the file.
+/// If the answer is a refusal, appends what is wrong in the recording of the file at `path`. Allocates. Blocks while
+/// reading the file.
 pub(crate) fn explained<H: Files>(
     rt: &H,
     alloc: Global,
@@ -63,7 +64,7 @@ pub(crate) fn explained<H: Files>(
     }
 }
 
-/// If the answer is a refusal of a recording from a pipe, appends the hint to use a file.
+/// If the answer is a refusal, appends the advice to use a file. For recordings that were read from a pipe.
 pub(crate) fn pointed(made: Result<Answer, Trouble>) -> Result<Answer, Trouble>
     ensures { (bytes : List ℕ) → Judges bytes (view made) → Judges bytes (view result) }
 {

@@ -22,9 +22,9 @@ use std::time::Clock;
 use tool_base::{Answer, FAULTS, Trouble, deliver, put};
 use tool_explain::{explain_input, explain_unopened};
 
-/// Ends a run whose command line `words_given` refused, and returns the exit status. If the user asked for the help or
-/// the version, writes it to `output` with status 0. Otherwise, writes what is wrong to `stderr` with status 2. If an
-/// allocation failed, writes that to `stderr` with status 3. If the help cannot be written completely, the status is 1.
+/// Ends the program after `words_given` refused the command line, and returns the exit status. If the user asked for
+/// the help or the version, writes it to `output` with status 0, or status 1 if it cannot be written completely. If an
+/// allocation failed, writes that to `stderr` with status 3. Otherwise writes what is wrong to `stderr` with status 2.
 fn decline<W: Write, E: Write>(alloc: Global, error: &Error, output: &mut W, stderr: &mut E) -> u8
     ensures { Declines (kind_of error.now)
         (W.contents output.old) (W.contents output.new) (E.contents stderr.old) (E.contents stderr.new) result }
@@ -44,7 +44,8 @@ fn decline<W: Write, E: Write>(alloc: Global, error: &Error, output: &mut W, std
     }
 }
 
-/// Returns the help for `--lacks`: the names of the broken lists, each with the list it is based on.
+/// Returns the help for the option `--lacks`: the names of the broken lists, each with the kind of list that it was
+/// made from.
 fn lacks_help(alloc: Global) -> Result<String, AllocError> {
     let mut help = String::from_str(alloc, "Run a broken list, with one check removed")?;
     for (number, broken) in ALL.iter().enumerate() {
@@ -56,12 +57,12 @@ fn lacks_help(alloc: Global) -> Result<String, AllocError> {
 }
 
 /// Parses the command line, without the program's name. An empty command line means `replay`. The help for `faults` is
-/// the text of the command `faults`. Allocates.
+/// the text that the command `faults` prints. Allocates.
 ///
 /// # Errors
 ///
 /// The error has the text for the user: the help or the version if the user asked for it (`exit_code` 0), or what is
-/// wrong with the command line (`exit_code` 2). If `is_out_of_memory` is true, an allocation failed.
+/// wrong with the command line (`exit_code` 2). If `is_out_of_memory` returns `true`, an allocation failed.
 pub fn tool_words(alloc: Global, words: &[&str]) -> Result<Words, Error>
     ensures taken { IfOk result (λ w. choice_in w ≡ choice_of (subcommand_of listset (texts words.entry.now))) }
     ensures refused { FailsBy (fault_of listset (texts words.entry.now)) result }
@@ -94,12 +95,12 @@ fn explain_file<H: Files>(rt: &H, alloc: Global, path: &str) -> Result<Answer, T
     }
 }
 
-/// Runs the program on its command line, without the program's name, and returns the exit status. Reads the named file
-/// through `rt`, or reads `input` if the file is `-` or none is named. Writes the result to `output`, or what is wrong
-/// to `stderr`.
+/// Runs the program with this command line, which does not contain the program's name, and returns the exit status.
+/// Reads the named file through `rt`, or reads `input` if the file is `-` or no file is named. Writes the result to
+/// `output`, or what is wrong to `stderr`.
 ///
-/// `serve` opens with the keys in its FILE or, if FILE is `-`, in `input`; without FILE, it reads nothing. If an
-/// argument is wrong, no file is opened. Allocates. `run` and `serve` start threads on `rt` and block until they end.
+/// `serve` opens its set with the keys in FILE or, if FILE is `-`, in `input`; without FILE, it reads nothing. If an
+/// argument is wrong, no file is opened. Allocates. `run` and `serve` start threads on `rt` and block until these end.
 /// `serve` listens on `rt`.
 pub fn run_words<
     H: Files + Net<Listener = TcpListener, Stream = TcpStream> + Threads + Wait + Clock + Sync,

@@ -12,14 +12,14 @@ use tool_base::{
 use tool_replay::{ExampleRequest, Trace, read_example_request};
 use tool_show::{Show, read_show};
 
-/// What a command line asks for, except for the file that the command reads.
+/// A job: a command to run, with its checked arguments. The file that the command reads is not part of the job.
 #[derive(Clone, Copy)]
 pub(crate) enum Job {
     Replay(Option<BrokenList>),
     Judge,
-    /// Print the verdict of `judge` without a contradiction, advice or a diagnosis.
+    /// Print the verdict of `judge` alone, without a contradiction, advice or what is wrong.
     Verdict,
-    /// Print the recording of one key.
+    /// Print the recorded calls of one key.
     OneKey(u32),
     Check,
     Show(Show),
@@ -35,11 +35,11 @@ pub(crate) enum Job {
     /// Print all error messages.
     Faults,
     Fault(FaultName),
-    /// Explain standard input.
+    /// Explain the errors of standard input.
     Explain,
 }
 
-/// Returns the broken list that the option `--lacks` names; `None` if the option is not given.
+/// Returns the broken list that the option `--lacks` names; `None` if the option is missing.
 fn find_broken(lacks: &Option<String>) -> Result<Option<BrokenList>, ValueName> {
     match lacks {
         None => Ok(None),
@@ -123,7 +123,7 @@ fn read_faults(words: &Words) -> Result<Job, ValueName>
     }
 }
 
-/// Returns the job that a command line asks for, or the first value or option that is missing or wrong.
+/// Returns the job that the command line asks for, or the first argument or option that is missing or wrong.
 pub(crate) fn read_job(words: &Words) -> Result<Job, ValueName>
     ensures asked { IfSome (asked (choice_in words.now)) (λ r. result ≡ r) }
     ensures known { IfOk result IsKnown }

@@ -1,4 +1,4 @@
-//! Implements `judge --only KEY`, which prints the recording of one key.
+//! Implements `judge --only KEY`, which prints the recorded calls of one key.
 
 use lset_recording::RecordingReader;
 use std::alloc::Global;
@@ -6,8 +6,8 @@ use std::io::Read;
 use tool_base::{Answer, READ_SIZE, Trouble, ValueName};
 use tool_facts::{RunReader, recording_of_key};
 
-/// Returns a recording with the calls of one key, or with the few of them that show why the key is refused. Allocates.
-/// Blocks while reading the input.
+/// Returns a recording that contains the calls of one key only. If this key is refused, returns only the few calls that
+/// show why. Allocates. Blocks while reading the input.
 ///
 /// # Errors
 ///

@@ -1,5 +1,5 @@
-//! The program, from its command line on: parses the arguments, runs the command on its input, and reports wrong
-//! arguments. Only the system's arguments and the bytes of files come from outside.
+//! Runs the whole program: parses the command line, runs the command on its input, and reports wrong arguments. The
+//! caller provides the arguments, the system's streams and the access to files.
 #![tactic(auto)]
 
 mod below_refusal;

@@ -22,7 +22,7 @@ use tool_replay::{
 };
 use tool_threads::{run_lives, serve_set, serve_set_of};
 
-/// Replays the input, on a broken list if one is given.
+/// Replays the schedule in the input, on a broken list if `broken` names one.
 fn replay<R: Read, W: Write, E: Write>(
     alloc: Global,
     broken: Option<BrokenList>,
@@ -39,7 +39,7 @@ fn replay<R: Read, W: Write, E: Write>(
     }
 }
 
-/// Judges the input.
+/// Judges the recording in the input.
 fn judge<R: Read, W: Write, E: Write>(
     alloc: Global,
     input: &mut R,
@@ -53,7 +53,7 @@ fn judge<R: Read, W: Write, E: Write>(
     deliver(pointed(made), output, stderr)
 }
 
-/// Judges the input and prints the verdict, without a contradiction, advice or a diagnosis.
+/// Judges the recording in the input and prints the verdict alone, without a contradiction, advice or what is wrong.
 fn judge_verdict<R: Read, W: Write, E: Write>(
     alloc: Global,
     input: &mut R,
@@ -67,7 +67,8 @@ fn judge_verdict<R: Read, W: Write, E: Write>(
     deliver(made, output, stderr)
 }
 
-/// Judges the open file at a path. If the recording is refused, reads the file again to print what is wrong.
+/// Judges the recording in `file`, which is open. If the recording is refused, reads the file at `path` again and
+/// prints what is wrong.
 fn judge_file<H: Files, R: Read, W: Write, E: Write>(
     rt: &H,
     alloc: Global,
@@ -85,7 +86,7 @@ fn judge_file<H: Files, R: Read, W: Write, E: Write>(
 }
 
 /// Runs a job and returns the exit status. Writes the result to `output`, or one line about an error to `stderr`. Some
-/// jobs read `input`. Allocates. `run` and `serve` start threads on `rt` and block until they end. `serve` listens on
+/// jobs read `input`. Allocates. `run` and `serve` start threads on `rt` and block until these end. `serve` listens on
 /// `rt`.
 pub(crate) fn run_job<
     H: Net<Listener = TcpListener, Stream = TcpStream> + Threads + Wait + Clock + Sync,
@@ -123,8 +124,8 @@ pub(crate) fn run_job<
     }
 }
 
-/// Runs a job on the file at a path, like `run_job` on an input, and returns the exit status. If the file cannot be
-/// opened, writes a line about that to `stderr`.
+/// Runs a job whose input is the file at `path`, and returns the exit status. If the file cannot be opened, writes a
+/// line about the error to `stderr`.
 pub(crate) fn run_on_file<
     H: Files + Net<Listener = TcpListener, Stream = TcpStream> + Threads + Wait + Clock + Sync,
     W: Write,

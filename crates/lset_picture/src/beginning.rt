@@ -3,7 +3,7 @@ use crate::picture::Picture;
 use crate::refusal::Refusal;
 use lset_words::CallRecord;
 
-/// Returns the smallest key that occurs in only one of two increasing lists.
+/// Returns the smallest key that occurs in exactly one of two lists, which must be in strictly increasing order.
 fn first_apart(keys: &[u32], others: &[u32]) -> Option<u32> {
     for (key, other) in keys.iter().zip(others.iter()) {
         if key != other {
@@ -18,7 +18,7 @@ fn first_apart(keys: &[u32], others: &[u32]) -> Option<u32> {
     rest.copied()
 }
 
-/// Returns the moment at which the first call of a key begins.
+/// Returns the moment at which the first call with this key begins.
 fn first_begun(calls: &[CallRecord], key: u32) -> Option<u32> {
     for made in calls {
         if made.call.key().0 == key {
@@ -28,9 +28,9 @@ fn first_begun(calls: &[CallRecord], key: u32) -> Option<u32> {
     None
 }
 
-/// Returns the moment at which the picture of a refusal should begin: the begin of the call that the refusal names. If
-/// it names two calls, that is the one that had ended; if the final keys are wrong, the first call of the first key
-/// that differs.
+/// Returns the moment at which the picture of a refused order should begin: the begin of the call that the refusal
+/// names. If the refusal names two calls, that is the call that had ended. If the final keys are wrong, that is the
+/// first call with the smallest key that differs.
 pub(crate) fn clash_begins(picture: &Picture) -> Option<u32> {
     let calls = picture.history.calls();
     match &picture.refusal {

@@ -1,4 +1,4 @@
-//! Computes the columns of a picture within a window. There is one column for each moment at which something happens.
+//! Computes the columns of a picture. Each moment at which something happens, in the range to draw, has one column.
 use crate::MOST_WIDTH;
 use crate::beginning::clash_begins;
 use crate::drawn_moments::{moments_shown, next_moment};
@@ -24,7 +24,7 @@ pub(crate) struct Mark {
     pub sign: Sign,
 }
 
-/// A column of the picture: the signs at one moment, the set as text (empty if it is not shown here), and the column
+/// A column of the picture: the signs at one moment, the set as text (empty if the set is not printed here), and the
 /// width in characters.
 #[derive(Drop)]
 pub(crate) struct Column {
@@ -34,7 +34,7 @@ pub(crate) struct Column {
     pub width: usize,
 }
 
-/// A position relative to the drawn moments: before them, at least partly within them, or after them.
+/// The position of something relative to the range of drawn moments: before it, at least partly within it, or after it.
 #[derive(Clone, Copy)]
 pub(crate) enum Side {
     Before,
@@ -42,8 +42,8 @@ pub(crate) enum Side {
     After,
 }
 
-/// The columns of a picture, and what was left out: whether the linearization points are known, the first and last
-/// moments drawn, and whether anything happens outside of them.
+/// The columns of a picture, and what was left out. `known` is true if every linearization point is known, `from` and
+/// `last` are the first and last drawn moments, and `before` and `after` are true if something happens outside of them.
 #[derive(Drop)]
 pub(crate) struct Drawing {
     pub columns: Vec<Column>,
@@ -55,13 +55,13 @@ pub(crate) struct Drawing {
 }
 
 impl Drawing {
-    /// Returns `true` if anything happens at a moment that is not drawn.
+    /// Returns `true` if something happens at a moment that is not drawn.
     pub fn is_cut(&self) -> bool {
         self.before || self.after
     }
 
-    /// Returns a window that begins at the clash, if the order is refused and `window` has all moments but they do not
-    /// all fit. Otherwise returns `None`.
+    /// Returns a range of moments that begins at the call that the refusal names. Returns `None` if no refusal names a
+    /// call of the history, if all moments were drawn, or if `window` excludes some moments.
     pub fn window_of_clash(&self, picture: &Picture, window: Window) -> Option<Window> {
         if !(self.after && window.is_whole()) {
             return None;
@@ -70,8 +70,8 @@ impl Drawing {
         Some(Window { from, ..window })
     }
 
-    /// Returns where the moments `first` to `last` lie relative to the drawn ones. If `last` is `None`, the range has
-    /// no end.
+    /// Returns the position of the moments `first` to `last` relative to the drawn ones. If `last` is `None`, the
+    /// moments continue without end.
     pub fn side_of(&self, first: u32, last: Option<u32>) -> Side {
         match last {
             _ if self.last < first => Side::After,
@@ -80,7 +80,7 @@ impl Drawing {
         }
     }
 
-    /// Returns where a call's bar lies relative to the drawn moments.
+    /// Returns the position of a call's bar relative to the drawn moments.
     pub fn side_of_bar(&self, made: CallRecord) -> Side {
         match made.ended {
             Some((end, _)) => self.side_of(made.begun, Some(end)),
@@ -100,7 +100,7 @@ fn add_begun(marks: &mut Vec<Mark>, picture: &Picture, moment: u32) -> Result<()
     Ok(())
 }
 
-/// Adds the linearization points at a moment. Returns `true` if a call changes the set there.
+/// Adds the signs of all linearization points at `moment`. Returns `true` if one of these calls changes the set.
 fn add_points(marks: &mut Vec<Mark>, picture: &Picture, moment: u32) -> Result<bool, AllocError> {
     let mut changes = false;
     for (index, point) in points_of(picture).iter().enumerate() {
@@ -137,14 +137,14 @@ fn add_ended(marks: &mut Vec<Mark>, picture: &Picture, moment: u32) -> Result<()
     Ok(())
 }
 
-/// Appends a call, such as `add 5`.
+/// Appends an operation and its key, such as `add 5`.
 pub(crate) fn put_call(out: &mut String, call: Call) -> Result<(), AllocError> {
     let word = call_word(call);
     let key = call.key().0;
     write!(out, "{word} {key}")
 }
 
-/// Writes a sign and its separator: a bar continues after every sign but the last.
+/// Appends a sign. After each sign except the end of a call, the call's bar continues with `-`.
 fn put_sign(out: &mut String, sign: Sign) -> Result<(), AllocError> {
     match sign {
         Sign::Begin(call) => {
@@ -171,7 +171,7 @@ pub(crate) fn put_signs(out: &mut String, marks: &[Mark], thread: u32) -> Result
     Ok(())
 }
 
-/// Returns the width of a column: the length of its longest entry plus the separator, capped at `MOST_WIDTH`.
+/// Returns the width of a column in characters: its longest entry and one space, at most `MOST_WIDTH`.
 fn width_of(alloc: Global, moment: u32, marks: &[Mark], set: &str) -> Result<usize, AllocError> {
     let mut most = format!(in alloc; "{moment} ")?.len();
     if set.len() >= most {
@@ -185,8 +185,8 @@ fn width_of(alloc: Global, moment: u32, marks: &[Mark], set: &str) -> Result<usi
     Ok(most.min(MOST_WIDTH))
 }
 
-/// Computes the columns at these moments. If the points are known, the set is shown in the first column and after each
-/// change.
+/// Computes one column for each of these moments. If all linearization points are known, the first column and each
+/// column with a change show the set.
 fn columns_at(
     alloc: Global,
     picture: &Picture,
@@ -217,7 +217,7 @@ fn columns_at(
     Ok(columns)
 }
 
-/// Lays out a picture within a window.
+/// Computes the columns of a picture for the moments in `window`.
 pub(crate) fn drawing_in(
     alloc: Global,
     picture: &Picture,
@@ -237,7 +237,7 @@ pub(crate) fn drawing_in(
     Ok(drawing)
 }
 
-/// Sets `last` to the moment of the last column, and updates `after` to match.
+/// Sets `last` to the moment of the last column, and `after` to whether something happens after it.
 pub(crate) fn end_at_last(picture: &Picture, drawing: &mut Drawing) {
     if let Some(column) = drawing.columns.last() {
         drawing.last = column.moment;

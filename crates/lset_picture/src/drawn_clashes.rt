@@ -19,8 +19,10 @@ fn clashes_in(keys: &[u32], refusal: &Refusal, number: usize, made: &CallRecord)
     }
 }
 
-/// Returns `true` if the call `made`, with this number, is drawn as a clash. A call clashes if the refusal names it or,
-/// if the final keys are wrong, if its key is only in the order's or only in the report's final keys. If the order is
+/// Returns `true` if the call `made`, which has this number, contradicts the order and is drawn in red. That is the
+/// case if the refusal names the call. If the final keys are wrong, it is the case for all calls whose key is in only
+/// one of the two sets: the keys that the order leaves, and the report's final keys. Always returns `false` for an
+/// accepted order.
 /// accepted, no call clashes.
 pub(crate) fn is_clash(picture: &Picture, number: usize, made: &CallRecord) -> bool {
     match &picture.refusal {

@@ -1,11 +1,11 @@
-//! Finds the moments of a picture at which something happens.
+//! Finds the moments at which something happens in a picture.
 
 use crate::MOST_COLUMNS;
 use crate::picture::{Picture, Window, points_of};
 use std::alloc::{AllocError, Global};
 
-/// Returns `true` if every call begins, takes effect and ends before the moment `from` (counted from 1), so that a
-/// window from there is empty. Returns `false` for a picture without calls.
+/// Returns `true` if every call of the picture begins, takes effect and ends before the moment `from`, counted from 1.
+/// A picture from `from` on would then be empty. Returns `false` for a picture without calls.
 pub fn is_past_the_last(picture: &Picture, from: u32) -> bool {
     let is_empty = picture.history.calls().is_empty() && points_of(picture).is_empty();
     !is_empty && next_moment(picture, u64::from(from)).is_none()
@@ -35,7 +35,7 @@ pub(crate) fn next_moment(picture: &Picture, from: u64) -> Option<u32> {
     best
 }
 
-/// Returns the moments within a window that get a column.
+/// Returns the moments within `window` that get a column, at most `MOST_COLUMNS`.
 pub(crate) fn moments_shown(
     alloc: Global,
     picture: &Picture,

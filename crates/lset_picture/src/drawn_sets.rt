@@ -1,19 +1,19 @@
-//! Computes the sets shown below a picture, and writes sets as text.
+//! Computes the sets that are printed below a picture, and writes sets as text.
 use crate::MOST_KEYS_SHOWN;
 use crate::picture::{Picture, Standing, standing_at};
 use lset_words::Call;
 use std::alloc::{AllocError, Global};
 use std::collections::BTreeSet;
 
-/// The set after the first `next` places of an order.
+/// The set after the first `next` entries of an order.
 #[derive(Drop)]
 pub(crate) struct Reached {
     keys: BTreeSet<u32>,
-    /// The number of places applied so far.
+    /// The number of entries applied so far.
     next: usize,
 }
 
-/// Returns the set before the first place: the opening keys.
+/// Returns the set before the first entry of the order: the opening keys.
 pub(crate) fn reached_at_first(alloc: Global, picture: &Picture) -> Result<Reached, AllocError> {
     let mut keys = BTreeSet::new(alloc);
     for key in picture.history.opening() {
@@ -35,8 +35,8 @@ fn change_set(keys: &mut BTreeSet<u32>, call: Call) -> Result<(), AllocError> {
     Ok(())
 }
 
-/// Returns the call of a place if it changes the set, `Some(None)` if it changes nothing, or `None` if the place has no
-/// point up to this moment.
+/// Returns the call of an entry if it changes the set, `Some(None)` if it changes nothing, and `None` if the entry has
+/// no linearization point up to `moment`.
 fn settled(standing: Standing, moment: u32) -> Option<Option<Call>> {
     let point = standing.point?;
     if moment < point.moment {
@@ -48,7 +48,7 @@ fn settled(standing: Standing, moment: u32) -> Option<Option<Call>> {
     }
 }
 
-/// Applies all changes up to a moment.
+/// Applies all changes up to `moment` to the set.
 pub(crate) fn go_on(
     reached: &mut Reached,
     picture: &Picture,
@@ -69,7 +69,7 @@ pub(crate) fn go_on(
     Ok(())
 }
 
-/// Writes the keys `first` of a set of `count` keys, separated by `separator`, and how many more there are.
+/// Writes the keys `first` of a set with `count` keys, separated by `separator`, and the number of its other keys.
 fn put_keys(
     out: &mut String,
     separator: &str,
@@ -99,7 +99,7 @@ pub(crate) fn put_set(out: &mut String, keys: &[u32]) -> Result<(), AllocError> 
     out.push_str("}")
 }
 
-/// Returns a set as text. Reads only the keys that are shown.
+/// Returns a set as text. Reads only the keys that are printed.
 pub(crate) fn set_text(alloc: Global, reached: &Reached) -> Result<String, AllocError> {
     let mut first = Vec::new(alloc);
     let mut others = reached.keys.iter();

@@ -1,7 +1,7 @@
 //! Draws histories as text or SVG.
 //!
-//! A picture has a bar for each call, a mark at its linearization point, the set over time, and the order. If the order
-//! is refused, the picture says why; if a schedule's event is refused, it says which one.
+//! A picture has a bar for each call, a sign at its linearization point, the set over time, and the order. If the order
+//! is refused, the picture states the reason. If an event of a schedule is refused, the picture names the event.
 #![tactic(auto)]
 
 mod beginning;
@@ -27,11 +27,11 @@ pub use refusal::Refusal;
 pub use svg::write_svg;
 pub use text::write_picture;
 
-/// The maximum number of columns of a picture.
+/// The maximum number of columns in a picture.
 const MOST_COLUMNS: usize = 64;
 
-/// The maximum number of keys that are printed for a set. After them comes the number of further keys.
+/// The maximum number of keys that are printed of a set. The number of its other keys follows them.
 const MOST_KEYS_SHOWN: usize = 8;
 
-/// The maximum width of a column. No entry of a linearizable history is wider.
+/// The maximum width of a column, in characters. No entry of a linearizable history is wider.
 const MOST_WIDTH: usize = 255;

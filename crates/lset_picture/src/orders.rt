@@ -1,4 +1,4 @@
-//! Writes the lines above and below the rows of a picture: the heading, the range of moments drawn, and the order.
+//! Writes the lines above and below the threads' rows: the heading, the range of drawn moments, and the order.
 use crate::columns::{Drawing, Side, put_call};
 use crate::drawn_sets::put_keys_line;
 use crate::picture::{Picture, Standing, standing_at};
@@ -28,8 +28,8 @@ pub(crate) fn put_heading(out: &mut String, picture: &Picture) -> Result<(), All
     Ok(())
 }
 
-/// Appends the range of moments drawn, and the options that show the moments before and after them, such as `moments 20
-/// to 33 of 35; --to 19 goes before; --from 34 goes on`.
+/// Appends the range of drawn moments, and the options that show the moments before and after them. Example: `moments
+/// 20 to 33 of 35; --to 19 goes before; --from 34 goes on`.
 pub(crate) fn put_cut(
     out: &mut String,
     picture: &Picture,
@@ -52,7 +52,7 @@ pub(crate) fn put_cut(
     Ok(())
 }
 
-/// Writes a place of the order, such as `   2  at 21    thread 0  add 5 true`.
+/// Writes an entry of the order, such as `   2  at 21    thread 0  add 5 true`.
 fn put_place(out: &mut String, number: usize, standing: Standing) -> Result<(), AllocError> {
     write!(out, "{number:>4}  ")?;
     match standing.point {
@@ -81,8 +81,8 @@ fn put_place(out: &mut String, number: usize, standing: Standing) -> Result<(), 
     writeln!(out, " {reply}{no_change}{still_open}")
 }
 
-/// Returns where a place lies relative to the drawn moments, by its point or else by its call's bar. `None` if the
-/// history does not have the call.
+/// Returns the position of an entry relative to the drawn moments. It is the position of the linearization point if
+/// this is known, otherwise of the call's bar. Returns `None` if the history does not have the call.
 fn side_of(standing: Standing, drawing: &Drawing) -> Option<Side> {
     match standing.point {
         Some(point) => Some(drawing.side_of(point.moment, Some(point.moment))),
@@ -90,8 +90,8 @@ fn side_of(standing: Standing, drawing: &Drawing) -> Option<Side> {
     }
 }
 
-/// Returns `true` if a place whose call is not in the history is printed: all moments are drawn, or the refusal names
-/// the call.
+/// Returns `true` if an entry whose call is not in the history is printed. This is the case if all moments are drawn or
+/// the refusal names the call.
 fn is_told(picture: &Picture, drawing: &Drawing, place: Placed) -> bool {
     match &picture.refusal {
         _ if !drawing.is_cut() => true,
@@ -100,15 +100,14 @@ fn is_told(picture: &Picture, drawing: &Drawing, place: Placed) -> bool {
     }
 }
 
-/// How many places were not printed: those before the drawn moments, those after them, and those whose call is not in
-/// the history.
+/// The number of entries that were not printed: before the drawn moments, after them, or without a call in the history.
 struct LeftOut {
     before: usize,
     after: usize,
     unknown: usize,
 }
 
-/// Writes the places that are drawn, and returns how many are left out.
+/// Writes the entries that are drawn, and returns how many are left out.
 fn put_places(
     out: &mut String,
     picture: &Picture,
@@ -137,7 +136,7 @@ fn put_places(
     })
 }
 
-/// Writes how many places are left out.
+/// Writes the number of entries that are left out.
 fn put_left_out(out: &mut String, left: LeftOut) -> Result<(), AllocError> {
     let LeftOut {
         before,
@@ -165,8 +164,8 @@ fn put_order(out: &mut String, picture: &Picture, drawing: &Drawing) -> Result<(
     put_left_out(out, left)
 }
 
-/// Appends the lines below the rows: the order, how many places are left out, the final keys, `legend` if the points
-/// are known, and the refused event of a schedule, if any.
+/// Appends the lines below the rows: the order, the number of entries left out, the final keys, `legend` if the
+/// linearization points are known, and the refused event of a schedule, if any.
 pub(crate) fn put_lines_below(
     out: &mut String,
     picture: &Picture,

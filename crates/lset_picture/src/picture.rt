@@ -2,9 +2,10 @@ use crate::refusal::Refusal;
 use lset_history::History;
 use lset_words::{CallRecord, Kind, Placed, Point};
 
-/// What a picture shows of a run or report: a history, an order of its calls, and the final keys.
+/// The contents of a picture of a run or a report: a history, an order of its calls, and the final keys.
 ///
-/// `points` never decrease along the order. They are drawn only if each place has one and the order is not refused.
+/// The moments in `points` never decrease along the order. The points are drawn only if each entry of the order has one
+/// and the order is not refused.
 #[derive(Drop)]
 pub struct Picture {
     pub kind: Kind,
@@ -12,7 +13,7 @@ pub struct Picture {
     /// The number of events executed; `None` for the picture of a report.
     pub events: Option<u32>,
     pub order: Vec<Placed>,
-    /// One point for each place of the order; empty if the order is refused.
+    /// One linearization point for each entry of the order; empty if the order is refused.
     pub points: Vec<Point>,
     pub keys: Vec<u32>,
     pub refusal: Option<Refusal>,
@@ -20,7 +21,7 @@ pub struct Picture {
     pub refused: Option<(u64, &'static str)>,
 }
 
-/// The first and the last moment to draw, counted from 1. At most 64 moments are drawn, namely the first at which
+/// The range of moments to draw, counted from 1. At most 64 moments are drawn: the first 64 in the range at which
 /// something happens.
 #[derive(Clone, Copy)]
 pub struct Window {
@@ -29,18 +30,18 @@ pub struct Window {
 }
 
 impl Window {
-    /// Returns `true` if the window includes every moment.
+    /// Returns `true` if this range includes every moment.
     pub fn is_whole(self) -> bool {
         self.from <= 1 && self.to == u32::MAX
     }
 }
 
-/// Returns `true` if the linearization points are known: the order is not refused, and each place has a point.
+/// Returns `true` if the linearization points are known: the order is not refused, and each entry has a point.
 pub(crate) fn are_known(picture: &Picture) -> bool {
     picture.refusal.is_none() && picture.points.len() == picture.order.len()
 }
 
-/// Returns the points to draw: all of them if they are known, otherwise none.
+/// Returns the linearization points to draw: all of them if they are known, otherwise none.
 pub(crate) fn points_of(picture: &Picture) -> &[Point] {
     if are_known(picture) {
         &picture.points
@@ -49,7 +50,7 @@ pub(crate) fn points_of(picture: &Picture) -> &[Point] {
     }
 }
 
-/// A place in the order, its call if the history has it, and its linearization point if known.
+/// An entry of the order, its call if the history has this call, and its linearization point if known.
 #[derive(Clone, Copy)]
 pub(crate) struct Standing {
     pub placed: Placed,
@@ -65,7 +66,7 @@ fn standing_of(picture: &Picture, index: usize, placed: Placed) -> Standing {
     }
 }
 
-/// Returns the place with index `index`, from 0; `None` if the order is shorter.
+/// Returns the entry of the order with this index, counted from 0; `None` if the order is shorter.
 pub(crate) fn standing_at(picture: &Picture, index: usize) -> Option<Standing> {
     let placed = picture.order.get(index)?;
     Some(standing_of(picture, index, *placed))

@@ -5,8 +5,8 @@ use lset_report::Report;
 use lset_words::{Effect, Point};
 use std::alloc::{AllocError, Global};
 
-/// Computes a linearization point for each place of an order that explains the history: the begin of its call, or the
-/// previous place's point if that is later.
+/// Computes a linearization point for each entry of an order that explains the history. It is the begin of the entry's
+/// call, or the previous entry's point if that is later.
 fn first_points(
     alloc: Global,
     history: &History,
@@ -26,8 +26,9 @@ fn first_points(
     Ok(points)
 }
 
-/// Returns the picture of a report. If the order explains the history and leaves exactly the final keys, each place
-/// gets a linearization point. Otherwise the picture has no points, but the fault that `check_order` finds.
+/// Returns the picture of a report. If the order explains the history and leaves exactly the final keys, each entry of
+/// the order gets a linearization point. Otherwise the picture has no linearization points, but the error that
+/// `check_order` finds.
 ///
 /// Takes about as long as `check_order`. Returns `AllocError` if an allocation fails. (Such pictures of histories are
 /// due to Herlihy and Wing.)

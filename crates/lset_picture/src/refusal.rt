@@ -1,14 +1,15 @@
 use lset_words::Reply;
 
-/// Why an order is refused: its first fault, with the facts that prove it. Calls are numbered from 0, places from 1.
+/// Why an order is refused: its first error, with the facts that prove it. Calls are numbered from 0, the order's
+/// entries (places) from 1.
 #[derive(Drop)]
 pub enum Refusal {
-    /// A place names call number `call`, but the history has only `calls` calls.
+    /// The order names call number `call`, but the history has only `calls` calls.
     Unknown {
         call: u32,
         calls: u32,
     },
-    /// The call occurs twice in the order. `first` and `second` are its first two places.
+    /// The order contains the call twice or more. `first` and `second` are its first two places.
     Twice {
         call: u32,
         first: u64,
@@ -20,15 +21,15 @@ pub enum Refusal {
         moment: u32,
         reply: Reply,
     },
-    /// The order gives the call the reply `says`, but in the history the call returned `ended`.
+    /// In the order, the call has the reply `says`. In the history, the call returned `ended`.
     HistoryReply {
         call: u32,
         place: u64,
         says: Reply,
         ended: Reply,
     },
-    /// The order gives the call the reply `says`, but the sequential set, which has `keys` at this place, replies
-    /// `answer`. If the call ended, `says` is the reply that it returned.
+    /// In the order the call has the reply `says`. The sequential set, which has the keys `keys` at this place, replies
+    /// `answer`. If the call ended, it returned `says`.
     SetReply {
         call: u32,
         place: u64,
@@ -36,14 +37,14 @@ pub enum Refusal {
         keys: Vec<u32>,
         answer: Reply,
     },
-    /// The call began at `begun`, after the call `other` had ended at `ended`, but the order puts it before `other`.
+    /// The order has `call` before `other`, but `call` began at `begun`, after `other` had ended at `ended`.
     TooEarly {
         call: u32,
         begun: u32,
         other: u32,
         ended: u32,
     },
-    /// The order leaves the keys `left`, but the report has other final keys.
+    /// After all calls of the order the set has the keys `left`, but the report states other final keys.
     WrongSet {
         left: Vec<u32>,
     },

@@ -1,4 +1,4 @@
-//! Writes the reason for which an order is refused.
+//! Writes the reason why an order is refused.
 use crate::drawn_sets::put_set;
 use crate::picture::Picture;
 use crate::refusal::Refusal;
@@ -6,7 +6,7 @@ use lset_text::reply_word;
 use lset_words::Reply;
 use std::alloc::AllocError;
 
-/// Names the places before `place`, such as `after places 1 and 2`.
+/// Names all places of the order before `place`, such as `after places 1 and 2`.
 fn put_places_before(out: &mut String, place: u64) -> Result<(), AllocError> {
     match place {
         0 | 1 => out.push_str("at first"),
@@ -27,7 +27,7 @@ fn put_unknown(out: &mut String, call: u32, calls: u32) -> Result<(), AllocError
     }
 }
 
-/// Writes the reply that a place states for its call.
+/// Writes the reply that the order states for a call.
 fn put_says(out: &mut String, call: u32, place: u64, says: Reply) -> Result<(), AllocError> {
     let word = reply_word(says);
     write!(out, "WrongReply {call}: place {place} says {word}, and ")
@@ -110,7 +110,7 @@ fn put_reason(out: &mut String, refusal: &Refusal, told: &[u32]) -> Result<(), A
     }
 }
 
-/// If the order of a picture is refused, appends a line with the reason.
+/// Appends a line with the reason if the order of a picture is refused.
 pub(crate) fn put_refusal(out: &mut String, picture: &Picture) -> Result<(), AllocError> {
     if let Some(refusal) = &picture.refusal {
         out.push_str("refused ")?;

@@ -1,4 +1,4 @@
-//! Finds the facts behind the fault that `check_order` returned.
+//! Finds the facts that prove the error that `check_order` returned.
 
 ghost use Rattle.std.specs.Prelude.{◌≡◌, ◌<◌, length, IfOk, IfSome};
 
@@ -6,7 +6,7 @@ use crate::refusal::Refusal;
 use lset_history::{CallRecord, History, Oracle, OrderFault, Placed, check_order};
 use std::alloc::{AllocError, Global};
 
-/// Returns the index of a call's first place, searching from the index `from`.
+/// Returns the first index, at or after `from`, at which the order has the call.
 fn place_from(order: &[Placed], from: usize, call: u32) -> Option<usize>
     ensures { IfSome result (λ place. place < length order.now) }
 {
@@ -22,7 +22,7 @@ fn record_of(history: &History, call: u32) -> Option<CallRecord> {
     history.calls().get(call as usize).copied()
 }
 
-/// Returns the sequential set after these places, applied in turn.
+/// Returns the sequential set after the calls of these entries were applied in turn.
 fn set_after(alloc: Global, history: &History, places: &[Placed]) -> Result<Oracle, AllocError>
     ensures { IfOk result (λ o. o.threads ≡ history.now.opening.threads) }
 {
@@ -57,7 +57,7 @@ fn missing(history: &History, call: u32) -> Option<Refusal> {
     })
 }
 
-/// Finds a later place whose call had already ended when `call` began.
+/// Returns the first entry after `call` in the order whose call had ended before `call` began, as a refusal.
 fn too_early(history: &History, order: &[Placed], call: u32) -> Option<Refusal> {
     let begun = record_of(history, call)?.begun;
     let place = place_from(order, 0, call)?;
@@ -77,8 +77,8 @@ fn too_early(history: &History, order: &[Placed], call: u32) -> Option<Refusal> 
     None
 }
 
-/// Finds the reply that contradicts the one stated at the call's place: the history's reply or, if that agrees, the
-/// sequential set's.
+/// Finds the reply that contradicts the one that the order states for `call`: the reply in the history or, if that one
+/// agrees, the reply of the sequential set.
 fn wrong_reply(
     alloc: Global,
     history: &History,
@@ -113,8 +113,8 @@ fn wrong_reply(
     }))
 }
 
-/// Returns the reason why the order, with these final keys, does not explain the history; `None` if it does. Takes
-/// about as long as `check_order`. Returns `AllocError` if an allocation fails.
+/// Returns the reason why the order does not explain the history or does not leave these final keys. Returns `None` if
+/// it does both. Takes about as long as `check_order`. Returns `AllocError` if an allocation fails.
 pub(crate) fn why_refused(
     alloc: Global,
     history: &History,

@@ -19,7 +19,7 @@ pub(crate) struct Spot {
     pub y: u64,
 }
 
-/// Returns the x position of a moment: the total width of the columns before it.
+/// Returns the x position of a moment: the left margin and the total width of the columns before the moment.
 pub(crate) fn x_of(columns: &[Column], moment: u64) -> u64 {
     let mut x = 88u64;
     for column in columns {

@@ -1,7 +1,7 @@
-/// The style sheet that every SVG contains. Its rules stay inside the SVG, even if it is embedded in a page.
+/// The style sheet that every SVG contains. Its rules apply inside the SVG only, even if the SVG is embedded in a page.
 ///
-/// The threads' colours can be told apart by colour-blind readers, and each has a contrast of at least 4.5 against the
-/// background. A clash is drawn thick as well as red.
+/// Colour-blind readers can tell the threads' colours apart, and each colour has a contrast of at least 4.5 against the
+/// background. A call that contradicts the order is drawn thick as well as red.
 pub(crate) const STYLE: &str = "\
 <style>
 .listset { color: #1b1f24 }

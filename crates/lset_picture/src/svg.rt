@@ -16,10 +16,10 @@ use std::alloc::{AllocError, Global};
 const LEGEND: &str =
     "filled: changes the set    open: changes nothing, its reply fits there    dashed: still open";
 
-/// The maximum number of characters for which a line of text widens the sheet.
+/// The maximum number of characters for which the sheet grows with its longest line of text.
 const MOST_CHARACTERS: usize = 255;
 
-/// The lines above the rows: the heading, and the reason if the order is refused (otherwise empty).
+/// The two lines above the rows: the heading, and the reason if the order is refused (otherwise empty).
 #[derive(Clone, Copy)]
 struct Above<'a> {
     heading: &'a str,
@@ -52,8 +52,8 @@ fn put_sheet(
     out.push_str("<rect class=\"ground\" width=\"100%\" height=\"100%\"/>\n")
 }
 
-/// Adds the lines above the rows: the heading, the reason if the order is refused, and the range of moments if not all
-/// are drawn.
+/// Adds the lines above the rows: the heading, the reason if the order is refused, and the range of drawn moments
+/// unless all are drawn.
 fn put_above(
     alloc: Global,
     out: &mut String,
@@ -75,7 +75,7 @@ fn put_above(
     Ok(())
 }
 
-/// Adds the text of the rows: thread names, moments and sets.
+/// Adds the names of the threads, the moments and the sets.
 fn put_labels(
     alloc: Global,
     out: &mut String,
@@ -130,7 +130,7 @@ fn put_bar(
     put_line(out, &class, Spot { x, y }, Spot { x: end, y })
 }
 
-/// Adds a call's text above its begin, if that is in the window.
+/// Adds a call's operation and key above its begin, if the begin is drawn.
 fn put_begin(
     alloc: Global,
     out: &mut String,
@@ -148,7 +148,7 @@ fn put_begin(
     put_text(out, thread_class(made.thread), clash, Spot { x, y }, &call)
 }
 
-/// Adds a call's reply after its end, if that is in the window.
+/// Adds a call's reply after its end, if the end is drawn.
 fn put_end(
     alloc: Global,
     out: &mut String,
@@ -169,7 +169,7 @@ fn put_end(
     put_text(out, thread_class(made.thread), clash, Spot { x, y }, &text)
 }
 
-/// Adds the bars of all calls that overlap the window. A clashing call is marked.
+/// Adds the bars of all calls that overlap the drawn moments. Calls that contradict the order are drawn thick and red.
 fn put_bars(
     alloc: Global,
     out: &mut String,
@@ -191,8 +191,8 @@ fn put_bars(
     Ok(())
 }
 
-/// Returns the position of a place's point, its thread, and whether it changes the set; `None` if the point is unknown
-/// or outside of the window.
+/// Returns the position of an entry's linearization point, its thread, and whether the call changes the set. Returns
+/// `None` if the linearization point is unknown or not drawn.
 fn dot_of(standing: Standing, drawing: &Drawing) -> Option<(Spot, u32, bool)> {
     let (made, point) = (standing.made?, standing.point?);
     if point.moment < drawing.from || drawing.last < point.moment {
@@ -203,7 +203,7 @@ fn dot_of(standing: Standing, drawing: &Drawing) -> Option<(Spot, u32, bool)> {
     Some((Spot { x, y }, made.thread, point.change))
 }
 
-/// Adds the points: as circles if `circles` is true, otherwise as thin lines down to the set.
+/// Adds the linearization points: as circles if `circles` is true, otherwise as thin lines down to the set.
 fn put_points(
     out: &mut String,
     picture: &Picture,
@@ -253,11 +253,11 @@ fn put_below(out: &mut String, threads: u32, below: &str) -> Result<(), AllocErr
 /// Draws a picture as an SVG. It shows the moments in `window`, counted from 1, but at most the first 64 at which
 /// something happens.
 ///
-/// If `window` asks for all moments and they do not fit, the drawing of a refused order begins at the call that the
-/// refusal names. A call is a line in its thread's colour: dashed if it is pending, thick if it clashes in a refused
-/// order (`is_clash`). A linearization point is a circle, filled if the call changes the set, with a thin line down to
-/// the set. The order is below, as text. The style sheet has a dark background for readers who prefer one. The SVG has
-/// no script and no external references. Returns `AllocError` if an allocation fails.
+/// If `window` includes all moments and they do not fit, the drawing of a refused order begins at the call that the
+/// refusal names. A call is a line in its thread's colour: dashed if it is pending, thick if it contradicts the order
+/// (`is_clash`). A linearization point is a circle, filled if the call changes the set, with a thin line down to the
+/// set. The order is below, as text. The style sheet has a dark background for readers who prefer one. The SVG has no
+/// script and no external references. Returns `AllocError` if an allocation fails.
 pub fn write_svg(alloc: Global, picture: &Picture, window: Window) -> Result<Vec<u8>, AllocError> {
     let mut drawing = drawing_in(alloc, picture, window)?;
     if let Some(window) = drawing.window_of_clash(picture, window) {

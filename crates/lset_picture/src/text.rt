@@ -1,4 +1,4 @@
-//! Writes a picture as text: a row for each thread with a bar for each call, marks at the linearization points, the set
+//! Writes a picture as text: a row for each thread with a bar for each call, signs at the linearization points, the set
 //! below them, and the order.
 use crate::MOST_COLUMNS;
 use crate::columns::{Column, Drawing, Mark, Sign, drawing_in, end_at_last, put_signs};
@@ -16,7 +16,7 @@ const LEGEND: &str = "* changes the set    o changes nothing, its reply fits the
 const LEGEND_OF_CUT: &str =
     "* changes the set    o changes nothing, its reply fits there    > goes on    < began before";
 
-/// Returns `true` if a thread's bar continues past the signs of a moment. `before` says whether a bar was drawn before
+/// Returns `true` if a thread's bar continues after the signs in `marks`. `before` is true if a bar was drawn up to
 /// them.
 fn goes_on(marks: &[Mark], thread: u32, before: bool) -> bool {
     let mut drawn = before;
@@ -32,7 +32,7 @@ fn goes_on(marks: &[Mark], thread: u32, before: bool) -> bool {
     drawn
 }
 
-/// Pads a row, which begins at `start` in the text, to a width.
+/// Appends `with` to a row until the row has `width` characters. The row begins at byte `start` of the string.
 fn fill(row: &mut String, start: usize, width: usize, with: char) -> Result<(), AllocError> {
     for _done in row.len().saturating_sub(start)..width {
         row.push(with)?;
@@ -40,8 +40,8 @@ fn fill(row: &mut String, start: usize, width: usize, with: char) -> Result<(), 
     Ok(())
 }
 
-/// Appends a thread's cell in a column, and returns `true` if the bar continues past the column. `before` says whether
-/// a bar was drawn before it. A bar that began before the first column is marked there.
+/// Appends a thread's cell in a column, and returns `true` if the bar continues past the column. `before` is true if a
+/// bar was drawn up to the column. In the first column, `<` marks a bar that began earlier, unless the cell has a sign.
 fn put_cell(
     row: &mut String,
     column: &Column,
@@ -59,7 +59,7 @@ fn put_cell(
     Ok(drawn)
 }
 
-/// Returns `true` if a call of the thread was pending just before a moment.
+/// Returns `true` if the thread had a pending call just before a moment.
 fn is_spanned(calls: &[CallRecord], thread: u32, moment: u32) -> bool {
     for made in calls {
         if made.thread == thread
@@ -72,7 +72,7 @@ fn is_spanned(calls: &[CallRecord], thread: u32, moment: u32) -> bool {
     false
 }
 
-/// Appends a row without trailing white space.
+/// Appends a row without its trailing white space.
 fn put_row(out: &mut String, row: &str) -> Result<(), AllocError> {
     out.push_str(row.trim_end())?;
     out.push_str("\n")
@@ -120,7 +120,7 @@ fn put_sets(alloc: Global, out: &mut String, columns: &[Column]) -> Result<(), A
     put_row(out, &row)
 }
 
-/// Writes the rows: the moments, the threads and, if the points are known, the set.
+/// Writes the rows of moments and of threads and, if the linearization points are known, the row of sets.
 fn put_rows(
     alloc: Global,
     out: &mut String,
@@ -146,7 +146,7 @@ fn has_longer(rows: &str, width: u32) -> bool {
     false
 }
 
-/// Returns `true` if every row of a drawing fits the width.
+/// Returns `true` if no row of a drawing is longer than `width` characters.
 fn fits(
     alloc: Global,
     picture: &Picture,
@@ -154,7 +154,7 @@ fn fits(
     width: u32,
 ) -> Result<bool, AllocError> {
     let mut rows = String::new(alloc);
-    // The row of moments is nearly always the longest, and is cheap to write by itself.
+    // The row of moments is nearly always the longest one and is cheap to write, so it is tested first.
     put_moments(alloc, &mut rows, &drawing.columns)?;
     if has_longer(&rows, width) {
         return Ok(false);
@@ -163,7 +163,7 @@ fn fits(
     Ok(!has_longer(&rows, width))
 }
 
-/// Drops columns from the end of a drawing until its rows fit the width. Always keeps at least one column.
+/// Drops columns from the end of a drawing until its rows fit into `width` characters. Keeps at least one column.
 fn fit(
     alloc: Global,
     picture: &Picture,
@@ -180,7 +180,7 @@ fn fit(
     Ok(())
 }
 
-/// Lays out a window so that its rows fit the width.
+/// Computes the columns for the moments in `window`, and drops columns from the end until the rows fit.
 fn fitted(
     alloc: Global,
     picture: &Picture,
@@ -196,7 +196,7 @@ fn fitted(
     Ok(drawing)
 }
 
-/// Writes the rows, preceded by the range of moments if not all are drawn. Writes nothing for a history without calls.
+/// Writes the rows, after the range of drawn moments unless all are drawn. Writes nothing for a history without calls.
 fn put_drawn_rows(
     alloc: Global,
     out: &mut String,
@@ -218,9 +218,9 @@ fn put_drawn_rows(
 /// order.
 ///
 /// The picture shows the moments `window.from` to `window.to`, counted from 1. It is limited to the first 64 at which
-/// something happens, and to those that fit in rows of `width` characters, but shows at least one. If `window` asks for
-/// all moments and they do not fit, the drawing of a refused order begins at the call that the refusal names. Returns
-/// `AllocError` if an allocation fails. (Pictures with bars and points are due to Herlihy and Wing.)
+/// something happens, and to those that fit into rows of `width` characters, but shows at least one. If `window`
+/// includes all moments and they do not fit, the drawing of a refused order begins at the call that the refusal names.
+/// Returns `AllocError` if an allocation fails. (Pictures with bars and points are due to Herlihy and Wing.)
 pub fn write_picture(
     alloc: Global,
     picture: &Picture,

@@ -1,4 +1,4 @@
--- The events of a schedule, listed line by line, and how many there are.
+-- The events of a schedule as one list, for the loop that makes them.
 use Rattle.std.proofs.Common.{rules}
 use Rattle.std.proofs.lemmas.Grind.{common_steps}
 use Rattle.std.proofs.Common.{◌≡◌, ℕ, zero, suc, drop, arith, ◌-◌, ◌+◌, ◌<◌, ◌≤◌, List, [], ◌∷◌, ◌++◌, replicate, length, get_or}
@@ -25,14 +25,13 @@ length_of_events n (l ∷ ls) = search (rules, length-append, length_of_line, su
 pub as_many : (es : List LineEvent) → length (only_events es) ≡ length es
 as_many es = length-map es event_in
 
--- ---- A LOOP OVER THE LINES, and within each line over its events
+-- ---- Lemmas about the events that the loop has made and the events that remain
 
--- The first k events have been made, and the events in `rest` remain.
+-- The first k events were made, and the events in `rest` remain.
 pub record IsAhead (es : List LineEvent) (k : ℕ) (rest : List LineEvent) : Type 0 where
   pub within : k ≤ length es
   pub rest_is : drop k es ≡ rest
 
--- The first remaining event is the event after the first k.
 comes_next : (es : List LineEvent) (k : ℕ) (next : LineEvent) (rest : List LineEvent) → drop k es ≡ next ∷ rest
     → ComesNext es k next
 comes_next [] zero next rest e = absurd (cc)
@@ -53,12 +52,11 @@ drop_more [] (suc k) next rest e = absurd (cc)
 drop_more (x ∷ es) zero next rest e = cc
 drop_more (x ∷ es) (suc k) next rest e = drop_more es k next rest e
 
--- The default for an index past the last line.
+-- The default for an index after the last line.
 abbrev pub no_line : Line
 no_line = line.Begin 0 (call.Add (record { 0 = 0 }))
 
--- The remaining events, if some events of line i are still to be made: those events, then all events of the later
--- lines.
+-- The events that remain while line i is made: `times` events of line i, then all events of the later lines.
 abbrev pub rest_of : ℕ → List Line → ℕ → ℕ → LineEvent → List LineEvent
 rest_of n ls i times next = replicate times next ++ events_from (n + (i + 1)) (drop (i + 1) ls)
 
@@ -75,7 +73,7 @@ module _ (n : ℕ) (ls : List Line) (i k times : ℕ) (next : LineEvent) where
         let t : times ≡ times - 0 = omega arith in cc (e, f, t));
   }
 
-  -- j events of the current line have been made.
+  -- Lemmas for the case that j events of the current line were made.
   module _ (j : ℕ) (ahead : IsAhead (events_from n ls) k (rest_of n ls i (times - j) next)) where
     is_next : j < times → drop k (events_from n ls) ≡ next ∷ rest_of n ls i (times - (j + 1)) next
     is_next inside = ahead.rest_is ∙ ap (λ z. rest_of n ls i z next) (let e : times - j ≡ suc (times - (j + 1)) = omega arith in e)
@@ -95,14 +93,12 @@ module _ (n : ℕ) (ls : List Line) (i k times : ℕ) (next : LineEvent) where
       rest_is = ahead.rest_is ∙ ap (λ z. rest_of n ls i z next) (let e : times - j ≡ 0 = omega arith in e);
     }
 
--- Before the first line, no event has been made.
 pub none_behind : (n : ℕ) (ls : List Line) → IsAhead (events_from n ls) 0 (events_from (n + 0) (drop 0 ls))
 none_behind n ls = record {
   within = omega arith;
   rest_is = ap (λ z. events_from z ls) (let e : n ≡ n + 0 = omega arith in e);
 }
 
--- After the last line, every event has been made.
 pub all_behind : (n : ℕ) (ls : List Line) (i k : ℕ) → length ls ≤ i
     → IsAhead (events_from n ls) k (events_from (n + i) (drop i ls)) → k ≡ length (events_from n ls)
 all_behind n ls i k past ahead =
@@ -110,7 +106,6 @@ all_behind n ls i k past ahead =
     let b : length (drop k (events_from n ls)) ≡ length (events_from n ls) - k = length-drop k (events_from n ls) in grind
     (arith, common_steps)
 
--- If another event remains, the number of events made so far is below the limit.
 pub few_behind : (n : ℕ) (ls : List Line) (k most : ℕ) (next : LineEvent) → sum_by event_count ls ≤ most
     → ComesNext (events_from n ls) k next → k < most
 few_behind n ls k most next few there = grind (arith, length_of_events)

@@ -1,4 +1,4 @@
--- At each enabled event of a run, the recorder can record the event. Afterwards it still matches the run.
+-- Every enabled event of a run can be recorded. Afterwards the recorder still matches the run.
 use Rattle.std.proofs.Common.{◌≡◌, ℕ, suc, ◌+◌, ◌<◌, ◌⊎◌, inl, inr, List, sym, refl, subst, ap, ◌∙◌, add-one, arith}
 use Rattle.lset_words.specs.Account.{Account, Enters}
 use Rattle.lset_words.specs.Words.{Opening, Opens, sizes}
@@ -26,7 +26,7 @@ use Rattle.lset_replay.proofs.EventLists.{IsAhead}
 use Rattle.lset_replay.proofs.FollowedRuns.{TellsKeys, holds_keys, shown}
 use Rattle.lset_replay.proofs.RecorderReady.{may_begin, may_step}
 
--- The effect that the machine reports for an event is the event's entry in the log.
+-- The effect that `told` returns for an event is the entry that the log has for this event.
 pub told_entry : (T : Table) (s : State) (e : Event) → entry_told e (told T s e) ≡ entry_of T s e
 told_entry T s (Begin t call) = refl
 told_entry T s (Go t) = refl
@@ -44,7 +44,7 @@ run_more T op es k r e = record {
     last_or_before : (j k : ℕ) → j < suc k → (j ≡ k) ⊎ (j < k)
     last_or_before j k l = grind arith
 
--- ---- the invariant after another event
+-- ---- Lemmas for one more event that is made and recorded
 module _ (T : Table) (op : Opening) (events : List LineEvent) (k : ℕ) (w : WorldState)
     (r : Recorder) (h : HasFollowed T op events k w r) (next : LineEvent) (there : ComesNext events k next) where
   abbrev es : ℕ → Event
@@ -98,7 +98,7 @@ module _ (T : Table) (op : Opening) (events : List LineEvent) (k : ℕ) (w : Wor
   stopped cause.Memory w' made = tt
   stopped c w' made = made
 
-  -- The recorder can record the next event, if the list's runs have accounts.
+  -- The next event can be recorded. This follows from the list's account: which event changes which key for which call.
   module _ (accounts : TellsKeys T) where
     open shown T op events use {log, contents, counts}
 
@@ -124,9 +124,9 @@ module _ (T : Table) (op : Opening) (events : List LineEvent) (k : ℕ) (w : Wor
             account low k (omega arith) r (ap (λ (o : Opening). o.threads) h.opening_is) h.trace t _ _ (entered (Go t) i) in
             (may.0, subst (λ (z : Told). MayChange (moments_of r.changes) (suc k) z.change) (sym says) may.1)
 
--- ---- the loop over the events
+-- ---- Lemmas for the loop over the events
 
--- The events so far have been made and recorded, and the events in `rest` remain.
+-- All events before `rest` were made and recorded.
 pub record IsOnWay (T : Table) (op : Opening) (events rest : List LineEvent) (w : WorldState) (r : Recorder) : Type 0 where
   pub ahead : IsAhead events r.last rest
   pub followed : HasFollowed T op events r.last w r
@@ -145,13 +145,13 @@ module _ (T : Table) (accounts : TellsKeys T) (op : Opening) (events : List Line
         made.0 made.1 made.2 (trace (ready T op events r.last w r h next there accounts made.0 a made.2)) opens counts);
   }
 
-  -- The recorder stops in a run of a list only if an allocation fails.
+  -- In a run of a list, the recorder fails only if an allocation fails.
   pub only_memory : (c : Cause) → (MayRecord r (r.last + 1) next.event a → c ≡ cause.Memory)
       → IsStoppedBy T op events next.line c
   only_memory c memory = subst (λ z. IsStoppedBy T op events next.line z)
       (sym (memory (ready T op events r.last w r h next there accounts made.0 a made.2))) tt
 
--- Before the first event.
+-- The state before the first event.
 pub at_first : (T : Table) (op : Opening) (events : List LineEvent) (w : WorldState) (r : Recorder) → Opens op
     → r.history.opening ≡ op → w ≡ record { sizes = sizes op; state = opening op } → trace_of r ≡ no_trace r.history.opening
     → r.last ≡ 0 → HasFollowed T r.history.opening events 0 w r
@@ -163,6 +163,5 @@ at_first T op events w r opens is world trace counted = record {
   counted = counted;
 }
 
--- The events of a list's worlds are its steps.
 pub are_steps : (T : Table) → HasAccount T → ListedContent T → AreSteps T WorldState (λ w e r w'. HasMade T w e r w') (λ w. w)
 are_steps T account listed = record { account = account; listed = listed; made = λ w e r w' made. made }

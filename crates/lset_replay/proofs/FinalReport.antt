@@ -1,4 +1,4 @@
--- The report at the end of a recorded run.
+-- The report that is made of a recorded run, and why its order linearizes the history.
 use Rattle.std.proofs.Common.{◌≡◌, ℕ, suc, ◌<◌, Bool, true, false, List, [], ◌∷◌, length, map, sym, refl, subst, ap, ◌∙◌, arith}
 use Rattle.std.specs.Prelude.{Option, Some, None}
 use Rattle.std.specs.List.{swap}
@@ -38,13 +38,13 @@ use Rattle.lset_replay.proofs.FollowedRuns.{TellsKeys, shown, account_then, low_
 use Rattle.lset_replay.proofs.EventLists.{as_many}
 use Rattle.lset_schedule.specs.Plan.{Plan, opening_in}
 
--- ---- the order, sorted by linearization points, is the [Placement]
+-- ---- Lemmas: the calls, sorted by linearization point, are in the order of [Placement]
 
 abbrev moment_of : Option Linearized → Option ℕ
 moment_of None = None
 moment_of (Some p) = Some p.moment
 
--- The fields of a linearization point, computed from its call.
+-- Whether the linearization point of a call is a change: the case if the call made a change.
 changes : Option ℕ → Bool
 changes None = false
 changes (Some m) = true
@@ -87,7 +87,6 @@ map_swap : {X Y : Type 0} (f : X → Y) (zs : List X) (i j : ℕ) → i < length
 map_swap f [] i j a b = absurd (omega arith)
 map_swap f (z ∷ zs) i j a b = rw (get_or-map f (z ∷ zs) i z (f z) a, get_or-map f (z ∷ zs) j z (f z) b) (simp map-set)
 
--- A permutation of `map f xs` is `map f` of some permutation of xs.
 moved_back : {X Y : Type 0} (f : X → Y) (xs : List X) (ys : List Y) → IsPermutation (map f xs) ys
     → (zs : List X) × IsPermutation xs zs × (ys ≡ map f zs)
 moved_back {X = X} {Y = Y} f xs ys moved = IsPermutation-keeps (map f xs) (λ l. (zs : List X) × IsPermutation xs zs × (l ≡ map f zs))
@@ -150,11 +149,11 @@ module _ (op : Opening) (last : ℕ) (log : Log) (contents : Contents) (counts :
       let f = follows op last log contents counts account low last (omega arith) in
       is_placement op.quota contents counts (calls_at log last) (trace_at op log last).places f.numbered f.placed
 
--- A world has only one content.
+-- The content of a world, as a list of keys, is unique.
 content_once : (v : View) (ks js : List ℕ) → IsContent v ks → IsContent v js → ks ≡ js
 content_once v ks js a b = a.0.2 ∙ ap (keys_in v) (chain_once v 0 a.0.0 b.0.0 a.0.1 b.0.1) ∙ sym b.0.2
 
--- THE REPORT of a recorded run
+-- ---- Lemmas about the report of a recorded run
 module _ (T : Table) (accounts : TellsKeys T) (op : Opening) (events : List LineEvent) (k : ℕ) (w : WorldState) (r : Recorder)
     (h : HasFollowed T op events k w r) where
   open shown T op events use {log, contents, counts}
@@ -163,7 +162,6 @@ module _ (T : Table) (accounts : TellsKeys T) (op : Opening) (events : List Line
   order_then order o = placement op k log contents counts (account_then T accounts op events k w r h)
       (low_then T accounts op events k w r h) order (subst (λ (s : Trace). IsOrderOf s.places order) h.trace o)
 
--- The report after all events of a schedule is a replay of it.
 pub replay_is : (T : Table) (accounts : TellsKeys T) (p : Plan) (w : WorldState) (r : Recorder) (order : List Placed)
     (keys : List ℕ)
     → HasFollowed T (opening_in p) (events_of p) (length (events_of p)) w r
@@ -189,11 +187,12 @@ replay_is T accounts p w r order keys h o c =
       };
     }
 
--- THE HEADLINE holds of a report
+-- ---- Lemmas: the order of a report explains its history
 module _ (T : Table) (headline : PlacementExplainsRuns T) (op : Opening) (events : List Event) (history : List CallRecord)
     (order : List Placed) (keys : List ℕ)
     (h : IsReportOf T op events history order keys) where
-  -- The report's order is the placement of the run, and a placement explains its run.
+  -- The order in the report is the placement, which sorts the calls by the moments at which they take effect. The
+  -- placement explains the run.
   run_explained : ExplainsRun T op (event_at events) (length events) order
   run_explained =
       let found : (o : List Placed) × ExplainsRun T op (event_at events) (length events) o

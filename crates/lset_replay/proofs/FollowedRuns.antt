@@ -1,4 +1,4 @@
--- The trace of a run whose events have been recorded.
+-- What is known of a run whose events were recorded.
 use Rattle.std.proofs.Common.{ℕ, List, sym, subst, arith}
 use Rattle.lset_words.specs.Log.{Log}
 use Rattle.lset_words.specs.Account.{Account, Contents, Counts}
@@ -18,7 +18,7 @@ use Rattle.lset_replay.proofs.ReplayKept.{Follows}
 use Rattle.lset_replay.proofs.KeyChanges.{HoldsKeys}
 use Rattle.lset_replay.proofs.RecorderReady.{follows}
 
--- The log of a run, with the contents and the counts of its worlds.
+-- A run, abstracted: its log, and at each moment the set's content and each thread's count of added keys.
 pub record Shown : Type 1 where
   pub log : Log
   pub contents : Contents
@@ -31,7 +31,8 @@ shown T op events = record {
   counts = counts_of (views T op (event_at (only_events events)));
 }
 
--- What a list must satisfy to be replayed: its runs have accounts, and all keys are below 2^32.
+-- What a replay relies on: it is known which event of a run changes which key for which call (the account of the run),
+-- and all keys are below 2^32.
 pub record TellsKeys (T : Table) : Type 0 where
   pub account : HasAccount T
   pub listed : ListedContent T

@@ -1,4 +1,4 @@
--- The effect of a log entry on the list of calls: it appends a call, or changes a thread's pending call.
+-- How an event changes the list of calls: it appends a call, or changes its thread's pending call.
 use Rattle.std.proofs.lemmas.Grind.{common_steps}
 use Rattle.std.proofs.Common.{◌≡◌, ◌≢◌, ℕ, zero, suc, ◌+◌, ◌<◌, ◌≤◌, ◌⊎◌, true, false, inl, inr, List, [], ◌∷◌, ◌++◌, length, map}
 use Rattle.std.proofs.Common.{set, sym, refl, subst, ap, ◌∙◌, arith}
@@ -14,7 +14,6 @@ use Rattle.std.proofs.lemmas.Bool.{cases_Bool, cases_order}
 use Rattle.lset_history.proofs.Calls.{Later, IsOpenOf, new_call, step_of, way_of, is_way, calls_of}
 use Rattle.lset_words.specs.Words.{Opening}
 
--- The number of calls grows by one if a call begins.
 pub length_began : (log : Log) (k t : ℕ) (call : Call) → log k ≡ began t call
     → length (calls_at log (suc k)) ≡ suc (length (calls_at log k))
 length_began log k t call e = grind (arith, common_steps)
@@ -24,11 +23,11 @@ pub length_stepped : (log : Log) (k t : ℕ) (change : Option Change) (reply : O
 length_stepped log k t change reply e = ap (λ z. length (calls_after (suc k) z (calls_at log k))) e
     ∙ length-map (calls_at log k) (step_of k t change reply)
 
--- A pending call of this thread, with this operation and this begin.
+-- The call is pending and has this thread, operation and begin.
 abbrev pub IsOpenAs : ℕ → Call → ℕ → TracedCall → Type 0
 IsOpenAs t call begun x = (x.thread ≡ t) × (x.ended ≡ None) × (x.call ≡ call) × (x.begun ≡ begun)
 
--- The call with this number is the thread's pending call.
+-- The call with this number is the thread's pending call, with this operation and begin.
 pub record OpenNumber (xs : List TracedCall) (t number : ℕ) (call : Call) (begun : ℕ) : Type 0 where
   pub below : number < length xs
   pub open_call : IsOpenAs t call begun (traced_at xs number)
@@ -41,7 +40,6 @@ open_new k t call xs =
       open_call = rw (get_or_push xs (new_call k t call) no_traced (length xs) refl) (refl, refl, refl, refl);
     }
 
--- A pending call keeps its number if another call begins.
 pub open_began : (x : TracedCall) (xs : List TracedCall) (t number : ℕ) (call : Call) (begun : ℕ) → OpenNumber xs t number call begun
     → OpenNumber (xs ++ x ∷ []) t number call begun
 open_began x xs t number call begun p =
@@ -52,7 +50,7 @@ open_began x xs t number call begun p =
       open_call = subst (IsOpenAs t call begun) (sym (get_or_append_left xs (x ∷ []) no_traced number low)) p.open_call;
     }
 
--- A pending call keeps its number if another thread makes a step, or if a step ends no call.
+-- A step leaves a pending call as it is if the step is of another thread or ends no call.
 pub open_stepped : (k u t : ℕ) (change : Option Change) (reply : Option Reply) (xs : List TracedCall) (number : ℕ) (call : Call)
     (begun : ℕ) → (reply ≡ None) ⊎ (u ≢ t) → OpenNumber xs t number call begun
     → OpenNumber (map (step_of k u change reply) xs) t number call begun
@@ -71,7 +69,7 @@ open_stepped k u t change reply xs number call begun c p =
       | inr b ↦ rw b o
     ]
 
--- A STEP changes only the pending call of its own thread.
+-- A thread has at most one pending call.
 open_once : (xs : List TracedCall) (t i j : ℕ) → AllPairs Later xs → i < length xs → j < length xs → IsOpenOf t (traced_at xs i)
     → IsOpenOf t (traced_at xs j) → i ≡ j
 open_once xs t i j p l m a b = elim (cases_order i j) [
@@ -104,7 +102,7 @@ map_sets t (suc i) f (x ∷ xs) l u n =
     let e = map_sets t i f xs (omega arith) u (λ j m d. n (suc j) (omega arith) (λ g. d (omega arith))) in
     rw (b, e) refl
 
--- The list of calls after a step.
+-- A step changes one entry of the list of calls: the pending call of its thread.
 pub step_sets : (op : Opening) (last : ℕ) (log : Log) (contents : Contents) (counts : Counts)
     → Account op last log contents counts
     → (k t : ℕ) (change : Option Change) (reply : Option Reply) → k ≤ last

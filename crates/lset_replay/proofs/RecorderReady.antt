@@ -1,4 +1,4 @@
--- The recorder is always ready to record the next event of a run.
+-- In every run of a list, the recorder can record the next event.
 use Rattle.std.proofs.Common.{◌≡◌, ℕ, zero, suc, ◌<◌, ◌≤◌, ◌^◌, Bool, true, false, List, [], ◌∷◌, get_or, sym, refl, subst, ap, ◌∙◌, arith, ◌&&◌, length}
 use Rattle.std.specs.Prelude.{All, if◌then◌else◌, Contains as InList, ◌==◌, Option, None, is_none, IfSome}
 use Rattle.std.proofs.lemmas.List.Elements.{All-from_get_or, All-map}
@@ -27,7 +27,7 @@ use Rattle.lset_replay.specs.Trace.{Trace, trace_at, trace_after, trace_of, MayS
 use Rattle.lset_replay.proofs.ReplayKept.{Follows, follows_beginning}
 use Rattle.lset_replay.proofs.StepKept.{follows_step}
 
--- ---- the opening keys, before the first event
+-- ---- Lemmas: before the first event, the set has the opening keys
 
 one_upto : (i : ℕ) → i < 1 → get_or (0 ∷ []) i 0 ≤ 0
 one_upto zero l = omega arith
@@ -66,7 +66,7 @@ module _ (op : Opening) (contents : Contents) (opens : (k : ℕ) → (contents 0
 module _ (op : Opening) (last : ℕ) (log : Log) (contents : Contents) (counts : Counts)
     (account : Account op last log contents counts)
     (low : HoldsKeys last contents) where
-  -- THE TRACE of every run satisfies its invariant.
+  -- Recording an event keeps the invariant `Follows`.
   entered : (k : ℕ) → k < last → (s : Trace) → (e : Entry) → log k ≡ e → Enters op.threads op.quota log contents counts k e
       → Follows op log contents counts k s
       → Follows op log contents counts (suc k) (trace_after (suc k) e s)

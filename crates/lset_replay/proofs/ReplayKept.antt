@@ -1,4 +1,4 @@
--- The trace after the first events of a run: its history, its pending calls, and their linearization points.
+-- The invariant of a recorder: its history, pending calls and linearization points describe the run so far.
 use Rattle.std.proofs.lemmas.Grind.{common_steps}
 use Rattle.std.proofs.Common.{◌≡◌, ◌≢◌, ℕ, suc, ◌<◌, ◌≤◌, true, false, inl, inr, List, [], ◌∷◌, ◌++◌, length, map, sym, refl}
 use Rattle.std.proofs.Common.{subst, ap, ◌∙◌, arith, length-set, get_or-set_same, get_or-set_other}
@@ -24,14 +24,15 @@ use Rattle.lset_history.specs.Changes.{is_present, IsBounded}
 use Rattle.lset_history.proofs.ChangeLaws.{all_upto_later}
 use Rattle.lset_replay.proofs.KeyChanges.{Tells, changes_by, quiet_keys}
 
--- A PENDING CALL of a thread at moment k
+-- At moment k, the thread t has the pending call o, with its number and begin.
 pub record IsWatched (log : Log) (contents : Contents) (counts : Counts) (k t : ℕ) (o : OpenCall) : Type 0 where
   pub here : OpenNumber (calls_at log k) t o.number o.call o.begun
   pub since : o.begun ≤ k
-  -- until the call changes the set, its thread's count stays the same
+  -- Until the call changes the set, the number of keys that its thread has added stays the same.
   pub steady : has_changed log t k ≡ false → (m : ℕ) → o.begun ≤ m → m ≤ k → counts m t ≡ counts k t
 
--- THE LINEARIZATION POINT of a call
+-- The linearization point of a call: its change or, for a completed call without a change, the first moment at which
+-- its reply is correct.
 abbrev pub PlaceBy : ℕ → Contents → Counts → TracedCall → Option ℕ → Option (ℕ × Reply) → Option Linearized → Type 0
 PlaceBy q contents counts x (Some m) ended p = p ≡ Some (changed_at m)
 PlaceBy q contents counts x None None p = p ≡ None
@@ -41,7 +42,7 @@ PlaceBy q contents counts x None (Some end) p =
 abbrev pub PlaceOf : ℕ → Contents → Counts → TracedCall → Option Linearized → Type 0
 PlaceOf q contents counts x p = PlaceBy q contents counts x x.changed x.ended p
 
--- THE TRACE after k events describes the run so far
+-- The recorder's contents s describe the first k events of the run.
 pub record Follows (op : Opening) (log : Log) (contents : Contents) (counts : Counts) (k : ℕ) (s : Trace) : Type 0 where
   pub history : s.calls ≡ history_at log k
   pub seats : length s.under_way ≡ op.threads
@@ -55,7 +56,7 @@ pub record Follows (op : Opening) (log : Log) (contents : Contents) (counts : Co
   pub placed : (i : ℕ) → i < length (calls_at log k)
       → PlaceOf op.quota contents counts (traced_at (calls_at log k) i) (place_at s.places i)
 
--- ---- what a step does to each part of a trace
+-- ---- Lemmas about the effect of a step on each part of the recorder
 abbrev pub change_place : Option Change → ℕ → Option Linearized → Option Linearized
 change_place None m p = p
 change_place (Some c) m p = Some (changed_at m)
@@ -130,12 +131,12 @@ module _ (m t : ℕ) where
   ended_changes None s = refl
   ended_changes (Some x) s = refl
 
--- ---- A CALL BEGINS
+-- ---- Lemmas for an event that begins a call
 pub calls_are : (log : Log) (k : ℕ) (e : Entry) → log k ≡ e → calls_at log (suc k) ≡ calls_after (suc k) e (calls_at log k)
 calls_are log k e at = ap (λ z. calls_after (suc k) z (calls_at log k)) at
 
--- The facts about a pending call still hold at the next moment, if its thread's count stays the same until the call
--- changes the set.
+-- A pending call keeps its properties at the next moment if its thread's count of added keys stays the same until the
+-- call changes the set.
 module _ (log : Log) (contents : Contents) (counts : Counts) (k u : ℕ) (o : OpenCall)
     (quiet : has_changed log u (suc k) ≡ false → (has_changed log u k ≡ false) × (counts (suc k) u ≡ counts k u))
     (w : IsWatched log contents counts k u o) where

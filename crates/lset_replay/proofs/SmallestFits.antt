@@ -16,14 +16,13 @@ use Rattle.lset_words.specs.declared.Key.{Key}
 use Rattle.lset_replay.specs.Trace.{needs_key, shows}
 use Rattle.lset_replay.proofs.KeyChanges.{Tells, told_yes, told_no}
 
--- The first moment between `first` and `last` at which F holds.
+-- `moment` is the first moment from `first` to `last` at which F holds.
 pub record SmallestAt (F : ℕ → Type 0) (first last moment : ℕ) : Type 0 where
   pub from : first ≤ moment
   pub upto : moment ≤ last
   pub holds : F moment
   pub smallest : (m : ℕ) → first ≤ m → m < moment → F m → ⊥
 
--- For every call except a ceiling, the reply depends on the call's own key only.
 pub plain_shows : (changes : ℕ → List ℕ) (c : Call) (r : Reply) → ((k : Key) → c ≡ call.Ceiling k → ⊥)
     → shows changes c r ≡ (λ m. is_present changes (key_of c).0 m)
 plain_shows changes (call.Ceiling k) r n = absurd (n k refl)
@@ -49,11 +48,11 @@ module _ (q : ℕ) (contents : Contents) (counts : Counts) (first last t : ℕ) 
   abbrev pub FitsAt : Call → Reply → ℕ → Type 0
   FitsAt c r m = Fits q (contents m) (counts m t) c r
 
-  -- At this moment, the reply of a call that changes nothing is correct.
+  -- The test by which `fit` decides that the reply of a call without a change is correct at moment m.
   abbrev pub Passes : (ℕ → List ℕ) → Call → Reply → ℕ → Type 0
   Passes changes c r m = shows changes c r m ≡ needs_key c r
 
-  -- For a ceiling, the reply depends on all keys.
+  -- The case of a ceiling, whose reply depends on all keys.
   ceiling_smallest : (changes : ℕ → List ℕ) (k : Key) (found : Option ℕ) (r : Reply) (o : Option ℕ)
       → ((m : ℕ) → FitsAt (call.Ceiling k) r m → IsCeiling (contents m) k.0 found)
       → ((m : ℕ) → IsCeiling (contents m) k.0 found → FitsAt (call.Ceiling k) r m) → IsBounded changes
@@ -101,7 +100,6 @@ module _ (q : ℕ) (contents : Contents) (counts : Counts) (first last t : ℕ) 
       (λ m e. e) (λ m e. e) bounded keys h f.moment f.from f.upto f.fits
   fit_smallest changes c r o bounded keys h steady f = absurd (f.fits)
 
--- The first moment at which the reply is correct becomes the call's linearization point.
 pub smallest_of : (q : ℕ) (contents : Contents) (counts : Counts) (x : TracedCall) (first last t : ℕ) (c : Call) (r : Reply) (k : ℕ)
     → x.begun ≡ first → x.thread ≡ t → x.call ≡ c → SmallestAt (FitsAt q contents counts first last t c r) first last k
     → IsSmallestFit q contents counts x last r k

@@ -1,4 +1,4 @@
--- The trace after a step: its history, pending calls, linearization points and keys.
+-- The recorder still describes the run after another step.
 use Rattle.std.proofs.Common.{◌≡◌, ◌≢◌, ℕ, suc, ◌<◌, ◌≤◌, true, false, ◌||◌, inl, inr, List, length, map, set, sym, refl}
 use Rattle.std.proofs.Common.{subst, ap, ◌∙◌, arith, get_or-set_same, get_or-set_other}
 use Rattle.std.specs.Prelude.{All, ◌-◌, Option, Some, None}
@@ -29,7 +29,7 @@ use Rattle.lset_replay.proofs.ReplayKept.{changed_seats, changed_open, changed_c
 use Rattle.lset_replay.proofs.ReplayKept.{ended_seats, ended_others, ended_seat, ended_count, ended_other, ended_here}
 use Rattle.lset_replay.proofs.ReplayKept.{ended_changes, calls_are, steady_next, watched_next}
 
--- The linearization point of the call that makes the step.
+-- ---- Lemmas about the linearization point of the call that makes the step
 module _ (q : ℕ) (contents : Contents) (counts : Counts) (x : TracedCall) (m : ℕ) (changes : ℕ → List ℕ) (o : OpenCall) where
   changed_place : (ch : Option Change) (r : Option Reply) (p : Option Linearized) (c : ℕ) → p ≡ Some (changed_at c)
       → end_place changes m r o p ≡ Some (changed_at c)
@@ -52,7 +52,7 @@ module _ (q : ℕ) (contents : Contents) (counts : Counts) (x : TracedCall) (m :
         record { from = w.2.from; upto = w.2.upto; fits = w.2.fits; smallest = w.2.smallest },
       )
 
--- The history after a call returns.
+-- ---- Lemmas about the history after a step
 module _ (m t : ℕ) (cs : List TracedCall) (ch : Option Change) (o : OpenCall) (s : Trace) where
   abbrev num : ℕ
   num = o.number
@@ -90,7 +90,7 @@ module _ (op : Opening) (last : ℕ) (log : Log) (contents : Contents) (counts :
   abbrev open_now : (o : OpenCall) × (open_call_at s.under_way t ≡ Some o) × IsWatched log contents counts k t o
   open_now = f.busy t en.of_a_thread en.under_way
 
-  -- the call that makes the step, with its number
+  -- The pending call that makes the step.
   abbrev watching : OpenCall
   watching = open_now.0
 
@@ -103,7 +103,7 @@ module _ (op : Opening) (last : ℕ) (log : Log) (contents : Contents) (counts :
   number : OpenNumber (calls_at log k) t number_here watching.call watching.begun
   number = open_now.2.here
 
-  -- the trace after the call's change, and then after its end
+  -- The recorder's contents after the call's change (`changed`), and then after its end (`kept`).
   abbrev changed : Trace
   changed = changed_on (suc k) t ch s
 
@@ -162,7 +162,6 @@ module _ (op : Opening) (last : ℕ) (log : Log) (contents : Contents) (counts :
   open_other None u d e = e
   open_other (Some a) u d e = sym (if_other t u d false (is_open log u k)) ∙ e
 
-  -- the call is still pending unless it ends
   open_here : (a : Option Reply) → open_after (stepped t ch a) t (is_open log t k) ≡ true
       → (open_call_at (ended_on (suc k) t a changed).under_way t ≡ Some watching)
       × OpenNumber (calls_after (suc k) (stepped t ch a) (calls_at log k)) t number_here watching.call watching.begun

@@ -1,4 +1,4 @@
--- The version of the schedule has words for all calls and replies of its replay.
+-- The schedule's version has words for all calls and replies in its report.
 use Rattle.std.proofs.Common.{ap, ◌≡◌, ℕ, zero, suc, ◌+◌, Bool, true, false, List, [], ◌∷◌, length, map, replicate}
 use Rattle.std.proofs.Common.{refl, sym, subst, ◌∙◌}
 use Rattle.std.specs.Prelude.{Option, Some, None, ◌==◌, Contains, if◌then◌else◌}
@@ -35,7 +35,7 @@ use Rattle.lset_replay.specs.declared.events.LineEvent.{LineEvent}
 use Rattle.lset_replay.specs.Events.{events_of_line, events_from, events_of, only_events}
 use Rattle.lset_replay.specs.Reports.{IsReplay, IsExplained}
 
--- ---- there are words for the calls that begin
+-- ---- Lemmas: the version has words for the calls that the schedule begins
 
 abbrev BeginsIn : Version → Event → Type 0
 BeginsIn v (event.Begin t c) = HasCall v c
@@ -59,14 +59,14 @@ lines_begin v n [] h = tt
 lines_begin v n (l ∷ ls) h = all-append (BeginsLineIn v) (events_of_line n l) (events_from (n + 1) ls) (line_begins v n l h.0)
     (lines_begin v (n + 1) ls h.1)
 
--- Past the last event, the event is taken to be a step, which begins no call.
+-- After the last event, `event_at` returns a step, which begins no call.
 event_begins : (v : Version) (es : List LineEvent) (k : ℕ) → AllByRecursion (BeginsLineIn v) es
     → BeginsIn v (event_at (only_events es) k)
 event_begins v [] k h = tt
 event_begins v (e ∷ es) zero h = h.0
 event_begins v (e ∷ es) (suc k) h = event_begins v es k h.1
 
--- ---- each call in the history began in the schedule
+-- ---- Lemmas: each call in the history was begun by the schedule
 
 abbrev EntersIn : Version → Entry → Type 0
 EntersIn v (began t c) = HasCall v c
@@ -116,7 +116,7 @@ history_is_in v T op k es h =
     all_map record_of (IsRecordIn v) (calls_at (log_of T op at) k)
     (calls_are_in v (log_of T op at) k (λ j. entry_enters v T (state_at T op at j) (at j) (event_begins v es j h)))
 
--- ---- the sequential set answers calls of version 1 with replies of version 1
+-- ---- Lemmas: the sequential set has only replies of version 1 for calls of version 1
 
 abbrev IsReplyIn : Placed → Type 0
 IsReplyIn p = HasReply One p.reply
@@ -133,7 +133,6 @@ reply_is_in q s t (call.Remove k) h = either (has_key k.0 s.keys) reply.True rep
 reply_is_in q s t (call.Contains k) h = either (has_key k.0 s.keys) reply.True reply.False tt tt
 reply_is_in q s t (call.Ceiling k) h = absurd h
 
--- No call in the history is a ceiling.
 call_at_is_in : (calls : List CallRecord) (number : ℕ) → AllByRecursion (IsRecordIn One) calls
     → HasCall One (call_numbered calls number).call
 call_at_is_in [] number h = tt
@@ -149,7 +148,7 @@ order_is_in q calls s (p ∷ ps) legal h =
       order_is_in q calls (after_call s c.thread c.call p.reply) ps legal.1 h,
     )
 
--- ---- a completed call has the reply stated at its place
+-- ---- Lemmas: the reply of a completed call is the one in the order
 
 end_is_in : (order : List Placed) (number : ℕ) (end : Option (ℕ × Reply)) → AllByRecursion IsReplyIn order
     → ((m : ℕ) (r : Reply) → end ≡ Some (m, r) → Contains order (record { call = number; reply = r })) → HasEnd One end
@@ -159,7 +158,7 @@ end_is_in order number (Some e) h there =
     let place : Contains order p = there e.0 e.1 refl in
     subst IsReplyIn (get_or_default order place.0 p _ place.1 ∙ place.2) (all_at IsReplyIn order p place.0 place.1 h)
 
--- ---- THE VERSION HAS WORDS for a replay
+-- ---- Lemmas: the version has words for the whole report
 
 words_in : (v : Version) (q : ℕ) (s : SetState) (calls : List CallRecord) (order : List Placed) → Linearizes q s calls order
     → AllByRecursion (IsRecordIn v) calls → HasWordsIn v calls order

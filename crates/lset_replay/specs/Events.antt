@@ -1,4 +1,4 @@
--- The events of a schedule, each with the number of its line in the text.
+-- The events of a schedule, each with the number of its line in the schedule's text.
 use Rattle.std.specs.Prelude.{ℕ, ◌+◌, ◌≤◌, List, [], ◌∷◌, ◌++◌, map, replicate, slice_index_or}
 use Rattle.lset_steps.specs.declared.Event.{Event}
 use Rattle.lset_steps.specs.declared.Event.TheVariants as event
@@ -10,7 +10,7 @@ use Rattle.lset_schedule.specs.declared.TheConstants.{MOST_EVENTS}
 use Rattle.lset_schedule.specs.Plan.{Plan, event_count, first_event_line, opening_in}
 use Rattle.lset_replay.specs.declared.events.LineEvent.{LineEvent}
 
--- The events of a line: the begin of a call, or a number of steps.
+-- The events that one line stands for: the begin of a call, or some steps of one thread.
 abbrev pub events_of_line : ℕ → Line → List LineEvent
 events_of_line number (line.Begin t call) = record { line = number; event = event.Begin t call } ∷ []
 events_of_line number (line.Go t steps) = replicate steps (record { line = number; event = event.Go t })
@@ -22,19 +22,18 @@ events_from number (l ∷ ls) = events_of_line number l ++ events_from (number +
 abbrev pub events_of : Plan → List LineEvent
 events_of p = events_from (first_event_line p) p.lines
 
--- A schedule that can be replayed: its opening is within the limits, and it has at most MOST_EVENTS events. Its calls
--- are arbitrary.
+-- A schedule that can be replayed. Its sizes and opening keys are within the limits, and it has at most MOST_EVENTS
+-- events, which are otherwise arbitrary.
 pub record IsInLimits (p : Plan) : Type 0 where
   pub opens : Opens (opening_in p)
   pub few : sum_by event_count p.lines ≤ MOST_EVENTS
 
--- An event without its line number.
 abbrev pub event_in : LineEvent → Event
 event_in e = e.event
 
 abbrev pub only_events : List LineEvent → List Event
 only_events es = map event_in es
 
--- The line number of the event at this index.
+-- The line number of the event with this index, counted from 0.
 abbrev pub line_at : List LineEvent → ℕ → ℕ
 line_at es index = (slice_index_or es index (record { line = 0; event = event.Go 0 })).line

@@ -1,4 +1,4 @@
--- What holds while a schedule is run: the world and the recorder match the events made so far.
+-- The state of a replay: the world and the recorder match the events made so far.
 use Rattle.std.specs.Prelude.{◌≡◌, ℕ, ◌<◌, List, length, Result}
 use Rattle.lset_text.specs.declared.causes.Cause.{Cause}
 use Rattle.lset_text.specs.declared.causes.Cause.TheVariants as cause
@@ -17,13 +17,13 @@ use Rattle.lset_replay.specs.Trace.{trace_at, trace_of}
 use Rattle.lset_replay.specs.Reports.{world_after, IsFirstRefused}
 use Rattle.lset_words.specs.Words.{Opening}
 
--- The events of these worlds are the steps of a list. `state` returns the state of a world.
+-- The worlds of type W behave as the step table T says. `state` returns the state of a world.
 pub record AreSteps (T : Table) (W : Type 0) (makes : W → Event → Result Told Cause → W → Type 0) (state : W → WorldState) : Type 0 where
   pub account : HasAccount T
   pub listed : ListedContent T
   pub made : (w : W) (e : Event) (r : Result Told Cause) (w' : W) → makes w e r w' → HasMade T (state w) e r (state w')
 
--- The first `k` events have been made. `w` is the world after them, and `r` is the recorder.
+-- The first `k` events were made. They led to the world `w` and were recorded in `r`.
 pub record HasFollowed (T : Table) (op : Opening) (events : List LineEvent) (k : ℕ) (w : WorldState) (r : Recorder) : Type 0 where
   pub run : Run T op (event_at (only_events events)) k
   pub world : w ≡ world_after T op (only_events events) k
@@ -31,13 +31,13 @@ pub record HasFollowed (T : Table) (op : Opening) (events : List LineEvent) (k :
   pub opening_is : r.history.opening ≡ op
   pub counted : r.last ≡ k
 
--- The event that follows the first k events.
+-- `next` is the event with index k, counted from 0.
 pub record ComesNext (es : List LineEvent) (k : ℕ) (next : LineEvent) : Type 0 where
   pub known : k < length es
   pub event_is : event_at (only_events es) k ≡ next.event
   pub line_is : next.line ≡ line_at es k
 
--- Why a run of a list stops: at the first event that is not enabled, or at a failed allocation.
+-- Why the run of a list can stop at this line: its event is the first that is not enabled, or an allocation failed.
 abbrev pub IsStoppedBy : Table → Opening → List LineEvent → ℕ → Cause → Type 0
 IsStoppedBy T op events line cause.NoThread = IsFirstRefused T op events line step.NoThread
 IsStoppedBy T op events line cause.Busy = IsFirstRefused T op events line step.Busy

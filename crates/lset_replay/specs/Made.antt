@@ -1,4 +1,4 @@
--- What an event does in the world of a list.
+-- The effect of an event on the world of a list, that is, on its shared words and its threads' local states.
 use Rattle.std.specs.Prelude.{◌≡◌, Result, Ok, Err}
 use Rattle.lset_text.specs.declared.causes.Cause.{Cause}
 use Rattle.lset_text.specs.declared.causes.Cause.TheVariants as cause
@@ -8,7 +8,7 @@ use Rattle.lset_steps.specs.declared.world.StepFault.TheVariants as step
 use Rattle.lset_steps.specs.Steps.{Table, Enabled, after, told}
 use Rattle.lset_steps.specs.Worlds.{WorldState, Refused}
 
--- An enabled event is executed, a refused event changes nothing.
+-- An enabled event makes its step and returns the effect. A refused event changes nothing.
 abbrev pub HasMade : Table → WorldState → Event → Result Told Cause → WorldState → Type 0
 HasMade T w e (Ok answer) w' = Enabled w.state e × (w' ≡ record w { state = after T w.state e }) × (answer ≡ told T w.state e)
 HasMade T w e (Err cause.NoThread) w' = Refused w e step.NoThread × (w' ≡ w)

@@ -1,4 +1,4 @@
--- The order of the calls, sorted by their linearization points.
+-- The order of a run's calls, sorted by their linearization points.
 use Rattle.std.specs.Prelude.{◌≡◌, ℕ, suc, List, [], ◌∷◌, Option, Some, None, AllPairs}
 use Rattle.std.specs.List.Sorted.{IsPermutation}
 use Rattle.lset_words.specs.declared.history.Placed.{Placed}
@@ -10,20 +10,20 @@ use Rattle.lset_replay.specs.declared.places.Linearized.{Linearized}
 abbrev pub point_of : Linearized → Point
 point_of p = record { moment = p.moment; change = p.change }
 
--- The calls that have a linearization point, in the order of their numbers.
+-- An entry of the order for each call that has a linearization point, sorted by call number.
 abbrev pub pointed_from : ℕ → List (Option Linearized) → List Pointed
 pointed_from number [] = []
 pointed_from number (None ∷ ps) = pointed_from (suc number) ps
 pointed_from number (Some p ∷ ps) =
     record { point = point_of p; placed = record { call = number; reply = p.reply } } ∷ pointed_from (suc number) ps
 
--- These are the calls that have a linearization point, sorted: by moment and, at one moment, the change first, then by
+-- `sorted` contains the calls that have a linearization point: by moment and, at one moment, the change first, then by
 -- call number.
 pub record AreSorted (ps : List (Option Linearized)) (sorted : List Pointed) : Type 0 where
   pub moved : IsPermutation (pointed_from 0 ps) sorted
   pub rises : AllPairs IsPlacedBefore sorted
 
--- The order is that of the sorted calls.
+-- The order consists of the calls that have a linearization point, sorted by these points.
 pub record IsOrderOf (ps : List (Option Linearized)) (order : List Placed) : Type 0 where
   pub sorted : List Pointed
   pub are : AreSorted ps sorted

@@ -1,4 +1,4 @@
--- [Replay]: which report a schedule has, and which event makes a schedule fail.
+-- [Replay]: the report of a schedule or, if a schedule cannot be run, the event at which it fails.
 use Rattle.std.specs.Prelude.{◌≡◌, ℕ, ◌<◌, List, length, Result, Ok, Err}
 use Rattle.std.specs.List.Sorted.{IsStrictlyIncreasing}
 use Rattle.lset_words.specs.declared.history.CallRecord.{CallRecord}
@@ -21,23 +21,23 @@ use Rattle.lset_replay.specs.declared.fault.ReplayFault.TheVariants as fault
 use Rattle.lset_report.specs.declared.report.Report.{Report}
 use Rattle.lset_replay.specs.Events.{events_of, only_events, line_at}
 
--- A report of the run of these events:
+-- The history, the order and the final keys that the report of a run with these events must have.
 pub record IsReportOf (T : Table) (op : Opening) (events : List Event)
     (history : List CallRecord) (order : List Placed) (keys : List ℕ) : Type 0 where
-  -- each event is enabled,
+  -- Each event is enabled when it is made.
   pub run : Run T op (event_at events) (length events)
-  -- the history is that of the run,
+  -- The history in the report is the history of the run.
   pub history_is : history ≡ history_of T op (event_at events) (length events)
-  -- the order is the [Placement], computed from the contents of the run's worlds,
+  -- The order in the report is the [Placement]: it sorts the calls by the moments at which they take effect.
   pub placement : IsPlacedBy T op (event_at events) (length events) order
-  -- and the final keys are the content of the last world.
+  -- The final keys in the report are the keys of the set after the last event.
   pub content : IsContent (views T op (event_at events) (length events)) keys
 
--- The world after the first k events.
+-- The shared words and the local states after the first k events.
 abbrev pub world_after : Table → Opening → List Event → ℕ → WorldState
 world_after T op events k = record { sizes = sizes op; state = state_at T op (event_at events) k }
 
--- The line of the first event that is not enabled, and the first cause that applies.
+-- The first event that is not enabled has this line number, and this is the first cause that applies to it.
 pub record IsFirstRefused (T : Table) (op : Opening) (events : List LineEvent)
     (line : ℕ) (cause : StepFault) : Type 0 where
   pub index : ℕ
@@ -46,26 +46,26 @@ pub record IsFirstRefused (T : Table) (op : Opening) (events : List LineEvent)
   pub before : Run T op (event_at (only_events events)) index
   pub refused : Refused (world_after T op (only_events events) index) (event_at (only_events events) index) cause
 
--- Why a replay fails: the line and the cause of the first event that is not enabled, or a failed allocation.
+-- Why a replay fails: at the first event that is not enabled, with its line and cause, or at a failed allocation.
 abbrev pub IsRefusal : Table → Opening → List LineEvent → ReplayFault → Type 0
 IsRefusal T op events (fault.NoThread line) = IsFirstRefused T op events line step.NoThread
 IsRefusal T op events (fault.Busy line) = IsFirstRefused T op events line step.Busy
 IsRefusal T op events (fault.Idle line) = IsFirstRefused T op events line step.Idle
 IsRefusal T op events fault.Memory = Unit {0}
 
--- A report is the replay of this schedule.
+-- The report is the one that replaying the schedule on the step table T returns.
 pub record IsReplay (T : Table) (p : Plan) (r : ReportValue) : Type 0 where
   pub version_is : r.version ≡ p.version
   pub kind_is : r.kind ≡ p.kind
   pub opening_is : r.history.opening ≡ opening_in p
   pub report : IsReportOf T (opening_in p) (only_events (events_of p)) r.history.calls r.order r.keys
 
--- What a replay can return on a machine.
+-- The possible results of a replay on the step table T: the schedule's report, or the error that the schedule has.
 abbrev pub Replays : Table → Plan → Result Report ReplayFault → Type 0
 Replays T p (Ok r) = IsReplay T p (view r)
 Replays T p (Err refusal) = IsRefusal T (opening_in p) (events_of p) refusal
 
--- [Headline, of a report]: the order explains the history and leaves the final keys.
+-- [Headline, of a report]: the order linearizes the history and leaves the final keys.
 pub record IsExplained (r : ReportValue) : Type 0 where
   pub linearizes : Linearizes r.history.opening.quota (opening_set r.history.opening) r.history.calls r.order
   pub leaves : keys_left r.history.opening r.history.calls r.order ≡ r.keys

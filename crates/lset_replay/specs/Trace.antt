@@ -1,4 +1,4 @@
--- The fields of a recorder, computed from the effects of the events.
+-- What a recorder contains after some events, computed from the effects of these events.
 use Rattle.std.specs.Prelude.{◌≡◌, ℕ, zero, suc, ◌-◌, ◌<◌, ◌≤◌, Bool, true, false, not, List, [], ◌∷◌, ◌++◌, length, replicate}
 use Rattle.std.specs.Prelude.{Option, Some, None, slice_index_or, slice_set, IsSomeAnd}
 use Rattle.lset_words.specs.declared.Call.{Call}
@@ -20,17 +20,17 @@ use Rattle.lset_replay.specs.declared.places.OpenCall.{OpenCall}
 use Rattle.lset_replay.specs.declared.places.Linearized.{Linearized}
 use Rattle.lset_replay.specs.declared.recorder.Recorder.{Recorder}
 
--- ---- a pending call
+-- ---- The reply of a pending call
 
--- Returns whether the reply of a call that changes nothing needs the call's key to be present: true if present, false
--- if absent. True for a ceiling, for which `shows` tests the whole reply.
+-- True if this reply of a call that changes nothing is correct while the key is present, false if it is correct while
+-- the key is absent. True for every ceiling, whose whole reply is tested by `shows`.
 abbrev pub needs_key : Call → Reply → Bool
 needs_key (call.Add k) reply.False = true
 needs_key (call.Contains k) reply.True = true
 needs_key (call.Ceiling k) r = true
 needs_key c r = false
 
--- The key in the reply of a ceiling; None if the reply is Nothing.
+-- The key in a ceiling's reply; None if the reply is Nothing.
 abbrev pub found_in : Reply → Option ℕ
 found_in (reply.At k) = Some k.0
 found_in reply.Nothing = None
@@ -38,34 +38,36 @@ found_in reply.True = None
 found_in reply.False = None
 found_in reply.Full = None
 
--- True at the moments at which the key is present. For a ceiling, at the moments at which its reply is correct.
+-- True at the moments at which the call's key is present. For a ceiling, true at the moments at which its reply is
+-- correct.
 abbrev pub shows : (ℕ → List ℕ) → Call → Reply → ℕ → Bool
 shows changes (call.Add k) r = λ m. is_present changes k.0 m
 shows changes (call.Remove k) r = λ m. is_present changes k.0 m
 shows changes (call.Contains k) r = λ m. is_present changes k.0 m
 shows changes (call.Ceiling k) r = has_ceiling changes k.0 (found_in r)
 
--- The first moment of the call, up to `last`, at which its reply is correct if the call changes nothing.
+-- The first moment, from the call's begin up to `last`, at which the reply is correct. The call must change nothing.
 abbrev pub fit : (ℕ → List ℕ) → OpenCall → Reply → ℕ → Option ℕ
 fit changes o reply last = first_passing (needs_key o.call reply) (shows changes o.call reply) o.begun (last - o.begun)
 
--- ---- places
+-- ---- Linearization points
 
 abbrev pub changed_at : ℕ → Linearized
 changed_at moment = record { moment = moment; reply = reply.True; change = true }
 
--- The linearization point of a call that changes nothing: the first moment at which its reply is correct. A call of a
--- list has such a moment. A call of a broken list can lack one, and its linearization point is then its end.
+-- The linearization point of a call that changes nothing: the first moment at which its reply is correct. Each call of
+-- a list has such a moment. If a call of a broken list has none, its linearization point is its end.
 abbrev pub read_at : Option ℕ → ℕ → Reply → Linearized
 read_at None end reply = record { moment = end; reply = reply; change = false }
 read_at (Some moment) end reply = record { moment = moment; reply = reply; change = false }
 
--- The linearization point of a completed call: its change if it made one, otherwise that of a call that changes nothing.
+-- The linearization point of a completed call: the moment of its change or, if it made none, the moment `read_at`
+-- finds.
 abbrev pub settled : Option Linearized → Option ℕ → ℕ → Reply → Option Linearized
 settled (Some p) moment end reply = Some p
 settled None moment end reply = Some (read_at moment end reply)
 
--- ---- the trace
+-- ---- The recorder's contents: calls, pending calls, linearization points, and for each key the moments of its changes
 
 pub record Trace : Type 0 where
   pub calls : List CallRecord
@@ -127,7 +129,7 @@ abbrev pub trace_at : Opening → Log → ℕ → Trace
 trace_at op log zero = no_trace op
 trace_at op log (suc k) = trace_after (suc k) (log k) (trace_at op log k)
 
--- ---- the invariant of a recorder
+-- ---- What must hold before an event is recorded
 
 abbrev pub number_at : List (Option OpenCall) → ℕ → ℕ
 number_at os thread = number_of (open_call_at os thread)
@@ -147,15 +149,15 @@ abbrev pub entry_told : Event → Told → Entry
 entry_told (event.Begin thread call) told = began thread call
 entry_told (event.Go thread) told = stepped thread told.change told.answer
 
--- The thread has a pending call, which can change the set or end at this moment.
+-- The thread has a pending call, and this call can change the set or end at this moment.
 pub record MayStep (h : HistoryValue) (under_way : List (Option OpenCall)) (places : List (Option Linearized))
     (thread moment : ℕ) : Type 0 where
   pub of_a_thread : thread < length under_way
   pub goes : IsSomeAnd (open_call_at under_way thread) (λ o.
       (o.number < length places) × (o.begun ≤ moment) × MayEnd h o.number moment)
 
--- States that the change can be recorded: its moment is above 0 and after every recorded change, and the key is not
--- already present or absent.
+-- The change can be recorded: its moment is after every recorded change, and it adds an absent key or removes a present
+-- one.
 abbrev pub MayChange : (ℕ → List ℕ) → ℕ → Option Change → Type 0
 MayChange changes moment None = Unit {0}
 MayChange changes moment (Some (k, present)) =

@@ -4,14 +4,14 @@ ghost use Rattle.lset_replay.specs.Events.{events_of_line};
 use lset_schedule::Line;
 use lset_steps::Event;
 
-/// An event of a schedule, with the number of its line in the text, counted from 1.
+/// An event of a schedule, with the number of its line in the schedule's text, counted from 1.
 #[derive(Clone, Copy)]
 pub struct LineEvent {
     pub line: u64,
     pub event: Event,
 }
 
-/// Returns the event of a schedule's line, and how many times the line repeats it.
+/// Returns the event that a schedule's line contains, and how many times the line repeats this event.
 pub fn event_of(number: u64, line: Line) -> (LineEvent, u32)
     ensures { events_of_line number line ≡ replicate result.1 result.0 }
 {

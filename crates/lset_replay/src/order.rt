@@ -6,7 +6,8 @@ use lset_report::{Pointed, sort_by_points};
 use lset_words::{Placed, Point};
 use std::alloc::{AllocError, Global};
 
-/// Returns the calls that have a linearization point, in the order of their numbers.
+/// Returns an entry of the order for each call that has a linearization point, sorted by call number. The index of a
+/// call in `places` is its number.
 fn pointed_calls(alloc: Global, places: &[Option<Linearized>]) -> Result<Vec<Pointed>, AllocError>
     requires { length places.now < 2 ^ 32 }
     ensures { IfOk result (λ v. v.items ≡ pointed_from 0 places.now) }
@@ -29,8 +30,8 @@ fn pointed_calls(alloc: Global, places: &[Option<Linearized>]) -> Result<Vec<Poi
     Ok(pointed)
 }
 
-/// Returns the calls in the order of their linearization points: by moment and, at one moment, with the change first
-/// and the other calls by number. Returns `AllocError` if an allocation fails.
+/// Returns an entry for each call that has a linearization point, in the order of these points. At one moment, the call
+/// that changes the set comes first, and the others follow by number. Returns `AllocError` if an allocation fails.
 pub(crate) fn sorted_places(
     alloc: Global,
     places: &[Option<Linearized>],

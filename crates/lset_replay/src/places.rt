@@ -3,7 +3,7 @@ ghost use Rattle.lset_replay.specs.Trace.{needs_key, found_in, changed_at, read_
 
 use lset_words::{Call, Effect, Presence, Reply};
 
-/// A pending call, with its number and the moment at which it began.
+/// A pending call, with its number in the history and the moment at which it began.
 #[derive(Clone, Copy)]
 pub(crate) struct OpenCall {
     pub number: u32,
@@ -11,8 +11,8 @@ pub(crate) struct OpenCall {
     pub begun: u32,
 }
 
-/// Returns `true` if this reply needs the call's key to be present, `false` if it needs the key to be absent. Applies
-/// to calls that change nothing. For a `ceiling`, the key is the one in the reply.
+/// Returns `true` if this reply of a call that changes nothing is correct while the call's key is present, and `false`
+/// if it is correct while the key is absent. Returns `true` for every `ceiling`.
 pub(crate) fn needs_key(call: Call, reply: Reply) -> bool
     ensures { result ≡ needs_key call reply }
 {
@@ -30,7 +30,8 @@ pub(crate) fn found_in(reply: Reply) -> Option<u32>
     }
 }
 
-/// The linearization point of a call: the moment, the reply, and whether the call changes the set then.
+/// The linearization point of a call: its moment, the call's reply, and whether the call changes the set at this
+/// moment.
 #[derive(Clone, Copy)]
 pub(crate) struct Linearized {
     pub moment: u32,
@@ -39,7 +40,7 @@ pub(crate) struct Linearized {
 }
 
 impl Linearized {
-    /// Creates the linearization point of a call that changes the set at `moment`. The call's reply is `True`.
+    /// Creates the linearization point of a call that changes the set at `moment`. Its reply is `True`.
     pub fn changed(moment: u32) -> Linearized
         ensures { result ≡ changed_at moment }
     {
@@ -50,8 +51,8 @@ impl Linearized {
         }
     }
 
-    /// Creates the linearization point of a call that changes nothing: `moment`, at which its reply is correct, or the
-    /// call's end `end` if there is no such moment.
+    /// Creates the linearization point of a call that changes nothing. It is at `moment` or, if this is `None`, at the
+    /// moment `end` at which the call ends.
     pub fn read(moment: Option<u32>, end: u32, reply: Reply) -> Linearized
         ensures { result ≡ read_at moment end reply }
     {

@@ -4,7 +4,7 @@ ghost use Rattle.lset_history.specs.Changes.{moments_of};
 use crate::places::{Linearized, OpenCall};
 use lset_history::{Changes, History};
 
-/// Records a run: the history so far, each thread's pending call, the linearization points found so far, and the
+/// A run as recorded so far: its history, each thread's pending call, each call's linearization point if known, and the
 /// moments at which keys were added and removed.
 #[derive(Drop)]
 pub(crate) struct Recorder {

@@ -37,8 +37,8 @@ fn is_there(changes: &Changes, key: u32, moment: u32) -> bool
     changes.first(key, true, moment, moment).0.is_some()
 }
 
-/// Records that a key was added (if `present`) or removed, unless the key already was in that state, which occurs on
-/// broken lists only.
+/// Records that a key was added (if `present` is true) or removed at this moment. Records nothing if the key already
+/// was present or absent, which happens on broken lists only.
 fn note_key(changes: &mut Changes, key: u32, present: bool, moment: u32) -> Result<(), AllocError>
     requires { IsLaterThanAll (moments_of changes.old) moment }
     ensures upto { (k : ℕ) → All (λ m. m ≤ moment) (moments_of changes.new k) }
@@ -52,7 +52,7 @@ fn note_key(changes: &mut Changes, key: u32, present: bool, moment: u32) -> Resu
 }
 
 impl Recorder {
-    /// Creates the recorder for a schedule, before the first event. Returns `AllocError` if an allocation fails.
+    /// Creates a recorder for a schedule's run, before the first event. Returns `AllocError` if an allocation fails.
     pub fn new(alloc: Global, schedule: &Schedule) -> Result<Recorder, AllocError>
         requires { Opens (opening_in (view schedule.now)) }
         ensures trace { IfOk result (λ r. trace_of r ≡ no_trace r.history.opening) }
@@ -70,19 +70,19 @@ impl Recorder {
         })
     }
 
-    /// Returns the number of a thread's pending call, or `None` if there is none.
+    /// Returns the number of a thread's pending call; `None` if the thread has no pending call.
     pub fn open_number(&self, thread: u32) -> Option<u32> {
         let open = (*self.under_way.get(thread as usize)?)?;
         Some(open.number)
     }
 
-    /// Returns the moment of a call's linearization point, or `None` if none was found so far.
+    /// Returns the moment of a call's linearization point; `None` if it is not known yet.
     pub fn moment_of(&self, call: u32) -> Option<u32> {
         let place = (*self.places.get(call as usize)?)?;
         Some(place.moment)
     }
 
-    /// Returns the pending call of a thread. The error is `Lost` if there is none.
+    /// Returns the pending call of a thread. Returns the error `Lost` if the thread has no pending call.
     fn open_call(&self, thread: u32) -> Result<OpenCall, Cause>
         ensures is { IfOk result (λ o. (thread < length self.now.under_way.items)
             × (open_call_at self.now.under_way.items thread ≡ Some o) × (o.number < length self.now.places.items)) }
@@ -98,8 +98,7 @@ impl Recorder {
         }
     }
 
-    // Not inlined: few events begin or end a call or change the set, and the loop over all other events stays small
-    // this way.
+    // Not inlined, so that the loop over the events stays small: few events begin or end a call or change the set.
     #[inline(never)]
     fn begin(&mut self, thread: u32, call: Call) -> Result<(), Cause>
         requires { length self.old.places.items < self.old.last }
@@ -148,7 +147,7 @@ impl Recorder {
         Ok(())
     }
 
-    /// Returns the linearization point of a call that ends now with this reply.
+    /// Returns the linearization point of the call `made`, which ends now with this reply.
     fn place_at_end(&self, made: OpenCall, reply: Reply) -> Linearized
         requires known { made.number < length self.now.places.items }
         requires begun { made.begun ≤ self.now.last }
@@ -191,8 +190,8 @@ impl Recorder {
         Ok(())
     }
 
-    /// Records the next event and its effect. Can allocate. If the recorder cannot follow the run, which occurs on
-    /// broken lists only, the error is `Lost`; if an allocation fails, it is `Memory`.
+    /// Records the next event and its effect. Can allocate. Returns the error `Memory` if an allocation fails, and
+    /// `Lost` if the effect does not fit the run so far, which happens on broken lists only.
     #[inline(always)]
     pub fn follow(&mut self, event: Event, told: Told) -> Result<(), Cause>
         ensures trace { OnOk result (MayRecord self.old (self.old.last + 1) event told

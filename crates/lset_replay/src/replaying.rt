@@ -26,7 +26,7 @@ use lset_steps::laws::{has_account, listed_content};
 use lset_text::{Cause, LineFault};
 use std::alloc::Global;
 
-/// Returns the error of a replay that stopped for this reason. In a run of a list, no cause has the last arm.
+/// Converts the error at which a replay stopped. A run of a list never reaches the last arm.
 fn refusal(stopped: LineFault) -> ReplayFault
     ensures { (T : Table) (op : Opening) (events : List LineEvent) → IsStopped T op events stopped → IsRefusal T op events result }
 {
@@ -38,8 +38,8 @@ fn refusal(stopped: LineFault) -> ReplayFault
     }
 }
 
-/// Makes and records the events of the lines in turn. `first` is the number of the first line. The error is that of the
-/// first event that is refused; its cause is `Memory` if an allocation failed.
+/// Makes the events of these lines in turn and records them. `first` is the number of the first line. Stops at the
+/// first event that is refused and returns its line and cause. The cause is `Memory` if an allocation failed.
 pub(crate) fn follow<W: Steps>(
     world: &mut W,
     recorder: &mut Recorder,
@@ -71,7 +71,7 @@ pub(crate) fn follow<W: Steps>(
     Ok(())
 }
 
-/// Replays a schedule on the machine `M`.
+/// Replays a schedule on the list whose step table is `M`.
 fn replay_on<M: Machine>(alloc: Global, schedule: &Schedule) -> Result<Report, ReplayFault>
     requires { IsInLimits (view schedule.now) }
     ensures replays { Replays M.table (view schedule.now) result }
@@ -99,7 +99,7 @@ fn replay_on<M: Machine>(alloc: Global, schedule: &Schedule) -> Result<Report, R
     })
 }
 
-/// A replay, as a task that can run on any kind of list.
+/// A replay of a schedule, as a task that `on_list` runs on the list of the schedule's kind.
 #[derive(Clone, Copy)]
 struct Replaying<'a> {
     alloc: Global,
@@ -127,8 +127,9 @@ impl Task for Replaying<'_> {
 /// schedule's version. `write_report` accepts the report if that version has words for the schedule's calls and opening
 /// keys.
 ///
-/// A call that changed the set is placed at the event of its change, even if it is pending. Any other completed call is
-/// placed at the first of its moments at which its reply is correct. (Linearizability is due to Herlihy and Wing.)
+/// A call that changed the set takes effect at the event of its change, even if the call is pending. Any other
+/// completed call takes effect at the first of its moments at which its reply is correct. (Linearizability is due to
+/// Herlihy and Wing.)
 ///
 /// Example, from `crates/first_program`:
 ///
@@ -137,8 +138,8 @@ impl Task for Replaying<'_> {
 ///
 /// # Errors
 ///
-/// For the first event that is not enabled, with the number of its line:
-/// - `NoThread`: there is no such thread;
+/// If an event is not enabled, returns the number of its line with one of these causes:
+/// - `NoThread`: the schedule has no such thread;
 /// - `Busy`: the thread already has a pending call;
 /// - `Idle`: the thread has no pending call.
 ///

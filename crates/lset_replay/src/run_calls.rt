@@ -13,30 +13,29 @@ use lset_text::{Cause, LineFault};
 use lset_words::{Placed, Point};
 use std::alloc::{AllocError, Global};
 
-/// The calls of a run, up to its last event or to the first event that is refused.
+/// The calls of a run, up to the run's last event or to the first event that is refused.
 #[derive(Drop)]
 pub struct RunCalls {
     pub history: History,
-    /// The calls that take effect, in that order.
+    /// The calls that take effect, with their replies, in the order in which they take effect.
     pub order: Vec<Placed>,
-    /// The linearization point of each place in the order (Herlihy and Wing).
+    /// The linearization point of each entry of `order` (Herlihy and Wing).
     pub points: Vec<Point>,
     /// The final keys.
     pub keys: Vec<u32>,
     /// The number of events made.
     pub events: u32,
-    /// The refused event's line number and the cause; `None` if all events were made.
+    /// The line number and the cause of the refused event; `None` if all events were made.
     pub refused: Option<LineFault>,
 }
 
-/// Makes the events of a schedule until one is refused, and returns the calls of the run. No event must have been made
-/// in `world`.
+/// Makes the events of a schedule until one is refused, and returns the calls of the run. `world` must be new: no event
+/// was made in it.
 ///
-/// A call that changed the set is placed at the event that made the change, even if the call is still pending. Any
-/// other completed call is placed at the first of its moments at which its reply is correct. On a broken list, a call
-/// that has no such moment is placed at its end. `replay` runs and places the calls of a list by the same code.
-/// `schedule` must be within the limits, as every schedule from `read_schedule` is. Returns `AllocError` if an
-/// allocation fails.
+/// A call that changed the set takes effect at the event that made the change, even if the call is still pending. Any
+/// other completed call takes effect at the first of its moments at which its reply is correct. On a broken list, a
+/// call without such a moment takes effect at its end. `replay` uses the same code for lists. `schedule` must be within
+/// the limits, as every schedule from `read_schedule` is. Returns `AllocError` if an allocation fails.
 pub fn calls_of<W: Steps + Drop>(
     alloc: Global,
     schedule: &Schedule,

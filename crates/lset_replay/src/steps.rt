@@ -1,4 +1,4 @@
-//! Worlds in which a schedule can be run.
+//! The interface through which a schedule is run on a list or on a broken list.
 ghost use Rattle.std.specs.Prelude.{Result};
 ghost use Rattle.lset_text.specs.declared.causes.Cause.{Cause};
 ghost use Rattle.lset_steps.specs.declared.Event.{Event};
@@ -9,25 +9,25 @@ use lset_steps::{Action, ChainKey, Event, Local, Machine, StepFault, Told, World
 use lset_text::Cause;
 use std::alloc::AllocError;
 
-/// The world of a list or of a broken list, in which events can be made.
+/// The world of a list or of a broken list: its shared words and its threads' local states. Events can be made in it.
 pub trait Steps {
-    /// States what an event does. By default, as for a broken list, an event can do anything.
+    /// Specifies what an event does in this world. By default, as for a broken list, an event can do anything.
     ghost makes: { Self → Event → Result Told Cause → Self → Type 0 } = { λ world event made after. Unit {0} };
 
     /// Returns the local state of thread `t`; `None` if there is no such thread.
     fn held(&self, t: u32) -> Option<Local>;
 
-    /// Returns the next access of thread `t`, and the value that the access will find; `None` if the thread will access
-    /// nothing.
+    /// Returns the next access of thread `t` to a shared word, with the value that the access will find. Returns `None`
+    /// if the thread's next step accesses no word.
     fn ahead(&self, t: u32) -> Option<(Action, u64)>;
 
-    /// Makes an event and returns its effect. A refused event changes nothing. The error is `NoThread`, `Busy` or
-    /// `Idle`; on a broken list, it can also be `Lost`.
+    /// Makes an event and returns its effect. If the event is refused, nothing changes, and the error is `NoThread`,
+    /// `Busy` or `Idle`. On a broken list, the error can also be `Lost`.
     fn make(&mut self, event: Event) -> Result<Told, Cause>
         ensures { makes self.old event result self.new };
 
-    /// Walks the chain from head to tail. Returns each key, and whether its node is marked. Returns `AllocError` if an
-    /// allocation fails.
+    /// Walks the chain of nodes from head to tail. Returns the key of each node, and whether the node is marked.
+    /// Returns `AllocError` if an allocation fails.
     fn met(&self) -> Result<Vec<ChainKey>, AllocError>;
 
     /// Returns the keys of the chain's unmarked nodes in increasing order. Returns `AllocError` if an allocation fails.

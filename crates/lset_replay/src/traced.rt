@@ -1,8 +1,8 @@
 use lset_steps::{Action, ChainKey, Local};
 use lset_words::{Call, Key, Reply};
 
-/// What an event did: it began a call, or accessed one word. The value is the one that a load read, that a store wrote,
-/// or that an exchange found.
+/// What an event did: it began a call, or it accessed one word. The value is the one that a load read, a store wrote,
+/// or a compare-and-exchange found.
 #[derive(Clone, Copy)]
 pub enum Deed {
     Begin(Call),
@@ -16,11 +16,11 @@ pub struct CallEnd {
     pub moment: u32,
 }
 
-/// An event of a run as shown in a trace: its line number in the schedule's text, its effect, and its thread's state
-/// before and after it. `moment` is the number of the event, counted from 1. `call` is the number of the thread's
-/// pending call, counted from 0, which the event began, continued or ended. `change` is the key that the event added
-/// (`true`) or removed (`false`), if any. `end` describes the end of the call, if the event ended it. If chains were
-/// requested and the event changed the chain, `chain` is the new chain.
+/// An event of a run, as a trace shows it: the number of its line in the schedule's text, its effect, and its thread's
+/// state before and after it. `moment` is the number of the event, counted from 1. `call` is the number, counted from
+/// 0, of the call that the event began, continued or ended. `change` is the key that the event added (`true`) or
+/// removed (`false`), if any. `end` describes the end of the call, if the event ended it. `chain` is the new chain of
+/// nodes, if chains were requested and the event changed the chain.
 #[derive(Drop)]
 pub struct TracedEvent {
     pub line: u64,

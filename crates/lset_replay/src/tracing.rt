@@ -1,4 +1,4 @@
-//! Runs a schedule event by event and reports the effect of each.
+//! Runs a schedule event by event and reports the effect of each event.
 ghost use Rattle.lset_words.specs.Words.{Opens};
 ghost use Rattle.lset_schedule.specs.Plan.{opening_in, view};
 
@@ -17,12 +17,12 @@ fn thread_of(event: Event) -> u32 {
     }
 }
 
-/// Returns `true` if the word with this index is the key or the link of a node.
+/// Returns `true` if the shared word with this index is the key or the link of a node.
 fn is_node_word(word: u64) -> bool {
     word > 2 && word % 3 != 2
 }
 
-/// Returns `true` if an event writes a node's key or link. No other event can change the chain.
+/// Returns `true` if an event writes the key or the link of a node. Only such an event can change the chain of nodes.
 fn writes_node(deed: Deed) -> bool {
     match deed {
         Deed::Begin(_) | Deed::Access(Action::Load(_), _) => false,
@@ -41,9 +41,9 @@ pub struct TracedRun<W: Steps + Drop> {
 }
 
 impl<W: Steps + Drop> TracedRun<W> {
-    /// Creates the run of a schedule in a world in which no event was made. If `chains` is true, each event that
-    /// changes the chain or a mark in it comes with the new chain. This costs a walk along the chain at each event that
-    /// writes a node's key or link. Returns `AllocError` if an allocation fails.
+    /// Creates the run of a schedule. `world` must be new: no event was made in it. If `chains` is true, each event
+    /// that changes the chain of nodes or a mark in it is reported with the new chain. This costs a walk along the
+    /// chain at each event that writes a node's key or link. Returns `AllocError` if an allocation fails.
     pub fn opened(
         alloc: Global,
         schedule: &Schedule,
@@ -61,7 +61,7 @@ impl<W: Steps + Drop> TracedRun<W> {
         })
     }
 
-    /// Makes an event and returns it in the form for a trace. If the event is refused, the inner error is the cause.
+    /// Makes an event and returns it as a trace shows it. If the event is refused, the inner error is the cause.
     /// Returns `AllocError` if an allocation fails.
     pub fn make(&mut self, next: LineEvent) -> Result<Result<TracedEvent, Cause>, AllocError> {
         let ahead = self.look(next.event);
@@ -92,15 +92,15 @@ impl<W: Steps + Drop> TracedRun<W> {
         }))
     }
 
-    /// Makes and records an event.
+    /// Makes an event and records it.
     fn step(&mut self, event: Event) -> Result<Told, Cause> {
         let told = self.world.make(event)?;
         self.recorder.follow(event, told)?;
         Ok(told)
     }
 
-    /// Returns the local state of the event's thread before the event, and what the event is about to do. `None` if the
-    /// thread does not exist, or cannot make a step.
+    /// Returns the local state of the event's thread before the event, and what the event is about to do. Returns
+    /// `None` if the thread does not exist or cannot make a step.
     fn look(&self, event: Event) -> Option<(Local, Deed)> {
         let deed = match event {
             Event::Begin(_, call) => Deed::Begin(call),
@@ -112,7 +112,7 @@ impl<W: Steps + Drop> TracedRun<W> {
         Some((self.world.held(thread_of(event))?, deed))
     }
 
-    /// Returns the end of a call, if its last event ended it.
+    /// Returns the reply and the moment of a call, if its last event ended it.
     fn end_of(&self, call: u32, told: Told) -> Option<CallEnd> {
         Some(CallEnd {
             reply: told.answer?,
@@ -120,7 +120,8 @@ impl<W: Steps + Drop> TracedRun<W> {
         })
     }
 
-    /// Returns the chain after an event, if chains were requested and the chain differs from the last one returned.
+    /// Returns the chain of nodes after an event, if chains were requested and the chain differs from the last one
+    /// returned.
     fn changed_chain(&mut self, deed: Deed) -> Result<Option<Vec<ChainKey>>, AllocError> {
         let Some(told) = &mut self.chain else {
             return Ok(None);

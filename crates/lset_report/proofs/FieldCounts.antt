@@ -1,4 +1,4 @@
--- Counts the fields in each kind of line.
+-- Which kinds of lines can match, by the number of fields in the line.
 use Rattle.std.proofs.Common.{◌≡◌, ℕ, ◌<◌, ◌⊎◌, inl, inr, List, [], ◌∷◌, length, Err, refl, arith}
 use Rattle.lset_text.specs.declared.words.Version.{Version}
 use Rattle.lset_text.specs.declared.words.Version.TheVariants.{One, Two}
@@ -35,7 +35,7 @@ is_call One s a b c (d ∷ more) some (inl opening) = rw opening refl
 is_call Two s a b c (d ∷ more) some (inl opening) = rw opening refl
 is_call v s a b c (d ∷ more) some (inr calls) = rw calls refl
 
--- No call's line has this many fields.
+-- A line with this many fields is not the line of a call.
 pub call_many : (v : Version) (w i t a b c d e : List ℕ) (parts : List (List ℕ)) → 0 < length parts
     → Err wrong.Line ≡ first_of v wrong.Line (open_kind ∷ ended_kind ∷ []) (w ∷ i ∷ t ∷ a ∷ b ∷ c ∷ d ∷ e ∷ parts)
 call_many v w i t a b c d e [] some = absurd (omega arith)

@@ -1,4 +1,4 @@
--- Correctness of `may_follow`: the test decides MayFollow, and the fields of CallsSoFar suffice for the test.
+-- The test `may_follow` decides whether a call can follow a history, and the fields of CallsSoFar suffice for the test.
 use Rattle.std.proofs.Common.{inl, inr, ◌≡◌, ◌≢◌, ℕ, ◌<◌, ◌&&◌, ◌||◌, not, ltb, eqb, Bool, true, false, List, [], ◌∷◌, ◌++◌, length, get_or}
 use Rattle.std.proofs.Common.{Option, Some, None, refl, sym, ap, ◌∙◌, arith, ⊎_elim, zero, suc, replicate}
 use Rattle.std.proofs.Math.ListN.{set}
@@ -23,7 +23,7 @@ use Rattle.lset_report.specs.ReportReading.{ends_at, is_entry, is_taken, begins_
 use Rattle.lset_report.specs.ReportReading.{may_follow}
 use Rattle.lset_report.specs.ReportCalls.{threads_of, end_moment, is_open, is_last_end, Tracks}
 
--- ---- the test decides MayFollow
+-- ---- Lemmas: the Boolean test decides the proposition MayFollow
 
 not_or : (a b : Bool) → not (a || b) ≡ (not a && not b)
 not_or true b = refl
@@ -32,7 +32,7 @@ not_or false b = refl
 abbrev Apart : ℕ → CallRecord → Type 0
 Apart m y = (m ≢ y.begun) × IfSome y.ended (λ (d : ℕ × Reply). m ≢ d.0)
 
--- Decides whether a moment differs from the begin and the end of a call, or of every call in a list.
+-- Decides whether a moment differs from both the begin and the end of a call.
 apart_by : (m begun : ℕ) (o : Option (ℕ × Reply)) → Decides (not (eqb begun m || ends_at m o)) ((m ≢ begun) × IfSome o (λ d. m ≢ d.0))
 apart_by m begun None = grind (arith, nat_tests)
 apart_by m begun (Some e) = grind (arith, nat_tests)
@@ -60,7 +60,7 @@ idles : (calls : List CallRecord) (t m : ℕ)
 idles calls t m = Decides-by_and (λ y. not (eqb y.thread t) || ended_before m y.ended) _ (λ ys. is_idle ys t m)
     (λ y. idle_by t m y.thread y.ended) refl (λ _ _. refl) calls
 
--- The conditions that the test checks, one by one.
+-- The conditions that `may_follow` tests, as separate fields.
 record May (threads : ℕ) (calls : List CallRecord) (x : CallRecord) : Type 0 where
   low : x.thread < threads
   begins : begins_later calls x.begun ≡ true
@@ -115,12 +115,11 @@ may_again threads calls x may =
     both None later apart = tt
     both (Some e) later apart = (later, λ k d b. apart k d b)
 
--- A call that passes the test can be appended to a history.
 pub history_more : (threads : ℕ) (calls : List CallRecord) (x : CallRecord) → IsHistory threads calls
     → may_follow threads calls x ≡ true → IsHistory threads (calls ++ x ∷ [])
 history_more threads calls x h may = history_begun threads calls x h (may_ok threads calls x may)
 
--- ---- the invariant still holds after another call
+-- ---- Lemmas: the invariant is kept when a call is appended
 
 begins_pushed : (calls : List CallRecord) (x : CallRecord) (last : ℕ) → ((m : ℕ) → begins_later calls m ≡ ltb last m)
     → begins_later calls x.begun ≡ true → (m : ℕ) → begins_later (calls ++ x ∷ []) m ≡ ltb x.begun m
@@ -143,8 +142,8 @@ taken_pushed calls x m past =
     list_any-append (is_entry m) calls (x ∷ []) ∙ ap (λ c. is_taken calls m || c) (or-false (is_entry m x))
     ∙ ap (λ c. is_taken calls m || (c || ends_at m x.ended)) other
 
--- After a thread's next call ends, the last ends are the earlier ones and the new one. The moment must differ from the
--- thread's earlier end.
+-- When a thread's entry in the list of last ends is replaced by v, the moments in the list are those before and v. The
+-- moment m must differ from the replaced entry.
 last_end_set : (ends : List ℕ) (t m v : ℕ) → t < length ends → eqb (get_or ends t 0) m ≡ false
     → is_last_end (set ends t v) m ≡ (is_last_end ends m || eqb v m)
 last_end_set [] t m v low old = absurd (omega (arith, low))
@@ -166,7 +165,7 @@ idle_step : (calls : List CallRecord) (x : CallRecord) (t m : ℕ)
 idle_step calls x t m =
     list_all-append (idle_at t m) calls (x ∷ []) ∙ ap (λ b. is_idle calls t m && b) (and-true (idle_at t m x))
 
--- No call is pending, and the last end is before this moment.
+-- The thread has no pending call, and its last call ended before this moment.
 abbrev is_over : Bool → ℕ → ℕ → Bool
 is_over busy end m = not busy && ltb end m
 
@@ -201,7 +200,7 @@ idle_other calls x t m other =
     let apart : idle_at t m x ≡ true = or_left _ _ (not_from_false _ (ne_eqb x.thread t (λ same. other (sym same)))) in
     idle_step calls x t m ∙ ap (λ b. is_idle calls t m && b) apart ∙ and-true (is_idle calls t m)
 
--- ---- the invariant holds before the first call
+-- ---- Lemmas: the invariant holds before the first call
 
 none_at : (n m : ℕ) → 0 < m → is_last_end (replicate n 0) m ≡ false
 none_at zero m some = refl

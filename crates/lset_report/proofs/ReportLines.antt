@@ -1,4 +1,4 @@
--- A line of a report is read from its text only: no other bytes are read as the line.
+-- Each line of a report has exactly one text.
 use Rattle.std.proofs.Common.{◌≡◌, ℕ, ◌<◌, ◌^◌, inl, inr, Bool, false, List, [], ◌∷◌, Option, Some, None, refl, ap, arith, codes}
 use Rattle.std.specs.Fmt.{decimal}
 use Rattle.std.specs.List.{AllByRecursion}
@@ -29,7 +29,7 @@ use Rattle.lset_report.specs.Texts.{end_pieces}
 use Rattle.lset_report.specs.ReportReading.{call_told, call_form, IsEnd, IsCall, IsPlace, opening_kind, open_kind, ended_kind}
 use Rattle.lset_report.specs.ReportReading.{place_kind, from_calls, from_order, from_keys, kinds, section_after}
 
--- ---- lines and their texts
+-- ---- Definitions of the fields of each line
 
 abbrev pub pieces_of : Line → List (List ℕ)
 pieces_of (told.Opening k) = codes "opening" ∷ decimal k ∷ []
@@ -52,7 +52,7 @@ IsLine v (told.Place p) = IsPlace v p
 IsLine v (told.Key k) = k < 2 ^ 32
 IsLine v told.End = Unit {0}
 
--- The report has no lines of a later section.
+-- The report has no lines that belong after this section.
 abbrev pub Reaches : Section → ReportValue → Type 0
 Reaches section.Opening r = (r.history.calls ≡ []) × (r.order ≡ []) × (r.keys ≡ [])
 Reaches section.Calls r = (r.order ≡ []) × (r.keys ≡ [])
@@ -60,16 +60,16 @@ Reaches section.Order r = r.keys ≡ []
 Reaches section.Keys r = Unit {0}
 Reaches section.Done r = Unit {0}
 
--- ---- if bytes are read as a line, they are the text of the line
+-- ---- Lemmas: bytes that are read as a line are the line's text
 
--- This line can follow the lines of a report.
+-- The line is well formed, and the report has no lines that belong after its section.
 abbrev pub IsNext : Version → ReportValue → Line → Type 0
 IsNext v r l = IsLine v l × Reaches (section_after l) r
 
 abbrev Known : Version → ReportValue → LineKind Line → Type 0
 Known v r = Knows v pieces_of (IsNext v r)
 
--- A call's line with a given end, or with none.
+-- The line of a call with the given end, or with none if the call is pending.
 abbrev call_with : CallWord → ℕ → ℕ → ℕ → ℕ → Option (ℕ × Reply) → Line
 call_with w n t k b o = told.Call n (record { thread = t; call = with_key w (record { 0 = k }); begun = b; ended = o })
 
@@ -80,7 +80,7 @@ called : (v : Version) (w : CallWord) (n t k b : ℕ) (o : Option (ℕ × Reply)
 called v Add n t k b o nl tl kl bs bl some ends has = (refl, (nl, tl, bs, some, (bl, kl, ends, has)))
 called v w n t k b o nl tl kl bs bl some ends has = (refl, (nl, tl, bs, some, (bl, kl, ends, has)))
 
--- Reads a call's line, for each form that its end can take.
+-- A line that matches a form of call lines is the text of the call that is read from it.
 call_known : (v : Version) (r : ReportValue) (f : Form) (end : Told f → Option (ℕ × Reply)) → Reaches section.Calls r → ArePieces f
     → ((e : Told f) → AllFit v f e → (spell f e ≡ end_pieces (end e)) × IfSome (end e) (λ (x : ℕ × Reply). 0 < x.0) × IsEnd v (end e))
     → Known v r (call_form f, λ t. call_told t.1 (end t.1.1.1.1.1.1))
@@ -128,7 +128,7 @@ kinds_known v section.Order r reached = order_known v r reached
 kinds_known v section.Keys r reached = keys_known v r
 kinds_known v section.Done r reached = tt
 
--- ---- the text of a line is read as the line
+-- ---- Lemmas: the text of a line is read as this line
 
 abbrev pub IsTold : Version → List (LineKind Line) → Line → Type 0
 IsTold v ks l = IsMade v pieces_of ks l
@@ -169,12 +169,12 @@ key_told v k low = inl ((tt, (k, tt)), refl, (tt, (any_fits k low, tt)))
 pub end_told_so : (v : Version) → IsTold v from_keys told.End
 end_told_so v = inr (refl, inl ((tt, tt), refl, (tt, tt)))
 
--- ---- lines of the section that the reader has reached
+-- ---- Lemmas about the section that the reader has reached
 
 abbrev pub reached : List CallRecord → List Placed → List ℕ → Section
 reached cs ps ks = later ks (later ps (later cs section.Opening section.Calls) section.Order) section.Keys
 
--- The line matches none of these forms.
+-- True if the line's fields match this form.
 abbrev Has : Version → LineKind Line → Line → Bool
 Has v k l = have_form v k.0 (pieces_of l)
 

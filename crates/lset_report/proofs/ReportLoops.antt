@@ -34,10 +34,10 @@ use Rattle.lset_report.specs.ReportReading.{kinds, may_follow, most_keys, is_nex
 use Rattle.lset_report.specs.ReportReading.{grammar, text, no_lines, nothing_told, version_told, reading, RunsOut}
 use Rattle.lset_report.specs.ReportReader.{so_far, state, IsFull}
 
--- ---- the checks that each line must pass
+-- ---- Lemmas about the checks that each line must pass
 
--- A line is good if there is room for it, an opening key is greater than the one before it, and a call can follow the
--- calls so far.
+-- The line's section is not full, an opening key is greater than the one before it, and a call can follow the earlier
+-- calls.
 abbrev pub IsGood : ReportValue → Line → Type 0
 IsGood r (Opening k) = (length r.history.opening.keys < MOST_OPENING) × (is_above r.history.opening.keys k ≡ true)
 IsGood r (Call number x) =
@@ -47,7 +47,6 @@ IsGood r (Place p) = length r.order < MOST_PLACES
 IsGood r (Key k) = length r.keys < most_keys r.version
 IsGood r End = Unit {0}
 
--- A line that passes the checks is returned unchanged, and is good.
 pub judged_ok : (r : ReportValue) (l k : Line) → judged r l ≡ Ok k → (l ≡ k) × IsGood r l
 judged_ok r (Opening n) k e =
     let keys = r.history.opening.keys in
@@ -72,7 +71,6 @@ judged_good r (Place p) h = rw (lt-ltb (length r.order) MOST_PLACES h) refl
 judged_good r (Key k) h = rw (lt-ltb (length r.keys) (most_keys r.version) h) refl
 judged_good r End h = refl
 
--- If a line is read, it is good.
 pub line_read : (s : Section) (r : ReportValue) (x : List ℕ) (l : Line) → line_after s r x ≡ Ok l
     → (line_in r.version wrong.Line (kinds r.version s) x ≡ Ok l) × IsGood r l
 line_read s r x l e =
@@ -80,19 +78,18 @@ line_read s r x l e =
     let good = judged_ok r told.0 l told.2 in
     subst (λ (k : Line). (line_in r.version wrong.Line (kinds r.version s) x ≡ Ok k) × IsGood r k) good.0 (told.1, good.1)
 
--- ---- the lines at which memory can run out
+-- ---- Lemmas about the lines at which an allocation can fail
 
--- The line `end` can only be read as the end.
+-- The text `end` is read as the line End and as no other line.
 end_is : (v : Version) (s : Section) (l : Line) → line_in v wrong.Line (kinds v s) last_line ≡ Ok l → End ≡ l
 end_is One section.Opening l e = ok_is End l e
 end_is v section.Done l e = absurd cc
 end_is v s l e = ok_is End l e
 
--- The result of the loop over all lines of a text.
+-- The result of reading all remaining lines of a text.
 abbrev pub AllOf : List ℕ → SoFar → Result SoFar LineFault
 AllOf rest s = lines_from grammar first_line s (cut_at 10 rest)
 
--- The loop stops at a line that has an error, or at which memory ran out.
 pub stops_at : (all : List ℕ) (start s : SoFar) (line : ℕ) (rest x after : List ℕ) (e : LineFault)
     → cut_at 10 rest ≡ x ∷ cut_at 10 after → ((cause : Cause) × (step s x ≡ Err cause) × (e ≡ fault line cause))
     ⊎ ((l : Line) × (line_after s.section s.report x ≡ Ok l) × (l ≢ End) × (e ≡ fault line wrong.Memory))
@@ -113,9 +110,9 @@ stops_at all start s line rest x after e parts (inr full) stands =
       grind (arith, end_is),
     )
 
--- ---- texts including their headers
+-- ---- Lemmas about the whole text, header included
 
--- The report that a state contains.
+-- The report of a reader state, as the result of reading.
 abbrev pub report_told : SoFar → Result ReportValue LineFault
 report_told s = Ok s.report
 
@@ -126,7 +123,7 @@ module _ (bytes : List ℕ) (v : Version) (version_is : v ≡ version_told (cut_
   in_version : reading bytes ≡ told_by (text_from (text v) (cut_at 10 bytes))
   in_version = ap (λ (u : Version). told_by (text_from (text u) (cut_at 10 bytes))) (sym version_is)
 
-  -- If the header has an error, so does the text.
+  -- An error in the header is the error of the whole text.
   pub header_fault : (e : LineFault) → header_of (title v) (cut_at 10 bytes) ≡ Err e → reading bytes ≡ Err e
   header_fault e is = in_version ∙ ap told_by (text_refused (text v) (cut_at 10 bytes) e is)
 
@@ -134,7 +131,7 @@ module _ (bytes : List ℕ) (v : Version) (version_is : v ≡ version_told (cut_
   still_good line (Ok s) good = tt
   still_good line (Err e) good = good
 
-  -- RunsOut holds at any line, from the last one of the header on, if no line up to it has an error.
+  -- An allocation can fail at any line from the header's last line on, as long as no line up to it has an error.
   runs_out : (index : ℕ) → last_of_header ≤ 1 + index
       → IsGoodLine 1 (cut_at 10 bytes) (text_from (text v) (cut_at 10 bytes)) (1 + index)
       → get_or (cut_at 10 bytes) index [] ≢ last_line → RunsOut 1 (cut_at 10 bytes) (reading bytes) (fault (1 + index) wrong.Memory)
@@ -158,7 +155,7 @@ module _ (bytes : List ℕ) (v : Version) (version_is : v ≡ version_told (cut_
         runs_out 3 (omega arith) (header_good (text v) bytes rest h head)
         (λ is_end. (let same = sym here ∙ is_end in cc))
 
-    -- Once the header has been read, the result is that of the loop over the remaining lines.
+    -- After the header, the result of the whole text is the result of the loop over the remaining lines.
     pub report_is : (s : Reader) → s.section ≡ section.Opening → so_far s ≡ no_lines v h
         → reading bytes ≡ told_by (AllOf rest (state s))
     report_is s section_is so_far_is =

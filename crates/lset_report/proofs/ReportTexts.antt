@@ -1,4 +1,4 @@
--- Two laws: if bytes are read as a report, they are the report's text; and every report's text is read.
+-- Reading and writing agree: bytes that are read are the report's text, and the text of every report is read.
 use Rattle.std.proofs.Common.{◌≡◌, ℕ, ◌+◌, ◌<◌, ◌≤◌, ◌^◌, inl, inr, false, cond, List, [], ◌∷◌, ◌++◌, map, length, Option, Some}
 use Rattle.std.proofs.Common.{None, Result, Ok, Err, refl, sym, ap, subst, ◌∙◌, arith, append_assoc, length-append}
 use Rattle.std.specs.Prelude.{IfOk, MatchResult}
@@ -59,7 +59,7 @@ calls_pushed n (y ∷ ys) x =
     ap (λ (ls : List (List ℕ)). call_line n y ∷ ls)
     (calls_pushed (n + 1) ys x ∙ ap (λ m. call_lines (n + 1) ys ++ call_line m x ∷ []) same)
 
--- ---- the lines of the report read so far
+-- ---- Lemmas about the lines of the report read so far
 
 abbrev header : ReportValue → List (List ℕ)
 header r = header_lines (title r.version) (header_in r)
@@ -79,7 +79,6 @@ to_end r = to_keys r ++ map key_line r.keys
 abbrev lines_at : SoFar → List (List ℕ)
 lines_at s = cond (is_done s.section) (to_end s.report ++ last_line ∷ []) (to_end s.report)
 
--- While no line of a later section was read, the next line of this section comes last.
 one_opening : (f : List (List ℕ)) (os ks : List ℕ) (cs : List CallRecord) (ps : List Placed) (k : ℕ) → cs ≡ [] → ps ≡ [] → ks ≡ []
     → f ++ opening_lines (os ++ k ∷ []) ++ call_lines 0 cs ++ map place_line ps ++ map key_line ks
     ≡ f ++ opening_lines os ++ call_lines 0 cs ++ map place_line ps ++ map key_line ks ++ opening_line k ∷ []
@@ -90,7 +89,7 @@ one_call : (f : List (List ℕ)) (cs : List CallRecord) (ps : List Placed) (ks :
     ≡ f ++ call_lines 0 cs ++ map place_line ps ++ map key_line ks ++ call_line (0 + length cs) x ∷ []
 one_call f cs ps ks x p n = rw (p, n, calls_pushed 0 cs x) (simp (append-nil, append_assoc))
 
--- THE NEXT LINE is appended to the lines read so far.
+-- The text of a line that is read is appended to the text of the lines before it.
 more_lines : (r : ReportValue) (l : Line) → Reaches (section_after l) r → IsGood r l
     → lines_at (record { section = section_after l; report = with_line r l }) ≡ to_end r ++ line_text l ∷ []
 more_lines r (told.Opening k) next good =
@@ -102,7 +101,7 @@ more_lines r (told.Place p) next good = push_before (to_order r) (map key_line r
 more_lines r (told.Key k) next good = push_last (to_keys r) key_line r.keys k
 more_lines r told.End next good = refl
 
--- ---- the report stays within its limits
+-- ---- Lemmas: an accepted report stays within its limits
 
 is_report : (r : ReportValue) → Opens r.history.opening → HasOpening r.version r.history.opening.keys
     → IsHistory r.history.opening.threads r.history.calls
@@ -146,7 +145,7 @@ reaches_more r (told.Key k) next = tt
 reaches_more r told.End next = tt
 reaches_more r l next = next
 
--- ---- reading one line
+-- ---- Lemmas about reading one line
 
 may_come : (v : Version) (s : Section) (x : List ℕ) (l : Line) → line_in v wrong.Line (kinds v s) x ≡ Ok l → is_done s ≡ false
 may_come v section.Done x l is = absurd cc
@@ -155,7 +154,6 @@ may_come v s x l is = refl
 abbrev IsSoFar : SoFar → Type 0
 IsSoFar s = IsReport s.report × Reaches s.section s.report
 
--- If a line is accepted, it is appended to the lines above it.
 one_line : (s t : SoFar) (x : List ℕ) → IsSoFar s → step s x ≡ Ok t
     → IsSoFar t × (lines_at t ≡ lines_at s ++ x ∷ []) × Lacks 10 x
 one_line s t x holds is =
@@ -193,7 +191,6 @@ starts : (v : Version) (h : Header) → IsHeader h
     → IsSoFar (nothing_told v h) × (lines_at (nothing_told v h) ≡ header_lines (title v) h)
 starts v h is = ((empty_report v h is, (refl, refl, refl)), refl)
 
--- IF BYTES ARE READ, they are the text of the resulting report.
 pub is_found : (bytes : List ℕ) (r : ReportValue) → reading bytes ≡ Ok r → IsReport r × (bytes ≡ report_text r)
 is_found bytes r is =
     let v = version_told (cut_at 10 bytes) in
@@ -203,7 +200,7 @@ is_found bytes r is =
     let done = (kept_if (is_done last.0.section) _ last.0 last.0 found.1).0 in
     rw (← ok_is last.0.report r last.2) (found.2.0, found.0 ∙ rw done refl)
 
--- ---- reading a line that was written
+-- ---- Lemmas about reading a text that was written
 
 none_reached : (s : Section) (v : Version) (h : Header) → Reaches s (no_lines v h)
 none_reached section.Opening v h = (refl, refl, refl)
@@ -211,7 +208,7 @@ none_reached section.Calls v h = (refl, refl)
 none_reached section.Order v h = refl
 none_reached s v h = tt
 
--- A good line whose kind is allowed next is accepted.
+-- A line is accepted if it passes the checks and its kind is allowed at this place.
 step_again : (s : SoFar) (l : Line) → IsTold s.report.version (kinds s.report.version s.section) l → IsGood s.report l
     → step s (line_text l) ≡ Ok (with_told s l)
 step_again s l is good =
@@ -220,7 +217,7 @@ step_again s l is good =
     let known = kinds_known v s.section r (none_reached s.section v (header_in s.report)) in
     rw (line_made v wrong.Line pieces_of (IsNext v r) (kinds v s.section) l known is, judged_good s.report l good) refl
 
--- ---- reading the lines of each section
+-- ---- Lemmas about reading the lines of each section
 
 abbrev at : Version → Header → List ℕ → List CallRecord → List Placed → List ℕ → SoFar
 at v h os cs ps ks = record {
@@ -276,9 +273,9 @@ keys_lead v h os cs ps ks few are =
     ∙ ap (λ (s : Section). Ok (record { section = s; report = (at v h os cs ps (front ++ k ∷ [])).report }))
     (later_pushed front k (reached cs ps []) section.Keys))
 
--- ---- reading the whole text
+-- ---- Lemmas about reading the whole text
 
--- The lines after the header.
+-- The lines after the header, without the last line `end`.
 abbrev body : ReportValue → List (List ℕ)
 body r = opening_lines r.history.opening.keys
     ++ (call_lines 0 r.history.calls ++ (map place_line r.order ++ (map key_line r.keys ++ last_line ∷ [])))
@@ -312,7 +309,6 @@ title_lacks : (v : Version) → Lacks 10 (title v)
 title_lacks One = Lacks-from_test 10 (title One) refl
 title_lacks Two = Lacks-from_test 10 (title Two) refl
 
--- THE TEXT OF EVERY REPORT is read as that report.
 pub reads_text : (r : ReportValue) → IsReport r → reading (report_text r) ≡ Ok r
 reads_text r is =
     let v = r.version in
@@ -329,7 +325,7 @@ reads_text r is =
       again.1,
     )
 
--- ---- the same, in the form of the reader's contract
+-- ---- Lemmas: the two laws, as the contract of `read_report` states them
 
 pub found_in : (bytes : List ℕ) (r : Result Report LineFault) → Gives view r bytes
     → IfOk r (λ s. IsReport (view s) × (bytes ≡ report_text (view s)))
@@ -342,7 +338,7 @@ only_in bytes (Ok s) gives q is text = ok_is (view s) q (sym gives ∙ ap readin
 only_in bytes (Err e) (inl bad) q is text = absurd (let read : reading bytes ≡ Ok q = ap reading text ∙ reads_text q is in cc)
 only_in bytes (Err e) (inr out) q is text = out.cause
 
--- ---- the writer's precondition
+-- ---- Lemmas: `write_report` accepts every report that was read
 
 end_words : (v : Version) (o : Option (ℕ × Reply)) → IsEnd v o → HasEnd v o
 end_words v None h = tt
@@ -356,11 +352,11 @@ words_in One calls order are places = (
 )
 words_in Two calls order are places = tt
 
--- A report that has a text uses only words of its version. Therefore a report that was read can be written again.
+-- A report that has a text uses only words of its version.
 pub has_words : (r : ReportValue) → IsReport r → HasWordsOfVersion r
 has_words r is = record { opening = is.opening; words = words_in r.version r.history.calls r.order is.calls is.places }
 
--- ---- the text that the writer produces
+-- ---- Lemmas about the text that `write_report` builds part by part
 
 pub texts_of : (a b c d e : List (List ℕ)) (z : List ℕ)
     → text_of (a ++ b ++ c ++ d ++ e ++ z ∷ []) ≡ text_of a ++ text_of b ++ text_of c ++ text_of d ++ text_of e ++ ended z

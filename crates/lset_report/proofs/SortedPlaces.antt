@@ -1,5 +1,5 @@
--- A stable sort of places by rank. If the places were sorted by call number, the result is in the order that
--- [Placement] demands.
+-- Sorting by linearization point is stable. If the entries were sorted by call number before, the result is therefore
+-- in the order that the definition [Placement] demands.
 use Rattle.std.proofs.Common.{◌≡◌, ℕ, ◌<◌, ◌≤◌, ◌⊎◌, inl, inr, Bool, true, false, not, ◌&&◌, List, [], ◌∷◌, refl, sym, ◌∙◌, arith}
 use Rattle.std.specs.Prelude.{◌==◌, if◌then◌else◌, AllPairs}
 use Rattle.std.specs.List.{filter, AllByRecursion}
@@ -16,7 +16,6 @@ use Rattle.lset_report.specs.Order.{rank_of, HasSmallerNumber, IsPlacedBefore, A
 tie_is : (a b : ℕ) → (not (is_lt (nat_cmp a b)) && not (is_lt (nat_cmp b a))) ≡ (b == a)
 tie_is a b = grind (arith, nat_tests)
 
--- A list is sorted by rank, and elements of equal rank are in a given order.
 module _ {X : Type 0} (rank : X → ℕ) (Less : X → X → Type 0) where
   abbrev of_rank : X → List X → List X
   of_rank x xs = filter (λ y. rank y == rank x) xs
@@ -42,7 +41,6 @@ module _ {X : Type 0} (rank : X → ℕ) (Less : X → X → Type 0) where
       later z true p = p.1
       later z false p = p
 
-  -- A stable sort keeps elements of equal rank in their order.
   abbrev earlier : X → X → Bool
   earlier x y = is_lt (nat_cmp (rank x) (rank y))
 
@@ -61,7 +59,7 @@ by_ranks xs ys moved increase stable = record {
   stable = ranks_stay rank_of HasSmallerNumber xs ys stable;
 }
 
--- If places were sorted by call number, sorting them by rank puts them in the order that [Placement] demands.
+-- If the entries were sorted by call number, sorting them by linearization point puts them in the order of [Placement].
 pub sorted_rises : (xs ys : List Pointed) → AreByPoints xs ys → AllPairs HasSmallerNumber xs → AllPairs IsPlacedBefore ys
 sorted_rises xs ys are numbers = pairs_std IsPlacedBefore ys (in_order rank_of HasSmallerNumber ys
     (pairs_rec (λ x y. rank_of x ≤ rank_of y) ys (λ i j d l m. are.increase i j d (omega arith) m))

@@ -1,4 +1,4 @@
--- Sorting the places of an order by their calls' linearization points.
+-- Sorting the entries of an order by the linearization points of their calls.
 use Rattle.std.specs.Prelude.{◌≡◌, ℕ, ◌+◌, ◌*◌, ◌<◌, ◌==◌, ◌⊎◌, if◌then◌else◌, List, map, filter}
 use Rattle.std.specs.List.Sorted.{IsNonDecreasingBy, IsPermutation}
 use Rattle.lset_words.specs.declared.history.Placed.{Placed}
@@ -12,23 +12,23 @@ placed_in xs = map (λ (x : Pointed). x.placed) xs
 abbrev pub points_in : List Pointed → List Point
 points_in xs = map (λ (x : Pointed). x.point) xs
 
--- The rank of a place: earlier moments come first and, at one moment, the change comes first.
+-- The sort key of an entry: earlier moments come first and, at one moment, a call that changes the set comes first.
 abbrev pub rank_of : Pointed → ℕ
 rank_of x = if x.point.change then 2 * x.point.moment else 2 * x.point.moment + 1
 
--- ys contains the places of xs sorted by rank. Places of equal rank keep their order.
+-- The list ys contains the entries of xs, sorted by `rank_of`. Entries with equal keys keep their relative order.
 pub record AreByPoints (xs ys : List Pointed) : Type 0 where
   pub moved : IsPermutation xs ys
   pub increase : IsNonDecreasingBy rank_of ys
   pub stable : (x : Pointed) → filter (λ y. rank_of y == rank_of x) ys ≡ filter (λ y. rank_of y == rank_of x) xs
 
--- Sorted by rank and, at equal rank, by call number: the order that [Placement] demands.
+-- Sorted by `rank_of` and, for equal keys, by call number. The definition [Placement] demands this order.
 abbrev pub HasSmallerNumber : Pointed → Pointed → Type 0
 HasSmallerNumber x y = x.placed.call < y.placed.call
 
 abbrev pub IsPlacedBefore : Pointed → Pointed → Type 0
 IsPlacedBefore x y = (rank_of x < rank_of y) ⊎ ((rank_of x ≡ rank_of y) × HasSmallerNumber x y)
 
--- The place of a call that has a linearization point.
+-- The entry for a call that has a linearization point.
 abbrev pub pointed_of : Standing → Pointed
 pointed_of s = record { point = record { moment = s.moment; change = makes_change s }; placed = placed_of s }

@@ -1,4 +1,4 @@
--- Reports as values, for use in contracts.
+-- Reports as mathematical values, for use in contracts.
 use Rattle.std.specs.Prelude.{ℕ, List}
 use Rattle.lset_words.specs.declared.Kind.{Kind}
 use Rattle.lset_words.specs.declared.history.Placed.{Placed}
@@ -6,7 +6,7 @@ use Rattle.lset_history.specs.History.{HistoryValue}
 use Rattle.lset_text.specs.declared.words.Version.{Version}
 use Rattle.lset_report.specs.declared.report.Report.{Report}
 
--- The value of a report: lists replace the vectors.
+-- A report in which lists replace the vectors of the type `Report`.
 pub record ReportValue : Type 0 where
   pub version : Version
   pub kind : Kind

@@ -1,4 +1,4 @@
--- The state of a report reader after it has read some lines.
+-- What a report reader has read so far, as a mathematical value.
 use Rattle.std.specs.Prelude.{◌≡◌, ◌≢◌, ◌⊎◌, ◌≤◌, ◌+◌, ℕ, List, [], length, slice_index_or, Result, Ok, Err}
 use Rattle.std.specs.List.Sorted.{IsStrictlyIncreasing}
 use Rattle.lset_words.specs.declared.TheConstants.{MOST_OPENING}
@@ -17,7 +17,7 @@ use Rattle.lset_report.specs.Texts.{last_line}
 use Rattle.lset_report.specs.ReportReading.{line_after, SoFar, step}
 use Rattle.lset_report.specs.ReportCalls.{Tracks}
 
--- The report made of the lines read so far.
+-- The report that consists of the lines read so far.
 abbrev pub so_far : Reader → ReportValue
 so_far s = record {
   version = s.version;
@@ -36,21 +36,22 @@ pub record Holds (s : Reader) : Type 0 where
   pub tracks : Tracks s.calls
   pub opens : s.calls.history.opening ≡ empty s.header.threads s.header.quota
 
--- The section reached so far, and the report read so far.
+-- The section that the reader has reached, and the report read so far.
 abbrev pub state : Reader → SoFar
 state s = record { section = s.section; report = so_far s }
 
--- An allocation failed at a complete line other than `end`. No line up to this one has an error.
+-- An allocation failed while a complete line other than `end` was read. This line and all lines before it have no
+-- error.
 abbrev pub IsFull : List (List ℕ) → Result SoFar LineFault → LineFault → Type 0
 IsFull parts read e = (index : ℕ) × (e ≡ fault (first_line + index) Memory)
     × IsGoodLine first_line parts read (first_line + index) × (slice_index_or parts index [] ≢ last_line)
 
--- After the lines that follow a header: the reader has this state, or this is the first error, or an allocation failed.
+-- The outcome of reading the lines after the header: the reader's new state, the first error, or a failed allocation.
 abbrev pub GoesOn : {X : Type 0} → SoFar → Result X LineFault → List (List ℕ) → Result SoFar LineFault → Type 0
 GoesOn s (Ok x) parts read = read ≡ Ok s
 GoesOn s (Err e) parts read = (read ≡ Err e) ⊎ IsFull parts read e
 
--- The reader has read the line with this number.
+-- The outcome of reading one line: the reader's new state, the line's error, or a failed allocation.
 abbrev pub ReadsLine : {X : Type 0} → Reader → Reader → ℕ → List ℕ → Result X LineFault → Type 0
 ReadsLine s t number line (Ok x) = step (state s) line ≡ Ok (state t)
 ReadsLine s t number line (Err e) = ((cause : Cause) × (step (state s) line ≡ Err cause) × (e ≡ fault number cause))

@@ -1,5 +1,5 @@
--- The grammar of reports: which report a text spells or, if none, its first error. Lines are checked one by one; within
--- a line, the checks have a fixed order.
+-- The grammar of reports: the report that a text spells, or the text's first error. Lines are checked one by one.
+-- Within a line, the checks have a fixed order.
 use Rattle.std.specs.Prelude.{◌≡◌, ◌≢◌, ◌⊎◌, ℕ, ◌+◌, ◌<◌, ◌≤◌, ◌^◌, ◌==◌, ◌&&◌, ◌||◌, not, nat_lt, Bool, true, false, List, []}
 use Rattle.std.specs.Prelude.{◌∷◌, ◌++◌, length, codes, Option, Some, None, Result, Ok, Err, if◌then◌else◌, slice_index_or}
 use Rattle.std.specs.List.{list_any, list_all, AllByRecursion}
@@ -35,9 +35,9 @@ use Rattle.lset_report.specs.declared.reading.report_lines.Section.TheVariants a
 use Rattle.lset_report.specs.Report.{ReportValue}
 use Rattle.lset_report.specs.Texts.{title, last_line, report_text}
 
--- ---- reports that have a text
+-- ---- Limits on the numbers in a report
 
--- What the history of a call does not imply: its key and its moments are at most 4294967295.
+-- A call's key and its moments are at most 4294967295. (A history does not imply these limits.)
 abbrev pub IsEnd : Version → Option (ℕ × Reply) → Type 0
 IsEnd version None = Unit {0}
 IsEnd version (Some end) = (end.0 < 2 ^ 32) × HasReply version end.1
@@ -48,14 +48,14 @@ IsCall version x = (x.begun < 2 ^ 32) × ((key_of x.call).0 < 2 ^ 32) × IsEnd v
 abbrev pub IsPlace : Version → Placed → Type 0
 IsPlace version p = (p.call < 2 ^ 32) × HasReply version p.reply
 
--- The maximum number of final keys. If a set opens with keys, it can reach more than an empty one.
+-- The maximum number of final keys. A set that opens with keys can reach more keys than one that opens empty.
 abbrev pub most_keys : Version → ℕ
 most_keys One = MOST_KEYS
 most_keys Two = MOST_KEYS_OPENED
 
--- A report that has a text: a set can open with its sizes and keys, its calls are a history, its version has words for
--- its opening keys, calls and replies, and all numbers, and the counts of calls, places and keys, are within their
--- limits. The order and the final keys are otherwise arbitrary.
+-- A report that can be written as text. A set can open with its thread count, quota and opening keys; its calls are a
+-- history; its version has words for its opening keys, calls and replies. All numbers, and the counts of calls, entries
+-- and keys, are within their limits. The order and the final keys are otherwise arbitrary.
 pub record IsReport (r : ReportValue) : Type 0 where
   pub opens : Opens r.history.opening
   pub opening : HasOpening r.version r.history.opening.keys
@@ -67,17 +67,17 @@ pub record IsReport (r : ReportValue) : Type 0 where
   pub few_places : length r.order ≤ MOST_PLACES
   pub few_keys : length r.keys ≤ most_keys r.version
 
--- ---- the lines of a text
+-- ---- The lines after the header
 
 abbrev pub opening_kind : LineKind ReportLine
 opening_kind = (opening_form, λ t. told.Opening t.1.0)
 
--- The line of a call, built from its number, thread, operation, key, begin and end.
+-- Builds the line of a call from its number, thread, operation, key, begin and end.
 abbrev pub call_told : {X : Type 0} → ℕ × (ℕ × (CallWord × (ℕ × (ℕ × X)))) → Option (ℕ × Reply) → ReportLine
 call_told t end = told.Call t.0
     (record { thread = t.1.0; call = with_key t.1.1.0 (record { 0 = t.1.1.1.0 }); begun = t.1.1.1.1.0; ended = end })
 
--- The form of a call's line up to the call's end.
+-- The fields of a call's line, up to the moment at which the call begins.
 abbrev pub call_form : Form → Form
 call_form end = piece.word (codes "call") ∷ piece.any ∷ piece.any ∷ piece.call ∷ piece.any ∷ piece.moment ∷ end
 
@@ -102,7 +102,7 @@ key_kind = (piece.word (codes "key") ∷ piece.any ∷ [], λ t. told.Key t.1.0)
 abbrev pub end_kind : LineKind ReportLine
 end_kind = (piece.word (codes "end") ∷ [], λ t. told.End)
 
--- The sections come in a fixed order. Any of them can be empty.
+-- The kinds of lines from a section on. The sections come in a fixed order, and any of them can be empty.
 abbrev pub from_keys : List (LineKind ReportLine)
 from_keys = key_kind ∷ end_kind ∷ []
 
@@ -112,12 +112,12 @@ from_order = place_kind ∷ from_keys
 abbrev pub from_calls : List (LineKind ReportLine)
 from_calls = open_kind ∷ ended_kind ∷ from_order
 
--- Only version 2 has lines of opening keys.
+-- Only version 2 of the format has lines of opening keys.
 abbrev pub from_opening : Version → List (LineKind ReportLine)
 from_opening One = from_calls
 from_opening Two = opening_kind ∷ from_calls
 
--- Returns the kinds of lines that can come next in a section of a report of this version.
+-- The kinds of lines that are allowed when the reader has reached this section.
 abbrev pub kinds : Version → Section → List (LineKind ReportLine)
 kinds version section.Opening = from_opening version
 kinds version section.Calls = from_calls
@@ -125,7 +125,7 @@ kinds version section.Order = from_order
 kinds version section.Keys = from_keys
 kinds version section.Done = []
 
--- ---- whether a line can follow the lines above it
+-- ---- Whether a line can follow the lines before it
 
 -- True if a call ended at this moment.
 abbrev pub ends_at : ℕ → Option (ℕ × Reply) → Bool
@@ -138,7 +138,7 @@ is_entry moment y = y.begun == moment || ends_at moment y.ended
 abbrev pub is_taken : List CallRecord → ℕ → Bool
 is_taken calls moment = list_any (is_entry moment) calls
 
--- True if a moment, counted from 1, is after the begin of every call.
+-- True if every call began before this moment, which is counted from 1.
 abbrev pub begins_later : List CallRecord → ℕ → Bool
 begins_later calls moment = nat_lt 0 moment && list_all (λ y. nat_lt y.begun moment) calls
 
@@ -150,12 +150,13 @@ ended_before moment (Some end) = nat_lt end.0 moment
 abbrev pub is_idle : List CallRecord → ℕ → ℕ → Bool
 is_idle calls thread moment = list_all (λ y. not (y.thread == thread) || ended_before moment y.ended) calls
 
--- True if an end is after the call's begin, at a moment at which no other call begins or ends.
+-- True if a call is pending, or it ends after its begin at a moment at which no other call begins or ends.
 abbrev pub ends_later : List CallRecord → ℕ → Option (ℕ × Reply) → Bool
 ends_later calls begun None = true
 ends_later calls begun (Some end) = nat_lt begun end.0 && not (is_taken calls end.0)
 
--- True if a call can be appended to a history.
+-- True if the call x can be appended to a history, that is, x begins last, its thread is idle, and its moments are
+-- free.
 abbrev pub may_follow : ℕ → List CallRecord → CallRecord → Bool
 may_follow threads calls x =
     nat_lt x.thread threads
@@ -164,7 +165,7 @@ may_follow threads calls x =
     && (not (is_taken calls x.begun)
     && is_idle calls x.thread x.begun)))
 
--- Returns the line if its section is not full.
+-- Returns the line if its section has room for another line.
 abbrev pub counted : ℕ → ℕ → ReportLine → Result ReportLine Cause
 counted most count l = if nat_lt count most then Ok l else Err wrong.TooMany
 
@@ -177,8 +178,8 @@ following r number x l = if is_next r number x then Ok l else Err wrong.History
 abbrev pub increasing : ReportValue → ℕ → ReportLine → Result ReportLine Cause
 increasing r k l = if is_above r.history.opening.keys k then Ok l else Err wrong.Opening
 
--- Returns the line if its section is not full, an opening key is greater than the one before it, and a call can follow
--- the calls so far.
+-- Returns the line if its section has room, an opening key is greater than the one before it, and a call can follow the
+-- calls so far. Otherwise returns the cause of the refusal.
 abbrev pub judged : ReportValue → ReportLine → Result ReportLine Cause
 judged r (told.Opening k) = counted MOST_OPENING (length r.history.opening.keys) (told.Opening k) >>= increasing r k
 judged r (told.Call number x) = counted MOST_CALLS (length r.history.calls) (told.Call number x) >>= following r number x
@@ -186,7 +187,7 @@ judged r (told.Place p) = counted MOST_PLACES (length r.order) (told.Place p)
 judged r (told.Key k) = counted (most_keys r.version) (length r.keys) (told.Key k)
 judged r told.End = Ok told.End
 
--- Parses a line that can follow the lines above it.
+-- Parses a line and checks that it can follow the lines before it.
 abbrev pub line_after : Section → ReportValue → List ℕ → Result ReportLine Cause
 line_after s r line = line_in r.version wrong.Line (kinds r.version s) line >>= judged r
 
@@ -213,9 +214,9 @@ with_line r (told.Place p) = record r { order = r.order ++ p ∷ [] }
 with_line r (told.Key k) = record r { keys = r.keys ++ k ∷ [] }
 with_line r told.End = r
 
--- ---- texts, split at newlines: complete lines, then the rest after the last newline
+-- ---- A text as its lines: the complete lines, then the bytes after the last newline
 
--- The state after some lines: the section reached, and the report so far.
+-- The state of the reader after some lines: the section it reached, and the report so far.
 pub record SoFar : Type 0 where
   pub section : Section
   pub report : ReportValue
@@ -226,7 +227,7 @@ with_told s l = record { section = section_after l; report = with_line s.report 
 abbrev pub step : SoFar → List ℕ → Result SoFar Cause
 step s line = made (with_told s) (line_after s.section s.report line)
 
--- A text is complete after the line `end`.
+-- True if the line `end` was read. The text is then complete.
 abbrev pub is_done : Section → Bool
 is_done section.Opening = false
 is_done section.Calls = false
@@ -237,7 +238,7 @@ is_done section.Done = true
 abbrev pub ends : SoFar → Result SoFar Cause
 ends s = if is_done s.section then Ok s else Err wrong.NotEnded
 
--- The grammar of the lines after the header.
+-- The grammar of the lines after a report's header.
 abbrev pub grammar : Grammar SoFar
 grammar = record { step = step; ends = ends }
 
@@ -253,11 +254,11 @@ no_lines version h = record {
 abbrev pub nothing_told : Version → HeaderTold → SoFar
 nothing_told version h = record { section = section.Opening; report = no_lines version h }
 
--- The version of a text: version 2 if its first line is the title of version 2, else version 1.
+-- The version of a text. Version 2 if the first line is the title of version 2, otherwise version 1.
 abbrev pub version_told : List (List ℕ) → Version
 version_told parts = version_in (title Two) parts
 
--- Returns the grammar of a report's text in this version.
+-- The grammar of the whole text of a report in this version: its title, the initial state, and its lines.
 abbrev pub text : Version → TextGrammar SoFar
 text version = record { title = title version; start = nothing_told version; lines = grammar }
 
@@ -267,31 +268,31 @@ report_of parts = versioned_from text parts >>= λ last. Ok last.report
 abbrev pub reading : List ℕ → Result ReportValue LineFault
 reading bytes = report_of (cut_at 10 bytes)
 
--- Reading and writing agree: if bytes are read, they are the text of the result, and every report's text is read.
+-- Reading and writing agree: the text of every report is read as this report, and only texts of reports are read.
 abbrev pub ReportsReadBack : Type 0
 ReportsReadBack = (r : ReportValue) (bytes : List ℕ)
     → (IsReport r → reading (report_text r) ≡ Ok r)
     × (reading bytes ≡ Ok r → IsReport r × (bytes ≡ report_text r))
 
--- ---- failed allocations
+-- ---- Errors from failed allocations
 
--- When reading can fail with Memory at a line: only after the line has passed its other checks. `parts` are the parts
--- of the text from line `first` on, the last one being what follows the last newline. `read` is the result if no
--- allocation fails.
+-- Reading can return the error Memory at a line only if the line passed all its other checks. `parts` are the lines of
+-- the text from line `first` on, and last the bytes after the final newline. `read` is the result if no allocation
+-- fails.
 pub record RunsOut (first : ℕ) (parts : List (List ℕ)) (read : Result ReportValue LineFault) (e : LineFault) : Type 0 where
   pub cause : e.cause ≡ wrong.Memory
-  -- the line is the last header line or a later one (the header does not allocate),
+  -- An allocation can fail at the header's last line and at later lines. The lines before need no memory.
   pub after_header : last_of_header ≤ e.line
-  -- it is a complete line of the text,
+  -- The line at which the allocation failed is complete: it ends with a newline.
   pub index : ℕ
   pub line_is : e.line ≡ first + index
   pub whole : index + 1 < length parts
-  -- it is not `end`, which does not allocate,
+  -- The line at which the allocation failed is not `end`, which needs no memory.
   pub asks : slice_index_or parts index [] ≢ last_line
-  -- and no line up to this one has an error.
+  -- Neither this line nor any line before it has another error.
   pub good : IsFaultlessTo e.line read
 
--- The result, seen through `view`, is the report that the bytes spell, or their first error, or a failed allocation.
+-- The result is the report that the bytes spell, their first error, or Memory from a failed allocation.
 abbrev pub Gives : {X : Type 0} → (X → ReportValue) → Result X LineFault → List ℕ → Type 0
 Gives view (Ok x) bytes = reading bytes ≡ Ok (view x)
 Gives view (Err e) bytes = (reading bytes ≡ Err e) ⊎ RunsOut 1 (cut_at 10 bytes) (reading bytes) e

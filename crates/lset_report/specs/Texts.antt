@@ -1,4 +1,4 @@
--- [Report text]: each report has exactly one spelling in its version.
+-- [Report text]: the text of a report. Each report has exactly one text in its version of the format.
 use Rattle.std.specs.Prelude.{ℕ, ◌+◌, List, [], ◌∷◌, ◌++◌, map, codes, Option, Some, None}
 use Rattle.std.specs.Fmt.{decimal}
 use Rattle.std.specs.List.{AllByRecursion}
@@ -22,7 +22,7 @@ title Two = codes "listset-report 2"
 abbrev pub header_in : ReportValue → Header
 header_in r = record { kind = r.kind; threads = r.history.opening.threads; quota = r.history.opening.quota }
 
--- The end of a call: its moment and its reply, or `open` while it is pending.
+-- How a call's end is written: the moment and the reply, or `open` if the call is pending.
 abbrev pub end_pieces : Option (ℕ × Reply) → List (List ℕ)
 end_pieces (Some end) = decimal end.0 ∷ reply_text end.1 ∷ []
 end_pieces None = codes "open" ∷ []
@@ -53,7 +53,7 @@ report_lines r = header_lines (title r.version) (header_in r) ++ opening_lines r
 abbrev pub report_text : ReportValue → List ℕ
 report_text r = text_of (report_lines r)
 
--- ---- reports whose version has words for everything in them
+-- ---- Reports that a version of the format can express
 
 -- The call is pending, or the version has a word for its reply.
 abbrev pub HasEnd : Version → Option (ℕ × Reply) → Type 0
@@ -65,8 +65,8 @@ HasWordsIn One calls order = AllByRecursion (λ (x : CallRecord). HasCall One x.
     × AllByRecursion (λ (p : Placed). HasReply One p.reply) order
 HasWordsIn Two calls order = Unit {0}
 
--- A report of version 1 has no opening keys and none of the calls and replies that version 2 added. A report of version
--- 2 always qualifies.
+-- The version has words for everything in the report. Version 1 lacks opening keys, `ceiling` and its replies; version
+-- 2 can express every report.
 pub record HasWordsOfVersion (r : ReportValue) : Type 0 where
   pub opening : HasOpening r.version r.history.opening.keys
   pub words : HasWordsIn r.version r.history.calls r.order

@@ -4,7 +4,7 @@ ghost use Rattle.lset_report.specs.Order.{rank_of, placed_in, points_in, AreByPo
 use lset_words::{Placed, Point};
 use std::alloc::{AllocError, Global};
 
-/// A place in an order, with the linearization point of its call.
+/// An entry of an order (a call with its reply) and the linearization point of this call.
 #[derive(Clone, Copy)]
 pub struct Pointed {
     pub point: Point,
@@ -12,7 +12,7 @@ pub struct Pointed {
 }
 
 impl Pointed {
-    /// Returns the place's rank. Places with a smaller rank come first.
+    /// Returns the sort key: twice the moment, plus 1 if the call does not change the set.
     fn rank(&self) -> u64
         ensures { result ≡ rank_of self.now }
     {
@@ -21,8 +21,9 @@ impl Pointed {
     }
 }
 
-/// Sorts places by their linearization points: by moment and, at one moment, with the change first. The sort is stable.
-/// Returns `AllocError` if an allocation fails; the places are then in an unspecified order.
+/// Sorts the entries of an order by their linearization points: by moment and, at one moment, the call that changes the
+/// set first. The sort is stable. Returns `AllocError` if an allocation fails; the entries are then in an unspecified
+/// order.
 pub fn sort_by_points(places: &mut Vec<Pointed>) -> Result<(), AllocError>
     ensures { OnOk result (AreByPoints places.old.items places.new.items) }
 {
@@ -30,7 +31,7 @@ pub fn sort_by_points(places: &mut Vec<Pointed>) -> Result<(), AllocError>
     Ok(())
 }
 
-/// Returns the order made of these places. Returns `AllocError` if an allocation fails.
+/// Returns the entries without their linearization points. Returns `AllocError` if an allocation fails.
 pub fn order_of(alloc: Global, places: &[Pointed]) -> Result<Vec<Placed>, AllocError>
     ensures { IfOk result (λ v. v.items ≡ placed_in places.now) }
 {
@@ -41,7 +42,7 @@ pub fn order_of(alloc: Global, places: &[Pointed]) -> Result<Vec<Placed>, AllocE
     Ok(order)
 }
 
-/// Returns the linearization points of these places. Returns `AllocError` if an allocation fails.
+/// Returns the linearization points of these entries. Returns `AllocError` if an allocation fails.
 pub fn points_of(alloc: Global, places: &[Pointed]) -> Result<Vec<Point>, AllocError>
     ensures { IfOk result (λ v. v.items ≡ points_in places.now) }
 {

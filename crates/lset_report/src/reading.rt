@@ -32,10 +32,10 @@ use lset_words::{CallRecord, MOST_OPENING, Placed};
 use report_lines::{Line, Section, line_of_report};
 use std::alloc::{AllocError, Global};
 
-/// The number of the last header line.
+/// The number of lines in a report's header.
 const LAST_OF_HEADER: u64 = 4;
 
-/// The number of the first line after the header.
+/// The number of the first line after the header, counted from 1.
 const FIRST_LINE: u64 = LAST_OF_HEADER + 1;
 
 /// The part of a report that has been read so far.
@@ -78,7 +78,7 @@ impl Reader {
         })
     }
 
-    /// Returns `true` if a call has the next number and can follow the calls read so far.
+    /// Returns `true` if `number` is the next call number and the call `made` can follow the calls read so far.
     fn is_next(&self, number: u32, made: CallRecord) -> bool
         requires { Holds self.now }
         ensures { result ≡ is_next (so_far self.now) number made }
@@ -86,8 +86,9 @@ impl Reader {
         number as usize == self.calls.history.calls().len() && self.calls.may_follow(made)
     }
 
-    /// Checks that the line can follow the lines read so far: its section is not full, an opening key is greater than
-    /// the one before it, and a call can follow the earlier calls. Returns the line, or the cause of the refusal.
+    /// Returns the line if it can follow the lines read so far, otherwise the cause of the refusal. Its section must
+    /// not be full, an opening key must be greater than the one before it, and a call must be able to follow the
+    /// earlier calls.
     fn judged(&self, line: Line) -> Result<Line, Cause>
         requires { Holds self.now }
         ensures { result ≡ judged (so_far self.now) line }
@@ -152,7 +153,7 @@ impl Reader {
         Ok(())
     }
 
-    /// Reads the lines after the header.
+    /// Reads all lines after the header into this reader. Stops at the first line with an error.
     fn read_lines(&mut self, text: &[u8]) -> Result<(), LineFault>
         requires { Holds self.old }
         ensures holds { OnOk result (Holds self.new) }
@@ -194,7 +195,7 @@ impl Reader {
     }
 }
 
-/// Returns the version of a report, which its first line states.
+/// Returns the version of the format that the first line of a report states.
 fn version_told(bytes: &[u8]) -> Version
     ensures { result ≡ version_told (cut_at 10 bytes.now) }
 {
@@ -228,20 +229,20 @@ fn report(alloc: Global, bytes: &[u8]) -> Result<Report, ReportFault>
 /// no line up to it has another error.
 #[tactic(auto, using(crate::proofs::ReportTexts::found_in, crate::proofs::ReportTexts::only_in))]
 pub fn read_report(alloc: Global, bytes: &[u8]) -> Result<Report, ReportFault>
-    // On success, the report's calls are a history, and the bytes are the report's text.
+    // If a report is returned, its calls are a history, and `bytes` is the text of the report.
     ensures found { IfOk result (λ r. IsReport (view r) × (bytes.now ≡ report_text (view r))) }
-    // `write_report` can write the result, since its version has words for everything in it.
+    // `write_report` can write every report that is returned: its version has words for all its contents.
     ensures words { IfOk result (λ r. HasWordsOfVersion (view r)) }
-    // The text of every such report is read, unless an allocation fails.
+    // If `bytes` is the text of a report, the call returns this report or fails because an allocation failed.
     ensures only { (r : ReportValue) → IsReport r → bytes.now ≡ report_text r
         → MatchResult result (λ s. view s ≡ r) (λ e. e.cause ≡ Cause.Memory) }
-    // The error is exact, and `Memory` is only possible at these lines.
+    // The error is the first one in the text, or `Memory` at a line without another error.
     ensures exact { Gives view result bytes.now }
 {
     report(alloc, bytes)
 }
 
-/// Lemma: the bytes that `read_report` accepts are the text of its result, and it accepts the text of every report.
+/// Lemma: `read_report` accepts exactly the texts of reports. If it accepts bytes, they are the text of its result.
 pub fn reports_read_back()
     ensures { ReportsReadBack }
 {}

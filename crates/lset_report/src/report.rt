@@ -2,10 +2,10 @@ use lset_history::History;
 use lset_text::Version;
 use lset_words::{Kind, Placed};
 
-/// The maximum number of calls in a report that has a text.
+/// The maximum number of calls in a report that can be written as text.
 pub const MOST_CALLS: usize = 1_000_000;
 
-/// The maximum length of the order in a report that has a text.
+/// The maximum number of entries of the order in a report that can be written as text.
 pub const MOST_PLACES: usize = 1_000_000;
 
 /// The maximum number of final keys in a report of version 1, whose set opens empty.

@@ -3,13 +3,13 @@ ghost use Rattle.lset_report.specs.Texts.{title};
 
 use lset_text::Version;
 
-/// The first line of a report in version 1.
+/// The first line of a report in version 1 of the format.
 const TITLE_ONE: &str = "listset-report 1";
 
-/// The first line of a report in version 2, which adds opening keys and words for `ceiling` and its replies.
+/// The first line of a report in version 2 of the format, which adds opening keys, `ceiling` and its replies.
 const TITLE_TWO: &str = "listset-report 2";
 
-/// Returns the first line of a report in this version.
+/// Returns the first line of a report in this version of the format.
 pub(crate) fn title(version: Version) -> &'static str
     ensures { result.now ≡ title version }
 {

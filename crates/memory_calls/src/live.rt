@@ -1,4 +1,4 @@
-//! Exercises running sets of each list, from opening to the final keys.
+//! Makes all calls of sets in threads, from opening a set to reading its final keys, on each of the five lists.
 
 use crate::prelude::*;
 use lset_coarse::CoarseList;
@@ -29,8 +29,7 @@ fn add_six<M: Running, R: Wait>(rt: &R, set: &LiveSet<M>, seat: &mut Seat<M>) ->
     Ok(())
 }
 
-/// Changes the set until it contains the keys 1, 2, 4, 5 and 6, then looks for a removed key and for the next larger
-/// one.
+/// Changes the set until its keys are 1, 2, 4, 5 and 6. Then looks for a removed key and for the next larger key.
 fn change_and_look<M: Running, R: Wait>(
     rt: &R,
     alloc: Global,
@@ -48,7 +47,7 @@ fn change_and_look<M: Running, R: Wait>(
     check(set.ceiling(rt, seat, Key(3)) == Reply::At(Key(4)))
 }
 
-/// Makes a call without a runtime, which therefore cannot block, and expects this reply.
+/// Makes a call without a runtime and expects this reply. At a lock, such a call spins instead of blocking.
 fn call_within<M: Running>(
     alloc: Global,
     calls: &mut Calls,
@@ -66,7 +65,7 @@ fn call_within<M: Running>(
     Ok(seat)
 }
 
-/// Makes one call of each operation. The keys are unchanged at the end.
+/// Makes one call of each operation without a runtime. The set has the same keys at the end.
 fn call_each_within<M: Running>(
     alloc: Global,
     calls: &mut Calls,
@@ -81,7 +80,8 @@ fn call_each_within<M: Running>(
     call_within(alloc, calls, set, seat, Call::Remove(key), Reply::True)
 }
 
-/// Makes the typed calls of a seat that still has slots, or has used them all. The keys are unchanged at the end.
+/// Makes the calls whose results are typed, from a seat that can still add keys or has used up its quota. The set has
+/// the same keys at the end.
 fn call_typed<M: Running, R: Wait>(
     rt: &R,
     alloc: Global,
@@ -102,7 +102,7 @@ fn call_typed<M: Running, R: Wait>(
     check(!seat.remove(rt, set, Key(3)))
 }
 
-/// Passes a receipt from each of two seats to the other.
+/// Passes a receipt from each of two seats to the other seat.
 fn pass_receipts<M: Running>(
     alloc: Global,
     calls: &mut Calls,
@@ -120,7 +120,7 @@ fn pass_receipts<M: Running>(
     Ok(())
 }
 
-/// Runs a session over bytes in memory, with every kind of answer except `FULL`.
+/// Runs a session whose lines are in memory. Every kind of answer except `FULL` occurs.
 fn answer_session<M: Running, R: Wait>(
     rt: &R,
     alloc: Global,
@@ -142,7 +142,7 @@ fn answer_session<M: Running, R: Wait>(
     check(written.as_slice() == b"TRUE\nFALSE\nTRUE\nBAD\nTRUE\nBYE\n".as_slice())
 }
 
-/// Gathers both seats and closes the set.
+/// Gathers both seats into one and closes the set.
 fn gather_and_close<M: Running>(
     alloc: Global,
     calls: &mut Calls,
@@ -160,7 +160,7 @@ fn gather_and_close<M: Running>(
     check(keys.as_slice() == [1, 2, 4, 5, 6].as_slice())
 }
 
-/// Opens a set, makes calls from both seats, and closes the set.
+/// Opens a set, makes calls from both of its seats, and closes the set.
 fn running_set<M: Running, R: Wait>(rt: &R, alloc: Global, calls: &mut Calls) -> Result<()> {
     let (set, mut zero, mut one) = opened::<M>(alloc, calls)?;
     change_and_look(rt, alloc, calls, &set, &mut zero)?;
@@ -172,7 +172,7 @@ fn running_set<M: Running, R: Wait>(rt: &R, alloc: Global, calls: &mut Calls) ->
     gather_and_close(alloc, calls, set, zero, one)
 }
 
-/// Makes typed calls with `key`, which is absent before and present afterwards.
+/// Makes calls with `key`, whose results are typed. The key is absent before and present afterwards.
 fn add_typed<M: Running, R: Wait>(
     rt: &R,
     set: &LiveSet<M>,
@@ -187,7 +187,7 @@ fn add_typed<M: Running, R: Wait>(
 
 const MANY: u32 = 1_100;
 
-/// Adds keys in decreasing order, so that each becomes the first, and removes them.
+/// Adds keys in decreasing order, so that each new key becomes the first, and then removes them.
 fn fill_and_empty<M: Running, R: Wait>(rt: &R, set: &LiveSet<M>, seat: &mut Seat<M>) -> Result<()> {
     add_typed(rt, set, seat, u32::MAX)?;
     for key in (0..MANY).rev() {
@@ -199,8 +199,8 @@ fn fill_and_empty<M: Running, R: Wait>(rt: &R, set: &LiveSet<M>, seat: &mut Seat
     Ok(())
 }
 
-/// Makes more than a thousand calls of each operation, with small keys and with the largest one, from a seat that has
-/// gathered another.
+/// Makes more than a thousand calls of each operation, with small keys and the largest key, from a seat that has
+/// gathered the other seat.
 fn many_calls<M: Running, R: Wait>(rt: &R, alloc: Global, calls: &mut Calls) -> Result<()> {
     let (set, mut seats) = answer!(calls, "open", OpenFault::Memory, open::<M>(alloc, 2, 1_101))?;
     let one = last_seat(&set, &mut seats)?;
@@ -209,7 +209,7 @@ fn many_calls<M: Running, R: Wait>(rt: &R, alloc: Global, calls: &mut Calls) -> 
     fill_and_empty(rt, &set, &mut zero)
 }
 
-/// Opens a set whose `contains` does not block, and looks for present and absent keys.
+/// Opens a set whose `contains` never blocks, and looks for present and absent keys.
 fn read_now<M: RunningReads, R: Wait>(rt: &R, alloc: Global, calls: &mut Calls) -> Result<()> {
     let (set, mut zero, mut one) = opened::<M>(alloc, calls)?;
     add_six(rt, &set, &mut one)?;

@@ -1,13 +1,13 @@
-//! Calls public functions of the libraries that the output of listset does not show one by one, and compares their
-//! results. Prints which call returned `Memory` (or `Spawn`, if no thread could be created). That call is made again,
-//! and its result must be as if no allocation had failed.
+//! Calls library functions that allocate and compares their results with the expected ones. Prints the name of the call
+//! that returned `Memory` (or `Spawn`, if no thread could be created). The program makes this call again, and the
+//! result must be as if no allocation had failed.
 //!
 //! If the program is run by hand, no allocation fails. `tests/failed_allocations.py` makes each allocation fail in
-//! turn: it selects the allocation by its number, and passes on standard input how many blocks the program allocates
-//! before its first call.
+//! turn: it selects the allocation by its number. On standard input, it passes the number of blocks that the program
+//! allocates before its first call.
 #![tactic(auto)]
 
-/// Makes a call, and repeats it if it returns `Memory`. Returns the result of the last attempt.
+/// Makes a call, and repeats the call once if it returns `Memory`. Returns the result of the last attempt.
 macro_rules! answer {
     ($calls:ident, $name:expr, $memory:pat, $call:expr) => {{
         $calls.name = $name;
@@ -41,7 +41,7 @@ fn make_calls<R: Host + Net<Listener = TcpListener, Stream = TcpStream>>(
     threads::a_session(rt, alloc, calls)
 }
 
-/// Reads a number from standard input; 0 if there is none.
+/// Reads a number from standard input. Returns 0 if the input has no number.
 fn number_on(input: &mut impl Read) -> io::Result<u32> {
     let mut buffer = [0; 16];
     let count = input.read(&mut buffer)?;
@@ -49,7 +49,7 @@ fn number_on(input: &mut impl Read) -> io::Result<u32> {
     Ok(text.trim().parse().unwrap_or(0))
 }
 
-/// Allocates `count` blocks of memory one after another and frees each.
+/// Allocates `count` blocks of memory, one after another, and frees each of them.
 fn take_blocks(alloc: Global, count: u32) -> Result<(), AllocError> {
     for number in 0..count {
         let _block = Box::new(alloc, number)?;
@@ -57,9 +57,9 @@ fn take_blocks(alloc: Global, count: u32) -> Result<(), AllocError> {
     Ok(())
 }
 
-/// Returns the two parts of the line to print if all calls had the expected results. If a call returned `Memory`, the
-/// line names this call. Otherwise allocates `blocks` blocks: if that fails, all calls came before the failing
-/// allocation, and the line says so.
+/// Returns the two parts of the line to print after all calls had the expected results. If a call returned `Memory`,
+/// the line names this call. Otherwise allocates `blocks` blocks. If this fails, the selected allocation comes after
+/// all calls, and the line states that.
 fn told(alloc: Global, calls: &Calls, blocks: u32) -> (&'static str, &'static str) {
     match calls.refused {
         Some(name) => (name, " wanted memory"),

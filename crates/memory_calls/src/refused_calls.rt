@@ -1,7 +1,7 @@
 use anyhow::{Error, Result};
 use std::alloc::{AllocError, Global};
 
-/// Returns an error if `is_as_wanted` is false, that is, if a result is not the expected one.
+/// Returns an error if a result is not the expected one, that is, if `is_as_wanted` is false.
 pub fn check(is_as_wanted: bool) -> Result<()> {
     if is_as_wanted {
         Ok(())
@@ -27,8 +27,8 @@ impl Calls {
         }
     }
 
-    /// Returns `true` if the latest call may return `Memory`. Only one allocation fails, so only the first such call
-    /// may.
+    /// Returns `true` if the latest call may return `Memory`. Only one allocation fails in a run, so only one call may
+    /// return `Memory`.
     pub fn may_be_refused(&mut self) -> bool {
         if self.refused.is_some() {
             return false;
@@ -37,8 +37,8 @@ impl Calls {
         true
     }
 
-    /// Announces the next call by allocating a block. All allocations after this block, up to the next announcement,
-    /// belong to the call.
+    /// Records the name of the next call and allocates a block. This allocation, and all later ones up to the next
+    /// announcement, count as allocations of this call.
     pub fn announce(&mut self, alloc: Global, name: &'static str) -> Result<(), AllocError> {
         self.name = name;
         if Box::new(alloc, 0).is_ok() || self.may_be_refused() {

@@ -1,4 +1,4 @@
-//! Runs programs on threads, and a server with one session. No two threads allocate at the same time, so every run has
+//! Runs programs in threads, and a server with one session. No two threads allocate at the same time, so every run has
 //! the same order of allocations.
 
 use crate::prelude::*;
@@ -7,7 +7,7 @@ use lset_work::{Always, Outcome, WorkCause, WorkFault, work};
 use std::io::{self, Read, Write};
 use std::net::Shutdown;
 
-/// Opens a set, and retries if the first attempt fails. Returns the set and its seats.
+/// Opens a set and returns it with its seats. Repeats the attempt if the first one fails.
 fn open_seats(
     alloc: Global,
     calls: &mut Calls,
@@ -35,7 +35,7 @@ fn two_programs(alloc: Global) -> Result<Vec<Vec<Call>>, AllocError> {
     Ok(programs)
 }
 
-/// Records why `work` failed. Returns the set and the seats that it returned, or new ones.
+/// Records why `work` failed. Returns the set and the seats that `work` returned with its error, or new ones.
 fn after_refusal(
     alloc: Global,
     calls: &mut Calls,
@@ -54,7 +54,7 @@ fn after_refusal(
     }
 }
 
-/// Runs the programs again, on the remaining set and seats.
+/// Runs the programs again, on the set and the seats that the first run returned.
 fn work_again<R: Host>(
     rt: &R,
     alloc: Global,
@@ -82,7 +82,7 @@ pub fn programs_on_threads<R: Host>(rt: &R, alloc: Global, calls: &mut Calls) ->
     check(outcome.keys.as_slice() == [2].as_slice() && outcome.replies.len() == 2)
 }
 
-/// Creates a client that sends its lines before the server accepts it, and therefore needs no thread.
+/// Connects a client that sends its lines before the server accepts it. The client therefore needs no thread.
 fn client<R: Net<Listener = TcpListener, Stream = TcpStream>>(
     rt: &R,
 ) -> io::Result<(TcpListener, TcpStream)> {
@@ -94,7 +94,7 @@ fn client<R: Net<Listener = TcpListener, Stream = TcpStream>>(
     Ok((listener, stream))
 }
 
-/// Checks that one session was served, with four calls, the final keys, and the client's answers.
+/// Checks that one session was served: the number of calls, the final keys, and the answers that the client received.
 fn is_served(served: &Served, stream: &mut TcpStream) -> Result<()> {
     let mut answers = [0u8; 19];
     stream.read_exact(&mut answers)?;

@@ -4,8 +4,8 @@ use lset_history::{History, HistoryFault, Oracle};
 use lset_steps::{Event, StepFault, World};
 use lset_words::layout;
 
-/// Adds a key, at most 5, by making 15 steps, which suffice for the key 5. If the call ends earlier, the remaining
-/// steps return `Idle`, which is ignored.
+/// Adds a key, at most 5, by making 15 steps of one thread. They are enough for the key 5. If the call ends earlier,
+/// the remaining steps return `Idle`, which is ignored.
 fn add(world: &mut World<CoarseList>, key: u32) -> Result<(), StepFault> {
     world.step(Event::Begin(0, Call::Add(Key(key))))?;
     for _ in 0..15 {
@@ -14,7 +14,7 @@ fn add(world: &mut World<CoarseList>, key: u32) -> Result<(), StepFault> {
     Ok(())
 }
 
-/// Checks the content of a list's world after five adds.
+/// Runs five adds on the step table of a list and checks the keys.
 pub fn worlds(alloc: Global, calls: &mut Calls) -> Result<()> {
     let sizes = layout(1, 5)?;
     let mut world = answer!(calls, "World::new", AllocError, World::new(alloc, sizes))?;
@@ -33,7 +33,7 @@ fn oracle_has(alloc: Global, oracle: &Oracle, calls: &mut Calls, keys: &[u32]) -
     check(found.as_slice() == keys)
 }
 
-/// Adds the keys 1 to 12, which do not fit in one node of the key set.
+/// Adds the keys 1 to 12. They do not fit into one node of the tree that stores the keys.
 fn fill(oracle: &mut Oracle, calls: &mut Calls) -> Result<()> {
     for key in 1..=12 {
         let add = Call::Add(Key(key));
@@ -45,7 +45,7 @@ fn fill(oracle: &mut Oracle, calls: &mut Calls) -> Result<()> {
 
 const KEYS: [u32; 12] = [1, 2, 3, 4, 5, 6, 7, 8, 9, 10, 11, 12];
 
-/// Fills a set, and opens another one with the same keys.
+/// Adds keys to a sequential set, and creates another set with the same keys.
 pub fn oracles(alloc: Global, calls: &mut Calls) -> Result<()> {
     let mut oracle = answer!(calls, "Oracle::new", AllocError, Oracle::new(alloc, 1, 12))?;
     fill(&mut oracle, calls)?;
@@ -59,7 +59,7 @@ pub fn oracles(alloc: Global, calls: &mut Calls) -> Result<()> {
     oracle_has(alloc, &opened, calls, &KEYS)
 }
 
-/// Begins and ends a call that looks for a key in the empty set.
+/// Begins and ends a call that looks for a key in an empty set.
 fn looks(alloc: Global, history: &mut History, calls: &mut Calls, number: u32) -> Result<()> {
     let (call, begun) = (Call::Contains(Key(number)), 2 * number + 1);
     let id = answer!(

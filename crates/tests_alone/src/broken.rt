@@ -1,4 +1,4 @@
-//! Random schedules on each broken list. For each list, the order of at least one run must be refused.
+//! Runs random schedules on each broken list. On each list, at least one run must have an order that is refused.
 
 use crate::prelude::*;
 use broken_lists::{ALL, BrokenList, BrokenWorld, broken_world_of};
@@ -6,12 +6,12 @@ use lset_replay::{Steps, calls_of};
 use lset_schedule::read_schedule;
 use lset_text::{call_word, kind_word};
 
-/// The maximum number of runs per list. For each list, an earlier run is refused.
+/// The maximum number of runs on each list. A refused run occurs earlier.
 const RUNS: u64 = 2_000;
 
 const EVENTS: u32 = 120;
 
-/// The opening keys.
+/// The opening keys of every schedule.
 const OPENING: [u32; 1] = [5];
 
 fn drawn_call(rng: &mut Pcg32) -> Call {
@@ -24,7 +24,7 @@ fn drawn_call(rng: &mut Pcg32) -> Call {
     }
 }
 
-/// Returns a random schedule for two threads on a broken list. A thread makes a few steps before the other one
+/// Returns a random schedule for two threads on a broken list. Each thread makes a few steps before the other one
 /// continues.
 fn drawn_schedule(alloc: Global, broken: BrokenList, seed: u64) -> Result<String, Fail> {
     let mut rng = Pcg32::seed_from_u64(seed);
@@ -51,7 +51,7 @@ fn drawn_schedule(alloc: Global, broken: BrokenList, seed: u64) -> Result<String
     Ok(text)
 }
 
-/// Runs a random schedule. Returns `true` if its order is refused.
+/// Runs a random schedule on a broken list. Returns `true` if the order of the run is refused.
 fn is_run_refused(alloc: Global, broken: BrokenList, seed: u64) -> Result<bool, Fail> {
     let text = drawn_schedule(alloc, broken, seed)?;
     let schedule = read_schedule(alloc, text.as_bytes())?;
@@ -63,7 +63,7 @@ fn is_run_refused(alloc: Global, broken: BrokenList, seed: u64) -> Result<bool, 
     )
 }
 
-/// Returns `true` if one of the random runs is refused.
+/// Returns `true` if the order of at least one of the random runs is refused.
 fn is_refused(alloc: Global, broken: BrokenList) -> Result<bool, Fail> {
     for seed in 0..RUNS {
         if is_run_refused(alloc, broken, seed)? {

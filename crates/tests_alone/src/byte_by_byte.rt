@@ -1,5 +1,5 @@
-//! Inputs that arrive byte by byte, as from a slow recorder, and an output that accepts one byte at a time. Each test
-//! makes tens of thousands of reads or writes.
+//! Tests of inputs that arrive byte by byte, as from a slow recorder, and of an output that accepts one byte at a time.
+//! Each test makes tens of thousands of reads or writes.
 use crate::failing_devices::{Plan, WHOLE, Writer};
 use crate::prelude::*;
 use std::io::{self, Read};
@@ -7,7 +7,7 @@ use tool_base::{Answer, deliver};
 use tool_judge::judge_input;
 use tool_replay::tool_check;
 
-/// The number of calls, which do not overlap.
+/// The number of calls in an input. The calls do not overlap.
 const CALLS: u32 = 4_000;
 
 /// A reader that returns its text one byte at a time.
@@ -57,7 +57,7 @@ fn a_recording_comes_byte_by_byte(rt: HostRuntime) -> Result<(), Fail> {
     }
 }
 
-/// `check` refuses the report because its order is empty: call 0 is missing.
+/// The order of the report is empty, so `check` refuses it: call 0 is missing.
 #[test]
 fn a_report_comes_byte_by_byte(rt: HostRuntime) -> Result<(), Fail> {
     let alloc = rt.alloc();

@@ -1,11 +1,11 @@
-//! Contradictions found by counting: between certain calls, a key would have to change back more often than it can.
+//! Tests of contradictions found by counting: some calls need a key to change back more often than it can have changed.
 
 use crate::prelude::*;
 use crate::test_histories::{FIVE, reply_of};
 use lset_judge::{Count, find_count};
 use tool_judge::put_count;
 
-/// Returns a completed call of key 5 with the reply true or false.
+/// Returns a completed call of key 5. The reply is true if `is_true`, otherwise false.
 fn ended(thread: u32, call: Call, begun: u64, end: u64, is_true: bool) -> StreamCall {
     StreamCall {
         thread,
@@ -15,8 +15,8 @@ fn ended(thread: u32, call: Call, begun: u64, end: u64, is_true: bool) -> Stream
     }
 }
 
-/// Returns contradicting calls: an `add` that returned true between two calls of `contains`, but only one `remove`
-/// where two are needed.
+/// Returns calls that contradict each other. A `contains` before an `add` returned true, and a `contains` after it
+/// returned false. Two calls of `remove` must have changed the key in between, but only one did.
 fn two_looks() -> [StreamCall; 4] {
     [
         ended(3, Call::Contains(FIVE), 3176, 3177, true),
@@ -73,7 +73,7 @@ fn opening_and_final_keys_are_counted(rt: HostRuntime) -> Result<(), Fail> {
     Ok(())
 }
 
-/// Returns a random call of key 5 between two moments, with a random reply. Some calls are pending.
+/// Returns a random call of key 5 that runs between two moments, with a random reply. Some calls are pending.
 fn any_call(random: &mut Pcg32, thread: u32, one: u64, other: u64) -> StreamCall {
     let call = match random.next_u32() % 4 {
         0 | 1 => Call::Add(FIVE),
@@ -94,7 +94,7 @@ fn any_call(random: &mut Pcg32, thread: u32, one: u64, other: u64) -> StreamCall
     }
 }
 
-/// Returns a few random calls of key 5 in the order in which they began, starting at moment 1.
+/// Returns a few random calls of key 5 in the order of their begins. Moments start at 1.
 fn any_calls(alloc: Global, random: &mut Pcg32) -> Result<Vec<StreamCall>, AllocError> {
     let count = 2 + random.next_u32() % 7;
     let mut moments: Vec<u64> = Vec::new(alloc);
@@ -133,8 +133,8 @@ fn is_explained(
     Ok(matches!(judge.close(keys_of(left))?, Verdict::Linearizable))
 }
 
-/// Returns `true` if a count proves its contradiction: its calls are among `calls`, and fewer calls than needed can
-/// change the key back.
+/// Returns `true` if the counted calls are among `calls` and prove a contradiction: fewer calls can change the key back
+/// than are needed.
 fn names_enough(calls: &[StreamCall], count: &Count) -> bool {
     count.calls.iter().all(|call| calls.contains(call))
         && count.backs.iter().all(|call| calls.contains(call))

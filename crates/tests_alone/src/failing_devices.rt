@@ -1,4 +1,4 @@
-//! Readers and writers that fail at one of their calls.
+//! Readers and writers for tests, which fail when they are called for a given time.
 
 use crate::prelude::*;
 use std::io::{self, ErrorKind, Read, Write};
@@ -7,22 +7,22 @@ pub const CANNOT_READ: &[u8] = b"listset: cannot read\n";
 
 pub const CANNOT_WRITE: &[u8] = b"listset: cannot write\n";
 
-/// A call number that is never reached.
+/// The number of a call that is never reached.
 pub const NEVER: usize = usize::MAX;
 
-/// How a call of a device fails.
+/// How a read or a write fails.
 #[derive(Clone, Copy)]
 pub enum Failure {
-    /// Fails with an error after which std's loops repeat the call.
+    /// The call fails with an error after which loops in std repeat the call.
     Interrupted,
     BrokenPipe,
-    /// Writes no byte, or fails a flush with `WriteZero`. Not used for readers, for which a read of no byte means the
+    /// A write accepts no byte, and a flush fails with `WriteZero`. Not used for readers: a read of no byte means the
     /// end of the text.
     Nothing,
 }
 
 impl Failure {
-    /// Returns the error of a call that cannot return a number of bytes.
+    /// Returns the error of a failing call that cannot report a number of bytes.
     fn error(self) -> io::Error {
         io::Error::from(match self {
             Failure::Interrupted => ErrorKind::Interrupted,
@@ -39,8 +39,8 @@ impl Failure {
     }
 }
 
-/// When a device fails: call number `fails_at`, counted from 0, fails, and all later calls succeed. A call transfers at
-/// most `most` bytes.
+/// When a reader or writer fails: call number `fails_at`, counted from 0, fails, and all later calls succeed. A call
+/// transfers at most `most` bytes.
 #[derive(Clone, Copy)]
 pub struct Plan {
     pub most: usize,
@@ -48,7 +48,7 @@ pub struct Plan {
     pub failure: Failure,
 }
 
-/// A way in which a device fails, and the maximum number of bytes that one of its calls transfers.
+/// A way to fail, and the maximum number of bytes that one call transfers.
 pub type Way = (Failure, usize);
 
 pub fn planned((failure, most): Way, fails_at: usize) -> Plan {
@@ -59,7 +59,7 @@ pub fn planned((failure, most): Way, fails_at: usize) -> Plan {
     }
 }
 
-/// A plan without failure, in which each call transfers all bytes.
+/// The plan of a reader or writer that never fails and transfers all bytes in each call.
 pub const WHOLE: Plan = Plan {
     most: usize::MAX,
     fails_at: NEVER,
@@ -101,7 +101,7 @@ impl Read for Reader {
 pub struct Writer {
     pub taken: Vec<u8>,
     plan: Plan,
-    /// The number of calls of `write` and `flush`.
+    /// The number of calls of `write` and `flush` so far.
     pub calls: usize,
 }
 
@@ -114,9 +114,9 @@ impl Writer {
         }
     }
 
-    /// Returns `true` if the writer received a prefix of the text, at least one byte with every call before the failing
-    /// one, and was not called again. Assumes that no flush came before. A write at the end of a piece of text can have
-    /// fewer bytes than the writer accepts.
+    /// Returns `true` if the writer received a prefix of the text, with at least one byte in every call before the
+    /// failing one, and was not called again. No flush may precede the failure. The last write of a piece of text can
+    /// have fewer bytes than the writer accepts.
     pub fn stopped_within(&self, text: &[u8]) -> bool {
         let calls = self.plan.fails_at;
         let bytes = self.taken.len();

@@ -1,5 +1,5 @@
-//! Runs the program with a failure at each read and each write in turn. The tests in `transcripts` check what the
-//! program prints.
+//! Runs the program again and again. In each run, another read or write fails. (`tests/transcripts` checks what the
+//! program prints without failures.)
 use crate::failing_devices::{
     CANNOT_READ, CANNOT_WRITE, Failure, Plan, Reader, WHOLE, Way, Writer, planned,
 };
@@ -10,7 +10,7 @@ use lset_text::cut;
 use tool_replay::tool_gen;
 use tool_threads::tool_run;
 
-/// The arguments of a run, and its input.
+/// The arguments of a run of the program, and its input.
 type Row = (&'static [&'static str], &'static str);
 
 const SCHEDULE: &str =
@@ -23,7 +23,7 @@ const IDLE: &str =
 const REPORT: &str =
     "listset-report 1\nlist coarse\nthreads 1\nquota 4\ncall 0 0 add 5 1 8 true\nplace 0 true\nkey 5\nend\n";
 
-/// A report whose order omits its call.
+/// A report with one call, which the report's order omits.
 const LEFT_OUT: &str =
     "listset-report 1\nlist coarse\nthreads 1\nquota 4\ncall 0 0 add 5 1 8 true\nkey 5\nend\n";
 
@@ -39,14 +39,14 @@ const UNENDED: &str = "listset-calls 1\ncall 0 add 5 1 4 true\nkey 5\n";
 
 const DRAFT: &str = "listset-draft 2\nlist coarse\nthreads 1\nquota 4\nbegin 0 add 5\ngo 0 out\n";
 
-/// A schedule with one `contains`, for the broken LazyList that ignores marks in `contains`.
+/// A schedule with one `contains`, for the LazyList whose `contains` ignores marks.
 const LOOK: &str =
     "listset-schedule 2\nlist lazy\nthreads 1\nquota 0\nbegin 0 contains 5\ngo 0 2\n";
 
-/// The output of a server with one final key.
+/// The output of a server whose set has one final key.
 const PRINTED: &str = "listening 127.0.0.1:4711\nsessions 1\ncalls 1\nkey 7\n";
 
-/// Runs that write to the output, then runs that write only an error line.
+/// Runs of the program: first those that write to the output, then those that only write an error line.
 const ROWS: [Row; 31] = [
     (&["replay"], SCHEDULE),
     (&["check"], REPORT),
@@ -81,10 +81,10 @@ const ROWS: [Row; 31] = [
     (&["skip"], ""),
 ];
 
-/// A server that accepts no session and opens with the keys in its input.
+/// A run of a server that accepts no session. Its set opens with the keys in the input.
 const SERVER: Row = (&["serve", "lazy", "1", "4", "0", "0", "-"], PRINTED);
 
-/// A completed run: its exit status and its devices.
+/// A completed run of the program: its exit status, its input, its output and its stderr.
 #[derive(Drop)]
 struct Run {
     status: u8,
@@ -93,7 +93,7 @@ struct Run {
     stderr: Writer,
 }
 
-/// Returns the text without the line with a server's port, which differs between runs.
+/// Returns the text without the line that contains a server's port. The port differs between runs.
 fn without_port(text: &[u8]) -> &[u8] {
     if !text.starts_with(b"listening ") {
         return text;
@@ -110,7 +110,7 @@ impl Run {
         self.output.calls == 0 && self.stderr.taken.as_slice() == line
     }
 
-    /// Returns `true` if two runs wrote the same bytes and returned the same status.
+    /// Returns `true` if two runs wrote the same bytes and had the same exit status.
     fn is_as(&self, other: &Run) -> bool {
         self.status == other.status
             && without_port(&self.output.taken) == without_port(&other.output.taken)
@@ -118,7 +118,7 @@ impl Run {
     }
 }
 
-/// Runs a row, with plans for its input, its output and `stderr`.
+/// Runs the program with these arguments. The plans determine when the input, the output and `stderr` fail.
 fn run_on<R: Host>(rt: &R, alloc: Global, (words, input): Row, plans: [Plan; 3]) -> Run {
     let [of_input, output, stderr] = plans;
     let mut input = Reader::new(input, of_input);
@@ -145,7 +145,7 @@ const WRITES: [Way; 3] = [
     (Failure::Nothing, 7),
 ];
 
-/// The maximum number of calls that a run makes on a device.
+/// The maximum number of reads or writes in one run.
 const MOST_CALLS: usize = 10_000;
 
 #[derive(Clone, Copy)]
@@ -156,7 +156,7 @@ enum Device {
 }
 
 impl Device {
-    /// Returns the plans for a run in which only this device fails.
+    /// Returns the plans for a run in which only this reader or writer fails.
     fn plans(self, plan: Plan) -> [Plan; 3] {
         match self {
             Device::Input => [plan, WHOLE, WHOLE],
@@ -165,7 +165,7 @@ impl Device {
         }
     }
 
-    /// Returns how often a run called the device.
+    /// Returns the number of calls that a run made on this reader or writer.
     fn calls(self, run: &Run) -> usize {
         match self {
             Device::Input => run.input.calls,
@@ -174,7 +174,7 @@ impl Device {
         }
     }
 
-    /// Returns how many bytes this device transfers in a run without failures.
+    /// Returns the number of bytes that this reader or writer transfers in a run without failures.
     fn moved(self, (_words, input): Row, whole: &Run) -> usize {
         match self {
             Device::Input if whole.input.calls == 0 => 0,
@@ -184,9 +184,9 @@ impl Device {
         }
     }
 
-    /// Returns `true` if a run reacted correctly to the device's failure. After a failed read, nothing is written to
-    /// the output. After a failed write, the output is a prefix of the text. If the error line cannot be written, the
-    /// status does not change.
+    /// Returns `true` if the program reacted correctly to the failure. After a failed read, nothing may be written to
+    /// the output. After a failed write, the output must be a prefix of the text. A failed write of the error line must
+    /// not change the exit status.
     fn is_met(self, whole: &Run, run: &Run) -> bool {
         match self {
             Device::Input => run.status == 1 && run.wrote_only(CANNOT_READ),
@@ -202,8 +202,8 @@ impl Device {
     }
 }
 
-/// Runs a row repeatedly, each time with a failure at the next call of the device, until a run ends without a failure.
-/// Returns the number of runs that failed.
+/// Runs the program repeatedly. In each run, the next call of the reader or writer fails, until a run ends without a
+/// failure. Returns the number of runs with a failure.
 fn each_call_fails<R: Host>(
     rt: &R,
     alloc: Global,
@@ -258,7 +258,7 @@ fn a_failed_line_about_an_error_keeps_the_status(rt: HostRuntime) -> Result<(), 
     each_row_fails(&rt, rt.alloc(), Device::Stderr, &WRITES)
 }
 
-/// A read or write fails, and then the error line cannot be written: the status is still 1.
+/// A read or write fails, and then the error line cannot be written either. The exit status must still be 1.
 #[test]
 fn the_status_stays_if_a_device_and_the_line_about_it_fail(rt: HostRuntime) {
     for (device, line) in [(Device::Input, CANNOT_READ), (Device::Output, CANNOT_WRITE)] {
@@ -271,13 +271,13 @@ fn the_status_stays_if_a_device_and_the_line_about_it_fail(rt: HostRuntime) {
     }
 }
 
-/// A schedule in which one thread attempts to take a lock that the other thread holds. Its trace is written in pieces
-/// of 15,360 bytes.
+/// A schedule in which one thread attempts to take a lock that the other thread holds. Its trace is longer than the
+/// buffer, so the trace is written in several pieces.
 const TRIES: &str = "listset-schedule 1\nlist coarse\nthreads 2\nquota 4\n\
     begin 0 add 5\ngo 0 1\nbegin 1 add 7\ngo 1 2000\n";
 
-/// The output accepts up to 4,096 bytes per call. After a failed write, it contains a prefix of the trace and is not
-/// called again.
+/// The output accepts up to 4,096 bytes per write. After a failed write, the output must contain a prefix of the trace
+/// and must not be called again.
 #[test]
 fn a_failed_write_of_a_long_trace_leaves_a_prefix(rt: HostRuntime) -> Result<(), Fail> {
     let row: Row = (&["trace"], TRIES);
@@ -297,7 +297,7 @@ fn a_failed_write_of_a_long_trace_leaves_a_prefix(rt: HostRuntime) -> Result<(),
     Err(Fail::new("no run ends without a failure"))
 }
 
-/// The port is taken. The status is 1 even if the error line cannot be written.
+/// Another program listens on the port. The exit status must be 1 even if the error line cannot be written.
 #[test]
 fn a_server_on_a_taken_port_exits_with_status_1(rt: HostRuntime) -> Result<(), Fail> {
     let alloc = rt.alloc();
@@ -322,7 +322,7 @@ fn a_server_on_a_taken_port_exits_with_status_1(rt: HostRuntime) -> Result<(), F
     Ok(())
 }
 
-/// `tool_gen` and `tool_run` write and return the same as the program with these arguments.
+/// `tool_gen` and `tool_run` must write the same text and return the same status as the program.
 #[test]
 fn tool_gen_and_tool_run_do_what_the_program_does(rt: HostRuntime) -> Result<(), Fail> {
     let alloc = rt.alloc();

@@ -1,4 +1,4 @@
-//! Cases worked by hand for library functions that no page in `transcripts` covers.
+//! Tests of library functions that `tests/transcripts` does not cover. The expected values were computed by hand.
 use crate::prelude::*;
 use lset_schedule::{GenFault, Line, Schedule, programs, write_schedule};
 use lset_words::{LayoutFault, pack, unpack};
@@ -89,7 +89,7 @@ fn a_history_refuses_a_begin_or_end_with_its_cause(rt: HostRuntime) {
     assert!(rt; history.calls().len() == 1);
 }
 
-/// Returns how many calls a schedule begins.
+/// Returns the number of calls that a schedule begins.
 fn begun(schedule: &Schedule) -> usize {
     let lines = schedule.lines.iter();
     lines

@@ -1,4 +1,4 @@
-//! The judge on recorded calls: which error a call with several errors gets, and which two calls are named if no order
+//! Tests of the judge: which error it returns for a call with several errors, and which two calls it names if no order
 //! exists.
 
 use crate::prelude::*;
@@ -13,7 +13,7 @@ fn add_of_six(thread: u32, begun: u64, ended: Option<(u64, Reply)>) -> StreamCal
     }
 }
 
-/// Calls of key 6, each with a reply that the judge does not accept for it.
+/// Calls of key 6 with a reply that the judge does not accept from this operation.
 const NOT_PLAIN: [(Call, Reply); 5] = [
     (Call::Add(Key(6)), Reply::Full),
     (Call::Remove(Key(6)), Reply::Nothing),
@@ -33,8 +33,8 @@ fn not_plain(made: (Call, Reply), begun: u64, end: u64) -> StreamCall {
     }
 }
 
-/// Returns calls to add after a call of thread 3 from moment 2 to 7, each with the expected error. Where possible, a
-/// call also has the errors that are checked later.
+/// Returns calls to add after a call of thread 3 that runs from moment 2 to 7, each with the error to expect. If
+/// possible, a call also has errors that are checked later.
 fn with_faults(made: (Call, Reply)) -> [(StreamCall, StreamFault); 10] {
     let late = LAST_MOMENT + 1;
     [
@@ -62,18 +62,18 @@ fn the_first_fault_of_a_call_is_named(rt: HostRuntime) -> Result<(), Fail> {
     }
     let taken = add_of_six(3, 5, Some((7, Reply::False)));
     assert_eq!(rt; judge.add(taken), Err(StreamFault::Taken));
-    // Two errors: another call has the same end, and the thread has an earlier call that overlaps.
+    // The call has two errors: another call ends at the same moment, and the thread's earlier call overlaps it.
     judge.add(add_of_six(4, 3, Some((8, Reply::True))))?;
     let both = add_of_six(3, 5, Some((8, Reply::True)));
     assert!(rt; judge.add(both) == Err(StreamFault::Taken));
-    // Two errors: another call ends where this one begins, and the thread has an earlier call that overlaps.
+    // The call has two errors: another call ends at the moment of its begin, and the thread's earlier call overlaps it.
     judge.add(add_of_six(5, 4, Some((6, Reply::True))))?;
     let begins_taken = add_of_six(3, 6, Some((9, Reply::True)));
     assert!(rt; judge.add(begins_taken) == Err(StreamFault::Taken));
     Ok(())
 }
 
-/// The number of `contains` calls while a long `add` is pending. All but the next-to-last return false.
+/// The number of `contains` calls while a long `add` is pending. All of them return false, except the next-to-last.
 const LOOKS: u64 = 102;
 
 #[test]

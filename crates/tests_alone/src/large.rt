@@ -1,4 +1,5 @@
-//! The largest histories and recordings. Each test has a minute, and comparing all pairs of calls would take longer.
+//! Tests of the largest histories and recordings. Each test has a minute. Comparing all pairs of calls would take
+//! longer.
 
 use crate::prelude::*;
 use crate::test_histories::{FIVE, in_turn, increasing_keys};
@@ -20,7 +21,7 @@ fn true_calls<F: Fn(u32) -> Call>(
     Ok(calls)
 }
 
-/// The threads take turns. Each call finds a different key in a set with the maximum number of opening keys.
+/// Threads take turns. Each call finds another key of a set that has the maximum number of opening keys.
 #[test]
 fn a_million_calls_are_judged(rt: HostRuntime) -> Result<(), Fail> {
     let alloc = rt.alloc();
@@ -37,7 +38,7 @@ fn a_million_calls_are_judged(rt: HostRuntime) -> Result<(), Fail> {
     Ok(())
 }
 
-/// Returns `true` if the history is refused with this key and this moment.
+/// Returns `true` if the judge refuses the history and names this key and this moment.
 fn is_refused(
     alloc: Global,
     history: &History,
@@ -48,10 +49,10 @@ fn is_refused(
     Ok(matches!(judged, Judged::NotLinearizable(told, _) if told == Refusal { key, moment }))
 }
 
-/// How often key 5 is added and removed.
+/// How often key 5 is added and removed again.
 const TIMES: u32 = 100_000;
 
-/// Returns a history in which threads take turns to add and remove key 5, and a final `contains` returns `last`.
+/// Returns a history in which threads take turns to add and remove key 5. A final `contains` returns `last`.
 fn in_and_out(alloc: Global, last: Reply) -> Result<History, Fail> {
     let mut calls = true_calls(alloc, 2 * TIMES, |number| {
         if number % 2 == 0 {
@@ -75,7 +76,7 @@ fn a_wrong_reply_after_many_changes_of_a_key_is_found(rt: HostRuntime) -> Result
     Ok(())
 }
 
-/// Returns an order with all calls of the history in turn. The reply at the last place is `last`.
+/// Returns an order that contains all calls of the history, one after another. The last reply in the order is `last`.
 fn in_their_turn(alloc: Global, last: Reply) -> Result<Vec<Placed>, AllocError> {
     let mut order = Vec::new(alloc);
     for number in 0..2 * TIMES {
@@ -91,8 +92,8 @@ fn in_their_turn(alloc: Global, last: Reply) -> Result<Vec<Placed>, AllocError> 
     Ok(order)
 }
 
-/// Tests orders of many calls with an error at the end: the last call has a wrong reply, is missing, occurs twice or is
-/// unknown, or the final keys are wrong.
+/// Checks orders of many calls with an error at the end: the last call has a wrong reply, is missing, occurs twice or
+/// does not exist, or the final keys are wrong.
 #[test]
 fn a_fault_at_the_end_of_a_long_order_is_found(rt: HostRuntime) -> Result<(), Fail> {
     let alloc = rt.alloc();
@@ -117,10 +118,10 @@ fn a_fault_at_the_end_of_a_long_order_is_found(rt: HostRuntime) -> Result<(), Fa
     Ok(())
 }
 
-/// The number of keys, each with one call.
+/// The number of keys. There is one call for each key.
 const MANY_KEYS: u32 = 500_000;
 
-/// All keys are added but none is final, or all are removed from a set that opened empty. The first key is named.
+/// All keys are added and none is a final key; or all are removed from a set that opened empty. The first key is named.
 #[test]
 fn the_first_of_many_wrong_keys_is_named(rt: HostRuntime) -> Result<(), Fail> {
     let alloc = rt.alloc();
@@ -133,7 +134,7 @@ fn the_first_of_many_wrong_keys_is_named(rt: HostRuntime) -> Result<(), Fail> {
     Ok(())
 }
 
-/// The number of threads, each of which adds its own key. No call ends.
+/// The number of threads. Each thread adds its own key, and no call ends.
 const MANY_PENDING: u32 = 100_000;
 
 #[test]
@@ -152,10 +153,10 @@ fn many_pending_calls_are_judged(rt: HostRuntime) -> Result<(), Fail> {
     Ok(())
 }
 
-/// More keys than a list can open with.
+/// A number of keys that is too large for a list to open with.
 const MORE_KEYS: u32 = 1_100_000;
 
-/// Makes one `contains` for each key.
+/// One `contains` looks for each key.
 #[test]
 fn more_keys_than_a_list_can_have_are_judged(rt: HostRuntime) -> Result<(), Fail> {
     let keys = increasing_keys(rt.alloc(), MORE_KEYS)?;
@@ -178,7 +179,7 @@ const LONG_KEYS: u32 = 200_000;
 
 const LONG_CALLS: u32 = 100_000;
 
-/// Feeds a call's line to the reader byte by byte.
+/// Passes the line of a call to the reader, byte by byte.
 fn feed_call(alloc: Global, reader: &mut RecordingReader, number: u32) -> Result<(), Fail> {
     let (thread, key) = (number % 8, number % LONG_KEYS);
     let begun = 2 * u64::from(number) + 1;
@@ -190,7 +191,7 @@ fn feed_call(alloc: Global, reader: &mut RecordingReader, number: u32) -> Result
     Ok(())
 }
 
-/// Feeds a line `word K` for each key K to the reader.
+/// Passes a line `word K` to the reader, for each key K.
 fn feed_keys(alloc: Global, reader: &mut RecordingReader, word: &str) -> Result<(), Fail> {
     for key in 0..LONG_KEYS {
         let line = format!(in alloc; "{word} {key}\n")?;

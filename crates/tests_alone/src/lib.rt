@@ -1,4 +1,4 @@
-//! The tests that start no threads: cases worked by hand, sizes and times, and failing devices.
+//! The tests that start no threads: cases computed by hand, large inputs, and readers and writers that fail.
 #![tactic(auto)]
 
 #[cfg(test)]

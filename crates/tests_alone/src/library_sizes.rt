@@ -1,4 +1,5 @@
-//! Library functions that allocate, for each size from 0 to 200. All must succeed with the right result.
+//! Tests of library functions that allocate, for each size from 0 to 200. All functions must succeed and return the
+//! right result.
 
 use crate::prelude::*;
 use crate::test_histories::{in_turn, increasing_keys};
@@ -9,12 +10,12 @@ use lset_schedule::{programs, read_schedule, write_schedule};
 
 const MOST_SIZE: u32 = 200;
 
-/// Returns a number of threads from 1 to `MOST_THREADS` that depends on the size.
+/// Returns a number of threads, from 1 to `MOST_THREADS`, that depends on the size.
 fn threads_of(size: u32) -> u32 {
     1 + size % MOST_THREADS
 }
 
-/// Opens a list with `size` keys and checks its content.
+/// Creates a list with `size` keys and checks its content.
 fn has_world<M: Machine, R: Abort>(rt: &R, alloc: Global, size: u32) -> Result<(), Fail> {
     let keys = increasing_keys(alloc, size)?;
     let layout = layout_opening(threads_of(size), size, size)?;
@@ -37,8 +38,8 @@ fn lists_open_at_each_size(rt: HostRuntime) -> Result<(), Fail> {
     Ok(())
 }
 
-/// Reads and writes a schedule and the report of its run. Both must be unchanged, and the order must explain the run.
-/// Returns the number of calls.
+/// Reads and writes a schedule, and the report of its run. Both texts must be unchanged, and the order must explain the
+/// run. Returns the number of calls.
 fn is_replayed<R: Abort>(rt: &R, alloc: Global, text: &[u8]) -> Result<usize, Fail> {
     let schedule = read_schedule(alloc, text)?;
     assert!(rt; write_schedule(alloc, &schedule)?.as_slice() == text);
@@ -59,8 +60,8 @@ fn has_schedule<M: Machine, R: Abort>(rt: &R, alloc: Global, size: u32) -> Resul
     Ok(())
 }
 
-/// Returns a schedule in which one thread looks for each of `size` opening keys. On a LazyList, each key takes two more
-/// steps than the previous one.
+/// Returns a schedule in which one thread looks for each of `size` opening keys. On a LazyList, the search for a key
+/// takes two more steps than the search for the previous key.
 fn looks_for_each(alloc: Global, size: u32) -> Result<String, Fail> {
     let mut text = String::from_str(alloc, "listset-schedule 2\nlist lazy\nthreads 1\nquota 0\n")?;
     for key in 0..size {
@@ -94,8 +95,8 @@ fn schedules_and_reports_are_right_at_each_size(rt: HostRuntime) -> Result<(), F
     Ok(())
 }
 
-/// Opens a sequential set with `size` keys and the same number of slots. It must accept that many more keys and then be
-/// full.
+/// Creates a sequential set with `size` keys that can add `size` further keys. The set must accept these keys, and then
+/// be full.
 fn has_oracle<R: Abort>(rt: &R, alloc: Global, size: u32) -> Result<(), Fail> {
     let mut oracle = Oracle::opened(alloc, 1, size, &increasing_keys(alloc, size)?)?;
     for key in size..2 * size {
@@ -128,7 +129,7 @@ fn adds(alloc: Global, size: u32) -> Result<History, Fail> {
     Ok(in_turn(history, &calls)?)
 }
 
-/// Judges a history of `size` adds. It must be linearizable with these final keys, but not with an empty final set.
+/// Judges a history of `size` adds. The history must be linearizable with these final keys, but not with no final keys.
 fn is_judged<R: Abort>(rt: &R, alloc: Global, size: u32) -> Result<(), Fail> {
     let history = adds(alloc, size)?;
     let judged = judge(alloc, &history, &increasing_keys(alloc, size)?)?;
@@ -140,7 +141,7 @@ fn is_judged<R: Abort>(rt: &R, alloc: Global, size: u32) -> Result<(), Fail> {
     Ok(())
 }
 
-/// Judges a history in which each thread has a pending add that took effect.
+/// Judges a history in which each thread has a pending add. All these adds took effect.
 fn is_judged_pending<R: Abort>(rt: &R, alloc: Global, threads: u32) -> Result<(), Fail> {
     let mut history = History::new(alloc, threads, 1);
     for thread in 0..threads {
@@ -164,7 +165,7 @@ fn sequential_sets_and_judged_histories_are_right_at_each_size(
     Ok(())
 }
 
-/// Returns a judge that has received `size` calls that each find a key, and `size` pending adds.
+/// Returns a judge that was told `size` calls of `contains` that find their keys, and `size` pending adds.
 fn judge_of(alloc: Global, size: u32) -> Result<Judge, Fail> {
     let mut judge = Judge::new(alloc, &increasing_keys(alloc, size)?)?;
     for number in 0..2 * size {
@@ -185,7 +186,7 @@ fn judge_of(alloc: Global, size: u32) -> Result<Judge, Fail> {
     Ok(judge)
 }
 
-/// Returns a recording with `size` opening keys. Each key is looked up and stays in the set.
+/// Returns a recording with `size` opening keys, which are also the final keys. A call looks for each of them.
 fn recording_of(alloc: Global, size: u32) -> Result<String, Fail> {
     let mut text = String::from_str(alloc, "listset-calls 1\n")?;
     for key in 0..size {
@@ -203,7 +204,7 @@ fn recording_of(alloc: Global, size: u32) -> Result<String, Fail> {
     Ok(text)
 }
 
-/// Reads a recording of `size` calls in pieces of `size + 1` bytes.
+/// Passes a recording of `size` calls to the reader, in pieces of `size + 1` bytes.
 fn is_read<R: Abort>(rt: &R, alloc: Global, size: u32) -> Result<(), Fail> {
     let text = recording_of(alloc, size)?;
     let mut reader = RecordingReader::new(alloc);

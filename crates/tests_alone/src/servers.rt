@@ -1,4 +1,5 @@
-//! Servers whose output fails. The port differs between runs, so its digits in the first line are ignored.
+//! Tests of servers whose output fails. The first line contains the port, which differs between runs, so its digits are
+//! ignored.
 use crate::failing_devices::{CANNOT_WRITE, Failure, Plan, Way, Writer, planned};
 use crate::prelude::*;
 use lset_dispatch::run_words;
@@ -7,20 +8,21 @@ use std::net::Shutdown;
 
 const LISTENING: &str = "listening 127.0.0.1:";
 
-/// The text after the first line if a client was served.
+/// The text after the first line if one client was served.
 const ONE_SESSION: &str = "sessions 1\ncalls 1\nkey 7\n";
 
-/// The maximum number of calls that a run makes on its output.
+/// The maximum number of calls that a server makes on its output.
 const MOST_CALLS: usize = 100;
 
-/// The failures to try, each with the number of bytes that a call transfers.
+/// The failures to try, each with the number of bytes that one call transfers.
 const WAYS: [Way; 3] = [
     (Failure::Interrupted, 1),
     (Failure::BrokenPipe, 3),
     (Failure::Nothing, 7),
 ];
 
-/// Connects a client and sends a call and `QUIT`. It needs no thread, since it sends both before the server accepts it.
+/// Connects a client and sends a call and `QUIT`. Both are sent before the server accepts the client, so the client
+/// needs no thread.
 fn client<R: Host>(rt: &R, port: u16) -> io::Result<TcpStream> {
     let mut stream = TcpStream::connect(rt, ("127.0.0.1", port))?;
     stream.write_all(b"ADD 7\nQUIT\n")?;
@@ -37,13 +39,13 @@ fn port_in(text: &[u8]) -> Option<u16> {
         .ok()
 }
 
-/// The output of a server. Once the first line is complete, a flush connects a client.
+/// The output of a server. A flush after the first line connects a client.
 #[derive(Drop)]
 struct Door<'r, R> {
     rt: &'r R,
     writer: Writer,
     client: Option<TcpStream>,
-    /// Whether a flush has succeeded.
+    /// Whether a flush has succeeded so far.
     is_open: bool,
 }
 
@@ -62,7 +64,7 @@ impl<R: Host> Write for Door<'_, R> {
     }
 }
 
-/// Returns `true` if the client received its answers and then the end of the connection.
+/// Returns `true` if the client received both answers, and then the end of the connection.
 fn is_answered(client: Option<TcpStream>) -> bool {
     let Some(mut stream) = client else {
         return false;
@@ -73,7 +75,7 @@ fn is_answered(client: Option<TcpStream>) -> bool {
         && matches!(stream.read(&mut [0u8; 1]), Ok(0))
 }
 
-/// Returns `true` if no client connected, or if it received no byte.
+/// Returns `true` if no client connected, or if the client received no byte.
 fn is_turned_away(client: Option<TcpStream>) -> bool {
     let Some(mut stream) = client else {
         return true;
@@ -106,7 +108,8 @@ fn is_whole(bytes: &[u8], after: &str) -> Option<bool> {
     Some(ends && is_front(bytes, after)?)
 }
 
-/// Runs a server with one session, whose output has this plan. Returns `true` if a call on the output failed.
+/// Runs a server for one session. `plan` determines when the output fails. Returns `true` if a call of the output
+/// failed.
 fn output_fails<R: Host>(rt: &R, alloc: Global, plan: Plan) -> Result<bool, Fail> {
     let words = ["serve", "lazy", "1", "4", "0", "1"];
     let mut door = Door {
@@ -147,8 +150,8 @@ fn output_fails<R: Host>(rt: &R, alloc: Global, plan: Plan) -> Result<bool, Fail
     Ok(true)
 }
 
-/// Runs a server repeatedly, making its output fail one call later each time, until a run ends without a failure.
-/// Returns the number of runs that failed.
+/// Runs servers repeatedly. In each run, the next call of the output fails, until a run ends without a failure. Returns
+/// the number of runs with a failure.
 fn each_call_fails<R: Host>(rt: &R, alloc: Global, way: Way) -> Result<usize, Fail> {
     for fails_at in 0..MOST_CALLS {
         if !output_fails(rt, alloc, planned(way, fails_at))? {
@@ -158,7 +161,7 @@ fn each_call_fails<R: Host>(rt: &R, alloc: Global, way: Way) -> Result<usize, Fa
     Err(Fail::new("no run ends without a failure"))
 }
 
-/// If the first line cannot be written and flushed completely, the server accepts no client.
+/// The server must accept no client unless the first line was written and flushed completely.
 #[test]
 fn a_server_accepts_no_client_before_its_first_line_is_written(
     rt: HostRuntime,

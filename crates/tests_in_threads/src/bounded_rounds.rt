@@ -1,29 +1,31 @@
-//! Calls with a bounded number of rounds: each loop makes the expected number, and a call gives up at a lock that stays
-//! held.
+//! Tests of calls whose loops run a bounded number of rounds. Each loop needs the expected number of rounds, and a call
+//! gives up at a lock that is never released.
 
 use crate::opened::two_seats_on;
 use crate::pauses::Count;
 use crate::prelude::*;
 use lset_live::Rounds;
 
-/// A bound of `N` rounds.
+/// A bound of `N` rounds for each loop of a call.
 struct UpTo<const N: u64>;
 
 impl<const N: u64> Rounds for UpTo<N> {
     const MOST: u64 = N;
 }
 
-/// The opening keys. A traversal to a key compares all smaller keys and the first one that is not smaller.
+/// The opening keys. The traversal to a key compares one key per round: all smaller keys and the first that is not
+/// smaller.
 const KEYS: [u32; 5] = [10, 20, 30, 40, 50];
 
-/// Opens a set and makes a call with at most `N` rounds. Returns the reply, or `None` if the rounds did not suffice.
+/// Opens a set and makes a call whose loops run at most `N` rounds. Returns the reply; `None` if more rounds are
+/// needed.
 fn reply_of<M: Bounded, R: Abort, N: Rounds>(rt: &R, alloc: Global, call: Call) -> Option<Reply> {
     let (set, zero, _one) = two_seats_on::<M, R>(rt, alloc, &KEYS);
     let (_zero, reply) = set.call_within::<Spin, N>(zero, call, &Spin::new())?;
     Some(reply)
 }
 
-/// Asserts that traversals to 25 and to 30 need three rounds.
+/// Asserts that the traversals to the keys 25 and 30 need three rounds.
 fn has_rounds<M: Bounded, R: Abort>(rt: &R, alloc: Global) {
     for call in [Call::Add(Key(25)), Call::Remove(Key(30))] {
         assert!(rt; reply_of::<M, R, UpTo<2>>(rt, alloc, call).is_none());
@@ -40,7 +42,7 @@ fn a_call_gives_up_after_its_rounds_and_not_before(rt: HostRuntime) {
     at_each_list!(has_rounds, rt);
 }
 
-/// Asserts that `contains` reaches and passes the last key even with a bound of one round.
+/// Asserts that `contains` traverses the whole list even with a bound of one round.
 fn walks_on<M: Bounded, R: Abort>(rt: &R, alloc: Global) {
     let (last, none) = (Call::Contains(Key(50)), Call::Contains(Key(55)));
     assert!(rt; reply_of::<M, R, UpTo<1>>(rt, alloc, last) == Some(Reply::True));
@@ -53,7 +55,7 @@ fn contains_of_a_marking_list_ignores_the_bound(rt: HostRuntime) {
     walks_on::<LockFreeList, HostRuntime>(&rt, rt.alloc());
 }
 
-/// Returns a set with a seat whose call ran out of rounds and still holds its locks, and the other seat.
+/// Returns a set and a seat. The call of the other seat ran out of rounds and still holds its locks.
 fn stuck<M: Bounded, R: Abort>(rt: &R, alloc: Global) -> (LiveSet<M>, Seat<M>) {
     let (set, zero, one) = two_seats_on::<M, R>(rt, alloc, &KEYS);
     let made = set.call_within::<Spin, UpTo<2>>(one, Call::Add(Key(25)), &Spin::new());
@@ -61,8 +63,7 @@ fn stuck<M: Bounded, R: Abort>(rt: &R, alloc: Global) -> (LiveSet<M>, Seat<M>) {
     (set, zero)
 }
 
-/// Asserts that a call at a lock that a stuck call holds makes 101 failed attempts with a bound of 100 rounds, and then
-/// gives up.
+/// Asserts that a call gives up at a lock that is never released, after 101 failed attempts with a bound of 100 rounds.
 fn gives_up_at_a_lock<M: Bounded, R: Abort>(rt: &R, alloc: Global, call: Call) {
     let (set, zero) = stuck::<M, R>(rt, alloc);
     let count = Count::new(0);

@@ -1,20 +1,19 @@
-//! Sessions with buffered answers: all lines that have been read are answered before the next read.
+//! Tests of sessions whose answers are buffered. All lines that were read must be answered before the next read.
 use crate::prelude::*;
 use crate::session_lines::{end, held, held_buffered, one_seat, was_held};
 use std::cell::Cell;
 
-/// The number of bytes of answers written so far, and whether all earlier lines had been answered at each read.
+/// The number of bytes of answers written so far, and whether all lines had been answered at each read.
 #[derive(Drop)]
 struct Seen {
     written: Cell<u64>,
     in_time: Cell<bool>,
 }
 
-/// A text, and the total length of the answers to the lines that it completes.
+/// A text to be read at once, and the total length of the answers to the lines that end in it.
 type Turn<'a> = (&'a [u8], u64);
 
-/// A source that returns one text per read, and checks each time that all lines of the earlier texts have been
-/// answered.
+/// An input that returns one text per read. Each read checks that all lines of the earlier texts were answered.
 #[derive(Drop)]
 struct Asking<'a> {
     turns: &'a [Turn<'a>],
@@ -42,7 +41,7 @@ impl Source for Asking<'_> {
     }
 }
 
-/// A sink that counts bytes.
+/// An output that counts the bytes it receives.
 #[derive(Drop)]
 struct Counting<'a> {
     seen: &'a Seen,
@@ -60,7 +59,7 @@ impl Sink for Counting<'_> {
     }
 }
 
-/// Asserts that a session answers all lines of a text before it reads the next text, and that it makes this many calls.
+/// Asserts that a session answers all lines of a text before it reads the next one, and that it makes `calls` calls.
 fn are_answered_in_time<R: Host>(
     rt: &R,
     alloc: Global,
@@ -97,7 +96,7 @@ fn are_answered_in_both<R: Host>(rt: &R, alloc: Global, turns: &[Turn<'_>], call
     are_answered_in_time(rt, alloc, turns, calls, false);
 }
 
-/// Reads one line, then a full buffer, then a part of a line.
+/// Reads one line; then as many lines as the buffer has bytes; then a part of a line.
 #[test]
 fn answers_are_written_before_each_read(rt: HostRuntime) {
     let texts: &[Turn<'_>] = &[(b"\n", 4), (&[b'\n'; 4096], 4 * 4096), (b"\nA", 4)];
@@ -106,7 +105,7 @@ fn answers_are_written_before_each_read(rt: HostRuntime) {
     }
 }
 
-/// Lines with every kind of answer, on a set with a quota of 4, and the lengths of these answers.
+/// Lines for which every kind of answer occurs on a set that can add 4 keys, and the lengths of the answers.
 const OF_EACH_ANSWER: [Turn<'static>; 9] = [
     (b"CEILING 0\n", 5),
     (b"ADD 4294967295\n", 5),
@@ -119,13 +118,13 @@ const OF_EACH_ANSWER: [Turn<'static>; 9] = [
     (b"MOVE 7\n", 4),
 ];
 
-/// A client that waits for each answer receives it, whatever kind the answer is.
+/// A client that waits for each answer must receive it, whatever kind of answer it is.
 #[test]
 fn each_kind_of_answer_is_written_before_the_next_read(rt: HostRuntime) {
     are_answered_in_both(&rt, rt.alloc(), &OF_EACH_ANSWER, 10);
 }
 
-/// Asserts that a buffered session writes and returns the same as an unbuffered one.
+/// Asserts that a buffered session writes the same answers and has the same end as an unbuffered session.
 fn is_answered_alike<R: Host>(rt: &R, alloc: Global, text: &[u8]) {
     let (plain, ended) = held(rt, alloc, &mut Device::new(text));
     let session = held_buffered(rt, alloc, Device::new(text));
@@ -139,7 +138,7 @@ fn lines_then<R: Abort>(rt: &R, alloc: Global, empty: usize, last: &[u8]) -> Vec
     text
 }
 
-/// The answers to the lines of one read are four times as long as the buffer.
+/// The answers to the lines of one read are four times as long as the buffer for answers.
 #[test]
 fn answers_longer_than_the_buffer_are_written(rt: HostRuntime) {
     let lasts: &[&[u8]] = &[b"".as_slice(), b"QUIT\n", &[b'A'; 65]];
@@ -149,7 +148,7 @@ fn answers_longer_than_the_buffer_are_written(rt: HostRuntime) {
     }
 }
 
-/// The longest possible answers to the lines of one read. Some of them fit in the buffer only partly.
+/// The lines of one read have the longest possible answers. Some answers fit only partly into the buffer.
 #[test]
 fn answers_that_fit_the_buffer_in_part_are_written_whole(rt: HostRuntime) {
     let mut text = Vec::from_slice(rt.alloc(), b"ADD 4294967295\n").expect(&rt, "room");

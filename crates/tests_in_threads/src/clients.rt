@@ -1,4 +1,4 @@
-//! Clients of a server on the loopback.
+//! Clients for tests of servers. They connect over the loopback interface.
 
 use crate::meeting::reaches;
 use crate::prelude::*;
@@ -25,8 +25,8 @@ pub fn asks<R: Host + Net<Listener = TcpListener, Stream = TcpStream>>(
     is_answered(&mut stream, text, answers) && matches!(stream.read(&mut [0u8; 1]), Ok(0))
 }
 
-/// Connects, sends a line, and waits until the other client has its answer too. Then sends `QUIT`. Returns `true` if
-/// all answers arrived.
+/// Connects, sends a line, and waits until the other client has received its answer too. Then sends `QUIT`. Returns
+/// `true` if all answers arrived.
 pub fn meets<R: Host + Net<Listener = TcpListener, Stream = TcpStream>>(
     rt: &R,
     port: u16,
@@ -41,8 +41,8 @@ pub fn meets<R: Host + Net<Listener = TcpListener, Stream = TcpStream>>(
     has_asked && reaches(rt, met, 2) && is_answered(&mut stream, b"QUIT\n", b"BYE\n")
 }
 
-/// Connects several clients, none of which disconnects before all have their answers. Returns `true` if all answers
-/// arrived.
+/// Connects several clients. No client disconnects before all of them have received their answers. Returns `true` if
+/// all answers arrived.
 pub fn all_meet<R: Host + Net<Listener = TcpListener, Stream = TcpStream>>(
     rt: &R,
     alloc: Global,

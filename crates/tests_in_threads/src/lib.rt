@@ -1,5 +1,5 @@
-//! The tests that use threads or sessions: running sets, programs in threads, sessions over devices, and servers on the
-//! loopback.
+//! The tests that use threads or sessions: sets in threads, programs in threads, sessions over readers and writers, and
+//! servers on the loopback interface.
 #![tactic(auto)]
 
 /// Runs a check on each of the five lists.

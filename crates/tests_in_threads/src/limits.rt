@@ -1,8 +1,8 @@
-//! The limit on the number of lines in a session.
+//! Tests of the limit on the number of lines in a session.
 use crate::prelude::*;
 use crate::session_lines::{end, held, held_buffered, was_held};
 
-/// A source that returns empty lines and then the bytes `last`.
+/// An input that returns empty lines, and then the bytes `last`.
 #[derive(Drop)]
 struct Lines {
     empty: u32,
@@ -37,7 +37,7 @@ impl Source for Lines {
     }
 }
 
-/// Asserts that a session answers `empty` empty lines with `BAD` each, and the bytes `last` with `answers`. A buffered
+/// Asserts that a session answers `BAD` to each of `empty` empty lines, and `answers` to the bytes `last`. A buffered
 /// session must do the same.
 fn is_answered_after<R: Host>(
     rt: &R,

@@ -1,4 +1,4 @@
-//! Threads that wait for each other, up to a time limit.
+//! Lets the threads of a test wait for each other, up to a time limit.
 
 use crate::prelude::*;
 
@@ -40,8 +40,8 @@ pub fn calls<M: Running, R: Clock + Wait, P: Pause>(
     reply
 }
 
-/// A meeting of up to 64 threads. When a thread arrives for the first time, it waits for all others. `took` tells
-/// whether any thread took a lock for which it had to wait.
+/// A meeting of up to 64 threads. When a thread arrives for the first time, it waits for all others. `took` is true if
+/// a thread had to wait for a lock and then took it.
 #[derive(Drop)]
 pub struct Meeting<'a, R> {
     rt: &'a R,
@@ -53,7 +53,7 @@ pub struct Meeting<'a, R> {
 }
 
 impl<'a, R: Clock> Meeting<'a, R> {
-    /// Creates a meeting of `threads` threads, none of which has arrived.
+    /// Creates a meeting of `threads` threads. No thread has arrived yet.
     pub fn new(rt: &'a R, threads: u64) -> Meeting<'a, R> {
         Meeting {
             rt,
@@ -65,7 +65,7 @@ impl<'a, R: Clock> Meeting<'a, R> {
         }
     }
 
-    /// Arrives and waits for all others. Returns `true` if they arrive, or if this thread has arrived before.
+    /// Lets a thread arrive and wait for all others. Returns `true` if they arrive, or if this thread arrived before.
     pub fn come(&self, thread: u32) -> bool {
         if self.came[(thread % 64) as usize].swap(true, Ordering::SeqCst) {
             return true;
@@ -83,7 +83,7 @@ impl<'a, R: Clock> Meeting<'a, R> {
         self.count.load(Ordering::SeqCst) == self.threads && !self.missed.load(Ordering::SeqCst)
     }
 
-    /// Returns `true` if a thread took a lock for which it had to wait.
+    /// Returns `true` if a thread had to wait for a lock and then took it.
     pub fn has_waited(&self) -> bool {
         self.took.load(Ordering::SeqCst)
     }

@@ -1,4 +1,4 @@
-//! Operations on a running set for the tests. Each of them fails the test if the set does not behave as expected.
+//! Operations on sets that many tests use. Each operation fails the test if the set does not behave as expected.
 
 use crate::prelude::*;
 
@@ -10,7 +10,8 @@ pub fn last_of<M: Machine, R: Abort>(
     seats.pop().expect(rt, "no seat is left")
 }
 
-/// Opens a set with these keys and two seats, each with a quota of 4. Returns the set, seat 0 and seat 1.
+/// Opens a set that contains `keys` for two threads. Returns the set and the threads' seats 0 and 1, which can add 4
+/// keys each.
 pub fn two_seats_on<M: Machine, R: Abort>(
     rt: &R,
     alloc: Global,
@@ -22,12 +23,12 @@ pub fn two_seats_on<M: Machine, R: Abort>(
     (set, zero, one)
 }
 
-/// Opens an empty set with two seats, each with a quota of 4. Returns the set, seat 0 and seat 1.
+/// Opens an empty set for two threads. Returns the set and the threads' seats 0 and 1, which can add 4 keys each.
 pub fn two_seats<M: Machine, R: Abort>(rt: &R, alloc: Global) -> (LiveSet<M>, Seat<M>, Seat<M>) {
     two_seats_on::<M, R>(rt, alloc, &[])
 }
 
-/// Makes a call by calling the method of the same name.
+/// Makes a call by the method for its operation.
 fn reply<M: Running, R: Wait>(rt: &R, set: &LiveSet<M>, seat: &mut Seat<M>, call: Call) -> Reply {
     match call {
         Call::Add(key) => set.add(rt, seat, key),
@@ -49,7 +50,7 @@ pub fn make_calls<M: Running, R: Host>(
     }
 }
 
-/// Gathers all seats into one; returns `None` if there are none.
+/// Gathers all seats into one seat. Returns `None` if `seats` is empty.
 pub fn gathered<M: Machine>(set: &LiveSet<M>, mut seats: Vec<Seat<M>>) -> Option<Seat<M>> {
     let mut all = None;
     while let Some(seat) = seats.pop() {

@@ -1,10 +1,12 @@
-//! How many steps each call makes. A call reports every step to its `Pause`, except the step that yields the reply.
+//! Tests of the number of steps that each call makes. A call reports every step to its `Pause`, except the step that
+//! determines the reply.
 
 use crate::opened::two_seats;
 use crate::prelude::*;
 use std::cell::Cell;
 
-/// Counts reported steps, and those that are wrong: made by another thread, failed, or ended a wait.
+/// Counts the reported steps, and the wrong ones among them: steps of another thread, failed steps, and locks taken
+/// after a wait.
 #[derive(Drop)]
 pub struct Count {
     thread: u32,
@@ -13,7 +15,7 @@ pub struct Count {
 }
 
 impl Count {
-    /// Creates a pause for a thread that should not fail an exchange or wait for a lock.
+    /// Creates a counter for a thread that should neither fail a compare-and-exchange nor wait for a lock.
     pub fn new(thread: u32) -> Count {
         Count {
             thread,
@@ -49,7 +51,8 @@ impl Pause for Count {
     }
 }
 
-/// Makes calls one after another from seat 1 of an empty set, and asserts each call's reply and number of steps.
+/// Makes calls one after another from seat 1 of an empty set, and asserts the reply and the number of steps of each
+/// call.
 fn makes_steps<M: Running, R: Host>(rt: &R, alloc: Global, rows: &[(Call, Reply)], steps: &[u64]) {
     let (set, _zero, mut one) = two_seats::<M, R>(rt, alloc);
     assert!(rt; rows.len() == steps.len());
@@ -63,7 +66,8 @@ fn makes_steps<M: Running, R: Host>(rt: &R, alloc: Global, rows: &[(Call, Reply)
     }
 }
 
-/// Asserts replies and steps both for the list's loops and for the interpreter of its step table.
+/// Asserts replies and numbers of steps twice: for the loops of the list, and for its step table, run by the
+/// interpreter.
 fn both_make_steps<M: Running, R: Host>(
     rt: &R,
     alloc: Global,

@@ -1,4 +1,4 @@
-//! The imports of most tests, and what they require of the runtime.
+//! The imports that most tests need, and the runtime that they require.
 pub use crate::stepped::Stepped;
 pub use lset_coarse::CoarseList;
 pub use lset_fine::FineList;

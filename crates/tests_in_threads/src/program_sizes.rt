@@ -1,15 +1,16 @@
-//! Programs in threads, compared with a model. Their sizes are log-uniform up to each limit.
+//! Runs programs of many sizes in threads and compares their replies with a model. The sizes are random up to each
+//! limit, and each order of magnitude is equally likely.
 //!
-//! Thread `t` of `n` uses only keys that are `t` modulo `n`, and has a sequential set for these keys. Therefore its
-//! replies do not depend on the other threads.
+//! Thread `t` of `n` uses only keys that are `t` modulo `n`. A sequential set of these keys is its model. Therefore the
+//! thread's replies do not depend on the other threads.
 
 use crate::opened::{increasing_keys, keys_left, last_of, make_calls};
 use crate::prelude::*;
 use crate::programs::worked;
 use std::collections::BTreeSet;
 
-/// The sizes of a set and of its programs. `last` is the largest key, and `calls` is the number of calls of all threads
-/// together.
+/// The sizes of a set and of the programs on it. `last` is the largest key, and `calls` is the number of calls of all
+/// threads together.
 #[derive(Clone, Copy, Debug)]
 pub struct Sizes {
     threads: u32,
@@ -39,8 +40,8 @@ impl Draws {
         u32::try_from(drawn).unwrap_or(most)
     }
 
-    /// Returns a number up to `most`. Each order of magnitude is equally likely, and one number in eight is `most`
-    /// itself.
+    /// Returns a random number from 0 to `most`. Each order of magnitude is equally likely, and one number in eight is
+    /// `most` itself.
     fn log_uniform(&mut self, most: u32) -> u32 {
         if self.up_to(7) == 0 {
             return most;
@@ -70,7 +71,7 @@ impl Draws {
     }
 }
 
-/// A rough limit on the number of nodes that all traversals of a run visit. It keeps runs short.
+/// A rough limit on the number of nodes that all traversals of a run visit. The limit keeps runs short.
 const MOST_PASSED: u64 = 5_000_000;
 
 impl Sizes {
@@ -84,7 +85,7 @@ impl Sizes {
         }
     }
 
-    /// Returns the number of calls of a thread. This is less than its share if calls can have to traverse many nodes.
+    /// Returns the number of calls of a thread. Threads make fewer calls if traversals can be long.
     fn calls_of(&self, thread: u32) -> u32 {
         let slots = u64::from(self.threads) * u64::from(self.quota);
         let added = slots.min(u64::from(self.last)).min(u64::from(self.calls));
@@ -94,7 +95,7 @@ impl Sizes {
         (calls / threads).saturating_add(u32::from(thread < calls % threads))
     }
 
-    /// Returns the thread's own key that is nearest to a random key.
+    /// Returns a key near `drawn` that belongs to the thread.
     fn own_key(&self, drawn: u32, thread: u32) -> Key {
         let others = drawn.checked_rem(self.threads).unwrap_or(0);
         let first = drawn.wrapping_sub(others);
@@ -105,11 +106,11 @@ impl Sizes {
         key.checked_rem(self.threads) == Some(thread)
     }
 
-    /// Returns the programs of the threads.
+    /// Returns one program for each thread.
     ///
-    /// With several threads on a LockFreeList, the programs do not call `ceiling`. A `remove` can leave a marked node
-    /// in the chain, and a `ceiling` restarts at this node until an `add` or `remove` traverses it. If only such
-    /// ceilings were left, none of them would end.
+    /// If several threads use a LockFreeList, the programs do not call `ceiling`. A `remove` can leave a marked node in
+    /// the chain, and a `ceiling` restarts at this node until an `add` or `remove` traverses it. If only such ceilings
+    /// were left, none of them would end.
     fn programs<M: Machine, R: Abort>(
         &self,
         rt: &R,
@@ -137,7 +138,7 @@ fn truth(is_true: bool) -> Reply {
     if is_true { Reply::True } else { Reply::False }
 }
 
-/// The keys of one thread, and how many slots it has left.
+/// The sequential set with the keys of one thread, and the number of keys that the thread can still add.
 #[derive(Drop)]
 struct Model {
     sizes: Sizes,
@@ -162,7 +163,7 @@ impl Model {
         }
     }
 
-    /// Makes the call on the model. Returns `true` if the reply is right.
+    /// Makes a call on the model. Returns `true` if the reply is correct.
     fn makes<R: Abort>(&mut self, rt: &R, call: Call, reply: Reply) -> bool {
         match call {
             Call::Add(key) => reply == self.add(rt, key.0),
@@ -184,8 +185,8 @@ impl Model {
         Reply::True
     }
 
-    /// Returns `true` if a `ceiling` can return `reply`, which can be another thread's key if no own key comes before
-    /// it.
+    /// Returns `true` if a `ceiling` can have this reply. The reply can be a key of another thread that is below the
+    /// next key of this thread.
     fn may_find(&self, key: u32, reply: Reply) -> bool {
         let own = self.keys.range(key..).next();
         match (reply, own) {
@@ -198,8 +199,8 @@ impl Model {
         }
     }
 
-    /// Returns `true` if all replies to a program are right, and the thread's keys in `left` are exactly the model's
-    /// keys.
+    /// Returns `true` if all replies to a program are correct, and the thread's keys in `left` are exactly the keys of
+    /// the model.
     fn is_as_wanted<R: Abort>(
         &mut self,
         rt: &R,
@@ -222,8 +223,8 @@ impl Model {
     }
 }
 
-/// Runs programs in threads on a set that opens with these keys, and asserts that the replies and the final keys agree
-/// with the models. Returns the final keys.
+/// Runs programs in threads on a set that opens with these keys. Asserts that the replies and the final keys are those
+/// of the models. Returns the final keys.
 pub fn runs_beside_models<M: Running + Send + Sync, R: Host>(
     rt: &R,
     alloc: Global,
@@ -246,7 +247,7 @@ pub fn runs_beside_models<M: Running + Send + Sync, R: Host>(
     outcome.keys
 }
 
-/// Sizes at each limit, and more than 65,536 calls by one thread and by three.
+/// Sizes at each limit. In two of them, one thread and three threads make more than 65,536 calls.
 fn at_the_limits() -> [Sizes; 4] {
     [
         Sizes::new(MOST_THREADS, MOST_QUOTA, MOST_OPENING, 64, u32::MAX),
@@ -267,7 +268,7 @@ fn runs<M: Running + Send + Sync, R: Host>(rt: &R, alloc: Global, sizes: Sizes, 
     let _left = runs_beside_models::<M, R>(rt, alloc, sizes, &opening, draws);
 }
 
-/// The number of runs with random sizes for each list.
+/// The number of runs with random sizes on each list.
 const RUNS: u32 = 8;
 
 fn calls_succeed<M: Running + Send + Sync, R: Host>(rt: &R, alloc: Global, seed: u64) {
@@ -306,15 +307,14 @@ fn lock_free_calls_succeed_at_all_sizes(rt: HostRuntime) {
     calls_succeed::<LockFreeList, HostRuntime>(&rt, rt.alloc(), 5);
 }
 
-/// Adds a key for each of the seat's slots, from `first` up, in decreasing order. Each new node comes directly after
-/// the head.
+/// Adds `count` keys from `first` on, in decreasing order. Each new node then comes directly after the head.
 fn fill<M: Running, R: Wait>(rt: &R, set: &LiveSet<M>, seat: &mut Seat<M>, first: u32, count: u32) {
     for number in (0..count).rev() {
         let _reply = set.add(rt, seat, Key(first.saturating_add(number)));
     }
 }
 
-/// Opens a set of the maximum size and adds a key for every slot of every seat. These keys are smaller than the opening
+/// Opens a set of the maximum size and uses up the quota of each seat. All added keys are smaller than the opening
 /// keys.
 fn filled<M: Running, R: Host>(rt: &R, alloc: Global, opening: &[u32]) -> (LiveSet<M>, Seat<M>) {
     let opened = open_with::<M>(alloc, MOST_THREADS, MOST_QUOTA, opening);
@@ -346,7 +346,7 @@ const PAST_ALL: [(Call, Reply); 5] = [
     (Call::Ceiling(LAST), Reply::Nothing),
 ];
 
-/// Asserts that calls traverse the whole set of maximum size, in which every node has a key.
+/// Asserts that calls can traverse a set of the maximum size in which every node has a key.
 fn is_filled<M: Running, R: Host>(rt: &R, alloc: Global) {
     let mut opening = Vec::new(alloc);
     for number in 0..MOST_OPENING {

@@ -1,4 +1,4 @@
-//! Programs in threads, and the gates that they pass.
+//! Tests of programs in threads, and of the gates that can stop a program before a call.
 
 use crate::meeting::Meeting;
 use crate::opened::{last_of, make_calls, two_seats};
@@ -8,7 +8,7 @@ use lset_schedule::programs;
 use lset_work::{Outcome, WorkCause, WorkFault, work};
 use std::sync::atomic::AtomicU32;
 
-/// Runs the programs and returns their outcome. Fails the test if `work` returns an error.
+/// Runs programs in threads and returns their replies and the final keys. Fails the test if `work` returns an error.
 pub fn worked<M: Running + Send + Sync, R: Host, G: Gate + Sync>(
     rt: &R,
     alloc: Global,
@@ -23,12 +23,12 @@ pub fn worked<M: Running + Send + Sync, R: Host, G: Gate + Sync>(
     }
 }
 
-/// Opens an empty set with `seats` seats, each with a quota of 4.
+/// Opens an empty set for `seats` threads. Returns the set and the threads' seats, which can add 4 keys each.
 fn in_a_row<M: Running, R: Abort>(rt: &R, alloc: Global, seats: u32) -> (LiveSet<M>, Vec<Seat<M>>) {
     open::<M>(alloc, seats, 4).expect(rt, "not opened")
 }
 
-/// Returns the error that `work` returns for these programs on a set with two seats.
+/// Runs these programs on a set with two seats and returns the error of `work`.
 fn fault_of<R: Host, G: Gate + Sync>(
     rt: &R,
     alloc: Global,
@@ -80,8 +80,8 @@ fn two_programs_return_their_replies_and_the_final_key(rt: HostRuntime) {
     at_each_list!(answers, rt);
 }
 
-/// Asserts that the programs did not match the seats, and that the error returns the set, which has two seats, and
-/// `seats` seats.
+/// Asserts that the number of programs did not match the number of seats. The error must return the set, which has two
+/// seats, and `seats` seats.
 fn gave_all_back<R: Abort>(rt: &R, fault: WorkFault<LazyList>, seats: usize) {
     assert!(rt; fault.cause == WorkCause::Programs);
     let (set, back) = fault.back.expect(rt, "nothing came back");
@@ -142,8 +142,8 @@ fn a_program_can_be_empty(rt: HostRuntime) {
     assert!(rt; are_as_wanted(&outcome, &[&[Reply::True], &[]], &[5]));
 }
 
-/// A gate that refuses one call. It counts how often the gate is asked for each of the first three calls of three
-/// seats. The last count is for all other calls.
+/// A gate that refuses one call of one seat. It counts how often it was asked for each of the first three calls of
+/// three seats, and for all other calls.
 #[derive(Drop)]
 struct Shut {
     seat: u32,
@@ -160,7 +160,7 @@ impl Shut {
         }
     }
 
-    /// Returns `true` if each count is as expected.
+    /// Returns `true` if the gate was asked as often as expected.
     fn was_asked(&self, wanted: &[u32]) -> bool {
         self.counts
             .iter()
@@ -181,8 +181,8 @@ impl Gate for Shut {
     }
 }
 
-/// Rows of a test: the seat and the number of the call that a gate refuses, and how often the gate is asked for each
-/// call. The refused program asks for no later call. The other programs ask for all their calls.
+/// Cases: the seat and the number of the call that the gate refuses, and how often the gate must be asked for each
+/// call. A program ends at its refused call. All other programs run to their end.
 const SHUT: [(u32, u32, [u32; 10]); 5] = [
     (0, 1, [1, 1, 0, 1, 1, 0, 0, 0, 0, 0]),
     (0, 0, [1, 0, 0, 1, 1, 0, 0, 0, 0, 0]),
@@ -213,7 +213,7 @@ fn two_before_zero<M: Running, R: Abort>(rt: &R, alloc: Global) -> (LiveSet<M>, 
     (set, seats)
 }
 
-/// A gate receives the seat's thread number. Replies are in the order of the seats.
+/// The gate is asked with the seat's thread number. The replies are returned in the order of the seats.
 #[test]
 fn seats_work_in_any_order(rt: HostRuntime) {
     let (set, seats) = two_before_zero::<LazyList, HostRuntime>(&rt, rt.alloc());
@@ -229,7 +229,7 @@ fn seats_work_in_any_order(rt: HostRuntime) {
     assert!(rt; are_as_wanted(&outcome, &[&[Reply::True], &[Reply::False]], &[2]));
 }
 
-/// Returns a program of two adds for each seat. No key occurs in two programs.
+/// Returns a program of two adds for each seat. Different programs add different keys.
 fn two_adds_each<R: Abort>(rt: &R, alloc: Global, seats: u32) -> Vec<Vec<Call>> {
     let mut programs = Vec::new(alloc);
     for seat in 0..seats {
@@ -243,7 +243,7 @@ fn two_adds_each<R: Abort>(rt: &R, alloc: Global, seats: u32) -> Vec<Vec<Call>> 
     programs
 }
 
-/// Asserts that no program waits for another one to end: all of them meet at their second calls.
+/// Asserts that all programs run at the same time: each waits before its second call until all have arrived there.
 fn meet<M: Running + Send + Sync, R: Host>(rt: &R, alloc: Global, seats: u32) {
     let (set, row) = in_a_row::<M, R>(rt, alloc, seats);
     let meeting = Meeting::new(rt, u64::from(seats));
@@ -275,7 +275,7 @@ fn programs_of_all_seats_run_at_once(rt: HostRuntime) {
     meet::<LazyList, HostRuntime>(&rt, rt.alloc(), MOST_THREADS);
 }
 
-/// Returns how often each of 50 keys was added, minus how often it was removed.
+/// Returns, for each of 50 keys, how often it was added minus how often it was removed.
 fn balance_of(programs: &[Vec<Call>], replies: &[Vec<Reply>]) -> [u64; 50] {
     let mut balance = [0u64; 50];
     for (program, replies) in programs.iter().zip(replies) {
@@ -291,8 +291,8 @@ fn balance_of(programs: &[Vec<Call>], replies: &[Vec<Reply>]) -> [u64; 50] {
     balance
 }
 
-/// Makes four threads call with the same 50 keys. Asserts that each key is present if it was added once more than
-/// removed, and absent if it was added and removed equally often.
+/// Lets four threads call with the same 50 keys. Asserts that a key is present if it was added once more than removed,
+/// and absent if it was added and removed equally often.
 fn add_up<M: Running + Send + Sync, R: Host>(rt: &R, alloc: Global) {
     let (set, seats) = open::<M>(alloc, 4, 2_000).expect(rt, "not opened");
     let drawn = programs(alloc, 4, 2_000, 50, 7).expect(rt, "not drawn");

@@ -1,17 +1,18 @@
-//! Sets that open with the final keys of a closed set, with different seats and slots, and as a different list.
+//! Tests of sets that open with the final keys of a closed set, with other numbers of seats and of keys to add, and on
+//! another list.
 
 use crate::opened::{close_with, gathered, increasing_keys, keys_left, last_of, make_calls};
 use crate::prelude::*;
 use crate::program_sizes::{Draws, Sizes, runs_beside_models};
 
-/// Calls on a set that opens with the key 9 and has no slots.
+/// Calls on a set that opens with the key 9 and cannot add keys.
 const CALLS_ON_A_KEY: [(Call, Reply); 3] = [
     (Call::Contains(Key(9)), Reply::True),
     (Call::Add(Key(4)), Reply::Full),
     (Call::Remove(Key(9)), Reply::True),
 ];
 
-/// Opens a set with three seats, no slots and the key 9. The key uses no slot, and is removed like any other key.
+/// Opens a set with three seats and the key 9 that cannot add keys. The opening key is removed like any other key.
 fn opens_with_a_key<M: Running, R: Host>(rt: &R, alloc: Global) {
     let (set, mut seats) = open_with::<M>(alloc, 3, 0, &[9]).expect(rt, "not opened");
     let mut last = last_of(rt, &set, &mut seats);
@@ -26,7 +27,7 @@ fn a_set_opens_with_a_key_and_no_slot(rt: HostRuntime) {
     at_each_list!(opens_with_a_key, rt);
 }
 
-/// Calls on a set that has two slots and opens with the keys 0, 7 and the largest key.
+/// Calls on a set that can add two keys and opens with the keys 0, 7 and the largest key.
 const CALLS_ON_KEYS: [(Call, Reply); 7] = [
     (Call::Add(Key(7)), Reply::False),
     (Call::Remove(Key(0)), Reply::True),
@@ -50,7 +51,7 @@ fn the_smallest_and_the_largest_key_can_be_opening_keys(rt: HostRuntime) {
     at_each_list!(keeps_its_keys, rt);
 }
 
-/// A number of seats, a quota, opening keys, and the error that `open_with` returns for them.
+/// A number of seats, a quota and opening keys, and the error that `open_with` returns for them.
 const REFUSED: [(u32, u32, [u32; 2], OpenFault); 4] = [
     (0, 16_385, [5, 5], OpenFault::Seats),
     (1, 16_385, [5, 5], OpenFault::Quota),
@@ -66,7 +67,7 @@ fn open_with_refuses_seats_then_quota_then_keys_that_do_not_increase(rt: HostRun
     }
 }
 
-/// Opens a set with these keys, runs programs in threads, closes the set, and returns its final keys.
+/// Opens a set with these keys, runs programs on it in threads, closes it, and returns its final keys.
 fn life<R: Host>(
     rt: &R,
     alloc: Global,
@@ -84,7 +85,7 @@ fn life<R: Host>(
     }
 }
 
-/// Each list with a different number of seats and a different quota.
+/// For each list, a number of seats and a quota.
 const LIVES: [(Kind, u32, u32); 5] = [
     (Kind::Coarse, 6, 40),
     (Kind::Fine, 4, 30),
@@ -110,7 +111,7 @@ fn each_list_opens_with_the_final_keys_of_each_list(rt: HostRuntime) {
     assert!(rt; left > 0);
 }
 
-/// Calls on a set with one slot and the maximum number of opening keys, all of which are even.
+/// Calls on a set that can add one key and opens with the maximum number of keys, which are all even.
 const CALLS_ON_A_MILLION: [(Call, Reply); 3] = [
     (Call::Contains(Key(2_097_150)), Reply::True),
     (Call::Add(Key(1)), Reply::True),

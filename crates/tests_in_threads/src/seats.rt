@@ -1,4 +1,5 @@
-//! Seats that call one after another or at the same time, are gathered and closed, and pass receipts.
+//! Tests of seats (a seat is the right to call a set as one thread): seats call one after another or at the same time,
+//! are gathered, pass receipts, and close the set.
 
 use crate::meeting::{Meeting, calls};
 use crate::opened::{close_with, make_calls, two_seats, two_seats_on};
@@ -7,14 +8,14 @@ use lset_live::Receipt;
 use lset_rule::TableSeat;
 use std::mem::size_of;
 
-/// A seat's calls with the key 9, and their replies.
+/// Calls of one seat with the key 9, and their replies.
 pub const ADDS: [(Call, Reply); 1] = [(Call::Add(Key(9)), Reply::True)];
 
 pub const FINDS: [(Call, Reply); 1] = [(Call::Contains(Key(9)), Reply::True)];
 
 const FINDS_NOTHING: [(Call, Reply); 1] = [(Call::Contains(Key(9)), Reply::False)];
 
-/// A number of seats, a quota, and the error that `open` returns for them.
+/// A number of seats, a quota, and the error that `open` returns for them (`None` if it opens a set).
 const LIMITS: [(u32, u32, Option<OpenFault>); 5] = [
     (0, 4, Some(OpenFault::Seats)),
     (65, 4, Some(OpenFault::Seats)),
@@ -31,7 +32,7 @@ fn open_refuses_seats_and_then_a_quota_outside_their_limits(rt: HostRuntime) {
     }
 }
 
-/// Gathers seat 1 into seat 0, finds 9, and closes the set. Asserts that 9 is the only final key.
+/// Merges seat 1 into seat 0, finds the key 9, and closes the set. Asserts that 9 is the only final key.
 fn gathers_and_closes<M: Running, R: Host>(
     rt: &R,
     set: LiveSet<M>,
@@ -89,8 +90,8 @@ fn close_with_a_missing_seat_returns_set_and_seat(rt: HostRuntime) {
     at_each_list!(comes_back, rt);
 }
 
-/// Copies a receipt three times. Of the four receipts, one is dropped, one is accepted by the other seat, one by the
-/// seat that issued it, and one still exists when the set is closed.
+/// Copies a receipt three times. Of the four receipts, one is dropped, one is accepted by the other seat, one is
+/// accepted by the seat that issued it, and one still exists when the set is closed.
 fn are_passed_on<M: Running, R: Host>(rt: &R, alloc: Global) {
     let (set, mut zero, mut one) = two_seats::<M, R>(rt, alloc);
     make_calls(rt, &set, &mut one, &ADDS);
@@ -110,8 +111,8 @@ fn receipts_can_be_copied_dropped_and_taken(rt: HostRuntime) {
     at_each_list!(are_passed_on, rt);
 }
 
-/// Asserts that a receipt from a seat that has seen less has no effect. A receipt covers what its seat had seen when
-/// the receipt was made.
+/// Asserts that a receipt of a seat that has seen less has no effect. A receipt records what its seat had seen when the
+/// receipt was made.
 fn may_be_old<M: Running, R: Host>(rt: &R, alloc: Global) {
     let (set, mut zero, mut one) = two_seats::<M, R>(rt, alloc);
     let early = set.receipt(&mut zero);
@@ -135,7 +136,7 @@ fn a_receipt_has_no_bytes(rt: HostRuntime) {
     assert!(rt; size_of::<TableSeat>() == 0);
 }
 
-/// Two calls at the same time, by seat 0 and seat 1, for each operation. The set has the keys 3 and 4.
+/// Two calls at the same time, from seat 0 and from seat 1, for each operation. The set contains the keys 3 and 4.
 const OF_EACH_KIND: [(Call, Call); 4] = [
     (Call::Add(Key(1)), Call::Add(Key(2))),
     (Call::Remove(Key(3)), Call::Remove(Key(4))),
@@ -143,7 +144,7 @@ const OF_EACH_KIND: [(Call, Call); 4] = [
     (Call::Ceiling(Key(3)), Call::Ceiling(Key(4))),
 ];
 
-/// Makes a call from each of two seats, in two threads that share a pause.
+/// Makes a call from each of two seats, in two threads. Both calls report their steps to `pause`.
 fn at_once<M: Running + Send + Sync, R: Host, P: Pause + Sync>(
     rt: &R,
     set: &LiveSet<M>,
@@ -161,7 +162,8 @@ fn at_once<M: Running + Send + Sync, R: Host, P: Pause + Sync>(
     )
 }
 
-/// Makes two calls that meet at their first step. Returns `true` if one of them took a lock for which it had to wait.
+/// Makes two calls, each of which waits after its first step for the other one. Returns `true` if one of them had to
+/// wait for a lock and then took it.
 fn calls_meet<M: Running + Send + Sync, R: Host>(
     rt: &R,
     alloc: Global,
@@ -178,7 +180,7 @@ fn calls_meet<M: Running + Send + Sync, R: Host>(
     meeting.has_waited()
 }
 
-/// If the first step takes a lock, one of the two threads must wait for it.
+/// If the first step takes a lock, one of the two threads must wait for this lock.
 #[test]
 fn one_of_two_calls_waits_if_the_first_step_takes_a_lock(rt: HostRuntime) {
     for both in OF_EACH_KIND {

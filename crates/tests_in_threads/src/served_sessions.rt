@@ -1,4 +1,4 @@
-//! Servers on the loopback, and their clients.
+//! Tests of servers on the loopback interface.
 
 use crate::clients::{all_meet, asks, leaves, meets};
 use crate::opened::last_of;
@@ -6,10 +6,10 @@ use crate::prelude::*;
 use crate::session_lines::{ANSWERS, CEILINGS, FOUND, LINES};
 use lset_server::{ServeCause, Served, serve};
 
-/// The type of set that the servers serve.
+/// The kind of set that the servers in these tests serve.
 type Set = LiveSet<LazyList>;
 
-/// Opens an empty set with `seats` seats, each with a quota of 4.
+/// Opens an empty set for `seats` threads. Returns the set and the threads' seats, which can add 4 keys each.
 fn opened<R: Abort>(rt: &R, alloc: Global, seats: u32) -> (Set, Vec<Seat<LazyList>>) {
     open::<LazyList>(alloc, seats, 4).expect(rt, "not opened")
 }
@@ -18,7 +18,8 @@ fn listening<R: Host + Net<Listener = TcpListener, Stream = TcpStream>>(rt: &R) 
     TcpListener::bind(rt, "127.0.0.1:0").expect(rt, "no port")
 }
 
-/// Serves several sessions on these seats while `ask` uses the server's port. Fails the test if `ask` returns `false`.
+/// Serves `sessions` sessions on these seats while `ask` uses the server's port. Fails the test if `ask` returns
+/// `false`.
 fn served_on<
     R: Host + Net<Listener = TcpListener, Stream = TcpStream>,
     F: FnOnce(u16) -> bool + Send,
@@ -37,7 +38,7 @@ fn served_on<
     }
 }
 
-/// Serves several sessions on a new set with `seats` seats while `ask` uses the server's port.
+/// Serves `sessions` sessions on a new set with `seats` seats while `ask` uses the server's port.
 fn served_while<
     R: Host + Net<Listener = TcpListener, Stream = TcpStream>,
     F: FnOnce(u16) -> bool + Send,
@@ -74,7 +75,7 @@ fn serve_with_a_missing_seat_returns_set_and_seats(rt: HostRuntime) {
     assert!(rt; fault.cause == ServeCause::Seats && fault.back.is_some());
 }
 
-/// Runs two clients, neither of which disconnects before both have their answers.
+/// Runs two clients. Neither of them disconnects before both have received their answers.
 fn both_meet<R: Host + Net<Listener = TcpListener, Stream = TcpStream>>(rt: &R, port: u16) -> bool {
     let met = AtomicU64::new(0);
     let both = join(
@@ -91,7 +92,7 @@ fn two_sessions_are_served_at_once(rt: HostRuntime) {
     made(&rt, &served, 2, 2, &[1, 2]);
 }
 
-/// Asserts that as many sessions as there are seats are served at the same time, and then the remaining ones.
+/// Asserts that a server serves one session per seat at the same time, and the remaining sessions after them.
 fn meets_on_each_seat<R: Host + Net<Listener = TcpListener, Stream = TcpStream>>(
     rt: &R,
     alloc: Global,
@@ -106,7 +107,7 @@ fn meets_on_each_seat<R: Host + Net<Listener = TcpListener, Stream = TcpStream>>
     made(rt, &served, u64::from(sessions), u64::from(sessions), &[]);
 }
 
-/// Serves fewer sessions than seats, as many, and more.
+/// Serves fewer sessions than seats, equally many, and more.
 #[test]
 fn as_many_sessions_as_seats_are_served_at_once(rt: HostRuntime) {
     for (seats, sessions) in [(2, 1), (3, 3), (5, 7), (64, 65)] {
@@ -114,7 +115,7 @@ fn as_many_sessions_as_seats_are_served_at_once(rt: HostRuntime) {
     }
 }
 
-/// Opens a set with four seats that are gathered into two pairs.
+/// Opens a set with four seats and gathers them into two pairs.
 fn two_pairs<R: Abort>(rt: &R, alloc: Global) -> (Set, Vec<Seat<LazyList>>) {
     let (set, mut seats) = opened(rt, alloc, 4);
     let three = last_of(rt, &set, &mut seats);
@@ -127,7 +128,7 @@ fn two_pairs<R: Abort>(rt: &R, alloc: Global) -> (Set, Vec<Seat<LazyList>>) {
     (set, pairs)
 }
 
-/// The server starts one worker per gathered seat, not one per seat of the set.
+/// The server must start one worker for each gathered seat, not one for each seat of the set.
 #[test]
 fn each_gathered_seat_serves_a_session(rt: HostRuntime) {
     let (set, pairs) = two_pairs(&rt, rt.alloc());

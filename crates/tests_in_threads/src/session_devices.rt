@@ -1,14 +1,13 @@
-//! Readers and writers of the standard library. Some fail at one call, others transfer as many bytes as they can.
+//! Readers and writers for tests of sessions. Some fail at one call; others transfer as many bytes as they can.
 
 use crate::prelude::*;
 use std::io::ErrorKind;
 
-/// A reader that returns one byte at a time. Read number `fails_at`, counted from 1, fails, and all later reads
-/// succeed.
+/// A reader that returns one byte at a time. Read number `fails_at`, counted from 1, fails. All later reads succeed.
 #[derive(Drop)]
 pub struct FailingReader<'a> {
     text: &'a [u8],
-    /// The number of reads, including the failed one.
+    /// The number of reads so far, including the failed one.
     pub reads: u64,
     fails_at: u64,
 }
@@ -39,13 +38,12 @@ impl Read for FailingReader<'_> {
     }
 }
 
-/// A writer that accepts one byte at a time. Write number `fails_at`, counted from 1, fails, and all later writes
-/// succeed.
+/// A writer that accepts one byte at a time. Write number `fails_at`, counted from 1, fails. All later writes succeed.
 #[derive(Drop)]
 pub struct FailingWriter {
     /// The bytes written so far.
     pub text: Vec<u8>,
-    /// The number of writes, including the failed one.
+    /// The number of writes so far, including the failed one.
     pub writes: u64,
     fails_at: u64,
 }
@@ -87,7 +85,7 @@ impl Write for FailingWriter {
     }
 }
 
-/// A reader that fills the buffer if it can, and counts reads.
+/// A reader that fills the whole buffer if it can, and counts the reads.
 #[derive(Drop)]
 pub struct GenerousReader<'a> {
     pub text: &'a [u8],
@@ -104,7 +102,7 @@ impl Read for GenerousReader<'_> {
     }
 }
 
-/// A writer that accepts all bytes, and counts bytes and writes.
+/// A writer that accepts all bytes, and counts the bytes and the writes.
 #[derive(Drop)]
 pub struct GreedyWriter {
     pub bytes: u64,

@@ -1,11 +1,11 @@
-//! Sessions in which one read or write fails, each in turn.
+//! Tests of sessions in which a read or a write fails.
 use crate::prelude::*;
 use crate::session_devices::{FailingReader, FailingWriter};
 use crate::session_lines::{
     ANSWERS, CEILINGS, LINES, end, held, held_buffered, one_seat, was_held,
 };
 
-/// Asserts that a session ends at write number `at`, after `calls` calls.
+/// Asserts that a session ends at write number `at`, which fails, and that the session made `calls` calls before.
 fn write_fails<R: Host>(rt: &R, alloc: Global, lines: &[u8], answers: &[u8], at: u64, calls: u64) {
     let (set, mut seat) = one_seat(rt, alloc);
     let mut writer = FailingWriter::new(alloc, at);
@@ -15,8 +15,8 @@ fn write_fails<R: Host>(rt: &R, alloc: Global, lines: &[u8], answers: &[u8], at:
     writer.has_stopped(rt, answers);
 }
 
-/// Asserts that a session ends when any of its writes fails. A row has the first and the last number of some writes,
-/// and the number of calls made before each of them.
+/// Asserts that a session ends when any of its writes fails. Each entry of `rows` has the first and the last number of
+/// some writes, and the number of calls that precede them.
 fn writes_fail<R: Host>(
     rt: &R,
     alloc: Global,
@@ -41,8 +41,8 @@ fn a_failed_write_ends_the_session(rt: HostRuntime) {
     writes_fail(&rt, rt.alloc(), lines, answers, &rows);
 }
 
-/// Asserts that a session ends when read number `at` fails, and that all earlier lines have been answered, even with
-/// buffered answers.
+/// Asserts that a session ends when read number `at` fails. All earlier lines must have been answered, even if answers
+/// are buffered.
 fn read_fails<R: Host>(rt: &R, alloc: Global, lines: &[u8], at: u64, answers: &[u8], calls: u64) {
     let ended = end(EndReason::ReadFault, calls);
     let mut reader = FailingReader::new(lines, at);
@@ -55,8 +55,8 @@ fn read_fails<R: Host>(rt: &R, alloc: Global, lines: &[u8], at: u64, answers: &[
     assert!(rt; reader.reads == at, "{at}, answers wait");
 }
 
-/// Asserts that a session ends when any of its reads fails. A row has the first and the last number of some reads, the
-/// answers written before each of them, and the number of calls.
+/// Asserts that a session ends when any of its reads fails. Each entry of `rows` has the first and the last number of
+/// some reads, the answers written before them, and the number of calls.
 fn reads_fail<R: Host>(rt: &R, alloc: Global, lines: &[u8], rows: &[(u64, u64, &[u8], u64)]) {
     for &(from, to, answers, calls) in rows {
         for at in from..=to {
@@ -95,8 +95,7 @@ const OF_EACH_END: [Lines; 3] = [
     (b"\nQUIT\n", b"BAD\nBYE\n", 0),
 ];
 
-/// Asserts that a session makes all calls if all lines come in one read and the buffered answers fail at write number
-/// `at`.
+/// Asserts that a buffered session makes all calls if all lines come in one read, even if write number `at` fails.
 fn waiting_write_fails<R: Host>(rt: &R, alloc: Global, lines: Lines, at: u64) {
     let (text, answers, calls) = lines;
     let (set, mut seat) = one_seat(rt, alloc);
@@ -116,8 +115,8 @@ fn a_failed_write_of_buffered_answers_ends_the_session(rt: HostRuntime) {
     }
 }
 
-/// All lines come in one read, and their answers fit in the buffer only partly. Once the first write fails, the session
-/// makes no further call.
+/// All lines come in one read, and their answers do not fit into the buffer at once. The session must make no further
+/// call after the first write has failed.
 #[test]
 fn no_call_is_made_after_a_failed_write(rt: HostRuntime) {
     let mut text = Vec::from_slice(rt.alloc(), b"ADD 4294967295\n").expect(&rt, "room");

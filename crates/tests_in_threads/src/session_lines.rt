@@ -1,27 +1,27 @@
-//! Sessions on new sets: lines and the answers to them.
+//! Tests of sessions: lines, and the answers to them.
 
 use crate::opened::{last_of, two_seats};
 use crate::prelude::*;
 use crate::session_devices::{FailingReader, GenerousReader, GreedyWriter};
 
-/// The six lines of a first session, and the answers to them.
+/// The six lines of a session, and the answers to them.
 pub const LINES: &[u8] = b"ADD 7\nADD 7\nCONTAINS 7\nMOVE 7\nREMOVE 7\nQUIT\n";
 
 pub const ANSWERS: &[u8] = b"TRUE\nFALSE\nTRUE\nBAD\nTRUE\nBYE\n";
 
-/// Lines that ask for the smallest key at or above 7, before and after a key is added, and the answers to them.
+/// Lines that ask for the smallest key at or above 7, before and after the key 9 is added, and the answers to them.
 pub const CEILINGS: &[u8] = b"CEILING 7\nADD 9\nCEILING 7\nQUIT\n";
 
 pub const FOUND: &[u8] = b"NONE\nTRUE\nAT 9\nBYE\n";
 
-/// Opens an empty set with one seat, which has a quota of 4.
+/// Opens an empty set with one seat, which can add 4 keys.
 pub fn one_seat<R: Abort>(rt: &R, alloc: Global) -> (LiveSet<LazyList>, Seat<LazyList>) {
     let (set, mut seats) = open::<LazyList>(alloc, 1, 4).expect(rt, "not opened");
     let seat = last_of(rt, &set, &mut seats);
     (set, seat)
 }
 
-/// Runs a session on a new set. Returns the written answers and the end of the session.
+/// Runs a session on a new set. Returns the answers and how the session ended.
 pub fn held<R: Host, I: Source>(rt: &R, alloc: Global, reader: &mut I) -> (Vec<u8>, Ended) {
     let (set, mut seat) = one_seat(rt, alloc);
     let mut written = Vec::new(alloc);
@@ -29,7 +29,7 @@ pub fn held<R: Host, I: Source>(rt: &R, alloc: Global, reader: &mut I) -> (Vec<u
     (written, ended)
 }
 
-/// Runs a session with buffered answers on a new set. Returns the written answers and the end of the session.
+/// Runs a session with buffered answers on a new set. Returns the answers and how the session ended.
 pub fn held_buffered<R: Host, I: Source + Drop>(
     rt: &R,
     alloc: Global,
@@ -41,22 +41,22 @@ pub fn held_buffered<R: Host, I: Source + Drop>(
     (written, ended)
 }
 
-/// Returns the end of a session for this reason and with this number of calls.
+/// Returns the end of a session that ended for this reason after this number of calls.
 pub fn end(why: EndReason, calls: u64) -> Ended {
     Ended { why, calls }
 }
 
-/// Asserts a session's answers and its end.
+/// Asserts the answers of a session and how it ended.
 pub fn was_held<R: Abort>(rt: &R, session: &(Vec<u8>, Ended), answers: &[u8], ended: Ended) {
     assert!(rt; session.0.as_slice() == answers);
     assert_eq!(rt; session.1, ended);
 }
 
-/// A text, the answers to it, the reason for the end, and the number of calls.
+/// A text with lines, the answers to them, the reason for the session's end, and the number of calls.
 type Row = (&'static [u8], &'static [u8], EndReason, u64);
 
-/// Asserts the answers to each text, each time on a new set. The answers must be the same for a buffered session, and
-/// if the text arrives in pieces of any size.
+/// Asserts the answers to each text, each time on a new set. The answers must not change if they are buffered, or if
+/// the text arrives in pieces of any size.
 fn are_answered<R: Host>(rt: &R, alloc: Global, rows: &[Row]) {
     for &(text, answers, why, calls) in rows {
         let ended = end(why, calls);
@@ -192,7 +192,8 @@ fn a_session_calls_from_a_gathered_seat(rt: HostRuntime) {
 /// The number of lines `CONTAINS 7`, each of which is answered with `FALSE`.
 const MANY: u64 = 6_000;
 
-/// Asserts that a session makes at most one write for each answer, and that a buffered session makes only a few.
+/// Asserts that a session makes at most one write for each answer, and that a session with buffered answers makes only
+/// a few writes.
 fn makes_few<R: Host>(rt: &R, alloc: Global, text: &[u8], waits: bool) {
     let (set, mut seat) = one_seat(rt, alloc);
     let mut reader = GenerousReader { text, reads: 0 };
@@ -223,7 +224,7 @@ fn a_session_makes_few_reads_and_writes(rt: HostRuntime) {
     makes_few(&rt, rt.alloc(), &text, true);
 }
 
-/// Writing an empty text succeeds, and the next write still reaches the writer.
+/// Writing an empty text must succeed, and the next write must still reach the writer.
 #[test]
 fn a_write_of_nothing_succeeds(rt: HostRuntime) {
     let mut device = Device::new(GreedyWriter {

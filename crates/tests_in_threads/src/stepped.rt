@@ -3,8 +3,8 @@ use lset_steps::{Action, Fed, Local, Machine, OpenReads};
 use lset_words::{Call, Key, Kind};
 use std::marker::PhantomData;
 
-/// The list `M`, run by the interpreter of its table. `Bounded`, `Running` and `OpenContains` have their default bodies here. Tests and
-/// `bench/run` compare it with the loops of the list.
+/// The list `M`, run by the interpreter of its step table instead of its own loops. Tests and `bench/run` compare the
+/// two. The traits `Bounded`, `Running` and `OpenContains` have their default bodies here.
 pub struct Stepped<M: Machine> {
     list: PhantomData<M>,
 }

@@ -1,5 +1,5 @@
-//! Two calls on a running set. One stops between two of its steps until the other has ended or waits. Each case runs
-//! both with the list's loops and with the interpreter of its step table.
+//! Tests of two calls at the same time. One call stops between two of its steps until the other one has ended or waits.
+//! Each case runs twice: with the loops of the list, and with the interpreter of its step table.
 
 use crate::meeting::{calls, comes};
 use crate::opened::two_seats_on;
@@ -8,8 +8,8 @@ use crate::prelude::*;
 /// A step number that is never reached.
 const NEVER: u64 = u64::MAX;
 
-/// A test thread: the step (from 0) after which it stops, the calls that its `Pause` has received, and how far its call
-/// has come.
+/// A thread of a test: the step after which it stops (counted from 0), what its call has reported to the `Pause`, and
+/// whether it has stopped and has ended.
 #[derive(Drop)]
 struct Told {
     stops_at: u64,
@@ -30,7 +30,7 @@ impl Told {
         }
     }
 
-    /// Counts a step. Returns `true` if the thread stops after it.
+    /// Counts a step. Returns `true` if the thread must stop after this step.
     fn stops(&self, failed: bool) -> bool {
         if failed {
             self.failed.fetch_add(1, Ordering::SeqCst);
@@ -46,7 +46,7 @@ impl Told {
         self.failed.load(Ordering::SeqCst) >= 3
     }
 
-    /// Returns how many steps were reported, and how many of these failed. The step that yields the reply is not
+    /// Returns the number of reported steps, and how many of them failed. The step that determines the reply is not
     /// reported.
     fn counts(&self) -> (u64, u64) {
         let steps = self.steps.load(Ordering::SeqCst);
@@ -54,8 +54,8 @@ impl Told {
     }
 }
 
-/// A `Pause` for tests that run two threads. Thread 1 stops until thread 0 has ended its call or has failed three
-/// times. Thread 0 stops until thread 1 has stopped.
+/// A `Pause` for tests with two threads. Thread 1 stops until thread 0 has ended its call or has failed three times.
+/// Thread 0 stops until thread 1 has stopped.
 #[derive(Drop)]
 struct Stopping<'a, R> {
     rt: &'a R,
@@ -81,7 +81,7 @@ impl<'a, R: Clock> Stopping<'a, R> {
         }
     }
 
-    /// Waits until the thread can continue. Polls every millisecond, at most 10,000 times.
+    /// Waits until the thread may continue. Polls every millisecond, at most 10,000 times.
     fn wait(&self, thread: u32) {
         for _ in 0..10_000 {
             if self.goes_on(thread) {
@@ -116,8 +116,8 @@ impl<'a, R: Clock> Pause for Stopping<'a, R> {
     }
 }
 
-/// Makes a call from each of two seats, in two threads. The thread that stops first begins; the other begins once the
-/// first has stopped.
+/// Makes a call from each of two seats, in two threads. The thread that stops first begins. The other thread begins
+/// when the first one has stopped.
 fn both_call<M: Running + Send + Sync, R: Host>(
     rt: &R,
     set: &LiveSet<M>,
@@ -141,8 +141,8 @@ fn both_call<M: Running + Send + Sync, R: Host>(
     )
 }
 
-/// A seat's call, the step after which it stops, its reply, the number of steps before the reply, and how many of these
-/// fail.
+/// A call of one seat: the step after which the call stops, its reply, the number of steps before the reply, and the
+/// number of failed steps.
 type Part = (Call, u64, Reply, u64, u64);
 
 fn is_as_told<M: Running + Send + Sync, R: Host>(
@@ -161,7 +161,7 @@ fn is_as_told<M: Running + Send + Sync, R: Host>(
     assert_eq!(rt; stopping.one.counts(), (one.3, one.4), "seat 1");
 }
 
-/// Asserts the expected results of a case, once for the list's loops and once for the interpreter of its step table.
+/// Asserts the results of a case twice: for the loops of the list, and for the interpreter of its step table.
 fn both_are<M: Running + Send + Sync, R: Host>(
     rt: &R,
     alloc: Global,
@@ -257,8 +257,8 @@ fn a_ceiling_misses_a_key_added_before_its_position(rt: HostRuntime) {
     both_are::<LockFreeList, HostRuntime>(&rt, rt.alloc(), &[9], both);
 }
 
-/// Asserts that seat 0 attempts at least three times to take a lock that seat 1 holds. Step `locks_at` of seat 1 takes
-/// the lock of the list or of the head.
+/// Asserts that seat 0 attempts at least three times to take a lock that seat 1 holds. Seat 1 takes the lock, of the
+/// list or of the head, in its step number `locks_at`.
 fn waits_at_a_lock<M: Running + Send + Sync, R: Host>(rt: &R, alloc: Global, locks_at: u64) {
     let (set, zero, one) = two_seats_on::<M, R>(rt, alloc, &[]);
     let stopping = Stopping::new(rt, NEVER, locks_at);
@@ -276,8 +276,8 @@ fn a_call_waits_for_a_lock_that_another_seat_holds(rt: HostRuntime) {
     waits_at_a_lock::<LazyList, HostRuntime>(&rt, rt.alloc(), 2);
 }
 
-/// Waits until the other seat has stopped. Then looks for 10 with both `contains` functions and for the first key above
-/// 10. Returns the replies.
+/// Waits until the other seat has stopped. Then looks for the key 10 with both `contains` functions, and for the first
+/// key above 10. Returns the replies.
 fn reads<M: RunningReads, R: Clock + Wait>(
     rt: &R,
     set: &LiveSet<M>,
@@ -292,7 +292,8 @@ fn reads<M: RunningReads, R: Clock + Wait>(
     (looked, asked, sought)
 }
 
-/// Removes 10 from seat 1, which stops after step `stops_at` until seat 0 has looked for 10. The set also contains 20.
+/// Removes the key 10 from seat 1. This call stops after step `stops_at` until seat 0 has looked for 10. The set also
+/// contains 20.
 fn reads_beside<M: RunningReads + Send + Sync, R: Host>(
     rt: &R,
     alloc: Global,
@@ -312,8 +313,7 @@ fn reads_beside<M: RunningReads + Send + Sync, R: Host>(
     found
 }
 
-/// Asserts that seat 0 finds 10 if seat 1 stopped before marking the node, and does not find it if seat 1 stopped
-/// afterwards.
+/// Asserts that seat 0 finds the key 10 if seat 1 stopped before it marked the node, and does not find it otherwise.
 fn answers_beside<M: RunningReads + Send + Sync, R: Host>(
     rt: &R,
     alloc: Global,
@@ -326,8 +326,8 @@ fn answers_beside<M: RunningReads + Send + Sync, R: Host>(
     assert_eq!(rt; reads_beside::<M, R>(rt, alloc, behind), gone);
 }
 
-/// A `remove` on a LazyList holds both its locks after its fourth step, and has marked the node after its seventh. A
-/// `remove` on a LockFreeList has marked the node after its fifth.
+/// A `remove` on a LazyList holds both locks after its fourth step, and has marked the node after its seventh. A
+/// `remove` on a LockFreeList has marked the node after its fifth step.
 #[test]
 fn contains_now_returns_while_another_thread_holds_locks(rt: HostRuntime) {
     answers_beside::<LazyList, HostRuntime>(&rt, rt.alloc(), 3, 6);

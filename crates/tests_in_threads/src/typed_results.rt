@@ -1,9 +1,9 @@
-//! Typed calls: every value that a typed call can return, for each list.
+//! Tests of calls with typed results: every value that such a call can return, on each list.
 
 use crate::opened::{close_with, two_seats};
 use crate::prelude::*;
 
-/// A typed call of a key, and the value that it returns.
+/// A call with a typed result, its key, and the value that it returns.
 #[derive(Clone, Copy)]
 enum Made {
     Adds(u32, Added),
@@ -23,8 +23,8 @@ fn makes<M: Running, R: Host>(rt: &R, set: &LiveSet<M>, seat: &mut Seat<M>, made
     }
 }
 
-/// Asserts that with a quota of 4 a seat's fifth new key is refused as full, that a present key is not, and that the
-/// other seat still has its own slots.
+/// Asserts that `full` and "already present" differ. A seat that can add 4 keys is refused its fifth new key, but not a
+/// key that is present. The other seat can still add its keys.
 fn tells_full_from_already<M: Running, R: Host>(rt: &R, alloc: Global) {
     let (set, mut zero, mut one) = two_seats::<M, R>(rt, alloc);
     makes(rt, &set, &mut zero, Adds(7, Added::New));
@@ -84,13 +84,13 @@ fn ceiling_returns_a_key_or_none(rt: HostRuntime) {
     at_each_list!(tells_the_smallest_key, rt);
 }
 
-/// Adds 9 from a seat. Returns the seat, and whether 9 was new.
+/// Adds the key 9. Returns the seat, and whether the key was new.
 fn claim<M: Running, R: Wait>(rt: &R, set: &LiveSet<M>, mut seat: Seat<M>) -> (Seat<M>, Added) {
     let added = seat.add(rt, set, Key(9));
     (seat, added)
 }
 
-/// Adds 9 from two seats at the same time, each in its own thread.
+/// Adds the key 9 from two seats at the same time, each in its own thread.
 fn claim_at_once<M: Running + Send + Sync, R: Threads + Wait + Sync>(
     rt: &R,
     set: &LiveSet<M>,

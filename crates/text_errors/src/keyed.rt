@@ -1,4 +1,4 @@
-//! Finds errors in the opening keys for `serve`.
+//! Finds errors in the opening keys that `serve` reads.
 
 use crate::lined::{Lines, count_fields, field_or_empty, number_at};
 use lset_text::Cause;
@@ -6,13 +6,13 @@ use lset_text::Cause;
 /// The maximum number of opening keys.
 const MOST_KEYS: usize = 1_048_576;
 
-/// Returns `true` if a line has two fields and the first is `word`.
+/// Returns `true` if a line has exactly two fields and the first is `word`.
 fn is_pair(line: &[u8], word: &[u8]) -> bool {
     field_or_empty(line, 0) == word && count_fields(line) == 2
 }
 
-/// Returns the number of the first line after those that a server prints before its keys: `listening A`, `sessions N` and
-/// `calls N`, in this order, each optional.
+/// Returns the number of the first line that can be a key. A server prints up to three lines before its keys:
+/// `listening A`, `sessions N` and `calls N`, in this order, each optional.
 fn first_key_line(lines: &Lines<'_>) -> usize {
     let mut number = 1usize;
     for word in [b"listening".as_slice(), b"sessions", b"calls"] {
@@ -23,8 +23,8 @@ fn first_key_line(lines: &Lines<'_>) -> usize {
     number
 }
 
-/// Returns the first line that is wrong for `serve`: its number and the cause. These are the line and the cause in the
-/// error of `serve`.
+/// Returns the number and the cause of the first line that `serve` refuses. They are the same as in the error of
+/// `serve`.
 pub fn wrong_key(lines: &Lines<'_>) -> Option<(usize, Cause)> {
     let mut before: Option<u32> = None;
     let last = lines.count();

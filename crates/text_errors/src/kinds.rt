@@ -1,6 +1,6 @@
 use crate::lined::{count_fields, field_or_empty};
 
-/// The kind of a text, which its first line determines.
+/// The kind of a text, determined by its first line.
 #[derive(Clone, Copy, PartialEq, Eq)]
 pub enum TextKind {
     Schedule,
@@ -9,7 +9,7 @@ pub enum TextKind {
     Recording,
     Trace,
     Course,
-    /// The opening keys for `serve`.
+    /// Opening keys for `serve`.
     Keys,
     /// The first line is not the title of any listset format.
     Unknown,
@@ -32,7 +32,7 @@ impl TextKind {
         }
     }
 
-    /// Returns a predicate that says what a file of this kind is or contains.
+    /// Returns the words that state what a file of this kind is or contains.
     pub fn predicate(self) -> &'static str {
         match self {
             TextKind::Schedule => "is a schedule",
@@ -47,10 +47,10 @@ impl TextKind {
     }
 }
 
-/// Where the first error of a text is: its line, and the kind of the text.
+/// The first error of a text: the file, its kind, and the line with the error.
 #[derive(Clone, Copy)]
 pub struct Place<'a> {
-    /// The file's name as used in commands.
+    /// The name of the file, as typed in commands.
     pub file: &'a str,
     pub kind: TextKind,
     /// The line number, counted from 1.

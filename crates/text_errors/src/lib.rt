@@ -1,5 +1,5 @@
-//! What is wrong with a line of a text, and what to do: for the command `explain`. Lines of events are in `tool_explain`, since
-//! their explanations replay the lines above.
+//! Explains what is wrong with a line of a text and how to correct it, for the command `explain`. Errors in events are
+//! explained in `tool_explain`, because that needs a replay of the lines before them.
 #![tactic(auto)]
 
 mod keyed;

@@ -1,7 +1,7 @@
 use lset_text::{cut, long_number, number};
 use std::alloc::{AllocError, Global};
 
-/// The maximum number of bytes printed of a line.
+/// The maximum number of bytes of a line that are printed.
 const MOST_PRINTED: usize = 100;
 
 /// A text split into lines, which are counted from 1.
@@ -38,7 +38,7 @@ impl<'a> Lines<'a> {
         self.lines.len()
     }
 
-    /// Returns line `number` without its newline. Returns no bytes if there is no such line.
+    /// Returns line `number`, counted from 1, without its newline. Returns no bytes if the text has fewer lines.
     pub fn line(&self, number: usize) -> &'a [u8] {
         match self.lines.get(number.saturating_sub(1)) {
             Some(line) => *line,
@@ -46,7 +46,7 @@ impl<'a> Lines<'a> {
         }
     }
 
-    /// Returns the number of the last line before line `number` for which `is_meant` returns true.
+    /// Returns the number of the last line before line `number` for which `is_meant` is true.
     pub fn last_before<F: Fn(&[u8]) -> bool + Drop>(
         &self,
         number: usize,
@@ -65,7 +65,8 @@ impl<'a> Lines<'a> {
     }
 }
 
-/// Returns field `index` (from 0) of a line, `None` if it has fewer fields. Fields are separated by single spaces.
+/// Returns field `index` (from 0) of a line; `None` if the line has fewer fields. Fields are separated by single
+/// spaces.
 pub fn field(line: &[u8], index: usize) -> Option<&[u8]> {
     let mut rest = line;
     for _ in 0..index {
@@ -91,17 +92,17 @@ pub fn count_fields(line: &[u8]) -> usize {
         .saturating_add(1)
 }
 
-/// Returns the number in field `index` if it is in the range of threads, keys and calls.
+/// Returns the number in field `index` of a line if the number is in the range of threads, keys and calls.
 pub fn number_at(line: &[u8], index: usize) -> Option<u32> {
     number(field(line, index)?, 0, u32::MAX)
 }
 
-/// Returns the number in field `index` if it is a moment.
+/// Returns the number in field `index` of a line if the number is a possible moment, that is, at least 1.
 pub fn moment_at(line: &[u8], index: usize) -> Option<u64> {
     long_number(field(line, index)?, 1, u64::MAX)
 }
 
-/// Appends at most 100 bytes of a text in visible characters: a tab is written as `\t`, and a byte that is not ASCII as
+/// Appends the first 100 bytes of a text in visible characters: a tab is written as `\t`, a byte that is not ASCII as
 /// `\xHH`.
 pub fn put_visible(out: &mut String, bytes: &[u8]) -> Result<(), AllocError> {
     for byte in bytes.iter().take(MOST_PRINTED) {
@@ -118,7 +119,7 @@ pub fn put_visible(out: &mut String, bytes: &[u8]) -> Result<(), AllocError> {
     Ok(())
 }
 
-/// Appends bytes in visible characters, enclosed in single quotes.
+/// Appends a text in visible characters, enclosed in single quotes.
 pub fn put_quoted(out: &mut String, bytes: &[u8]) -> Result<(), AllocError> {
     out.push_str("'")?;
     put_visible(out, bytes)?;

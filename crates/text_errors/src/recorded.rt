@@ -1,4 +1,4 @@
-//! Explains errors in recordings.
+//! Explains errors in recorded calls.
 
 use crate::kinds::Place;
 use crate::lined::{Lines, count_fields, field, field_or_empty, put_quoted};
@@ -15,13 +15,13 @@ pub(crate) const OF_RECORDING: CallFields = CallFields {
     end: 5,
 };
 
-/// Returns whether only one of the fields END and REPLY of a call is `-`.
+/// Returns `true` if exactly one of the fields END and REPLY of a call is `-`.
 pub(crate) fn is_half_pending(line: &[u8]) -> bool {
     let (end, reply) = (field_or_empty(line, 5), field_or_empty(line, 6));
     (end == b"-".as_slice()) != (reply == b"-".as_slice())
 }
 
-/// Explains a line of a recording that does not have the form of a line there.
+/// Explains a line that does not have the form of any line of a recording.
 pub(crate) fn put_recording_form(
     out: &mut String,
     lines: &Lines<'_>,
@@ -48,7 +48,7 @@ pub(crate) fn put_recording_form(
     }
 }
 
-/// Explains a line that has the seven fields of a call but is not a call of a recording.
+/// Explains a line that has the seven fields of a call but is not a call that a recording can contain.
 fn put_call_words(out: &mut String, place: Place<'_>) -> Result<(), AllocError> {
     let (line, file) = (place.line, place.file);
     let reply = field_or_empty(line, 6);

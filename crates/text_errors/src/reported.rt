@@ -1,10 +1,10 @@
-//! Explains errors in reports, and conflicts between calls in reports and recordings.
+//! Explains errors in reports, and calls that conflict in reports and recordings.
 
 use crate::kinds::{Place, TextKind};
 use crate::lined::{Lines, field, moment_at, number_at};
 use std::alloc::AllocError;
 
-/// Where a call's line has the call's thread and its moments: the indices of these fields.
+/// The indices of the fields that contain the thread, the begin and the end in a call's line.
 #[derive(Clone, Copy)]
 pub(crate) struct CallFields {
     pub(crate) thread: usize,
@@ -47,12 +47,12 @@ pub(crate) fn put_report_history(
     put_moments(out, lines, place, OF_REPORT)
 }
 
-/// Returns `true` if a line is a call's.
+/// Returns `true` if the line of a report or a recording is a call.
 pub(crate) fn is_call(line: &[u8]) -> bool {
     field(line, 0) == Some(b"call".as_slice())
 }
 
-/// Explains why a call's moments conflict with each other, or with those of an earlier call.
+/// Explains why the moments of a call conflict with each other, or with the moments of an earlier call.
 pub(crate) fn put_moments(
     out: &mut String,
     lines: &Lines<'_>,
@@ -91,8 +91,8 @@ pub(crate) fn put_moments(
     put_order(out, lines, place, fields, begin)
 }
 
-/// Explains why a call conflicts with earlier calls: calls are listed in the order in which they began, and a thread
-/// has only one call at a time.
+/// Explains why a call conflicts with earlier calls. Calls must be listed in the order of their begins, and a thread
+/// can have only one call at a time.
 fn put_order(
     out: &mut String,
     lines: &Lines<'_>,
@@ -125,13 +125,13 @@ fn put_order(
     }
 }
 
-/// Adds the command that sorts a recording's calls to the line before.
+/// Appends a command that sorts the calls of a recording to the line written before.
 fn put_sorting(out: &mut String, place: Place<'_>) -> Result<(), AllocError> {
     if place.kind != TextKind::Recording {
         return Ok(());
     }
     let file = place.file;
-    // (the line before ends with a newline, which is removed so that the command is on the same line)
+    // The line written before ends with a newline. The newline is removed, so that the command is in the same line.
     let _newline = out.pop();
     writeln!(
         out,

@@ -1,4 +1,4 @@
-//! Explains errors that occur in every kind of text: encoding, line ends, spaces, comments, a missing title.
+//! Explains errors that can occur in every kind of text: encoding, line ends, spaces, comments, a missing title.
 
 use crate::kinds::{Place, TextKind};
 use crate::lined::{Lines, count_fields, field_or_empty, put_quoted};
@@ -7,8 +7,8 @@ use std::alloc::AllocError;
 /// The maximum number of bytes in a line of a recording.
 const MOST_OF_LINE: usize = 128;
 
-/// Explains a text that has no bytes, is in UTF-16, begins with a byte order mark, or is packed. Returns false, and
-/// writes nothing, for any other text.
+/// Explains a text that is empty, is encoded in UTF-16, begins with a byte order mark, or is compressed. For any other
+/// text, writes nothing and returns `false`.
 pub fn put_encoding(out: &mut String, file: &str, text: &[u8]) -> Result<bool, AllocError> {
     match text {
         [] => writeln!(
@@ -36,8 +36,8 @@ pub fn put_encoding(out: &mut String, file: &str, text: &[u8]) -> Result<bool, A
     Ok(true)
 }
 
-/// Returns the program that packed a text, and the command that unpacks a file to standard output. Returns `None` if the
-/// text is not packed by a program known here.
+/// Returns the program that compressed a text, and the command that decompresses it to standard output. Returns `None`
+/// if the text is not compressed in a format known here.
 fn packing(text: &[u8]) -> Option<(&'static str, &'static str)> {
     match text {
         [0x1f, 0x8b, ..] => Some(("gzip", "gzip -dc")),
@@ -81,7 +81,8 @@ fn starts_with_name(word: &[u8]) -> bool {
     }
 }
 
-/// Explains a first line that is not a title. Suggests an edit only if the rest of the text is in a listset format.
+/// Explains a first line that is not a title. Suggests an edit only if the rest of the text looks like a listset
+/// format.
 pub fn put_no_title(
     out: &mut String,
     lines: &Lines<'_>,
@@ -122,7 +123,8 @@ pub fn put_no_title(
     }
 }
 
-/// Explains a line that is wrong in every kind of text. For any other line, writes nothing and returns `false`.
+/// Explains a line with an error that can occur in every kind of text. For any other line, writes nothing and returns
+/// `false`.
 pub fn put_spoiled(out: &mut String, place: Place<'_>) -> Result<bool, AllocError> {
     let (file, number) = (place.file, place.number);
     match place.line {
@@ -168,7 +170,7 @@ pub fn put_spoiled(out: &mut String, place: Place<'_>) -> Result<bool, AllocErro
     Ok(true)
 }
 
-/// Returns `true` if a line contains a CR and then a byte other than CR.
+/// Returns `true` if a line contains a CR and, after it, a byte other than CR.
 fn has_inner_cr(line: &[u8]) -> bool {
     let mut before = b'.';
     for byte in line {
@@ -180,7 +182,7 @@ fn has_inner_cr(line: &[u8]) -> bool {
     false
 }
 
-/// Returns `true` if the first word of a line is the first word of some line of a text, except for capitals.
+/// Returns `true` if the first word of a line is a word of listset written with capital letters.
 fn has_capitals(line: &[u8]) -> bool {
     let first = field_or_empty(line, 0);
     let words = [
@@ -216,7 +218,7 @@ fn has_two_spaces(line: &[u8]) -> bool {
     false
 }
 
-/// Explains a last line that has no newline (`is_line`) or is missing.
+/// Explains the end of a text: the last line has no newline (if `is_line`), or a last line such as `end` is missing.
 pub fn put_not_ended(
     out: &mut String,
     lines: &Lines<'_>,

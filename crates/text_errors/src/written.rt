@@ -1,4 +1,4 @@
-//! Explains misspelled lines and fields: the header, words and numbers.
+//! Explains misspelled lines and fields: header lines, words and numbers.
 
 use crate::kinds::{Place, TextKind};
 use crate::lined::{field, field_or_empty, put_quoted};
@@ -11,13 +11,13 @@ const MOST_MOMENT: u64 = 9_223_372_036_854_775_807;
 /// The largest moment in a report.
 const MOST_MOMENT_OF_REPORT: u64 = 4_294_967_295;
 
-/// The maximum number of steps in one line.
+/// The maximum number of steps in one line of a schedule.
 const MOST_STEPS: u64 = 10_000;
 
-/// The largest row of any list.
+/// The largest row number in the step table of any list.
 const MOST_ROW: u64 = 255;
 
-/// A field that must be a number: its name in messages, its index in the line (from 0), and its range.
+/// A field that must be a number: its name in messages, its index in the line (counted from 0), and its range.
 #[derive(Clone, Copy)]
 struct NumberField {
     name: &'static str,
@@ -26,7 +26,7 @@ struct NumberField {
     high: u64,
 }
 
-/// Creates the description of a thread, key or call field.
+/// Creates the description of a field with a thread, a key or a call number.
 fn plain(name: &'static str, index: usize) -> NumberField {
     in_range(name, index, 0, 4_294_967_295)
 }
@@ -41,7 +41,7 @@ fn in_range(name: &'static str, index: usize, low: u64, high: u64) -> NumberFiel
     }
 }
 
-/// Explains a line with a wrong number: checks the number fields that a line of this kind has.
+/// Explains a line with a wrong number. Checks the fields that must be numbers in this kind of line.
 pub fn put_number(out: &mut String, place: Place<'_>) -> Result<(), AllocError> {
     let is_stop = matches!(field_or_empty(place.line, 2), b"out" | b"to");
     let thread = plain("THREAD", 1);
@@ -102,7 +102,7 @@ fn put_first_wrong(
     out.push_str("A number of the line is out of its range, or has a sign or a leading zero.\n")
 }
 
-/// Returns a sentence, after a space, that says where a recorder gets the numbers of this field.
+/// Returns a sentence that states how a recorder should number this field. The sentence begins with a space.
 fn advice_on(name: &str) -> &'static str {
     match name {
         "BEGIN" | "END" => " Take all moments from one counter that starts at 1.",
@@ -111,8 +111,8 @@ fn advice_on(name: &str) -> &'static str {
     }
 }
 
-/// Explains field `index` of a line if it is not `add`, `remove` or `contains`. If it is one of these, writes nothing
-/// and returns `false`.
+/// Explains field `index` of a line if it is not `add`, `remove` or `contains`. Otherwise writes nothing and returns
+/// `false`.
 pub fn put_no_call(
     out: &mut String,
     place: Place<'_>,
@@ -136,7 +136,7 @@ pub fn put_no_call(
     Ok(true)
 }
 
-/// Explains a wrong header line.
+/// Explains a header line with an error.
 pub fn put_header(out: &mut String, number: usize) -> Result<(), AllocError> {
     let text = match number {
         1 => {
@@ -151,7 +151,7 @@ pub fn put_header(out: &mut String, number: usize) -> Result<(), AllocError> {
     out.push_str(text)
 }
 
-/// Explains a key that is not greater than the previous key.
+/// Explains an opening or final key that is not greater than the previous key.
 pub fn put_opening(out: &mut String, place: Place<'_>, above: &[u8]) -> Result<(), AllocError> {
     let file = place.file;
     put_quoted(out, place.line)?;

@@ -1,4 +1,4 @@
-//! Explains a wrong line of a report, of a recording, or of the opening keys for `serve`.
+//! Explains a line with an error in a report, in a recording, or in the opening keys for `serve`.
 
 use crate::kinds::{Place, TextKind};
 use crate::lined::Lines;
@@ -14,7 +14,8 @@ const LINES_OF_REPORT: &str =
 const MOST_OF_REPORT: &str =
     "A report has at most 1000000 calls, 1000000 places, and 1048576 keys (2097152 in version 2).\n";
 
-/// Explains a wrong line of a report after the header, of a recording after the title, or of the opening keys for `serve`.
+/// Explains a line with an error: after the header of a report, after the title of a recording, or in the opening keys
+/// for `serve`.
 pub fn put_wrong_line(
     out: &mut String,
     lines: &Lines<'_>,

@@ -1,4 +1,4 @@
--- How a tool ends: what it writes, and its exit status.
+-- How a command ends: what it writes, and its exit status.
 use Rattle.std.specs.Prelude.{◌≡◌, ◌⊎◌, ℕ, ◌<◌, ◌≤◌, List, [], ◌++◌, length, Option, Result, Ok, Err}
 use Rattle.std.specs.Io.KnownBytes.{Appends, Keeps}
 use Rattle.tool_base.specs.declared.answer.Answer.{Answer}
@@ -8,12 +8,12 @@ use Rattle.tool_base.specs.declared.trouble.Trouble.TheVariants.{CannotRead, Too
 use Rattle.tool_base.specs.Trouble.{trouble_text}
 use Rattle.tool_base.specs.Trouble as trouble
 
--- The value of an answer: its text as bytes, and its exit status.
+-- An answer as a mathematical value: the bytes of its text, and its exit status.
 pub record AnswerValue : Type 0 where
   pub text : List ℕ
   pub status : ℕ
 
--- What a tool returns: an answer, or an error.
+-- The result of a command: an answer or an error.
 abbrev pub Made : Type 0
 Made = Result AnswerValue Trouble
 
@@ -21,18 +21,18 @@ abbrev pub view : Result Answer Trouble → Made
 view (Ok answer) = Ok (record { text = answer.text.items; status = answer.status })
 view (Err t) = Err t
 
--- What comes of writing the result: an answer's exit status if the answer was written, otherwise the error for stderr.
+-- The outcome of writing a result: the exit status if an answer was written, otherwise the error for stderr.
 abbrev pub Outcome : Type 0
 Outcome = Result ℕ Trouble
 
--- How a result is written to an output:
+-- How a result is written to an output. `old` and `new` are the bytes of the output before and after.
 abbrev pub Delivers : Made → Option (List ℕ) → Option (List ℕ) → Outcome → Type 0
--- the complete text of an answer is written,
+-- If no write fails, the whole text of an answer is written.
 Delivers (Ok answer) old new (Ok status) = (status ≡ answer.status) × Appends old new answer.text
--- or a prefix of it if a write failed;
+-- If a write fails, a prefix of the answer's text is written.
 Delivers (Ok answer) old new (Err t) =
     (t ≡ CannotWrite) × (front : List ℕ) × (rest : List ℕ) × (answer.text ≡ front ++ rest) × Appends old new front
--- Nothing is written for an error.
+-- If the result is an error, nothing is written to the output.
 Delivers (Err made) old new (Ok status) = ⊥
 Delivers (Err made) old new (Err t) = (t ≡ made) × Keeps old new
 
@@ -40,7 +40,7 @@ abbrev pub status_of : Outcome → ℕ
 status_of (Ok status) = status
 status_of (Err t) = trouble.status_of t
 
--- The line that goes to stderr; only a prefix of it is written if a write fails.
+-- The line that an outcome prints on stderr; empty if there is no error.
 abbrev pub line_of : Outcome → List ℕ
 line_of (Ok status) = []
 line_of (Err t) = trouble_text t
@@ -48,35 +48,35 @@ line_of (Err t) = trouble_text t
 abbrev pub AppendsFront : Option (List ℕ) → Option (List ℕ) → List ℕ → Type 0
 AppendsFront old new text = (front : List ℕ) × (rest : List ℕ) × (text ≡ front ++ rest) × Appends old new front
 
--- States that the result is delivered. An answer's text is written to the output, or a prefix of it if a write fails.
--- The line of an error, also of a failed write to the output, goes to stderr, or a prefix of it. The exit status is
--- that of the outcome.
+-- A result is delivered. An answer's text is written to the output, or a prefix of it if a write fails. The line of an
+-- error, also of a failed write to the output, is written to stderr, or a prefix of it. The exit status is that of the
+-- outcome.
 abbrev pub IsDelivered : Made → Option (List ℕ) → Option (List ℕ) → Option (List ℕ) → Option (List ℕ) → ℕ → Type 0
 IsDelivered made output_old output_new faults_old faults_new status =
     (outcome : Outcome) × Delivers made output_old output_new outcome
     × AppendsFront faults_old faults_new (line_of outcome) × (status ≡ status_of outcome)
 
--- A tool ends by delivering its result.
+-- A command ends: it has made one of its correct results and delivered it.
 abbrev pub Ends : (Made → Type 0) → Option (List ℕ) → Option (List ℕ) → Option (List ℕ) → Option (List ℕ) → ℕ → Type 0
 Ends IsMade output_old output_new faults_old faults_new status =
     (made : Made) × IsMade made × IsDelivered made output_old output_new faults_old faults_new status
 
--- The input is not too long.
+-- The input is not longer than the maximum.
 abbrev pub IsTaken : List ℕ → Type 0
 IsTaken bytes = length bytes ≤ LONGEST
 
--- The error of an input that is too long.
+-- The input is longer than the maximum, and t is the error for this case.
 abbrev pub IsTooLong : List ℕ → Trouble → Type 0
 IsTooLong bytes t = (t ≡ TooLong) × (LONGEST < length bytes)
 
--- What a tool returns for a text: `TooLong`, or its result for the bytes if the text is not too long.
+-- The result of a command for a text: the error `TooLong`, or its result for the bytes of a text that is not too long.
 abbrev pub OnText : (List ℕ → Made → Type 0) → List ℕ → Made → Type 0
 OnText Makes bytes made = ((t : Trouble) × (made ≡ Err t) × IsTooLong bytes t) ⊎ (IsTaken bytes × Makes bytes made)
 
--- What a tool returns for an input: `CannotRead`, `Memory`, or its result for the bytes.
+-- The result of a command for an input: `CannotRead`, `Memory`, or its result for the bytes of the input.
 abbrev pub OnInput : (List ℕ → Made → Type 0) → List ℕ → Made → Type 0
 OnInput Makes bytes made = (made ≡ Err CannotRead) ⊎ ((made ≡ Err Memory) ⊎ OnText Makes bytes made)
 
--- The bytes read from an input: all of them, or more than `LONGEST`.
+-- The bytes that were read from an input: all of them, or more than `LONGEST` if the input is longer than `LONGEST`.
 abbrev pub IsReadOf : List ℕ → List ℕ → Type 0
 IsReadOf read all = (read ≡ all) ⊎ ((LONGEST < length read) × (LONGEST < length all))

@@ -12,7 +12,7 @@ use std::io::Write;
 /// The maximum length of an error line, in bytes.
 pub(crate) const LONGEST_LINE: usize = 64;
 
-/// What a tool returns: the text for its output, and the exit status if that text can be written.
+/// The result of a command: the text for its output, and the exit status if this text can be written.
 #[derive(Drop)]
 pub struct Answer {
     pub text: Vec<u8>,
@@ -20,7 +20,8 @@ pub struct Answer {
 }
 
 impl Answer {
-    /// Writes the answer's text to `output`. Returns the answer's exit status.
+    /// Writes the answer's text to `output` and returns the answer's exit status. Returns the error `CannotWrite` if a
+    /// write fails.
     fn write<W: Write>(&self, output: &mut W) -> Result<u8, Trouble>
         ensures { Delivers (view (Result.Ok self.now)) (W.contents output.old) (W.contents output.new) result }
     {
@@ -32,7 +33,7 @@ impl Answer {
     }
 }
 
-/// Joins four parts into a line and adds a newline.
+/// Joins four strings and a newline into one line. The line must fit into `LONGEST_LINE` bytes.
 fn line_with(front: &str, number: &str, sign: &str, name: &str) -> ArrayString<LONGEST_LINE>
     requires { length front.now + length number.now + length sign.now + length name.now < LONGEST_LINE }
     ensures { result.bytes ≡ front.now ++ number.now ++ sign.now ++ name.now ++ codes "\n" }
@@ -46,7 +47,7 @@ fn line_with(front: &str, number: &str, sign: &str, name: &str) -> ArrayString<L
     line
 }
 
-/// Returns the line that an error prints on stderr: `listset: ..` and a newline.
+/// Returns the line that an error prints on stderr: `listset: `, the message, and a newline.
 pub fn line_of(trouble: Trouble) -> ArrayString<LONGEST_LINE>
     ensures { result.bytes ≡ trouble_text trouble }
 {
@@ -66,10 +67,10 @@ pub fn line_of(trouble: Trouble) -> ArrayString<LONGEST_LINE>
     }
 }
 
-/// Finishes a tool: writes the answer's text to `output`, or one line about the error to `stderr`, and returns the exit
+/// Finishes a command: writes the answer's text to `output`, or one line about the error to `stderr`. Returns the exit
 /// status.
 ///
-/// A write that fails, or writes no byte, is not retried. If that happens on `output`, the error becomes `CannotWrite`.
+/// A write that fails or writes no byte is not retried. If that happens on `output`, the error becomes `CannotWrite`.
 /// If it happens on `stderr`, the exit status does not change.
 pub fn deliver<W: Write, E: Write>(
     made: Result<Answer, Trouble>,

@@ -9,7 +9,7 @@ use lset_words::{Kind, MOST_QUOTA, MOST_THREADS};
 /// The maximum value of the argument CALLS.
 pub const MOST_CALLS_ASKED: u32 = 10_000;
 
-/// The maximum number of rounds in `run`.
+/// The maximum value of the argument LIVES, the number of rounds in `run`.
 pub const MOST_LIVES: u32 = 100;
 
 /// The maximum value of the argument SESSIONS.
@@ -18,15 +18,15 @@ pub const MOST_SESSIONS_ASKED: u32 = 10_000;
 /// The largest port number.
 pub const MOST_PORT: u32 = 65_535;
 
-/// The arguments of `gen`, which are also the first six of `run`: a list, the sizes of a run, the number of calls, and
-/// a random seed.
+/// The arguments of the command `gen`, which are also the first six of `run`: a list, the sizes of a run, the number of
+/// calls, and a random seed.
 #[derive(Clone, Copy)]
 pub struct RandomRequest {
     /// The kind of list.
     pub kind: Kind,
     /// The number of threads, 1 to `MOST_THREADS`.
     pub threads: u32,
-    /// The quota of each thread, 0 to `MOST_QUOTA`.
+    /// The number of keys that each thread can add, 0 to `MOST_QUOTA`.
     pub quota: u32,
     /// The number of calls, 0 to `MOST_CALLS_ASKED`.
     pub calls: u32,
@@ -36,23 +36,23 @@ pub struct RandomRequest {
     pub seed: u64,
 }
 
-/// The arguments of `run`: those of `gen` for the first round, and the number of rounds.
+/// The arguments of the command `run`: those of `gen` for the first round, and the number of rounds.
 #[derive(Clone, Copy)]
 pub struct LivesRequest {
-    /// The first round.
+    /// The arguments of the first round.
     pub run: RandomRequest,
     /// The number of rounds, 1 to `MOST_LIVES`.
     pub lives: u32,
 }
 
-/// The arguments of `serve`: a list, the size of its set, a port, and the number of sessions.
+/// The arguments of the command `serve`: a list, the size of its set, a port, and the number of sessions.
 #[derive(Clone, Copy)]
 pub struct ServeRequest {
     /// The kind of list.
     pub kind: Kind,
-    /// The number of seats, 1 to `MOST_THREADS`.
+    /// The number of seats, that is, of threads that can call the set: 1 to `MOST_THREADS`.
     pub seats: u32,
-    /// The quota of each seat, 0 to `MOST_QUOTA`.
+    /// The number of keys that each seat can add, 0 to `MOST_QUOTA`.
     pub quota: u32,
     /// The port, 0 to `MOST_PORT`. If it is 0, the system chooses one.
     pub port: u16,
@@ -110,8 +110,8 @@ pub fn read_random_request(values: &[String]) -> Result<RandomRequest, ValueName
     })
 }
 
-/// Returns the number of rounds from argument 6 (from 0): 1 to `MOST_LIVES`, or 1 if the argument is missing. Returns
-/// `None` if it is wrong.
+/// Returns the number of rounds from argument 6 (counted from 0), which must be from 1 to `MOST_LIVES`. Returns 1 if
+/// the argument is missing, and `None` if it is wrong.
 fn lives_in(values: &[String]) -> Option<u32> {
     match values.get(6) {
         Some(_) => number_at(values, 6, 1, MOST_LIVES),
@@ -124,7 +124,7 @@ fn lives_in(values: &[String]) -> Option<u32> {
 ///
 /// # Errors
 ///
-/// Returns the first argument that is wrong, or missing if it is not LIVES.
+/// Returns the first argument that is wrong or, except for LIVES, missing.
 pub fn read_lives_request(values: &[String]) -> Result<LivesRequest, ValueName> {
     let run = read_random_request(values)?;
     let lives = lives_in(values).ok_or(ValueName::Lives)?;

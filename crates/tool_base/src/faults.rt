@@ -125,20 +125,20 @@ pub fn list_faults(alloc: Global) -> Result<Answer, Trouble> {
     Ok(Answer { text, status: 0 })
 }
 
-/// A name to look up in `FAULTS`: of a cause, of a message, or of a section.
+/// A name to look up in `FAULTS`: the name of a cause, of a message, or of a section.
 #[derive(Clone, Copy)]
 pub struct FaultName {
     name: &'static [u8],
 }
 
-/// The kinds of lines in `FAULTS` after its heading.
+/// The kinds of lines in `FAULTS`, after the lines of its heading.
 #[derive(Clone, Copy, PartialEq, Eq)]
 enum FaultLine {
     /// The title of a section, or the empty line before it.
     Title,
-    /// The first line about a cause or a message. It begins with the name.
+    /// The first line about a cause or a message. The line begins with the name of that cause or message.
     Entry,
-    /// A continuation line of the entry above.
+    /// A line that continues the text of the cause or message.
     More,
 }
 
@@ -153,7 +153,7 @@ impl FaultLine {
     }
 }
 
-/// Returns the part of a `FAULTS` line that starts at its name.
+/// Removes the prefix of a `FAULTS` line, such as `listset: line L: `, so that the line begins with its name.
 fn from_name(line: &[u8]) -> &[u8] {
     let line = line.strip_prefix(b"  ").unwrap_or(line);
     let line = line.strip_prefix(b"listset: ").unwrap_or(line);
@@ -173,7 +173,7 @@ fn name_of_line<'a>(line: &'a [u8], name: &[u8]) -> Option<&'a [u8]> {
     }
 }
 
-/// Returns the name that an argument of `faults` contains: the argument is a cause, a message, or a whole error line.
+/// Returns the name in an argument of `faults`. The argument is a cause, a message, or a whole error line.
 fn name_in(word: &[u8]) -> &[u8] {
     let word = word.strip_prefix(b"listset: ").unwrap_or(word);
     if word.starts_with(b"bad ") {
@@ -191,7 +191,7 @@ fn name_in(word: &[u8]) -> &[u8] {
     }
 }
 
-/// Returns `FAULTS` without its heading: the sections with their titles and entries.
+/// Returns `FAULTS` without its heading: all sections with their titles and entries.
 fn parts() -> &'static [u8] {
     let mut rest = FAULTS.as_bytes();
     for _ in 0..FAULTS.len() {
@@ -205,7 +205,7 @@ fn parts() -> &'static [u8] {
 }
 
 /// Reads the argument of `faults`: the name of a cause, of a message or of a section in upper or lower case, or a whole
-/// error line. Returns `ValueName::Cause` if no title and no entry in `FAULTS` starts with that name.
+/// error line. Returns the error `ValueName::Cause` if no title and no entry in `FAULTS` starts with that name.
 pub fn read_fault_name(word: &[u8]) -> Result<FaultName, ValueName> {
     let word = name_in(word);
     let mut rest = parts();
@@ -222,7 +222,8 @@ pub fn read_fault_name(word: &[u8]) -> Result<FaultName, ValueName> {
     Err(ValueName::Cause)
 }
 
-/// Appends a line after the title of its section. `title` is empty if the title has already been appended.
+/// Appends a line of `FAULTS`. Appends the section's title first, unless `title` is empty because the title was
+/// appended before.
 fn put_line(out: &mut Vec<u8>, title: &[u8], line: &[u8]) -> Result<(), AllocError> {
     if !title.is_empty() {
         if !out.is_empty() {
@@ -236,8 +237,8 @@ fn put_line(out: &mut Vec<u8>, title: &[u8], line: &[u8]) -> Result<(), AllocErr
     Ok(())
 }
 
-/// Appends the lines of `FAULTS` about a name: an entire section if the name is its title; from every other section,
-/// its title and the entries with this name.
+/// Appends the lines of `FAULTS` about a name. If the name is a section's title, this is the whole section. In every
+/// other section, these are the section's title and the entries with this name.
 fn put_named(out: &mut Vec<u8>, name: &[u8]) -> Result<(), AllocError> {
     let (mut title, mut is_whole, mut is_told) = (b"".as_slice(), false, false);
     let mut rest = parts();
@@ -264,8 +265,8 @@ fn put_named(out: &mut Vec<u8>, name: &[u8]) -> Result<(), AllocError> {
     Ok(())
 }
 
-/// Looks up a name in `FAULTS`, as the answer of the command `faults NAME`. Returns `Trouble::Memory` if an allocation
-/// fails.
+/// Returns the answer of the command `faults NAME`: the lines of `FAULTS` about this name. Returns `Trouble::Memory` if
+/// an allocation fails.
 pub fn explain_fault(alloc: Global, fault: FaultName) -> Result<Answer, Trouble> {
     let mut text = Vec::new(alloc);
     put_named(&mut text, fault.name)?;

@@ -14,7 +14,7 @@ pub const LONGEST: usize = 67_108_864;
 /// The maximum size of one read, in bytes.
 pub const READ_SIZE: usize = 4096;
 
-/// The bytes of an input, at most `LONGEST` of them.
+/// The bytes of an input. There are at most `LONGEST`.
 #[derive(Clone, Copy)]
 pub struct Input<'a> {
     bytes: &'a [u8],
@@ -41,8 +41,8 @@ impl<'a> Input<'a> {
     }
 }
 
-/// Reads an input until a read returns no bytes. Stops soon after `LONGEST` bytes if the input is longer. Allocates.
-/// Blocks while reading.
+/// Reads an input to its end. If the input is longer than `LONGEST` bytes, stops soon after them. Allocates. Blocks
+/// while reading.
 ///
 /// # Errors
 ///
@@ -66,8 +66,8 @@ pub fn read_all<R: Read>(alloc: Global, input: &mut R) -> Result<Vec<u8>, Troubl
     Ok(bytes)
 }
 
-/// Writes a text. Returns `true` if all of it was written. A write that fails, or writes no byte, is not retried; a
-/// prefix of the text may then have been written.
+/// Writes a text and returns `true` if all of it was written. A write that fails or writes no byte is not retried; a
+/// prefix of the text can then have been written.
 pub fn put<W: Write>(output: &mut W, text: &[u8]) -> bool
     ensures front { (done rest : List ℕ) × (text.now ≡ done ++ rest)
         × Appends (W.contents output.old) (W.contents output.new) done }

@@ -1,6 +1,6 @@
-//! The frame around the program's commands, over any reader and writers. A command computes an answer from its input or
-//! its arguments. The frame writes the answer to an output, or one line about an error to stderr, and returns the exit
-//! status.
+//! The part that all commands of the program share. A command computes an answer from its input or its arguments. The
+//! functions here read the input, write the answer to an output or one line about an error to stderr, and return the
+//! exit status. They work with any reader and writer.
 #![tactic(auto)]
 
 mod answer;

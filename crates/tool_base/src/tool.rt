@@ -7,17 +7,17 @@ use crate::trouble::Trouble;
 use std::alloc::Global;
 use std::io::{Read, Write};
 
-/// A command that computes its answer from all bytes of its input.
+/// A command that computes its answer from the whole input.
 pub trait Tool {
-    /// The answers that are allowed for the bytes. By default, all are allowed.
+    /// Specifies which results are correct for these bytes. By default, every result is.
     ghost answers: { Self → List ℕ → Made → Type 0 } = { λ tool bytes made. Unit {0} };
 
-    /// Computes the answer for the input. Allocates.
+    /// Computes the answer for an input. Allocates.
     fn answer(&self, alloc: Global, input: Input<'_>) -> Result<Answer, Trouble>
         ensures { answers self.now input.entry.bytes.now (view result) };
 }
 
-/// Returns a tool's answer for a text, or `TooLong`. Allocates.
+/// Returns the command's answer for a text, or the error `TooLong`. Allocates.
 pub fn answer_text<T: Tool>(alloc: Global, tool: &T, text: &[u8]) -> Result<Answer, Trouble>
     ensures { OnText (T.answers tool.now) text.now (view result) }
 {
@@ -25,7 +25,7 @@ pub fn answer_text<T: Tool>(alloc: Global, tool: &T, text: &[u8]) -> Result<Answ
     tool.answer(alloc, input)
 }
 
-/// Reads all bytes of an input and returns a tool's answer for them.
+/// Reads an input to its end and returns the command's answer for its bytes.
 fn answer_input<T: Tool, R: Read>(alloc: Global, tool: &T, input: &mut R) -> Result<Answer, Trouble>
     ensures { IfSome (R.remaining input.old) (λ bytes. OnInput (T.answers tool.now) bytes (view result)) }
 {
@@ -33,11 +33,11 @@ fn answer_input<T: Tool, R: Read>(alloc: Global, tool: &T, input: &mut R) -> Res
     answer_text(alloc, tool, &bytes)
 }
 
-/// Runs a command: reads all of `input`, and writes either the answer to `output`, or one line about an error to
-/// `stderr` and nothing to `output`.
+/// Runs a command: reads all of `input`, then writes the answer to `output`. If an error occurs, writes one line about
+/// the error to `stderr` instead, and nothing to `output`.
 ///
-/// Returns the exit status: that of the answer, 2 if an option is wrong, 3 if an allocation failed, 1 for any other
-/// error. A failed write to `stderr` does not change it. Allocates. Blocks while reading and writing.
+/// Returns the exit status: the answer's status, 2 if an option is wrong, 3 if an allocation failed, 1 for any other
+/// error. A failed write to `stderr` does not change the exit status. Allocates. Blocks while reading and writing.
 pub fn run_tool<T: Tool, R: Read, W: Write, E: Write>(
     alloc: Global,
     tool: &T,

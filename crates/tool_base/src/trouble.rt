@@ -20,7 +20,7 @@ pub enum ValueName {
     Port,
     Sessions,
     Name,
-    /// The name of an example without a broken report.
+    /// The name of an example that has no report of a broken list.
     Unbroken,
     Lacks,
     From,
@@ -30,24 +30,26 @@ pub enum ValueName {
     Cause,
 }
 
-/// Why programs or sessions did not run to completion. A failed allocation is `Trouble::Memory` instead.
+/// Why the programs of `run` or the sessions of `serve` did not run to completion. A failed allocation is
+/// `Trouble::Memory` instead.
 #[derive(Clone, Copy)]
 pub enum SystemCause {
-    /// The number of programs differs from the number of seats, or some seats of the set are missing.
+    /// The number of programs differs from the number of seats, or some seats of the set are missing. (A seat is the
+    /// right to call the set as one thread.)
     Programs,
-    /// A gate did not admit a call.
+    /// The gate through which every call must pass did not admit a call.
     Gate,
-    /// There are more final keys than a set can open with.
+    /// The final keys of a round are more than a set can open with.
     Opening,
-    /// Some seats of the set are missing.
+    /// Some seats of the set are missing. (A seat is the right to call the set as one thread.)
     Seats,
     /// The system could not accept a connection.
     Accept,
     /// The system could not start a thread.
     Spawn,
-    /// The channel to the workers refused a connection.
+    /// A connection could not be sent to the worker threads.
     Send,
-    /// The workers received fewer connections than the server accepted.
+    /// The worker threads received fewer connections than the server accepted.
     Left,
 }
 
@@ -68,9 +70,9 @@ pub enum Trouble {
     Bad(ValueName),
     /// The system refused a listening socket.
     CannotListen,
-    /// Programs did not run to completion.
+    /// Not all programs of `run` ran to completion.
     Work(SystemCause),
-    /// Sessions were not served to completion.
+    /// Not all sessions of `serve` were served to completion.
     Serve(SystemCause),
 }
 
@@ -142,7 +144,7 @@ impl<T: Drop> From<AllocFailed<T>> for Trouble {
 }
 
 impl ValueName {
-    /// Returns the name by which the error line on stderr calls the argument or option.
+    /// Returns the name that error lines on stderr use for the argument or option.
     pub fn word(self) -> &'static str
         ensures word { result.now ≡ value_word self }
         ensures short { length result.now ≤ 45 }

@@ -1,4 +1,4 @@
-//! Computes the next steps of a thread by running drafts and traces of the lines before an error.
+//! Finds out how far a thread gets, by running the lines before an error as a draft.
 
 use crate::event_errors::thread_text;
 use std::alloc::{AllocError, Global};
@@ -6,8 +6,8 @@ use text_errors::{Lines, Place, field_or_empty, number_at};
 use tool_base::{Tool, answer_text};
 use tool_replay::{Expand, Trace};
 
-/// Builds a text from a title, the lines from line 2 up to the error and, if `last` is not empty, a line `go` with
-/// `last` for the error's thread.
+/// Builds a draft or schedule from `title` and the lines from line 2 up to the error. If `last` is not empty, adds a
+/// line `go THREAD LAST` for the thread in the line with the error.
 fn text_up_to(
     alloc: Global,
     title: &[u8],
@@ -28,7 +28,7 @@ fn text_up_to(
     Ok(text)
 }
 
-/// Runs a tool on a text and returns its answer. Returns `None` if the tool fails.
+/// Runs a command on a text and returns its answer. Returns `None` if the command fails.
 fn answer_on<T: Tool>(alloc: Global, tool: &T, text: &[u8]) -> Option<Vec<u8>> {
     match answer_text(alloc, tool, text) {
         Ok(answer) => Some(answer.text),
@@ -36,8 +36,8 @@ fn answer_on<T: Tool>(alloc: Global, tool: &T, text: &[u8]) -> Option<Vec<u8>> {
     }
 }
 
-/// Returns the number of steps after which the thread's pending call ends. Returns `None` if the thread has no pending
-/// call, or if the call does not end while no other thread makes a step.
+/// Returns the number of steps after which the pending call of the thread ends. Returns `None` if the thread has no
+/// pending call, or if the call cannot end while only this thread makes steps.
 pub(crate) fn steps_out(
     alloc: Global,
     lines: &Lines<'_>,
@@ -51,7 +51,7 @@ pub(crate) fn steps_out(
     Ok(number_at(made.line(made.count()), 2))
 }
 
-/// Explains a draft line whose thread does not reach the row: the thread waits for a lock, or its call ends earlier.
+/// Explains why the thread of a draft's line does not reach the row: it waits for a lock, or its call ends earlier.
 pub(crate) fn put_lock(
     alloc: Global,
     out: &mut String,
@@ -77,7 +77,7 @@ pub(crate) fn put_lock(
     )
 }
 
-/// Explains the last step of a trace: an attempt to take a lock that another thread holds, or the end of the call.
+/// Explains the last step in a trace: the thread attempts to take a lock that another thread holds, or its call ends.
 fn put_last_step(
     alloc: Global,
     out: &mut String,

@@ -10,7 +10,7 @@ use text_errors::{
 
 const CALLS: &str = "add, remove, contains and, in version 2, ceiling";
 
-/// Explains an event line with an error.
+/// Explains a line with an event that has an error.
 pub(crate) fn put_event(
     alloc: Global,
     out: &mut String,
@@ -38,7 +38,7 @@ fn put_too_many(out: &mut String, place: Place<'_>) -> Result<(), AllocError> {
     )
 }
 
-/// Explains a line that is not in the form of an event.
+/// Explains a line that does not have the form of an event.
 fn put_form(out: &mut String, lines: &Lines<'_>, place: Place<'_>) -> Result<(), AllocError> {
     let line = place.line;
     let is_first = lines.line(1) == b"listset-schedule 1".as_slice();
@@ -77,7 +77,7 @@ fn put_form(out: &mut String, lines: &Lines<'_>, place: Place<'_>) -> Result<(),
     }
 }
 
-/// Explains an event with a wrong number, or a draft's line in a schedule.
+/// Explains an event with a wrong number, or a line of a draft in a schedule.
 fn put_event_number(out: &mut String, place: Place<'_>) -> Result<(), AllocError> {
     let (line, file) = (place.line, place.file);
     let is_stop = matches!(field_or_empty(line, 2), b"out" | b"to");
@@ -94,7 +94,7 @@ fn put_event_number(out: &mut String, place: Place<'_>) -> Result<(), AllocError
     }
 }
 
-/// Explains an event whose thread does not exist.
+/// Explains an event of a thread that does not exist.
 fn put_no_thread(out: &mut String, lines: &Lines<'_>, place: Place<'_>) -> Result<(), AllocError> {
     let count = number_at(lines.line(3), 1).unwrap_or(1);
     let last = count.saturating_sub(1);
@@ -106,7 +106,7 @@ fn put_no_thread(out: &mut String, lines: &Lines<'_>, place: Place<'_>) -> Resul
     )
 }
 
-/// Returns the number of the last line before the error that begins a call of the same thread.
+/// Returns the number of the last line before the error that begins a call of the thread in the line with the error.
 fn begun_before(lines: &Lines<'_>, place: Place<'_>) -> Option<usize> {
     let thread = number_at(place.line, 1)?;
     lines.last_before(place.number, |line| {
@@ -114,7 +114,7 @@ fn begun_before(lines: &Lines<'_>, place: Place<'_>) -> Option<usize> {
     })
 }
 
-/// Returns an event's thread as it is spelled in the line.
+/// Returns the thread of an event as it is spelled in the event's line.
 pub(crate) fn thread_text(line: &[u8]) -> &str {
     match str::from_utf8(field_or_empty(line, 1)) {
         Ok(text) => text,

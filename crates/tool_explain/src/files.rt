@@ -38,8 +38,8 @@ pub fn explain_unopened(alloc: Global, file: &str, kind: ErrorKind) -> Result<An
     })
 }
 
-/// Explains the text of an input like `explain_text`, or explains why the input cannot be read. Stops reading soon
-/// after `LONGEST` bytes. Allocates. Blocks while reading. The error is `Trouble::Memory`.
+/// Explains the text of an input, as `explain_text` does, or why the input cannot be read. Stops reading soon after
+/// `LONGEST` bytes. Allocates. Blocks while reading. Returns `Trouble::Memory` if an allocation fails.
 pub fn explain_input<R: Read>(alloc: Global, file: &str, input: &mut R) -> Result<Answer, Trouble> {
     let mut text = Vec::new(alloc);
     let mut buffer = [0u8; READ_SIZE];

@@ -9,10 +9,10 @@ use tool_base::{Answer, LONGEST, Trouble, answer_text};
 use tool_judge::judge_bytes;
 use tool_replay::{Check, Expand, Replay};
 
-/// Explains a text. Prints its kind and the first line with an error; the last line says what is wrong and how to
-/// correct it. If the text has no error, the last line names the commands that read it. `file` is the file's name. It
-/// is printed so that a shell reads it as this name. The exit status is 0. Returns `Trouble::Memory` if an allocation
-/// fails.
+/// Explains a text. Prints its kind and the first line with an error; the last printed line states what is wrong and
+/// how to correct it. If the text has no error, the last line names the commands that read it. `file` is the file's
+/// name, which is printed as it must be typed in a shell. The exit status is 0. Returns `Trouble::Memory` if an
+/// allocation fails.
 pub fn explain_text(alloc: Global, file: &str, text: &[u8]) -> Result<Answer, Trouble> {
     let mut out = String::new(alloc);
     let name = quoted_name(alloc, file)?;
@@ -26,7 +26,7 @@ pub fn explain_text(alloc: Global, file: &str, text: &[u8]) -> Result<Answer, Tr
     Ok(Answer { text, status: 0 })
 }
 
-/// Explains a text that is too long for every command except `judge`.
+/// Explains that a text is too long. Only `judge` reads texts of this length.
 fn put_too_long(out: &mut String, file: &str, text: &[u8]) -> Result<(), AllocError> {
     let first = match cut(text, b'\n') {
         Some((first, _)) => first,
@@ -55,7 +55,7 @@ fn put_too_long(out: &mut String, file: &str, text: &[u8]) -> Result<(), AllocEr
     )
 }
 
-/// Explains a text that is within the size limit.
+/// Explains a text that is not too long.
 fn put_text(alloc: Global, out: &mut String, file: &str, text: &[u8]) -> Result<(), Trouble> {
     let lines = Lines::of(alloc, text)?;
     let kind = TextKind::of(lines.line(1));
@@ -92,7 +92,7 @@ fn no_answer(alloc: Global) -> Result<Answer, Trouble> {
     Ok(Answer { text, status: 0 })
 }
 
-/// Returns an empty answer, or the first error in the opening keys for `serve`.
+/// Returns an empty answer, or the first error in the opening keys that `serve` reads.
 fn said_of_keys(alloc: Global, lines: &Lines<'_>) -> Result<Answer, Trouble> {
     match wrong_key(lines) {
         Some((number, cause)) => Err(Trouble::Line(number as u64, cause)),
@@ -125,7 +125,7 @@ fn put_right(
     }
 }
 
-/// Prints what to do with recorded calls that no order explains.
+/// Prints what to do with a recording whose calls no order explains.
 fn put_refused_recording(
     out: &mut String,
     lines: &Lines<'_>,
@@ -143,7 +143,8 @@ fn put_refused_recording(
     )
 }
 
-/// Prints the commands that read a text without an error. `is_refused` is whether the order of a report is refused.
+/// Prints the commands that read a text without an error. `is_refused` is true if the text is a report whose order is
+/// refused.
 fn put_use(
     out: &mut String,
     file: &str,
@@ -181,7 +182,7 @@ fn put_use(
     }
 }
 
-/// Prints the first line with an error: its number, the cause and the text.
+/// Prints the first line with an error: its number, the cause, and the text of the line.
 fn put_place(out: &mut String, place: Place<'_>, cause: Cause) -> Result<(), AllocError> {
     let Place {
         file,
@@ -199,7 +200,7 @@ fn put_place(out: &mut String, place: Place<'_>, cause: Cause) -> Result<(), All
     out.push_str("\n")
 }
 
-/// Prints one line that says what is wrong and how to correct it.
+/// Prints one line that states what is wrong and how to correct it.
 fn put_sentence(
     alloc: Global,
     out: &mut String,

@@ -1,4 +1,4 @@
--- What the judge answers for the bytes of an input.
+-- The answers of `judge` are correct for the bytes of an input.
 use Rattle.std.proofs.Common.{◌≡◌, ◌≢◌, ℕ, inl, inr, List, ◌++◌, Ok, Err, Option, Some, None, sym, subst}
 use Rattle.std.specs.Prelude.{IfSome}
 use Rattle.std.specs.Io.KnownBytes.{Consumes}
@@ -16,7 +16,6 @@ use Rattle.tool_base.specs.Tools.{AnswerValue}
 use Rattle.tool_base.specs.Trouble.{of_line_fault, of_line}
 use Rattle.tool_judge.specs.Judging.{IsAnswerTo, Judges}
 
--- The program's error for a wrong line.
 pub of_fault : (bytes : List ℕ) (e : LineFault) (t : Trouble) → t ≡ of_line_fault e → (e.cause ≢ wrong.Memory → Says bytes (Err e))
     → Judges bytes (Err t)
 of_fault bytes e t is says = by e.line e.cause is says
@@ -26,7 +25,6 @@ of_fault bytes e t is says = by e.line e.cause is says
     by line wrong.Memory is says = inr (inl is)
     by line cause is says = inr (inr (fault line cause, says (λ bad. absurd cc), is))
 
--- The answer for a recording that the bytes spell.
 pub answered : (bytes : List ℕ) (c : Recording) (said : RecordingAnswer) (a : AnswerValue) → Says bytes (Ok c) → IsAnswered c said
     → IsAnswerTo said.verdict said.calls a → Judges bytes (Ok a)
 answered bytes c said a says is made = (
@@ -41,7 +39,7 @@ answered bytes c said a says is made = (
   },
 )
 
--- If these bytes were read from an input, they are a prefix of it.
+-- A property of all extensions of these bytes holds for the input from which the bytes were read.
 pub if_read : (all rest : Option (List ℕ)) (bytes : List ℕ) (P : List ℕ → Type 0) → Consumes all rest bytes
     → ((more : List ℕ) → P (bytes ++ more)) → IfSome all P
 if_read None rest bytes P read each = tt

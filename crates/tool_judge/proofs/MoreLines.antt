@@ -1,4 +1,4 @@
--- An answer about a recording stays valid if lines are appended to it.
+-- An answer about a recording stays correct if lines are appended to its text.
 use Rattle.std.proofs.Common.{◌≡◌, ℕ, length, Bool, true, false, List, ◌++◌, Ok, ap, ◌∙◌, append_assoc}
 use Rattle.std.specs.Prelude.{if◌then◌else◌}
 use Rattle.lset_judge.specs.declared.set_judge.Verdict.{Verdict}
@@ -27,7 +27,6 @@ with_more bytes text more status (c, says, reads, is) = (
   },
 )
 
--- The lines were appended, or an allocation failed.
 pub if_added : (b : Bool) (bytes text more : List ℕ) (status : ℕ) → Judges bytes (Ok (record { text = text; status = status }))
     → Judges bytes (Ok (record { text = if b then text ++ more else text; status = status }))
 if_added true bytes text more status is = with_more bytes text more status is

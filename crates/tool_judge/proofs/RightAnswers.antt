@@ -18,7 +18,6 @@ use Rattle.tool_judge.proofs.OneReading.{one_reading}
 only : (bytes : List ℕ) (read : Result Recording LineFault) → Says bytes read → SaysOnly bytes read
 only bytes read says = (says, λ other also. one_reading first_line nothing_told (cut_at 10 bytes) other read also says)
 
--- If the calls were refused, no order explains them.
 none_has : (b : Bool) (c : Recording) (refusal : Refusal) (clash : _) → IsVerdictIf b c (NotLinearizable refusal clash) → HasOrderIf b c → ⊥
 none_has true c refusal clash is has = (is.0 has.0).0 (length c.calls) has.1.0 has.1.1
 none_has false c refusal clash is has = is.0.0 (length c.calls) has.0 has.1

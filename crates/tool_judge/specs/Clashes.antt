@@ -1,4 +1,4 @@
--- The lines that are printed for two contradicting calls, byte by byte.
+-- The lines that `judge` prints for a contradiction about a key, byte by byte.
 use Rattle.std.specs.Prelude.{ℕ, Bool, true, false, if◌then◌else◌, nat_le, List, ◌++◌, codes, Option, Some, None}
 use Rattle.std.specs.Fmt.{decimal}
 use Rattle.lset_words.specs.declared.Call.{Call}
@@ -26,7 +26,7 @@ is_change (Add k) (Some (end, True)) = true
 is_change (Remove k) (Some (end, True)) = true
 is_change c ended = false
 
--- The state in which a call needs the key, computed from the state in which the call leaves it.
+-- The state in which a call needs the key: the state after the call or, if the call changes the key, the other state.
 abbrev pub need_of : Bool → Presence → Presence
 need_of changes leaves = if changes then other leaves else leaves
 
@@ -39,7 +39,7 @@ abbrev pub overlap : Option (ℕ × Reply) → ℕ → Bool
 overlap None begun = true
 overlap (Some e) begun = nat_le begun e.0
 
--- A call, with its reply and its moments, as text.
+-- ---- A call as text: its thread, operation, key, reply, begin and end
 abbrev pub thread_text : ℕ → List ℕ
 thread_text thread = codes "thread " ++ decimal thread ++ codes " "
 
@@ -59,7 +59,7 @@ end_text begun (Some e) = codes " " ++ reply_text e.1 ++ codes ", " ++ between b
 unfoldable pub made_text : StreamCall → List ℕ
 made_text x = thread_text x.thread ++ words.call_text x.call ++ key_text (key_of x.call).0 ++ end_text x.begun x.ended
 
--- ---- IN ONE ORDER: the first call leaves the key in one state, the second needs the other, and no call changes it in between
+-- ---- Contradictions in one order: one call leaves the key in one state, the next call needs the other
 
 abbrev pub leaves_text : ℕ → Presence → List ℕ
 leaves_text key Present = codes "leaves key " ++ decimal key ++ codes " present,\n"
@@ -111,7 +111,7 @@ abbrev pub lines_in_order : ℕ → Presence → Option StreamCall → Option St
 lines_in_order key was first second =
     first_line key was first ++ second_line key (other was) second ++ third_line key (other was) first second
 
--- ---- IN BOTH ORDERS, for two calls that overlap
+-- ---- Contradictions in both orders of two overlapping calls
 
 abbrev pub needs_key : ℕ → List ℕ
 needs_key key = codes "needs key " ++ decimal key ++ codes " "
@@ -123,7 +123,7 @@ abbrev pub nor_text : Presence → List ℕ
 nor_text Present = codes ", and no such add overlaps "
 nor_text Absent = codes ", and no such remove overlaps "
 
--- No call changes the key in either order.
+-- The words that state that no call changes the key in the one order, and in the other order.
 unfoldable pub turned_there : ℕ → Presence → ℕ → ℕ → List ℕ
 turned_there key need from to = no_change key need ++ codes "that returned true or is pending overlaps " ++ between from to
 
@@ -142,7 +142,7 @@ lines_turned key was x y = turned_first key (need_of (is_change x.call x.ended) 
     ++ turned_there key (other was) x.begun (end_of y.begun y.ended)
     ++ turned_back (need_of (is_change x.call x.ended) was) y.begun (end_of x.begun x.ended)
 
--- Returns the lines of a contradiction between calls of one key. Two calls that overlap are described in both orders.
+-- The lines of a contradiction about a key. Two calls that overlap are described in both orders.
 abbrev pub lines_of : ℕ → Presence → Option StreamCall → Option StreamCall → List ℕ
 lines_of key was (Some x) (Some y) = if overlap x.ended y.begun then lines_turned key was x y else lines_in_order key was (Some x) (Some y)
 lines_of key was first second = lines_in_order key was first second

@@ -1,4 +1,4 @@
--- The answers of `judge` are exact: they state whether some order explains a recording.
+-- The answers of `judge` are exact: `ok` is printed if and only if some order explains the recording.
 use Rattle.std.specs.Prelude.{◌≡◌, ℕ, ◌⊎◌, Bool, true, false, List, codes, length, Result, Ok, Err}
 use Rattle.lset_history.specs.History.{HistoryValue}
 use Rattle.lset_judge.specs.Verdict.{IsExplained}
@@ -18,23 +18,23 @@ abbrev pub HasOrderIf : Bool → Recording → Type 0
 HasOrderIf true c = (keys : List ℕ) × IsExplained (history_of c) keys
 HasOrderIf false c = IsExplained (history_of c) c.keys
 
--- States that some order explains the calls of a recording and leaves its final keys. If the recording was cut off, the
--- order can leave any keys.
+-- Some order explains the calls of a recording and leaves its final keys. If the recording was cut off, the order can
+-- leave any keys.
 abbrev pub HasOrder : Recording → Type 0
 HasOrder c = HasOrderIf c.cut_off c
 
--- States that the answer begins with the line `ok N calls`, with status 0, and some order explains the recording, or
--- that it begins with `not linearizable`, with status 1, and no order does.
+-- The answer is correct. It begins with the line `ok N calls` and has status 0, and some order explains the recording;
+-- or it begins with `not linearizable` and has status 1, and no order does.
 abbrev pub IsRight : Recording → AnswerValue → Type 0
 IsRight c answer = (HasOrder c × (answer.status ≡ 0) × Begins (ok_line (length c.calls)) answer.text)
     ⊎ ((HasOrder c → ⊥) × (answer.status ≡ 1) × Begins (codes "not linearizable\n") answer.text)
 
--- The bytes read as `read`, and in no other way.
+-- Reading the bytes has the result `read` and no other result.
 abbrev pub SaysOnly : List ℕ → Result Recording LineFault → Type 0
 SaysOnly bytes read = Says bytes read × ((other : Result Recording LineFault) → Says bytes other → other ≡ read)
 
--- States that the result is right: an exact answer about a recording, the error of the first wrong line with its cause,
--- `CannotRead`, or `Memory`.
+-- The result is correct: an exact answer about the recording, the error of the first wrong line with its cause,
+-- `CannotRead` for a failed read, or `Memory` for a failed allocation.
 abbrev pub JudgesRightly : List ℕ → Made → Type 0
 JudgesRightly bytes (Ok answer) = (c : Recording) × SaysOnly bytes (Ok c) × IsRight c answer
 JudgesRightly bytes (Err t) =

@@ -1,4 +1,4 @@
--- The answers of `judge` for the bytes of an input.
+-- The answers of the command `judge` for the bytes of an input.
 use Rattle.std.specs.Prelude.{◌≡◌, ℕ, ◌⊎◌, List, [], ◌++◌, codes, length, Option, Some, None, Ok, Err}
 use Rattle.std.specs.Fmt.{decimal}
 use Rattle.lset_judge.specs.declared.stream.Refusal.{Refusal}
@@ -13,7 +13,7 @@ use Rattle.tool_base.specs.Tools.{AnswerValue, Made}
 use Rattle.lset_judge.specs.declared.clash.Clash.{Clash}
 use Rattle.tool_judge.specs.Clashes.{clash_lines}
 
--- ---- the text of an answer
+-- ---- The text of an answer
 
 abbrev pub ok_line : ℕ → List ℕ
 ok_line calls = codes "ok " ++ decimal calls ++ codes " calls\n"
@@ -40,21 +40,21 @@ refused_text r clash = refused_lines r ++ clash_text r.key.0 clash
 abbrev pub Begins : List ℕ → List ℕ → Type 0
 Begins head text = (more : List ℕ) × (text ≡ head ++ more)
 
--- States that the answer is correct for a verdict on this number of calls: its text begins with the lines of the
--- verdict, and its status is 0 for `Linearizable` and 1 for `NotLinearizable`. Further lines can follow.
+-- The answer is correct for a verdict on this number of calls. Its text begins with the lines of the verdict, and its
+-- status is 0 for `Linearizable` and 1 for `NotLinearizable`. Further lines can follow.
 abbrev pub IsAnswerTo : Verdict → ℕ → AnswerValue → Type 0
 IsAnswerTo Linearizable calls answer = Begins (ok_line calls) answer.text × (answer.status ≡ 0)
 IsAnswerTo (NotLinearizable refusal clash) calls answer = Begins (refused_text refusal clash) answer.text × (answer.status ≡ 1)
 
--- States that the answer is correct for a recording: it is the answer for a correct verdict on the recording.
+-- The answer is correct for a recording: it is the answer for a correct verdict on this recording.
 pub record IsAnswerOn (c : Recording) (answer : AnswerValue) : Type 0 where
   pub recording : IsRecording c
   pub verdict : Verdict
   pub verdict_is : IsVerdictOnRecording c verdict
   pub answer_is : IsAnswerTo verdict (length c.calls) answer
 
--- States that the result is correct for the bytes of an input: a correct answer for the recording that they spell, the
--- error of the first wrong line with its cause, `CannotRead`, or `Memory`.
+-- The result is correct for the bytes of an input: a correct answer for the recording that they spell, the error of the
+-- first wrong line with its cause, `CannotRead` for a failed read, or `Memory` for a failed allocation.
 abbrev pub Judges : List ℕ → Made → Type 0
 Judges bytes (Ok answer) = (c : Recording) × Says bytes (Ok c) × (bytes ≡ recording_text c) × IsAnswerOn c answer
 Judges bytes (Err t) = (t ≡ CannotRead) ⊎ ((t ≡ Memory) ⊎ ((fault : LineFault) × Says bytes (Err fault) × (t ≡ of_line_fault fault)))

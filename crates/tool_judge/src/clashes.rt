@@ -1,4 +1,5 @@
-//! Writes the lines about two calls that contradict each other.
+//! Writes the lines that describe a contradiction between two calls of a key, or between a call and the key's first or
+//! final state.
 
 ghost use Rattle.std.specs.Prelude.{◌≡◌, IfOk};
 ghost use Rattle.tool_judge.specs.Clashes as lines;
@@ -8,7 +9,7 @@ use lset_text::{call_word, reply_word};
 use lset_words::{Call, Presence, Reply};
 use std::alloc::{AllocError, Global};
 
-/// Writes a call in the format of a recording's line. Allocates.
+/// Writes a call as a line of a recording. Allocates.
 pub fn put_call(out: &mut String, made: StreamCall) -> Result<(), AllocError> {
     let StreamCall {
         thread,
@@ -47,15 +48,15 @@ fn is_change(made: StreamCall) -> bool
     )
 }
 
-/// Returns the state in which a call needs the key, given the state in which the call leaves it: the other state if the
-/// call changes the key, otherwise the same.
+/// Returns the state (present or absent) in which a call needs the key. `leaves` is the state after the call. A call
+/// that changes the key needs the other state, any other call the same state.
 fn need_of(changes: bool, leaves: Presence) -> Presence
     ensures { result ≡ lines.need_of changes leaves }
 {
     if changes { other(leaves) } else { leaves }
 }
 
-/// Returns the moment at which a call ended, or began if it is pending.
+/// Returns the moment at which a call ended; if the call is pending, the moment at which it began.
 fn end_of(made: StreamCall) -> u64
     ensures { result ≡ lines.end_of made.begun made.ended }
 {
@@ -104,7 +105,7 @@ fn between(alloc: Global, from: u64, to: u64) -> Result<Vec<u8>, AllocError>
     Ok(text.into_bytes())
 }
 
-/// Returns a call's reply and moments as text.
+/// Returns a call's reply, begin and end as text.
 fn end_text(alloc: Global, begun: u64, ended: Option<(u64, Reply)>) -> Result<Vec<u8>, AllocError>
     ensures { IfOk result (λ text. text.items ≡ lines.end_text begun ended) }
 {
@@ -124,7 +125,7 @@ fn end_text(alloc: Global, begun: u64, ended: Option<(u64, Reply)>) -> Result<Ve
     }
 }
 
-/// Returns a call as text: its thread, operation, key, reply and moments.
+/// Returns a call as text: its thread, operation, key, reply, begin and end.
 #[tactic(auto, unfolding(crate::specs::Clashes::made_text))]
 fn call_text(alloc: Global, made: StreamCall) -> Result<Vec<u8>, AllocError>
     ensures { IfOk result (λ text. text.items ≡ lines.made_text made) }
@@ -136,7 +137,7 @@ fn call_text(alloc: Global, made: StreamCall) -> Result<Vec<u8>, AllocError>
     Ok(text)
 }
 
-/// Returns the words for the state in which the first call leaves the key.
+/// Returns the words that state whether the first call leaves the key present or absent.
 fn leaves_text(alloc: Global, key: u32, was: Presence) -> Result<Vec<u8>, AllocError>
     ensures { IfOk result (λ text. text.items ≡ lines.leaves_text key was) }
 {
@@ -152,7 +153,7 @@ fn leaves_text(alloc: Global, key: u32, was: Presence) -> Result<Vec<u8>, AllocE
     }
 }
 
-/// Returns the words for the state in which the second call needs the key.
+/// Returns the words that state whether the second call needs the key present or absent.
 fn needs_text(alloc: Global, key: u32, need: Presence) -> Result<Vec<u8>, AllocError>
     ensures { IfOk result (λ text. text.items ≡ lines.needs_text key need) }
 {
@@ -168,7 +169,7 @@ fn needs_text(alloc: Global, key: u32, need: Presence) -> Result<Vec<u8>, AllocE
     }
 }
 
-/// Returns the line that states a key's opening state.
+/// Returns the line that states whether the set contains the key at first.
 fn opening_text(alloc: Global, key: u32, was: Presence) -> Result<Vec<u8>, AllocError>
     ensures { IfOk result (λ text. text.items ≡ lines.opening_text key was) }
 {
@@ -184,7 +185,7 @@ fn opening_text(alloc: Global, key: u32, was: Presence) -> Result<Vec<u8>, Alloc
     }
 }
 
-/// Returns the line that states a key's final state.
+/// Returns the line that states whether the set contains the key at the end.
 fn final_text(alloc: Global, key: u32, need: Presence) -> Result<Vec<u8>, AllocError>
     ensures { IfOk result (λ text. text.items ≡ lines.final_text key need) }
 {
@@ -200,7 +201,8 @@ fn final_text(alloc: Global, key: u32, need: Presence) -> Result<Vec<u8>, AllocE
     }
 }
 
-/// Returns the first line of a contradiction in one order.
+/// Returns the first of three lines: the first call and the state in which it leaves the key. The state at first is
+/// printed if `first` is `None`.
 fn first_line(
     alloc: Global,
     key: u32,
@@ -220,7 +222,8 @@ fn first_line(
     }
 }
 
-/// Returns the second line of a contradiction in one order.
+/// Returns the second of three lines: the second call and the state in which it needs the key. The state at the end is
+/// printed if `second` is `None`.
 fn second_line(
     alloc: Global,
     key: u32,
@@ -240,7 +243,8 @@ fn second_line(
     }
 }
 
-/// Returns the words that say that no call brings the key into a state.
+/// Returns the words that name the operation missing between the two calls: the one that brings the key into the state
+/// `need`.
 fn no_change(alloc: Global, key: u32, need: Presence) -> Result<Vec<u8>, AllocError>
     ensures { IfOk result (λ text. text.items ≡ lines.no_change key need) }
 {
@@ -279,7 +283,7 @@ fn ends_text(alloc: Global, from: u64) -> Result<Vec<u8>, AllocError>
     Ok(text.into_bytes())
 }
 
-/// Returns the words for the time within which no call changes the key.
+/// Returns the words for the time in which no call changes the key: between two calls, before one, or after one.
 fn time_text(
     alloc: Global,
     first: Option<StreamCall>,
@@ -295,7 +299,7 @@ fn time_text(
     }
 }
 
-/// Returns the third line of a contradiction in one order.
+/// Returns the third of three lines, which states that no call changes the key between the two calls.
 fn third_line(
     alloc: Global,
     key: u32,
@@ -310,8 +314,8 @@ fn third_line(
     Ok(text)
 }
 
-/// Returns the lines of a contradiction in one order: between two calls, or between a call and the opening or final
-/// state.
+/// Returns the three lines of a contradiction in one order: between two calls, or between a call and the key's first or
+/// final state.
 fn lines_in_order(
     alloc: Global,
     key: u32,
@@ -362,7 +366,8 @@ fn needs_and_leaves(
     Ok(text)
 }
 
-/// Returns the words that say that no call changes the key in the other order either.
+/// Returns the words that name the operation missing in the other order of two overlapping calls. `need` is the state
+/// in which the later call needs the key.
 fn nor_text(alloc: Global, need: Presence) -> Result<Vec<u8>, AllocError>
     ensures { IfOk result (λ text. text.items ≡ lines.nor_text need) }
 {
@@ -372,7 +377,8 @@ fn nor_text(alloc: Global, need: Presence) -> Result<Vec<u8>, AllocError>
     }
 }
 
-/// Returns the words that say that no call brings the key into a state within a period.
+/// Returns the words that state that no call which brings the key into the state `need` overlaps the time `from` to
+/// `to`. They are for the case that the first call takes effect first.
 #[tactic(auto, unfolding(crate::specs::Clashes::turned_there))]
 fn turned_there(
     alloc: Global,
@@ -389,7 +395,8 @@ fn turned_there(
     Ok(text)
 }
 
-/// Returns the words that say that no call changes the key within the period of the other order.
+/// Returns the words that state that no call which changes the key back overlaps the time `from` to `to`. They are for
+/// the case that the second call takes effect first.
 #[tactic(auto, unfolding(crate::specs::Clashes::turned_back))]
 fn turned_back(alloc: Global, back: Presence, from: u64, to: u64) -> Result<Vec<u8>, AllocError>
     ensures { IfOk result (λ text. text.items ≡ lines.turned_back back from to) }
@@ -432,7 +439,7 @@ fn turned_second(
     Ok(text)
 }
 
-/// Returns the lines of two overlapping calls that contradict each other in both orders.
+/// Returns the lines of two overlapping calls that contradict each other whichever of them comes first.
 fn lines_turned(
     alloc: Global,
     key: u32,
@@ -453,7 +460,7 @@ fn lines_turned(
     Ok(text)
 }
 
-/// Returns the three lines of a contradiction between calls of one key.
+/// Returns the three lines of a contradiction about a key.
 pub(crate) fn clash_lines(alloc: Global, key: u32, clash: Clash) -> Result<Vec<u8>, AllocError>
     ensures { IfOk result (λ text. text.items ≡ lines.clash_lines key clash) }
 {

@@ -3,13 +3,13 @@ use lset_text::{call_word, reply_word};
 use lset_words::{Call, Presence};
 use std::alloc::{AllocError, Global};
 
-/// The maximum number of calls that are all printed.
+/// The maximum number of calls in a list that is printed whole.
 const NAMED: usize = 4;
 
-/// How many calls are printed at each end of a longer list.
+/// The number of calls that are printed at the beginning and at the end of a longer list.
 const NAMED_OF_MANY: usize = 2;
 
-/// Writes a call's thread and moments.
+/// Writes a call's thread, begin and end.
 fn put_when(out: &mut String, made: StreamCall) -> Result<(), AllocError> {
     let (thread, begun) = (made.thread, made.begun);
     match made.ended {
@@ -19,7 +19,7 @@ fn put_when(out: &mut String, made: StreamCall) -> Result<(), AllocError> {
     Ok(())
 }
 
-/// Writes a call with its reply, thread and moments.
+/// Writes a call with its reply, thread, begin and end.
 fn put_made(out: &mut String, made: StreamCall) -> Result<(), AllocError> {
     let (word, key) = (call_word(made.call), made.call.key().0);
     write!(out, "{word} {key}")?;
@@ -55,7 +55,7 @@ fn state_word(state: Presence) -> &'static str {
     }
 }
 
-/// Returns the call that brings the key into a state.
+/// Returns the operation that brings the key into a state: `add` for present, `remove` for absent.
 fn maker(count: &Count, state: Presence) -> Call {
     match state {
         Presence::Present => Call::Add(count.key),
@@ -63,8 +63,8 @@ fn maker(count: &Count, state: Presence) -> Call {
     }
 }
 
-/// Writes the calls of a count. If there are many, only those at both ends are written, and the number of those in
-/// between.
+/// Writes the calls that a contradiction counts. Of many calls, only the first and last ones are written, with the
+/// number of calls between them.
 fn put_calls(out: &mut String, count: &Count) -> Result<(), AllocError> {
     let (key, all) = (count.key.0, count.calls.len());
     let mut is_first = true;
@@ -100,7 +100,7 @@ fn put_calls(out: &mut String, count: &Count) -> Result<(), AllocError> {
     Ok(())
 }
 
-/// Writes how often, and when, the key must change back.
+/// Writes how often the key must change back between the counted calls, and when.
 fn put_need(out: &mut String, count: &Count) -> Result<(), AllocError> {
     let (key, state) = (count.key.0, state_word(other(count.was)));
     write!(out, "  need key {key} to become {state}")?;
@@ -117,7 +117,7 @@ fn put_need(out: &mut String, count: &Count) -> Result<(), AllocError> {
     Ok(())
 }
 
-/// Writes the period in which the calls that change the key back must overlap.
+/// Writes the time in which the calls that change the key back must run.
 fn put_stretch(out: &mut String, count: &Count, is_one: bool) -> Result<(), AllocError> {
     let s = if is_one { "s" } else { "" };
     match (count.since, count.until) {
@@ -129,7 +129,7 @@ fn put_stretch(out: &mut String, count: &Count, is_one: bool) -> Result<(), Allo
     Ok(())
 }
 
-/// Writes the calls that may have changed the key back.
+/// Writes the calls that can have changed the key back. There are too few of them.
 fn put_backs(out: &mut String, count: &Count) -> Result<(), AllocError> {
     let (word, key) = (call_word(maker(count, other(count.was))), count.key.0);
     let all = count.backs.len();
@@ -159,8 +159,9 @@ fn put_backs(out: &mut String, count: &Count) -> Result<(), AllocError> {
     Ok(())
 }
 
-/// Writes the three lines of a count: its calls, how often the key must change back between them, and the calls that
-/// may have changed it back. Long lists of calls are abbreviated. Allocates.
+/// Writes the three lines of a contradiction by counting: the calls that need the key in one state, how often the key
+/// must change back between them, and the too few calls that can have changed it back. Long lists of calls are
+/// shortened. Allocates.
 pub fn put_count(out: &mut String, count: &Count) -> Result<(), AllocError> {
     write!(out, "contradiction: ")?;
     put_calls(out, count)?;
@@ -169,7 +170,7 @@ pub fn put_count(out: &mut String, count: &Count) -> Result<(), AllocError> {
     put_backs(out, count)
 }
 
-/// Returns the lines of a count (if there is one) followed by `text`. Allocates.
+/// Returns `text`, preceded by the lines of `count` if it is a contradiction by counting. Allocates.
 pub fn with_count(alloc: Global, count: &Option<Count>, text: &str) -> Result<String, AllocError> {
     let mut out = String::new(alloc);
     if let Some(count) = count {

@@ -14,13 +14,13 @@ use std::alloc::{AllocError, Global};
 use std::io::Read;
 use tool_base::{Answer, READ_SIZE, Trouble};
 
-/// How much an answer contains besides the verdict, the number of calls that overlap, and whether the recording was cut
-/// off.
+/// How much an answer contains. Every answer has the verdict, the number of calls that overlap, and whether the
+/// recording was cut off.
 #[derive(Clone, Copy, PartialEq, Eq)]
 pub(crate) enum Detail {
-    /// Also the contradiction behind a refusal, and advice if few calls overlap.
+    /// The answer also has the contradiction if one was found, and advice if few calls overlap.
     Whole,
-    /// Neither a contradiction nor advice.
+    /// The answer has neither a contradiction nor advice.
     Brief,
 }
 
@@ -34,7 +34,7 @@ fn without_clash(verdict: Verdict) -> Verdict
     }
 }
 
-/// Reduces an answer to this level of detail.
+/// Removes the parts of an answer that this level of detail does not print.
 fn in_detail(said: RecordingAnswer, detail: Detail) -> RecordingAnswer
     ensures { (c : Recording) → IsAnswered c said → IsAnswered c result }
 {
@@ -47,7 +47,7 @@ fn in_detail(said: RecordingAnswer, detail: Detail) -> RecordingAnswer
     }
 }
 
-/// Returns the text and the exit status of a verdict.
+/// Returns the printed text and the exit status for a verdict.
 fn answer_to(alloc: Global, said: RecordingAnswer, detail: Detail) -> Result<Answer, AllocError>
     ensures { IfOk result (λ a. IsAnswerTo said.verdict said.calls (record { text = a.text.items; status = a.status })) }
 {
@@ -69,7 +69,7 @@ fn answer_to(alloc: Global, said: RecordingAnswer, detail: Detail) -> Result<Ans
     }
 }
 
-/// Returns the answer for a recording that was read to its end.
+/// Returns the answer for a recording that was read to its end. `detail` is the level of detail.
 fn answer_of(alloc: Global, reader: RecordingReader, detail: Detail) -> Result<Answer, Trouble>
     ensures judges { (bytes : List ℕ) → IsRead bytes reader → Judges bytes (tools.view result) }
     ensures read { IfErr result (λ t. t ≢ CannotRead) }
@@ -80,15 +80,16 @@ fn answer_of(alloc: Global, reader: RecordingReader, detail: Detail) -> Result<A
     Ok(answer)
 }
 
-/// Judges the text of a recording. The answer is `ok N calls` with status 0 if some order of the calls explains all
-/// replies and leaves the final keys, and `not linearizable` with status 1 if none does. If the recording was cut off,
-/// its final keys are not known; the answer is then `ok` if some order explains the replies, whatever keys it leaves.
-/// Allocates. Does not block.
+/// Judges the text of a recording. The answer is `ok N calls` with exit status 0 if some order of the calls explains
+/// all replies and leaves the final keys. The answer is `not linearizable` with exit status 1 if no order does. If the
+/// recording was cut off, its final keys are unknown; the answer is then `ok` if some order explains the replies,
+/// whatever keys it leaves. Allocates. Does not block.
 ///
-/// After `ok N calls`, the answer states how many calls overlap a change of their key, adds advice if these are fewer
-/// than 5 of 100, and says if the recording was cut off. After `not linearizable`, it names the key whose calls have no
-/// order, and the moment up to which they have none. If a contradiction was found, the answer also shows the two calls:
-/// the first leaves the key in one state, the second needs the other, and no call can have changed it in between.
+/// After `ok N calls`, the answer states how many calls overlap a change of their key. It adds advice if these are
+/// fewer than 5 of 100, and a remark if the recording was cut off. After `not linearizable`, the answer names the key
+/// whose calls have no order, and the moment up to which they have none. If a contradiction was found, the answer also
+/// shows the two calls: the first leaves the key in one state, the second needs the other, and no call can have changed
+/// it in between.
 ///
 /// # Errors
 ///
@@ -103,7 +104,7 @@ pub fn judge_bytes(alloc: Global, bytes: &[u8]) -> Result<Answer, Trouble>
     answer_of(alloc, reader, Detail::Whole)
 }
 
-/// Judges the recording on an input, at this level of detail. Reads the input to its end or to the first error.
+/// Judges a recording that is read from an input. Stops reading at the end of the input or at the first error.
 fn judge_in<R: Read>(alloc: Global, input: &mut R, detail: Detail) -> Result<Answer, Trouble>
     ensures { IfSome (R.remaining input.old) (λ bytes. Judges bytes (tools.view result)) }
 {
@@ -122,8 +123,8 @@ fn judge_in<R: Read>(alloc: Global, input: &mut R, detail: Detail) -> Result<Ans
     Err(Trouble::CannotRead)
 }
 
-/// Judges the recording on an input like `judge_bytes`. Reads the input in pieces of `READ_SIZE` bytes, to its end or
-/// to the first error. Allocates. Blocks while reading.
+/// Judges a recording that is read from an input, as `judge_bytes` does. Reads pieces of `READ_SIZE` bytes and stops at
+/// the end of the input or at the first error. Allocates. Blocks while reading.
 ///
 /// # Errors
 ///
@@ -134,8 +135,8 @@ pub fn judge_input<R: Read>(alloc: Global, input: &mut R) -> Result<Answer, Trou
     judge_in(alloc, input, Detail::Whole)
 }
 
-/// Judges the recording on an input like `judge_input`, but without advice and without a contradiction. Allocates.
-/// Blocks while reading.
+/// Judges a recording that is read from an input, as `judge_input` does, but prints neither advice nor a contradiction.
+/// Allocates. Blocks while reading.
 ///
 /// # Errors
 ///
@@ -146,12 +147,12 @@ pub fn judge_briefly<R: Read>(alloc: Global, input: &mut R) -> Result<Answer, Tr
     judge_in(alloc, input, Detail::Brief)
 }
 
-/// Lemma: the answers of `judge_bytes`, `judge_input` and `judge_briefly` are right. Unless an allocation or a read
+/// Lemma: the answers of `judge_bytes`, `judge_input` and `judge_briefly` are correct. Unless an allocation or a read
 /// fails, there are three cases:
-/// - the answer is `ok` with status 0 exactly if the bytes are a recording and some order explains its calls and leaves its
-///   final keys (any keys, if the recording was cut off);
-/// - the answer is `not linearizable` with status 1 exactly if the bytes are a recording and no order does;
-/// - the result is an error with a line and a cause exactly if this is the first wrong line and its cause.
+/// - the answer is `ok` with status 0 if and only if the bytes are a recording, and some order explains its calls and
+///   leaves its final keys (any keys, if the recording was cut off);
+/// - the answer is `not linearizable` with status 1 if and only if the bytes are a recording and no order does;
+/// - the result is an error with a line and a cause if and only if this is the first wrong line and its cause.
 pub fn answers_are_right()
     ensures { AnswersAreRight }
 {}

@@ -1,5 +1,5 @@
-//! The command `judge`, which reads a recording of a set and prints whether any order explains it. The command `show`
-//! also prints this for a report whose order is refused.
+//! The command `judge`, which reads recorded calls of a set and prints whether some order explains them. The command
+//! `show` prints the same lines below a report whose order is refused.
 #![tactic(auto)]
 
 mod clashes;

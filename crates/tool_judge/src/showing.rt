@@ -15,23 +15,23 @@ const UNKNOWN: &[u8] = b"it is not known whether another order explains this rep
 const NOT_INCREASING: &[u8] =
     b"not linearizable\nno order leaves these keys, which do not increase\n";
 
-/// What can be said about all orders of a report's calls.
+/// A statement about all orders of a report's calls, not only about the order in the report.
 #[derive(Drop)]
 pub enum Claim {
-    /// No order leaves the report's final keys, since they are not in increasing order.
+    /// No order leaves the report's final keys, because these keys are not in increasing order.
     NotIncreasing,
-    /// No order explains the call with this number, since no set can return this reply.
+    /// No order explains the call with this number, because no set can return this reply to it.
     NoSuchReply(u32, Call, Reply),
-    /// No order explains the calls and leaves the final keys. Contains the reason, and two contradicting calls if they
-    /// were found.
+    /// No order explains the calls and leaves the final keys. Contains the reason, and the two contradicting calls if
+    /// they were found.
     NotLinearizable(Refusal, Option<Clash>),
     /// Some order explains the calls and leaves the final keys.
     Explained,
-    /// Unknown, since the judge does not decide calls of `ceiling` and knows no quota.
+    /// It is unknown whether some order does: the judge does not decide calls of `ceiling` and knows no quota.
     Unknown,
 }
 
-/// Returns `true` if some set can return this reply to this call.
+/// Returns `true` if a set can return this reply to this call.
 fn is_reply_to(call: Call, reply: Reply) -> bool {
     match call {
         Call::Add(_) => matches!(reply, Reply::True | Reply::False | Reply::Full),
@@ -57,8 +57,8 @@ fn no_such_reply(calls: &[CallRecord]) -> Option<Claim> {
     None
 }
 
-/// Returns the history's call for the call `read` that the judge saw. (The judge reads a `ceiling`, or an `add` that
-/// returned full, as a `contains`.)
+/// Returns the call of the history that corresponds to `read`, a call as the judge read it. (The judge reads a
+/// `ceiling`, or an `add` that returned full, as a `contains`.)
 fn recorded_call(history: &History, read: StreamCall) -> StreamCall {
     let calls = history.calls();
     let place = calls.partition_point(|made| u64::from(made.begun) < read.begun);
@@ -73,7 +73,7 @@ fn recorded_call(history: &History, read: StreamCall) -> StreamCall {
     }
 }
 
-/// Replaces the calls of a contradiction by the calls of the history.
+/// Replaces the calls in a contradiction by the corresponding calls of the history.
 fn as_made(history: &History, clash: Clash) -> Clash {
     Clash {
         was: clash.was,
@@ -82,7 +82,7 @@ fn as_made(history: &History, clash: Clash) -> Clash {
     }
 }
 
-/// Decides what can be said about all orders of a picture's calls that leave its final keys. Allocates.
+/// Decides whether some order of a picture's calls explains them and leaves the final keys. Allocates.
 pub fn claim_on(alloc: Global, picture: &Picture) -> Result<Claim, AllocError> {
     if !increases(&picture.keys) {
         return Ok(Claim::NotIncreasing);
@@ -101,7 +101,7 @@ pub fn claim_on(alloc: Global, picture: &Picture) -> Result<Claim, AllocError> {
     }
 }
 
-/// Returns the lines about a call with a reply that no set can return.
+/// Returns the lines about a call whose reply no set can return.
 fn no_such_reply_text(
     alloc: Global,
     number: u32,
@@ -115,7 +115,7 @@ fn no_such_reply_text(
     Ok(text.into_bytes())
 }
 
-/// Returns the lines that state the claim about a picture.
+/// Returns the lines that state whether some order explains the calls of a picture.
 fn claim_text(alloc: Global, picture: &Picture) -> Result<Vec<u8>, AllocError> {
     match claim_on(alloc, picture)? {
         Claim::NotIncreasing => Vec::from_slice(alloc, NOT_INCREASING),
@@ -128,16 +128,16 @@ fn claim_text(alloc: Global, picture: &Picture) -> Result<Vec<u8>, AllocError> {
     }
 }
 
-/// The command `show`. Answers with the picture of a schedule or a report, limited to the moments in the window. The
+/// The command `show`. The answer is the picture of a schedule or a report, limited to a range of moments. The exit
 /// status is 1 if the report's order is refused or an event of the schedule is not enabled, otherwise 0. A schedule is
 /// drawn up to the first event that is not enabled.
 ///
-/// If the order is refused and the picture is text, an empty line follows the picture, and then a statement whether any
-/// other order explains the report and leaves its final keys. If none does, the lines of `judge` follow. For a report
-/// with `ceiling` or `full`, the statement can be that this is unknown.
+/// If the order is refused and the picture is text, an empty line follows the picture, and then a statement whether
+/// some other order explains the report and leaves its final keys. If no order does, the lines of `judge` follow. For a
+/// report with `ceiling` or `full`, the statement can be that this is unknown.
 ///
-/// The errors are those of `Show::picture`, `Bad(From)` if the window begins after everything in the picture, and
-/// `Memory`.
+/// The command fails as `Show::picture` does, with `Bad(From)` if the range of moments begins after everything in the
+/// picture, and with `Memory` if an allocation fails.
 #[derive(Clone, Copy)]
 pub struct ShowJudged {
     pub show: Show,

@@ -14,7 +14,7 @@ const HINT: &str =
 const CUT_OFF: &str =
     "the recording was cut off: some keys left fit, and those that were left are not known\n";
 
-/// Returns the first line for a recording that some order explains.
+/// Returns the first line of the answer if some order explains the recording.
 fn ok_line(alloc: Global, calls: u64) -> Result<Vec<u8>, AllocError>
     ensures { IfOk result (λ text. text.items ≡ ok_line calls) }
 {
@@ -27,7 +27,7 @@ fn is_few(overlapped: u64, calls: u64) -> bool {
     overlapped.saturating_mul(20) < calls
 }
 
-/// Returns the lines after the first one, for a recording that some order explains.
+/// Returns the other lines of the answer if some order explains the recording.
 fn notes(
     alloc: Global,
     calls: u64,
@@ -45,7 +45,7 @@ fn notes(
     Ok(text.into_bytes())
 }
 
-/// Returns all lines for a recording that some order explains.
+/// Returns the whole answer if some order explains the recording.
 pub(crate) fn ok_text(
     alloc: Global,
     calls: u64,
@@ -61,7 +61,7 @@ pub(crate) fn ok_text(
     Ok(text)
 }
 
-/// Returns `not linearizable`, and the start of the second line up to the key.
+/// Returns the line `not linearizable`, and the second line up to its key.
 fn calls_of_key(alloc: Global, key: u32) -> Result<Vec<u8>, AllocError>
     ensures { IfOk result (λ text. text.items ≡ calls_of_key key) }
 {
@@ -69,8 +69,8 @@ fn calls_of_key(alloc: Global, key: u32) -> Result<Vec<u8>, AllocError>
     Ok(text.into_bytes())
 }
 
-/// Returns the end of the second line: the moment up to which the key's calls have no order, or that no order leaves
-/// its final state.
+/// Returns the rest of the second line: the moment up to which no order explains the calls, or that no order leaves the
+/// key's final state.
 fn extent(alloc: Global, moment: Option<u64>) -> Result<Vec<u8>, AllocError>
     ensures { IfOk result (λ text. text.items ≡ extent moment) }
 {
@@ -83,7 +83,7 @@ fn extent(alloc: Global, moment: Option<u64>) -> Result<Vec<u8>, AllocError>
     }
 }
 
-/// Returns the first two lines for a recording that no order explains.
+/// Returns the first two lines of the answer if no order explains the recording.
 fn refused_lines(alloc: Global, refusal: Refusal) -> Result<Vec<u8>, AllocError>
     ensures { IfOk result (λ text. text.items ≡ refused_lines refusal) }
 {
@@ -92,7 +92,7 @@ fn refused_lines(alloc: Global, refusal: Refusal) -> Result<Vec<u8>, AllocError>
     Ok(text)
 }
 
-/// Returns the lines of a contradiction between calls of a key; empty if there is none.
+/// Returns the lines of a contradiction about a key. The text is empty if there is no contradiction.
 fn clash_text(alloc: Global, key: u32, clash: Option<Clash>) -> Result<Vec<u8>, AllocError>
     ensures { IfOk result (λ text. text.items ≡ clash_text key clash) }
 {
@@ -102,8 +102,8 @@ fn clash_text(alloc: Global, key: u32, clash: Option<Clash>) -> Result<Vec<u8>, 
     }
 }
 
-/// Returns the lines for calls that no order explains: `not linearizable`, the key and the moment, and the three lines
-/// of the contradiction if one was found. Allocates.
+/// Returns the whole answer if no order explains the calls: `not linearizable`, the key and the moment, and the three
+/// lines of the contradiction if one was found. Allocates.
 pub(crate) fn refused_text(
     alloc: Global,
     refusal: Refusal,

@@ -1,4 +1,4 @@
--- The contract of `check`: its answer for each input.
+-- The contract of the command `check`: its answer for each input.
 use Rattle.std.specs.Prelude.{◌≡◌, ◌≢◌, ℕ, ◌⊎◌, List, [], ◌++◌, codes, Option, Some, None, Result, Ok, Err}
 use Rattle.std.specs.Fmt.{decimal}
 use Rattle.lset_history.specs.declared.fault.OrderFault.{OrderFault}
@@ -14,21 +14,20 @@ use Rattle.tool_base.specs.Trouble.{of_line_fault}
 use Rattle.tool_base.specs.declared.trouble.Trouble.TheVariants as trouble
 use Rattle.tool_base.specs.Tools.{AnswerValue, Made, OnInput}
 
--- The order in the report does not explain the history, and this is its first fault. A failed allocation is no fault of
--- an order.
+-- The order in the report does not explain the history, and `fault` is the order's first error, not a failed
+-- allocation.
 pub record IsRefused (r : ReportValue) (fault : OrderFault) : Type 0 where
   pub first_fault : IsFault r.history r.order r.keys fault
   pub of_the_order : fault ≢ Memory
   pub not_explained : Explains r.history r.order r.keys → ⊥
 
 -- The verdict on a report: `None` if the order explains the history and leaves exactly the final keys, otherwise the
--- order's first fault.
+-- order's first error.
 abbrev pub IsVerdict : ReportValue → Option OrderFault → Type 0
 IsVerdict r None = Explains r.history r.order r.keys
 IsVerdict r (Some fault) = IsRefused r fault
 
--- The line that `check` prints for a refused order; empty for a failed allocation, for which `check` prints an error
--- instead.
+-- The line that `check` prints for a refused order. Empty for a failed allocation, which `check` reports as an error.
 abbrev pub refusal_text : OrderFault → List ℕ
 refusal_text (Unknown number) = codes "refused Unknown " ++ decimal number ++ codes "\n"
 refusal_text (Twice number) = codes "refused Twice " ++ decimal number ++ codes "\n"
@@ -38,22 +37,21 @@ refusal_text (TooEarly number) = codes "refused TooEarly " ++ decimal number ++ 
 refusal_text WrongSet = codes "refused WrongSet\n"
 refusal_text Memory = []
 
--- The text and the exit status for a verdict.
+-- The text that `check` prints for a verdict, and the exit status.
 abbrev pub answer_of : Option OrderFault → AnswerValue
 answer_of None = record { text = codes "ok\n"; status = 0 }
 answer_of (Some fault) = record { text = refusal_text fault; status = 1 }
 
--- The answer states the verdict on this report.
+-- The answer states the correct verdict on this report.
 abbrev pub IsAnswerOn : ReportValue → AnswerValue → Type 0
 IsAnswerOn r answer = (verdict : Option OrderFault) × IsVerdict r verdict × (answer ≡ answer_of verdict)
 
--- The error is the text's first error.
+-- The error t is the first error of the text.
 abbrev pub IsFirstFault : Result ReportValue LineFault → Trouble → Type 0
 IsFirstFault (Err fault) t = t ≡ of_line_fault fault
 IsFirstFault (Ok r) t = ⊥
 
--- The contract for the bytes of a text: the answer for the report that they spell, the first error of the text, or a
--- failed allocation.
+-- The contract of `check` for a text: the answer for the report in it, its first error, or a failed allocation.
 abbrev pub ChecksText : List ℕ → Made → Type 0
 ChecksText bytes (Ok answer) = (r : ReportValue) × IsReport r × (bytes ≡ report_text r) × IsAnswerOn r answer
 ChecksText bytes (Err t) = (t ≡ trouble.Memory) ⊎ IsFirstFault (reading bytes) t

@@ -1,4 +1,4 @@
--- The contract of `gen`: the schedule that it prints for its arguments.
+-- The contract of the command `gen`: the schedule that it prints for its arguments.
 use Rattle.std.specs.Prelude.{◌≡◌, ℕ, List, Result, Ok, Err}
 use Rattle.lset_steps.specs.Steps.{Table}
 use Rattle.lset_lists.specs.Tables.{table_of}
@@ -12,19 +12,20 @@ use Rattle.tool_base.specs.declared.arguments.RandomRequest.{RandomRequest}
 use Rattle.tool_base.specs.Arguments.{random_request_of}
 use Rattle.tool_base.specs.Tools.{Made}
 
--- The schedule matches the request and fits the machine with this table:
+-- The schedule matches the request and can run on the list with step table T.
 pub record IsRequested (T : Table) (request : RandomRequest) (p : Plan) : Type 0 where
   pub version_is : p.version ≡ One
   pub kind_is : p.kind ≡ request.kind
   pub threads_are : p.threads ≡ request.threads
   pub quota_is : p.quota ≡ request.quota
   pub schedule : IsSchedule p
-  -- its events are enabled, and its calls and keys are within the request
+  -- All events are enabled, and the numbers of calls and keys are at most the requested ones.
   pub generated : IsGenerated T request.threads request.quota request.calls request.keys p.lines
-  -- its lines are the ones drawn with the seed
+  -- The lines of the schedule are those that the random seed determines.
   pub drawn : AreOfSeed T request.threads request.quota request.calls request.keys request.seed p.lines
 
--- The contract for a request: the text of a matching schedule, the argument that is wrong, or a failed allocation.
+-- The contract of `gen` for a request: the text of a matching schedule, the argument that is wrong, or a failed
+-- allocation.
 abbrev pub Answers : Result RandomRequest ValueName → Made → Type 0
 Answers (Ok request) (Ok answer) =
     (p : Plan) × IsRequested (table_of request.kind) request p × (answer ≡ record { text = schedule_text p; status = 0 })

@@ -1,4 +1,4 @@
--- The contract of `replay`: the report that it prints for each input.
+-- The contract of the command `replay`: the report that it prints for each input.
 use Rattle.std.specs.Prelude.{◌≡◌, ℕ, ◌⊎◌, List, Result, Ok, Err}
 use Rattle.lset_lists.specs.Tables.{table_of}
 use Rattle.lset_text.specs.declared.causes.Cause.TheVariants as cause
@@ -16,27 +16,27 @@ use Rattle.tool_base.specs.Trouble.{of_line_fault}
 use Rattle.tool_base.specs.declared.trouble.Trouble.TheVariants.{Line, Memory}
 use Rattle.tool_base.specs.Tools.{Made, OnInput}
 
--- The bytes are the text of the schedule `p`, and `r` reports exactly the events of `p`. The order in `r` explains its
--- history and leaves its final keys.
+-- The bytes are the text of the schedule `p`, and `r` is the report of its run. The order in `r` explains the history
+-- of `r` and leaves its final keys.
 pub record IsReported (bytes : List ℕ) (p : Plan) (r : ReportValue) : Type 0 where
   pub schedule : IsSchedule p
   pub text : bytes ≡ schedule_text p
   pub replay : IsReplay (table_of p.kind) p r
   pub explained : IsExplained r
 
--- The error of a schedule that cannot be replayed.
+-- The program's error for a schedule that cannot be replayed.
 abbrev pub of_replay : ReplayFault → Trouble
 of_replay (replay.NoThread number) = Line number cause.NoThread
 of_replay (replay.Busy number) = Line number cause.Busy
 of_replay (replay.Idle number) = Line number cause.Idle
 of_replay replay.Memory = Memory
 
--- The error is the first error of the text or, if the text is a schedule, of its replay.
+-- The error t is the first error of the text or, if the text is a schedule, the error of its replay.
 abbrev pub IsFirstFault : Result Plan LineFault → Trouble → Type 0
 IsFirstFault (Err fault) t = t ≡ of_line_fault fault
 IsFirstFault (Ok p) t = (refusal : ReplayFault) × (t ≡ of_replay refusal) × IsRefusal (table_of p.kind) (opening_in p) (events_of p) refusal
 
--- The contract for the bytes of a text: the text of its report, the first error, or a failed allocation.
+-- The contract of `replay` for a text: the text of the report, the first error, or a failed allocation.
 abbrev pub ReplaysText : List ℕ → Made → Type 0
 ReplaysText bytes (Ok answer) =
     (p : Plan) × (r : ReportValue) × IsReported bytes p r × (answer ≡ record { text = report_text r; status = 0 })

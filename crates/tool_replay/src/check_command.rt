@@ -11,9 +11,8 @@ use std::alloc::Global;
 use std::io::{Read, Write};
 use tool_base::{Answer, Input, Tool, Trouble, run_tool};
 
-/// Returns the line that `check` prints for an order with this fault: `refused`, the name of the fault and, except for
-/// `WrongSet`, the call's number. Returns `Memory` if the fault is `Memory`, which is no fault of an order, or if an
-/// allocation fails.
+/// Returns the line that `check` prints for an order with this error: `refused`, the name of the error and, except for
+/// `WrongSet`, the call's number. Returns `Memory` if an allocation fails, or if `fault` itself is a failed allocation.
 fn refusal_text(alloc: Global, fault: OrderFault) -> Result<Vec<u8>, Trouble>
     ensures of_the_order { OnOk result (fault ≢ order.Memory) }
     ensures line { IfOk result (λ text. text.items ≡ refusal_text fault) }
@@ -31,7 +30,7 @@ fn refusal_text(alloc: Global, fault: OrderFault) -> Result<Vec<u8>, Trouble>
     Ok(text.into_bytes())
 }
 
-/// Checks the order of a report and returns the answer: `ok`, or the first fault of the order.
+/// Checks the order of a report and returns the answer: `ok`, or the first error of the order.
 fn answer_on(alloc: Global, report: &Report) -> Result<Answer, Trouble>
     ensures judged { IfOk (view result) (IsAnswerOn (reports.view report.now)) }
     ensures memory { IfErr result (λ trouble. trouble ≡ Memory) }
@@ -48,9 +47,10 @@ fn answer_on(alloc: Global, report: &Report) -> Result<Answer, Trouble>
     }
 }
 
-/// The command `check`. Answers `ok` with status 0 if the report's order is right. Otherwise answers with status 1 and
-/// `refused`, the name of the order's first fault and, except for `WrongSet`, the call's number. If the text is not a
-/// report, the error is `Line` with the text's first error; if an allocation fails, it is `Memory`.
+/// The command `check`. If the report's order is correct, the answer is `ok` with exit status 0. Otherwise the answer
+/// is `refused`, the name of the order's first error and, except for `WrongSet`, the call's number, with exit status 1.
+/// If the text is not a report, the command fails with the text's first error (`Line`). If an allocation fails, the
+/// command fails with `Memory`.
 #[derive(Clone, Copy)]
 pub struct Check {}
 
@@ -63,11 +63,11 @@ impl Tool for Check {
     }
 }
 
-/// Implements the command `check`: reads a report from `input`, checks that its order is a linearization of its calls
-/// (Herlihy and Wing) and leaves exactly its final keys, and writes the answer to `output`.
+/// Implements the command `check`: reads a report from `input`, checks its order, and writes the answer to `output`.
+/// The order must be a linearization of the report's calls (Herlihy and Wing) and leave exactly its final keys.
 ///
-/// On an error, writes one line to `faults` and nothing to `output`. Returns the exit status: 0 if `ok` was written, 3
-/// if an allocation failed, otherwise 1. Allocates. Blocks while reading and writing.
+/// If an error occurs, writes one line to `faults` and nothing to `output`. Returns the exit status: 0 if `ok` was
+/// written, 3 if an allocation failed, otherwise 1. Allocates. Blocks while reading and writing.
 pub fn tool_check<R: Read, W: Write, F: Write>(
     alloc: Global,
     input: &mut R,

@@ -5,7 +5,7 @@ ghost use Rattle.lset_words.specs.declared.TheConstants.{MOST_OPENING, MOST_QUOT
 use lset_schedule::{FIRST_LINE, Line};
 use lset_words::Kind;
 
-/// The largest row that a line of a draft can name.
+/// The largest row of a step table that a line of a draft can name.
 pub const MOST_ROW: u32 = 255;
 
 /// A line of a draft. `Plain` is a line of a schedule. `Out(thread)` steps a thread until its call has ended.
@@ -19,7 +19,7 @@ pub enum DraftLine {
 }
 
 impl DraftLine {
-    /// Returns the minimum number of events to which the line can expand.
+    /// Returns the minimum number of events to which the line expands.
     pub(crate) fn smallest_count(self) -> u32 {
         match self {
             DraftLine::Plain(line) => line.event_count(),
@@ -28,9 +28,9 @@ impl DraftLine {
     }
 }
 
-/// A draft of a schedule: the kind of list, the number of threads (1 to 64), the quota of each thread (0 to 16,384),
-/// the opening keys (at most 1,048,576, in strictly increasing order), and the lines. If each line without a count is
-/// counted as one event, there are at most 1,000,000 events.
+/// A draft of a schedule: the kind of list, the number of threads (1 to 64), the number of keys that each thread can
+/// add (its quota, 0 to 16,384), the opening keys (at most 1,048,576, in strictly increasing order), and the lines. The
+/// draft has at most 1,000,000 events if each line without a count is counted as one event.
 #[derive(Drop)]
 pub struct Draft {
     pub kind: Kind,
@@ -43,8 +43,8 @@ pub struct Draft {
 }
 
 impl Draft {
-    /// Returns the line number of the first event, counted from 1. The draft and its schedule have the same line
-    /// numbers.
+    /// Returns the line number of the first event, counted from 1. An event has the same line number in the draft and
+    /// in the schedule.
     pub fn first_event_line(&self) -> u64 {
         FIRST_LINE + self.opening.len() as u64
     }

@@ -4,8 +4,9 @@ use lset_schedule::write_schedule;
 use std::alloc::Global;
 use tool_base::{Answer, Input, Tool, Trouble};
 
-/// The command `draft`. Answers with the schedule into which the draft expands, with status 0. The error is `Line`,
-/// with the first wrong line of the text or with the first line that cannot be expanded, or `Memory`.
+/// The command `draft`. The answer is the schedule to which the draft expands, with exit status 0. The command fails
+/// with `Line` at the first wrong line of the text or at the first line that cannot be expanded, and with `Memory` if
+/// an allocation fails.
 #[derive(Clone, Copy)]
 pub struct Expand {}
 

@@ -11,7 +11,7 @@ use std::alloc::Global;
 /// The first line of a draft.
 const TITLE: &str = "listset-draft 2";
 
-/// Reads a line `go T out` or `go T to ROW`. Returns `None` for any other line.
+/// Parses a line `go T out` or `go T to ROW`. Returns `None` for any other line.
 fn stop(line: &[u8]) -> Option<Result<DraftLine, Cause>> {
     let (b"go", rest) = cut(line, b' ')? else {
         return None;
@@ -44,7 +44,7 @@ fn event(line: &[u8]) -> Result<DraftLine, Cause> {
     }
 }
 
-/// Returns the key field of a line `opening K`. Returns `None` for any other line.
+/// Returns the field K of a line `opening K`. Returns `None` for any other line.
 fn opening_piece(line: &[u8]) -> Option<&[u8]> {
     match cut(line, b' ')? {
         (b"opening", key) if !key.contains(&b' ') => Some(key),
@@ -52,8 +52,8 @@ fn opening_piece(line: &[u8]) -> Option<&[u8]> {
     }
 }
 
-/// Appends an opening key. Returns `TooMany` after `MOST_OPENING` keys, and `Opening` if the key is not greater than
-/// the previous one.
+/// Appends an opening key. Returns the error `TooMany` if there are already `MOST_OPENING` keys, and `Opening` if the
+/// key is not greater than the previous one.
 #[tactic(auto, using(lset_text::proofs::OpeningLaws::increases_more))]
 fn add_opening(opening: &mut Vec<u32>, key: u32) -> Result<(), Cause>
     requires increasing { IsStrictlyIncreasing opening.old.items }
@@ -72,8 +72,8 @@ fn add_opening(opening: &mut Vec<u32>, key: u32) -> Result<(), Cause>
 }
 
 impl Draft {
-    /// Adds a line to the draft. `left` is the number of events that are still allowed. Returns how many are allowed
-    /// after this line.
+    /// Adds a line to the draft. The draft can still contain `left` events. Returns how many it can contain after this
+    /// line.
     fn add_line(&mut self, line: &[u8], left: u32) -> Result<u32, Cause> {
         if self.lines.is_empty()
             && let Some(key) = opening_piece(line)

@@ -3,7 +3,7 @@ use lset_text::kind_word;
 use std::alloc::{AllocError, Global};
 use tool_base::{Answer, Trouble, ValueName};
 
-/// What `example` should print.
+/// The output that the command `example` should print.
 #[derive(Clone, Copy)]
 pub enum ExampleRequest {
     /// The names of all examples.
@@ -12,9 +12,9 @@ pub enum ExampleRequest {
     Text(&'static str),
 }
 
-/// Reads the arguments of `example`. Without a name, it prints the names; with a name, that example's schedule; with a
-/// name and `broken`, the broken report. Returns `Name` if there is no such example, and `Unbroken` if the example has
-/// no broken report.
+/// Reads the arguments of the command `example`. Without a name, the command prints all names. With a name, it prints
+/// this example's schedule; with a name and `broken`, the report of the broken list. Returns the error `Name` if no
+/// example has the name, and `Unbroken` if the example has no report of a broken list.
 pub fn read_example_request(
     name: Option<&[u8]>,
     broken: bool,
@@ -42,7 +42,7 @@ fn write_names(alloc: Global) -> Result<Vec<u8>, AllocError> {
     Ok(out.into_bytes())
 }
 
-/// Returns the text that `example` prints, with status 0. Returns `Memory` if an allocation fails.
+/// Returns the text that `example` prints, with exit status 0. Returns `Memory` if an allocation fails.
 pub fn print_example(alloc: Global, request: ExampleRequest) -> Result<Answer, Trouble> {
     let text = match request {
         ExampleRequest::Names => write_names(alloc)?,

@@ -1,11 +1,11 @@
 use crate::example_texts as texts;
 use lset_words::Kind;
 
-/// A classic interleaving on one of the five lists. It shows why the list needs the step or the check for which it is
-/// known. Most examples are from Herlihy and Shavit's chapter on linked lists, adapted to the step tables here.
+/// A well-known interleaving of calls on one of the five lists. It shows why the list needs a certain step or check.
+/// Most examples are from Herlihy and Shavit's chapter on linked lists, adapted to the step tables of this library.
 #[derive(Clone, Copy)]
 pub(crate) struct Example {
-    /// The example's name, as used in `example NAME`.
+    /// The example's name, as typed in `example NAME`.
     pub name: &'static str,
     /// The kind of list in the schedule.
     pub kind: Kind,
@@ -13,8 +13,8 @@ pub(crate) struct Example {
     pub about: &'static str,
     /// The schedule's text.
     pub schedule: &'static str,
-    /// A report that the list would produce without the check in question. Only six examples have one. No order
-    /// explains its calls and final keys, and `check` refuses it.
+    /// A report that the list would produce without the check that the example is about. No order explains its calls
+    /// and final keys, so `check` refuses it. Only six examples have such a report.
     pub broken_report: Option<&'static str>,
 }
 

@@ -13,7 +13,7 @@ use lset_words::layout_opening;
 use std::alloc::{AllocError, Global};
 use tool_base::Trouble;
 
-/// Makes the events of a schedule's line. Returns `TooMany` if there are more than `left` events.
+/// Makes the events of one line of a schedule. Returns the error `TooMany` if there are more than `left` events.
 fn make_plain<M: Machine>(world: &mut World<M>, line: Line, left: u32) -> Result<(), Cause> {
     if line.event_count() > left {
         return Err(Cause::TooMany);
@@ -27,7 +27,8 @@ fn make_plain<M: Machine>(world: &mut World<M>, line: Line, left: u32) -> Result
     }
 }
 
-/// Makes the events of a draft's line, at most `left` of them, and returns the schedule line to which it expands.
+/// Makes the events of one line of a draft, at most `left` events. Returns the schedule's line to which this line
+/// expands.
 fn make_line<M: Machine>(world: &mut World<M>, line: DraftLine, left: u32) -> Result<Line, Cause> {
     let most = left.min(MOST_STEPS);
     match line {
@@ -46,7 +47,7 @@ fn make_line<M: Machine>(world: &mut World<M>, line: DraftLine, left: u32) -> Re
     }
 }
 
-/// Opens the set of a draft, before the first event.
+/// Creates the world of a draft (shared words and local states), before the first event.
 fn start_of<M: Machine>(alloc: Global, draft: &Draft) -> Result<World<M>, AllocError> {
     let keys = draft.opening.as_slice();
     let Ok(layout) = layout_opening(draft.threads, draft.quota, keys.len() as u32) else {
@@ -55,7 +56,7 @@ fn start_of<M: Machine>(alloc: Global, draft: &Draft) -> Result<World<M>, AllocE
     World::<M>::opened(alloc, layout, keys)
 }
 
-/// Expands the lines of a draft on the machine `M`.
+/// Expands the lines of a draft by running them on the list whose step table is `M`.
 fn lines_on<M: Machine>(alloc: Global, draft: &Draft) -> Result<Vec<Line>, Trouble> {
     let mut world = start_of::<M>(alloc, draft)?;
     let mut number = draft.first_event_line();
@@ -73,7 +74,7 @@ fn lines_on<M: Machine>(alloc: Global, draft: &Draft) -> Result<Vec<Line>, Troub
     Ok(lines)
 }
 
-/// A task that expands a draft's lines; it can run on any kind of list.
+/// The expansion of a draft's lines, as a task that `on_list` runs on the list of the draft's kind.
 #[derive(Clone, Copy)]
 struct Expanding<'a> {
     alloc: Global,
@@ -92,19 +93,18 @@ impl Task for Expanding<'_> {
     }
 }
 
-/// Expands a draft into a schedule by filling in each missing number of steps. Allocates.
+/// Expands a draft into a schedule by inserting each missing number of steps. Allocates.
 ///
 /// `draft` must be within the limits, as every draft from `read_draft` is. A line without a count gets the smallest
-/// number of steps, at least 1, after which the thread's call has ended or the thread is at the row. All other lines
-/// stay unchanged. The schedule has version 1 if it has no opening keys and no `ceiling`, otherwise version 2.
+/// number of steps, at least 1, after which the thread's call has ended or the thread is at the named row. All other
+/// lines stay unchanged. The schedule has version 1 if it has no opening keys and no `ceiling`, otherwise version 2.
 ///
 /// # Errors
 ///
 /// Returns `Line` with the number of the first line that cannot be expanded:
-/// - `TooMany`: the line would exceed 1,000,000 events;
+/// - `TooMany`: with this line, the schedule would exceed 1,000,000 events;
 /// - `NoThread`, `Busy`, `Idle`: an event is not enabled;
-/// - `Waits`: the thread's call does not end, or the thread does not reach the row, within 10,000 steps and the number of
-///   events that are still allowed.
+/// - `Waits`: within 10,000 steps, or within the remaining events, the call does not end or the row is not reached.
 ///
 /// Returns `Memory` if an allocation fails.
 pub fn schedule_of(alloc: Global, draft: &Draft) -> Result<Schedule, Trouble>

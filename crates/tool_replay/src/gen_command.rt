@@ -13,7 +13,7 @@ use std::alloc::Global;
 use std::io::Write;
 use tool_base::{Answer, RandomRequest, Trouble, deliver, read_random_request};
 
-/// A task that generates a schedule; it can run on any kind of list.
+/// The generation of a random schedule, as a task that `on_list` runs on the list of the requested kind.
 #[derive(Clone, Copy)]
 struct Generating {
     alloc: Global,
@@ -41,7 +41,7 @@ impl Task for Generating {
     }
 }
 
-/// Generates a schedule for the list that the request names.
+/// Generates a random schedule for the kind of list in the request.
 fn schedule_for(alloc: Global, request: RandomRequest) -> Result<Schedule, GenFault>
     requires { IsAccepted request.threads request.quota request.keys }
     ensures { MatchResult result (λ s. IsRequested (table_of request.kind) request (view s)) (λ fault. fault ≡ Memory) }
@@ -49,7 +49,8 @@ fn schedule_for(alloc: Global, request: RandomRequest) -> Result<Schedule, GenFa
     on_list(request.kind, Generating { alloc, request })
 }
 
-/// Returns the schedule that `gen` prints for this request, with status 0. Returns `Memory` if an allocation fails.
+/// Returns the schedule that `gen` prints for this request, with exit status 0. Returns `Memory` if an allocation
+/// fails.
 pub fn generate_text(alloc: Global, request: RandomRequest) -> Result<Answer, Trouble>
     requires { IsAccepted request.threads request.quota request.keys }
     ensures { Answers (Ok request) (tools.view result) }
@@ -59,8 +60,8 @@ pub fn generate_text(alloc: Global, request: RandomRequest) -> Result<Answer, Tr
     Ok(Answer { text, status: 0 })
 }
 
-/// Reads the arguments of `gen` and returns the schedule that it prints, with status 0. Allocates. Returns `Bad` with
-/// the first argument that is missing or wrong, or `Memory`.
+/// Reads the arguments of `gen` and returns the schedule that `gen` prints, with exit status 0. Returns `Bad` with the
+/// first argument that is missing or wrong, and `Memory` if an allocation fails. Allocates.
 pub fn generate_for(alloc: Global, values: &[String]) -> Result<Answer, Trouble>
     ensures { Generates (map string_bytes values.now) (tools.view result) }
 {
@@ -68,12 +69,12 @@ pub fn generate_for(alloc: Global, values: &[String]) -> Result<Answer, Trouble>
     generate_text(alloc, request)
 }
 
-/// Implements the command `gen`: writes a random schedule in version 1 to `output`, and returns the exit status.
+/// Implements the command `gen`: writes a random schedule of version 1 to `output`, and returns the exit status.
 ///
-/// `values` are the arguments, in the format of `read_random_request`. The schedule has at most 10,000 events, so it
-/// can begin fewer calls than requested. The status is 0 if the schedule was written. Otherwise one line on `faults`
-/// names the error (if that line can be written), and the status is 2 if an argument is missing or wrong (the line
-/// names the first), 3 if an allocation failed, and 1 for any other error. Allocates.
+/// `values` are the command's arguments, as `read_random_request` reads them. The schedule has at most 10,000 events,
+/// so it can begin fewer calls than requested. The exit status is 0 if the schedule was written. Otherwise one line
+/// about the error is written to `faults`, if possible. The exit status is then 2 if an argument is missing or wrong
+/// (the line names the first one), 3 if an allocation failed, and 1 for any other error. Allocates.
 pub fn tool_gen<W: Write, F: Write>(
     alloc: Global,
     values: &[String],

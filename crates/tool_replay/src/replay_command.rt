@@ -11,7 +11,7 @@ use std::alloc::Global;
 use std::io::{Read, Write};
 use tool_base::{Answer, Input, Tool, Trouble, run_tool};
 
-/// Maps the error of `replay` to the program's error.
+/// Converts the error of `replay` to the program's error.
 fn replay_trouble(fault: ReplayFault) -> Trouble
     ensures { result ≡ of_replay fault }
 {
@@ -23,8 +23,9 @@ fn replay_trouble(fault: ReplayFault) -> Trouble
     }
 }
 
-/// The command `replay`. Answers with the text of the schedule's report, with status 0. The error is `Line`, with the
-/// text's first error or with the first event that is not enabled, or `Memory`.
+/// The command `replay`. The answer is the text of the schedule's report, with exit status 0. The command fails with
+/// `Line` at the text's first error or at the first event that is not enabled, and with `Memory` if an allocation
+/// fails.
 #[derive(Clone, Copy)]
 pub struct Replay {}
 
@@ -43,8 +44,8 @@ impl Tool for Replay {
     }
 }
 
-/// The command `replay --lacks NAME`. Answers with the report, in version 2, of the schedule's run on the broken list,
-/// with status 0. The error is `Line`, with an error of `report_broken`, or `Memory`.
+/// The command `replay --lacks NAME`. The answer is the report of the schedule's run on the broken list, in version 2
+/// of the format, with exit status 0. The command fails with `Line`, as `report_broken` does, or with `Memory`.
 #[derive(Clone, Copy)]
 pub struct ReplayBroken {
     pub broken: BrokenList,
@@ -58,10 +59,10 @@ impl Tool for ReplayBroken {
     }
 }
 
-/// Implements the command `replay`: reads a schedule from `input`, replays it, and writes its report to `output`.
+/// Implements the command `replay`: reads a schedule from `input`, replays it, and writes the report to `output`.
 ///
-/// On an error, writes one line to `faults` and nothing to `output`. Returns the exit status: 0 if the report was
-/// written, 3 if an allocation failed, otherwise 1. Allocates. Blocks while reading and writing.
+/// If an error occurs, writes one line to `faults` and nothing to `output`. Returns the exit status: 0 if the report
+/// was written, 3 if an allocation failed, otherwise 1. Allocates. Blocks while reading and writing.
 pub fn tool_replay<R: Read, W: Write, F: Write>(
     alloc: Global,
     input: &mut R,

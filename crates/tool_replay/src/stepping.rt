@@ -1,11 +1,12 @@
-//! Steps a thread a number of times, or until it is at a given row.
+//! Makes a given number of steps of a thread, or steps a thread until it is at a given row of its step table.
 
 use lset_replay::Steps;
 use lset_steps::{Event, Machine, World};
 use lset_text::Cause;
 
-/// Steps a thread until it is at row `row`, at least once and at most `most` times, and returns the number of steps.
-/// Row 0 means that the call has ended. Returns `Waits` if the thread is elsewhere after `most` steps.
+/// Steps a thread until it is at row `row` of its step table, at least once and at most `most` times. Returns the
+/// number of steps. Row 0 means that the call has ended. Returns the error `Waits` if the thread is at another row
+/// after `most` steps.
 pub(crate) fn steps_to<M: Machine>(
     world: &mut World<M>,
     thread: u32,

@@ -1,4 +1,4 @@
-//! Writes a trace, which has a line for each event of a schedule that says what the event did.
+//! Writes traces. A trace has a line for each event of a schedule, which states what the event did.
 
 mod chunks;
 mod event_line;
@@ -13,15 +13,15 @@ use tool_base::{Answer, Input, Tool, Trouble, read_all};
 use trace_lines::Output;
 use traced_run::trace_into;
 
-/// The command `trace`. The answer has a line for each event of a schedule. The status is 0 if all events were made,
-/// and 1 if an event is refused, which ends the trace. The error is `Line` with the first error of a text that is not a
-/// schedule (on a broken list, with the error of `read_broken_schedule`), or `Memory`.
+/// The command `trace`. The answer has a line for each event of a schedule. The exit status is 0 if all events were
+/// made, and 1 if an event was refused, which ends the trace. The command fails with `Line` if the text is not a
+/// schedule (on a broken list, as `read_broken_schedule` does), and with `Memory` if an allocation fails.
 #[derive(Clone, Copy)]
 pub struct Trace {
-    /// Whether to write the chain after each event that changed it.
+    /// Whether to write the chain of nodes after each event that changed it.
     pub chains: bool,
-    /// The broken list to run, which is named by a line `lacks NAME` in the header; `None` to run the list that the
-    /// schedule names.
+    /// The broken list on which to run the schedule. The trace's header names it in a line `lacks NAME`. `None` selects
+    /// the list that the schedule names.
     pub lacks: Option<BrokenList>,
 }
 
@@ -33,9 +33,9 @@ impl Tool for Trace {
     }
 }
 
-/// Traces the schedule in `input` to `output`. Each event is written as soon as it is made, so the whole text is never
-/// in memory. The answer has the status of `Trace` and no text. If an allocation or a write fails, part of the trace
-/// may have been written. Allocates.
+/// Traces the schedule in `input` to `output`. Each event is written soon after it is made, so the whole text is never
+/// in memory. Returns an answer without text, whose status is 1 if an event was refused, otherwise 0. If an allocation
+/// or a write fails, a part of the trace can already have been written. Allocates.
 pub fn trace_events<R: Read, W: Write>(
     alloc: Global,
     trace: Trace,

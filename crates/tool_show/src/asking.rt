@@ -3,19 +3,19 @@ use lset_picture::Window;
 use lset_text::number;
 use tool_base::ValueName;
 
-/// The width of a text picture, in characters, without `--width`.
+/// The width of a text picture, in characters, if `--width` is missing.
 const DEFAULT_WIDTH: u32 = 100;
 
 /// The format of a picture.
 #[derive(Clone, Copy)]
 pub enum Form {
-    /// Text with rows of at most this many characters.
+    /// Text whose rows have at most this many characters.
     Text(u32),
-    /// SVG.
+    /// An SVG image.
     Svg,
 }
 
-/// Parses a number from `smallest` to 4,294,967,295. Returns `absent` if there is no text, and `None` if the text is
+/// Parses a number from `smallest` to 4,294,967,295. Returns `absent` if `text` is `None`, and `None` if the text is
 /// not such a number.
 fn number_or(text: Option<&str>, smallest: u32, absent: u32) -> Option<u32> {
     match text {
@@ -24,8 +24,8 @@ fn number_or(text: Option<&str>, smallest: u32, absent: u32) -> Option<u32> {
     }
 }
 
-/// Reads the options of `show`: whether `--svg` is on, and the values of `--from`, `--to` and `--width`, which are
-/// decimals without leading zeros.
+/// Reads the options of the command `show`. `svg` is true if `--svg` is present. The values of `--from`, `--to` and
+/// `--width` are decimals without leading zeros.
 ///
 /// `from` is at least 1 and defaults to 1. `to` is at least `from` and defaults to the last moment. `width` is at least
 /// 1 and defaults to 100. An SVG has no width, but `width` is checked even with `--svg`. The error names the first

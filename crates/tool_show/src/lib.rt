@@ -1,4 +1,4 @@
-//! The command `show`, which draws schedules and reports.
+//! The command `show`, which draws pictures of schedules and reports.
 #![tactic(auto)]
 
 mod asking;

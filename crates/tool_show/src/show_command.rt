@@ -9,18 +9,18 @@ use lset_schedule::read_schedule;
 use std::alloc::Global;
 use tool_base::{Answer, Trouble, ValueName};
 
-/// The first line of a report in version 1.
+/// The first line of a report in version 1 of the format.
 const TITLE_ONE: &[u8] = b"listset-report 1\n";
 
-/// The first line of a report in version 2.
+/// The first line of a report in version 2 of the format.
 const TITLE_TWO: &[u8] = b"listset-report 2\n";
 
-/// The options of `show`.
+/// The options of the command `show`.
 #[derive(Clone, Copy)]
 pub struct Show {
-    /// Whether to draw text or SVG.
+    /// The format of the picture: text or SVG.
     pub form: Form,
-    /// The moments to draw.
+    /// The range of moments to draw.
     pub window: Window,
     /// The broken list on which to run the schedule; `None` for the list that the schedule names.
     pub lacks: Option<BrokenList>,
@@ -36,12 +36,12 @@ fn status_of(picture: &Picture) -> u8 {
 }
 
 impl Show {
-    /// Reads a schedule or a report, and returns its picture. With a broken list, the text must be a schedule, and the
-    /// picture shows the report of its run on that list. Allocates.
+    /// Reads a schedule or a report and returns its picture. If a broken list is selected, the text must be a schedule,
+    /// and the picture shows the report of its run on that list. Allocates.
     ///
-    /// The error is `Memory`, or `Line` with the text's first error: with a broken list, as `report_broken` returns it;
-    /// for a text that starts with a report's title, as `read_report` does; for any other text, as `read_schedule`
-    /// does.
+    /// The error is `Memory`, or `Line` with the first error of the text. That is the error of `report_broken` if a
+    /// broken list is selected, of `read_report` if the text starts with a report's title, and of `read_schedule` for
+    /// any other text.
     pub fn picture(self, alloc: Global, bytes: &[u8]) -> Result<Picture, Trouble> {
         if let Some(broken) = self.lacks {
             let report = report_broken(alloc, broken, bytes)?;
@@ -55,9 +55,9 @@ impl Show {
         Ok(picture_of_replay(alloc, &schedule)?)
     }
 
-    /// Draws the moments of a picture that are in the window. The status is 1 if the picture shows a refused order or
-    /// event, otherwise 0. Allocates. Returns `Bad(From)` if the window begins after the last moment at which something
-    /// happens, or `Memory`.
+    /// Draws the moments of a picture that are in the range of moments. The exit status is 1 if the picture shows a
+    /// refused order or event, otherwise 0. Returns `Bad(From)` if the range begins after the last moment at which
+    /// something happens, and `Memory` if an allocation fails. Allocates.
     pub fn draw(self, alloc: Global, picture: &Picture) -> Result<Answer, Trouble> {
         if is_past_the_last(picture, self.window.from) {
             return Err(Trouble::Bad(ValueName::From));

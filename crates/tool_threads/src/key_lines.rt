@@ -1,4 +1,4 @@
-//! Reads and writes a set's keys as lines `key K`.
+//! Reads and writes the keys of a set as lines `key K`.
 
 use lset_text::{Cause, LineFault, cut, is_above, number};
 use lset_words::MOST_OPENING;
@@ -12,14 +12,14 @@ pub(crate) fn put_keys(out: &mut String, keys: &[u32]) -> Result<(), AllocError>
     Ok(())
 }
 
-/// The remaining lines of an input, and the line number of the first.
+/// The lines of an input that were not read yet, and the line number of the first of them.
 #[derive(Clone, Copy)]
 struct Remaining<'a> {
     line: u64,
     text: &'a [u8],
 }
 
-/// Returns the second field of a line that has exactly two fields, if the first is `word`.
+/// Returns the second field of a line if the line has exactly two fields and the first is `word`.
 fn piece_after<'a>(line: &'a [u8], word: &[u8]) -> Option<&'a [u8]> {
     let (first, piece) = cut(line, b' ')?;
     if first != word {
@@ -32,7 +32,7 @@ fn piece_after<'a>(line: &'a [u8], word: &[u8]) -> Option<&'a [u8]> {
 }
 
 impl<'a> Remaining<'a> {
-    /// Drops the first line if it is `word` followed by one field.
+    /// Skips the first line if it is `word` followed by one field.
     fn without(self, word: &[u8]) -> Remaining<'a> {
         match cut(self.text, b'\n') {
             Some((first, rest)) if piece_after(first, word).is_some() => Remaining {
@@ -44,7 +44,7 @@ impl<'a> Remaining<'a> {
     }
 }
 
-/// Skips the lines that a server prints before its keys, each of which is optional.
+/// Skips the lines that a server prints before its keys. Each of these lines is optional.
 fn after_head(text: &[u8]) -> Remaining<'_> {
     let whole = Remaining { line: 1, text };
     whole
@@ -59,7 +59,7 @@ fn key_of_line(line: &[u8]) -> Result<u32, Cause> {
     number(piece, 0, u32::MAX).ok_or(Cause::Number)
 }
 
-/// Appends the key in a line `key K`.
+/// Appends the key in a line `key K`. The key must be greater than the previous one.
 fn add_key(keys: &mut Vec<u32>, line: &[u8]) -> Result<(), Cause> {
     let key = key_of_line(line)?;
     if keys.len() >= MOST_OPENING as usize {
@@ -72,7 +72,7 @@ fn add_key(keys: &mut Vec<u32>, line: &[u8]) -> Result<(), Cause> {
     Ok(())
 }
 
-/// Reads the remaining lines, all of which must be `key K`.
+/// Reads the remaining lines. Each of them must be `key K`.
 fn keys_of_lines(alloc: Global, left: Remaining<'_>) -> Result<Vec<u32>, LineFault> {
     let mut keys = Vec::new(alloc);
     let mut line = left.line;
@@ -90,18 +90,19 @@ fn keys_of_lines(alloc: Global, left: Remaining<'_>) -> Result<Vec<u32>, LineFau
 
 /// Reads the opening keys of a set from lines `key K`, in strictly increasing order. Allocates.
 ///
-/// The lines that a server prints before its keys are skipped: `listening A`, `sessions N` and `calls N`, in this
-/// order, each optional, with any A and N. Therefore one server's output can be the next server's input.
+/// Skips the lines that a server prints before its keys: `listening A`, `sessions N` and `calls N`, in this order, each
+/// optional, with any A and N. Therefore the output of one server can be the input of the next.
 ///
 /// # Errors
 ///
-/// Returns the first wrong line with the first check that it fails:
-/// - it has bytes and no newline;
-/// - `Line`: it is not `key` and one more field;
-/// - `Number`: the key is not a decimal from 0 to 4,294,967,295 without leading zeros;
-/// - `TooMany`: it comes after `MOST_OPENING` keys;
-/// - `Opening`: the key is not greater than the previous one;
-/// - `Memory`: an allocation failed.
+/// Returns the first wrong line, with the first of these checks that fails:
+/// - the line ends with a newline;
+/// - `Line`: the line is `key` and one more field;
+/// - `Number`: the key is a decimal from 0 to 4,294,967,295 without leading zeros;
+/// - `TooMany`: at most `MOST_OPENING` keys precede the line;
+/// - `Opening`: the key is greater than the previous one.
+///
+/// Returns `Memory` if an allocation fails.
 pub fn read_keys(alloc: Global, text: &[u8]) -> Result<Vec<u32>, LineFault> {
     keys_of_lines(alloc, after_head(text))
 }

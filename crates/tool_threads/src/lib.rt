@@ -1,4 +1,5 @@
-//! The commands `run`, which runs random programs in threads on one set, and `serve`, a set server on the loopback.
+//! The commands `run` and `serve`. `run` executes random programs in threads on one set. `serve` is a server for a set,
+//! on the loopback interface.
 #![tactic(auto)]
 
 mod key_lines;

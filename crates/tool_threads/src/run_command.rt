@@ -15,7 +15,7 @@ use std::sync::Wait;
 use std::thread::Threads;
 use tool_base::{Answer, LivesRequest, RandomRequest, Trouble, deliver, read_lives_request};
 
-/// Counts calls, and how many of them returned true, false and full.
+/// The number of calls, and the numbers of calls that returned true, false and full.
 #[derive(Clone, Copy)]
 struct Counts {
     calls: u64,
@@ -25,7 +25,7 @@ struct Counts {
 }
 
 impl Counts {
-    /// Counts a call with this reply. Replies of `ceiling` count as calls only.
+    /// Counts a call that returned this reply. A reply of `ceiling` only counts as a call.
     fn add(&mut self, reply: Reply) {
         self.calls = self.calls.wrapping_add(1);
         match reply {
@@ -38,7 +38,7 @@ impl Counts {
 }
 
 /// Runs the programs of one round in threads, on a set of the list `M` that opens with the keys `opening`. `M` must be
-/// the list that the request names. Returns `SystemCause::Opening` if there are more than 1,048,576 keys.
+/// the list that the request names. Returns the error `SystemCause::Opening` if there are more than 1,048,576 keys.
 fn run_round<M: Running + Send + Sync, R: Threads + Wait + Sync>(
     rt: &R,
     alloc: Global,
@@ -62,7 +62,7 @@ fn run_round<M: Running + Send + Sync, R: Threads + Wait + Sync>(
     }
 }
 
-/// Returns the text of an answer: the counts, the number of keys, and a line for each key.
+/// Returns the output of `run`: the counts, the number of keys, and a line for each key.
 fn summary_text(alloc: Global, counts: Counts, keys: &[u32]) -> Result<Vec<u8>, AllocError> {
     let mut out = String::new(alloc);
     writeln!(
@@ -105,12 +105,12 @@ fn run_rounds<M: Running + Send + Sync, R: Threads + Wait + Sync>(
     Ok(summary_text(alloc, counts, &keys)?)
 }
 
-/// Runs random programs in threads, in rounds, with a new set for each round. The answer has status 0.
+/// Runs random programs in threads, in rounds, with a new set for each round. The answer has exit status 0.
 ///
-/// Round `i`, counted from 0, runs all of its programs at the same time on one set. The programs are drawn with the
-/// seed plus `64 * i` (wrapping). The first set opens empty, and every later one with the final keys of the previous
-/// round. The text has the lines `calls N`, `true N`, `false N`, `full N` and `keys N`, followed by `key k` for each
-/// final key of the last round, in increasing order. Allocates. Blocks until all threads have ended.
+/// All programs of a round run at the same time on one set. The programs of round `i`, counted from 0, are drawn with
+/// the seed plus `64 * i` (wrapping). The first set opens empty, and every later set with the final keys of the
+/// previous round. The text has the lines `calls N`, `true N`, `false N`, `full N` and `keys N`, followed by `key k`
+/// for each final key of the last round, in increasing order. Allocates. Blocks until all threads have ended.
 pub fn run_lives<R: Threads + Wait + Sync>(
     rt: &R,
     alloc: Global,
@@ -130,10 +130,10 @@ pub fn run_lives<R: Threads + Wait + Sync>(
 }
 
 /// Implements the command `run`: writes the answer of `run_lives` to `output` and returns the exit status. `values` are
-/// the arguments, in the format of `read_lives_request`.
+/// the command's arguments, as `read_lives_request` reads them.
 ///
-/// The status is 0 if the answer was written. Otherwise one line on `faults` names the error (if that line can be
-/// written), and the status is 2 for an argument that is missing or wrong, 3 if an allocation failed, and 1 for any
+/// The exit status is 0 if the answer was written. Otherwise one line about the error is written to `faults`, if
+/// possible. The exit status is then 2 if an argument is missing or wrong, 3 if an allocation failed, and 1 for any
 /// other error, such as a round that would open with more than 1,048,576 keys. Allocates. Blocks until all threads have
 /// ended.
 pub fn tool_run<R: Threads + Wait + Sync, W: Write, F: Write>(

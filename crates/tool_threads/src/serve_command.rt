@@ -16,8 +16,8 @@ use std::thread::Threads;
 use std::time::Clock;
 use tool_base::{Answer, Input, ServeRequest, Trouble, put, read_all};
 
-/// Returns the lines that a server prints when it ends: the number of sessions, the number of calls, and each final
-/// key.
+/// Returns the lines that a server prints when it ends: the number of sessions, the number of calls, and the final
+/// keys.
 fn served_text(alloc: Global, served: &Served) -> Result<Vec<u8>, AllocError> {
     let mut out = String::new(alloc);
     let (sessions, calls) = (served.sessions, served.calls);
@@ -36,7 +36,7 @@ fn announce<W: Write>(alloc: Global, output: &mut W, port: u16) -> Result<(), Tr
     }
 }
 
-/// Listens on a loopback port and announces it on `output`.
+/// Listens on a port of the loopback interface and prints the port on `output`.
 fn listen<R: Net<Listener = TcpListener, Stream = TcpStream>, W: Write>(
     rt: &R,
     alloc: Global,
@@ -53,8 +53,8 @@ fn listen<R: Net<Listener = TcpListener, Stream = TcpStream>, W: Write>(
     Ok(listener)
 }
 
-/// Opens a set of the list `M` with the keys `keys`, listens, announces the port, and serves. `M` must be the list that
-/// the request names.
+/// Creates a set of the list `M` with the keys `keys`, listens, prints the port, and serves connections. `M` must be
+/// the list that the request names.
 fn serve_list<
     M: Running + Send + Sync,
     R: Net<Listener = TcpListener, Stream = TcpStream> + Threads + Wait + Clock + Sync,
@@ -80,15 +80,14 @@ fn serve_list<
     }
 }
 
-/// Serves a set on the loopback. The set opens with the keys `keys`. The answer has status 0 and the lines `sessions N`
-/// and `calls N`, followed by `key k` for each final key in increasing order.
+/// Serves a set that opens with the keys `keys`, on the loopback interface. The answer has exit status 0 and the lines
+/// `sessions N` and `calls N`, followed by `key k` for each final key in increasing order.
 ///
-/// The server opens the set, listens, writes `listening 127.0.0.1:P` to `output` and flushes it. Only then does it
-/// start its threads and accept connections, so the line is written even if a thread cannot be started. Allocates.
-/// Blocks until all connections have ended.
+/// The server creates the set, listens, writes `listening 127.0.0.1:P` to `output` and flushes it. Only then does the
+/// server start its threads and accept connections, so the line is written even if a thread cannot be started.
+/// Allocates. Blocks until all connections have ended.
 ///
-/// The list is selected with a `match`, because the tasks of `lset_lists::on_list` are for machines, not for running
-/// sets.
+/// A `match` selects the list, because the tasks of `lset_lists::on_list` run step tables, not sets with threads.
 pub fn serve_set<
     R: Net<Listener = TcpListener, Stream = TcpStream> + Threads + Wait + Clock + Sync,
     W: Write,
@@ -108,8 +107,8 @@ pub fn serve_set<
     }
 }
 
-/// Serves a set that opens with the keys in `input`. Reads `input` to its end first. The format is that of `read_keys`,
-/// so the next server can open with this server's output. The server does not store the set itself.
+/// Serves a set that opens with the keys in `input`. Reads `input` to its end first, as `read_keys` does, so the output
+/// of one server can be the input of the next. The server does not store the set.
 pub fn serve_set_of<
     R: Net<Listener = TcpListener, Stream = TcpStream> + Threads + Wait + Clock + Sync,
     I: Read,

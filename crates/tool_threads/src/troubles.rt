@@ -3,8 +3,8 @@ use lset_server::ServeCause;
 use lset_work::WorkCause;
 use tool_base::{SystemCause, Trouble, ValueName};
 
-/// Maps the error of `open_with` to the program's error. Seats and quota come from checked arguments, so they are
-/// within the limits.
+/// Converts the error of `open_with` to the program's error. The number of seats and the quota come from checked
+/// arguments, so they are within the limits.
 pub(crate) fn opening_trouble(fault: OpenFault) -> Trouble {
     match fault {
         OpenFault::Seats => Trouble::Bad(ValueName::Threads),
@@ -14,7 +14,7 @@ pub(crate) fn opening_trouble(fault: OpenFault) -> Trouble {
     }
 }
 
-/// Maps the error of `work` to the program's error.
+/// Converts the error of `work` to the program's error.
 pub(crate) fn work_trouble(cause: WorkCause) -> Trouble {
     match cause {
         WorkCause::Programs => Trouble::Work(SystemCause::Programs),
@@ -24,7 +24,7 @@ pub(crate) fn work_trouble(cause: WorkCause) -> Trouble {
     }
 }
 
-/// Maps the error of `serve` to the program's error.
+/// Converts the error of `serve` to the program's error.
 pub(crate) fn serve_trouble(cause: ServeCause) -> Trouble {
     match cause {
         ServeCause::Seats => Trouble::Serve(SystemCause::Seats),

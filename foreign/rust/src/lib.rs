@@ -10,7 +10,7 @@
 //! # Ok::<(), listset::Wrong>(())
 //! ```
 //!
-//! Any number of threads may call the judge at the same time. The page FOREIGN.md says what is proved about these
+//! Any number of threads may call the judge at the same time. The page FOREIGN.md states what is proved about these
 //! functions.
 
 use std::error::Error;
@@ -31,8 +31,8 @@ use calls::{of_room, of_text, of_two_texts};
 /// The error of the program `listset`.
 #[derive(Clone, Debug, PartialEq, Eq)]
 pub struct Wrong {
-    /// What the program would print: the line about the error, the first fault of an order, or the trace up to an event
-    /// that is not enabled.
+    /// The text that the program would print: the line about the error, the first error of an order, or the trace up to
+    /// an event that is not enabled.
     pub text: String,
     /// The exit status: 1 for a wrong text, 2 for a wrong argument, 3 if memory ran out.
     pub status: u8,
@@ -86,12 +86,12 @@ pub fn why(recording: impl AsRef<[u8]>) -> Result<String, Wrong> {
     }
 }
 
-/// Checks a report. If its order does not explain its calls, returns the order's first fault.
+/// Checks a report. If its order does not explain its calls, returns the order's first error.
 pub fn check(report: impl AsRef<[u8]>) -> Result<(), Wrong> {
     of_text(calls::listset_check, report.as_ref()).map(|_| ())
 }
 
-/// Returns the trace of a schedule, which says what each step did.
+/// Returns the trace of a schedule, which states what each step did.
 pub fn trace(schedule: impl AsRef<[u8]>) -> Result<String, Wrong> {
     of_text(calls::listset_trace, schedule.as_ref())
 }

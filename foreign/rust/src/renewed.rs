@@ -18,7 +18,7 @@ const MOST_OPENING: u64 = 1 << 20;
 /// A thread gets its own seat from [`RenewedSet::split`], and returns it by dropping it. Calls wait during a renewal.
 /// The renewal waits for pending calls, but not for threads that are between two calls. A call waits for another one
 /// for at most [`patience`](RenewedSet::with_patience), and then returns [`Fault::TimedOut`] without having been made.
-/// The page FOREIGN.md says what is promised about the order of calls.
+/// The page FOREIGN.md states what is promised about the order of calls.
 ///
 /// ```
 /// use listset::{List, RenewedSet};
@@ -51,7 +51,7 @@ struct Place {
     part: Mutex<Part>,
 }
 
-/// What one place knows about the set.
+/// The data of one place: its seat, and what is known of the set there. (A place belongs to one thread at a time.)
 #[derive(Debug)]
 struct Part {
     seat: Seat,
@@ -64,7 +64,7 @@ struct Part {
     removes: u64,
 }
 
-/// The stage of the set, which is the same in all places. It changes only while all places are locked.
+/// The stage of the set. It is the same in all places, and changes only while all places are locked.
 #[derive(Clone, Copy, Debug, PartialEq)]
 enum Stage {
     Open,
@@ -325,8 +325,8 @@ mod tests {
 
     use super::*;
 
-    /// While a thread stays in a call, calls of the others time out without being made. After that call, calls succeed
-    /// again.
+    /// While a thread stays in a call, the calls of other threads time out without being made. Once that call has ended,
+    /// calls succeed again.
     #[test]
     fn a_call_that_does_not_return_makes_others_time_out() {
         let set = RenewedSet::open(List::Lazy, 2, 1, &[]).unwrap().with_patience(Duration::from_millis(20));
@@ -342,7 +342,7 @@ mod tests {
         assert_eq!((set.close(), set.keys()), (Err(Fault::Closed), Err(Fault::Closed)));
     }
 
-    /// While a thread stays in a call, a call without patience waits. After that call, the waiting call is made.
+    /// While a thread stays in a call, a call without a time limit waits. Once the other call has ended, it is made.
     #[test]
     fn a_call_without_patience_waits() {
         for list in [List::Lazy, List::LockFree] {

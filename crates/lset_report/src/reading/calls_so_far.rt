@@ -8,17 +8,17 @@ use lset_history::History;
 use lset_words::CallRecord;
 use std::alloc::{AllocError, Global};
 
-/// The calls read so far, and the fields that decide which call can come next.
+/// The calls read so far, and the fields that decide whether a further call can follow them.
 #[derive(Drop)]
 pub(crate) struct CallsSoFar {
     /// The calls as a history of a set that opens empty.
     pub history: History,
     /// The moment at which the last call began; 0 before the first call.
     pub last_begun: u32,
-    /// The moment at which each thread's last call ended; 0 before the thread's first call and while its call is
+    /// For each thread, the moment at which its last call ended. 0 if the thread has no call yet or its last call is
     /// pending.
     pub last_ends: Vec<u32>,
-    /// Whether each thread's last call is pending.
+    /// For each thread, whether its last call is pending.
     pub busy: Vec<bool>,
 }
 
@@ -41,7 +41,7 @@ fn is_open(made: CallRecord) -> bool
 }
 
 impl CallsSoFar {
-    /// Creates an empty value for `threads` threads with a quota of `quota` each. Allocates.
+    /// Creates a reader state without calls, for `threads` threads that can each add `quota` keys. Allocates.
     pub fn new(alloc: Global, threads: u32, quota: u32) -> Result<CallsSoFar, AllocError>
         requires { IsWithin (record { threads = threads; quota = quota; opening = 0 }) }
         ensures tracks { IfOk result (λ s. Tracks s) }
@@ -71,8 +71,8 @@ impl CallsSoFar {
         }
     }
 
-    /// Returns `true` if a call can follow these calls. A moment after the last begin is taken only if some thread's
-    /// last call ended at it, so comparing these ends is enough and no set of moments is kept.
+    /// Returns `true` if the call `made` can follow these calls. A moment after the last begin is occupied only if some
+    /// thread's last call ended at it. Comparing with these ends is therefore enough, and no set of moments is kept.
     pub fn may_follow(&self, made: CallRecord) -> bool
         requires { Tracks self.now }
         ensures { result ≡ may_follow (threads_of self.now) self.now.history.calls made }

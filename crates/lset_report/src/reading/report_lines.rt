@@ -23,7 +23,8 @@ pub enum Section {
     Done,
 }
 
-/// A line of a report after its header: an opening key, a numbered call, a place in the order, a final key, or the end.
+/// A line of a report after its header: an opening key, a numbered call, an entry of the order, a final key, or the
+/// end.
 #[derive(Clone, Copy)]
 pub enum Line {
     Opening(u32),
@@ -103,7 +104,8 @@ fn ended_call(version: Version, pieces: Begun<'_>, end: &[u8], reply: &[u8]) -> 
     Ok(Line::Call(id, made))
 }
 
-/// Parses a call from the first fields of its line and the rest of the line.
+/// Parses a call from its line. `word`, `id` and `thread` are the first three fields, `rest` is the remainder of the
+/// line.
 fn call(version: Version, word: &[u8], id: &[u8], thread: &[u8], rest: &[u8]) -> Result<Line, Cause>
     ensures { result ≡ first_of version Cause.Line (open_kind ∷ ended_kind ∷ []) (word.now ∷ id.now ∷ thread.now
         ∷ cut_at 32 rest.now) }
@@ -174,7 +176,7 @@ fn end(word: &[u8]) -> Result<Line, Cause>
     Ok(Line::End)
 }
 
-/// Parses a line of a report. `section` is the section that the reader has reached.
+/// Parses a line of a report's text. `section` is the section that the reader has reached.
 pub(crate) fn line_of_report(version: Version, section: Section, line: &[u8]) -> Result<Line, Cause>
     ensures { result ≡ line_in version Cause.Line (kinds version section) line.now }
 {

@@ -1,18 +1,18 @@
-//! A buffer of fixed size for the trace. It has room for the longest line of an event, so that writing a line does not
-//! allocate.
+//! A buffer of fixed size for the text of a trace. The longest line of an event fits into it, so writing the line does
+//! not allocate.
 use arrayvec::ArrayString;
 use itoa::Buffer;
 
-/// The capacity of a chunk, in bytes.
+/// The capacity of the buffer, in bytes.
 const ROOM: usize = 16_384;
 
-/// An upper bound, in bytes, for an event's line and for one key in a chain's line.
+/// An upper bound, in bytes, for the line of an event and for one key in the line of a chain.
 const MOST_OF_LINE: usize = 1_024;
 
-/// The part of a trace that has not been passed to the sink yet.
+/// The part of a trace that has not been written to its destination yet.
 pub(crate) type Chunk = ArrayString<ROOM>;
 
-/// Returns `true` if a chunk might not have room for another line.
+/// Returns `true` if the buffer can be too full for another line.
 pub(crate) fn is_full(chunk: &Chunk) -> bool {
     ROOM - MOST_OF_LINE < chunk.as_str().len()
 }

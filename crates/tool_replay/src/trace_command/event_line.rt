@@ -1,4 +1,4 @@
-//! Writes the line of an event.
+//! Writes the line of an event in a trace.
 use crate::trace_command::chunks::{Chunk, put, put_number};
 use crate::trace_command::table_words::{TableWord, put_key, put_name, put_node, put_value};
 use lset_replay::{CallEnd, Deed, TracedEvent};
@@ -19,7 +19,7 @@ fn put_reply(out: &mut Chunk, reply: Reply) {
     }
 }
 
-/// Writes an access and the value that it saw. A store sees the value that it stores, so the value is written once.
+/// Writes an access to a word, and the value that it read. A store is written with the value that it stored.
 fn put_access(out: &mut Chunk, action: Action, seen: u64) {
     let (verb, index) = match action {
         Action::Load(index) => ("load ", index),
@@ -46,7 +46,7 @@ fn put_access(out: &mut Chunk, action: Action, seen: u64) {
     put_value(out, word, seen);
 }
 
-/// Writes a node register if its value changed.
+/// Writes a thread's node register and its value, if the value changed.
 fn put_node_change(out: &mut Chunk, name: &str, before: u64, after: u64) {
     if before != after {
         put(out, name);
@@ -54,7 +54,7 @@ fn put_node_change(out: &mut Chunk, name: &str, before: u64, after: u64) {
     }
 }
 
-/// Writes a key register if its value changed.
+/// Writes a thread's key register and its value, if the value changed.
 fn put_key_change(out: &mut Chunk, name: &str, before: u64, after: u64) {
     if before != after {
         put(out, name);
@@ -62,7 +62,7 @@ fn put_key_change(out: &mut Chunk, name: &str, before: u64, after: u64) {
     }
 }
 
-/// Writes the parts of a thread's state that changed.
+/// Writes the registers of a thread's local state that changed.
 fn put_changes(out: &mut Chunk, before: &Local, after: &Local) {
     put_node_change(out, " pred ", before.pred, after.pred);
     put_node_change(out, " curr ", before.curr, after.curr);
@@ -97,7 +97,7 @@ fn put_begin(out: &mut Chunk, call: Call, number: u32) {
     put_call(out, number);
 }
 
-/// Writes what the event did, the thread's row after the event, and the registers that changed.
+/// Writes what the event did, the row of the step table that the thread reached, and the registers that changed.
 fn put_deed(out: &mut Chunk, event: &TracedEvent) {
     match event.deed {
         Deed::Begin(call) => put_begin(out, call, event.call),

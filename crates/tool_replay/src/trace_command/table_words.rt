@@ -1,10 +1,10 @@
-//! Names the words of a list: three words belong to the list, and three to each node.
+//! Names the shared words of a list: three words of the list itself, and three words for each node.
 use crate::trace_command::chunks::{Chunk, put, put_number};
 
-/// The value of the tail's key word.
+/// The value of the tail's key word, which is larger than every key.
 const ABOVE_ALL_KEYS: u64 = 4_294_967_297;
 
-/// A word of a list: one of the list's own three, or one of the three of the node with this number.
+/// A shared word of a list: one of the list's own three words, or one of the three words of the node with this number.
 #[derive(Clone, Copy)]
 pub(crate) enum TableWord {
     ListLock,
@@ -16,7 +16,7 @@ pub(crate) enum TableWord {
 }
 
 impl TableWord {
-    /// Returns the word at `index`, which can be past the end of the table.
+    /// Returns the name of the word with this index. The index can be larger than any index of the list.
     pub fn at(index: u64) -> TableWord {
         let Some(past) = index.checked_sub(3) else {
             return match index {
@@ -84,8 +84,8 @@ pub(crate) fn put_name(out: &mut Chunk, word: TableWord) {
     put(out, field);
 }
 
-/// Appends a word's value in the notation for that word. A link is written as the next node, with a star if it is
-/// marked.
+/// Appends the value of a word in the notation for this word. A link is written as the number of the next node, with a
+/// star if the link is marked.
 pub(crate) fn put_value(out: &mut Chunk, word: TableWord, value: u64) {
     match word {
         TableWord::Key(_) => put_key(out, value),

@@ -1,4 +1,4 @@
-//! Builds the text of a trace and passes it to a sink.
+//! Builds the text of a trace and writes it to a destination.
 
 use crate::trace_command::chunks::{Chunk, is_full, put, put_number};
 use crate::trace_command::event_line::put_event;
@@ -13,20 +13,20 @@ use tool_base::{Trouble, put as put_out};
 /// The first line of a trace.
 const TITLE: &str = "listset-trace 1";
 
-/// A destination for text that arrives piece by piece.
+/// A destination for text that is written piece by piece.
 pub trait Sink {
     /// Appends the next piece of the text.
     fn take(&mut self, text: &str) -> Result<(), Trouble>;
 }
 
-/// Collects the text in memory.
+/// A destination that collects the text in memory.
 impl Sink for Vec<u8> {
     fn take(&mut self, text: &str) -> Result<(), Trouble> {
         Ok(self.extend_from_slice(text.as_bytes())?)
     }
 }
 
-/// A sink that writes to an output.
+/// A destination that writes to an output.
 #[derive(Drop)]
 pub(crate) struct Output<'a, W> {
     pub output: &'a mut W,
@@ -42,8 +42,8 @@ impl<W: Write> Sink for Output<'_, W> {
     }
 }
 
-/// Returns the start of a trace, before the first event: the header, with `lacks NAME` after the list if a check is
-/// missing, and the opening keys as the first chain.
+/// Returns the beginning of a trace, before the first event: the header and a line for each opening key. If `lacks`
+/// names a broken list, a line `lacks NAME` follows the line of the list.
 pub(crate) fn head_of(
     alloc: Global,
     schedule: &Schedule,
@@ -61,7 +61,7 @@ pub(crate) fn head_of(
     Ok(head)
 }
 
-/// A trace in progress. Full chunks have already been passed to the sink.
+/// A trace that is being written. `chunk` has the part that was not written to the destination yet.
 #[derive(Drop)]
 pub struct Lines<'a, S> {
     chunk: Chunk,
@@ -69,7 +69,7 @@ pub struct Lines<'a, S> {
 }
 
 impl<S: Sink> Lines<'_, S> {
-    /// Starts a trace into `sink`.
+    /// Begins a trace whose destination is `sink`.
     pub fn to(sink: &mut S) -> Lines<'_, S> {
         Lines {
             chunk: Chunk::new(),
@@ -77,7 +77,7 @@ impl<S: Sink> Lines<'_, S> {
         }
     }
 
-    /// Appends the line of an event, and the line of its chain if it has one.
+    /// Appends the line of an event and, if the event changed the chain of nodes, the line of the new chain.
     #[inline(always)]
     pub fn add(&mut self, event: &TracedEvent) -> Result<(), Trouble> {
         self.pour_full()?;
@@ -88,7 +88,7 @@ impl<S: Sink> Lines<'_, S> {
         }
     }
 
-    /// Appends the last line: `end` or, if an event was refused, its line number and the cause.
+    /// Appends the last line: `end` or, if an event was refused, the number of the event's line and the cause.
     pub fn end(&mut self, refused: Option<(u64, &str)>) -> Result<(), Trouble> {
         self.pour_full()?;
         match refused {
@@ -117,7 +117,7 @@ impl<S: Sink> Lines<'_, S> {
         Ok(())
     }
 
-    /// Appends the line of a chain. Marked nodes have a star.
+    /// Appends the line of a chain: the keys of its nodes, with a star after the keys of marked nodes.
     fn add_chain(&mut self, chain: &[ChainKey]) -> Result<(), Trouble> {
         put(&mut self.chunk, "chain");
         for place in chain {

@@ -1,4 +1,4 @@
-//! Runs a schedule and writes its trace to a sink.
+//! Runs a schedule and writes its trace to a destination.
 
 ghost use Rattle.lset_schedule.specs.Plan.{IsSchedule, view};
 
@@ -17,7 +17,7 @@ use lset_words::Kind;
 use std::alloc::Global;
 use tool_base::Trouble;
 
-/// Traces a run from its first event. Returns 1 if an event is refused, which ends the trace, otherwise 0.
+/// Writes the trace of a run from its first event. Returns 1 if an event is refused, which ends the trace, otherwise 0.
 fn trace<W: Steps + Drop, S: Sink>(
     schedule: &Schedule,
     run: TracedRun<W>,
@@ -43,7 +43,7 @@ fn trace<W: Steps + Drop, S: Sink>(
     Ok(0)
 }
 
-/// Traces a schedule on the machine `M`.
+/// Traces a schedule on the list whose step table is `M`.
 fn trace_on<M: Machine, S: Sink>(
     alloc: Global,
     schedule: &Schedule,
@@ -58,8 +58,8 @@ fn trace_on<M: Machine, S: Sink>(
     trace(schedule, run, sink)
 }
 
-/// Traces a schedule on the list that it names. The list is selected with a `match`, because a task of `on_list` cannot
-/// contain the sink.
+/// Traces a schedule on the list that it names. A `match` selects the list, because a task of `on_list` cannot contain
+/// the destination.
 fn trace_named<S: Sink>(
     alloc: Global,
     schedule: &Schedule,
@@ -77,8 +77,8 @@ fn trace_named<S: Sink>(
     }
 }
 
-/// Reads a schedule from `text` and traces it into the sink. Returns 1 if an event is refused, which ends the trace,
-/// otherwise 0.
+/// Reads a schedule from `text` and traces it to the destination. Returns 1 if an event is refused, which ends the
+/// trace, otherwise 0.
 pub(crate) fn trace_into<S: Sink>(
     alloc: Global,
     options: Trace,

@@ -3,7 +3,6 @@ use Rattle.tool_base.specs.Tools.{Made}
 use Rattle.ffi_page.specs.Page.{Handed, IsHanded, text_of, status_of}
 use Rattle.ffi_page.proofs.handing.hand.Goals as goal
 
--- If the text that the caller received is the result's text, the caller received the result.
 handed_as : (made : Made) (old new text : List ℕ) (status count : ℕ)
     → text ≡ text_of made → Handed text old new → status ≡ status_of made → count ≡ length text →
     IsHanded made old new status count

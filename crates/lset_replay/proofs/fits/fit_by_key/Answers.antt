@@ -6,7 +6,6 @@ use Rattle.lset_replay.specs.Trace.{needs_key}
 use Rattle.lset_replay.proofs.SmallestFits.{plain_shows}
 use Rattle.lset_replay.proofs.fits.fit_by_key.Goals as goal
 
--- The result is the first moment at which the reply is correct.
 pub returns : goal.returns
 returns c =
     let needed = needs_key c.args.made.call c.args.reply in

@@ -8,7 +8,6 @@ use Rattle.lset_replay.specs.declared.places.Linearized.{Linearized}
 use Rattle.lset_replay.specs.PlacedOrder.{pointed_from}
 use Rattle.lset_replay.proofs.order.sorted_places.Goals as goal
 
--- The calls that have a linearization point, in the order of their numbers.
 numbers_from : (n : ℕ) (ps : List (Option Linearized)) → AllByRecursion (λ (x : Pointed). n ≤ x.placed.call) (pointed_from n ps)
 numbers_from n [] = tt
 numbers_from n (None ∷ ps) = all_imply (λ (x : Pointed). suc n ≤ x.placed.call) (λ (x : Pointed). n ≤ x.placed.call) (λ x l. omega arith)

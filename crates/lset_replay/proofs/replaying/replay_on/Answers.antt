@@ -14,7 +14,6 @@ use Rattle.lset_replay.proofs.FinalReport.{replay_is, explained_is}
 use Rattle.lset_replay.proofs.WordsOfVersion.{words_of_version}
 use Rattle.lset_replay.proofs.replaying.replay_on.Goals as goal
 
--- If an opening and lines equal those of a schedule, facts about them are facts about the schedule.
 of_schedule : (P : Opening → List LineEvent → Type 0) (p : Plan) (op : Opening) (n : ℕ) (ls : List Line)
     → op ≡ opening_in p → n ≡ first_event_line p → ls ≡ p.lines → P op (events_from n ls) → P (opening_in p) (events_of p)
 of_schedule P p op n ls opening first lines h = rw (opening, first, lines) at h

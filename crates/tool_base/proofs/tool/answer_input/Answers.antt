@@ -4,7 +4,6 @@ use Rattle.tool_base.specs.Tools.{IsReadOf, Made, OnInput, OnText, view}
 use Rattle.tool_base.proofs.tool.answer_input.Goals as goal
 
 module _ (Makes : List ℕ → Made → Type 0) (made : Made) where
-  -- the law holds for any bytes of the input
   of_any : (known : Option (List ℕ)) → ((bytes : List ℕ) → OnInput Makes bytes made) → IfSome known (λ bytes. OnInput Makes bytes made)
   of_any None each = tt
   of_any (Some bytes) each = each bytes

@@ -1,7 +1,7 @@
 use Rattle.std.proofs.Common.{Some, sym, refl}
 use Rattle.tool_replay.proofs.check_command.answer_on.Goals as goal
 
--- The line names the fault that `check_order` returned, which is the first fault of the order.
+-- `check_order` returns the first error of the order, and the printed line names this error.
 pub returns-in_ok-refusal_text-in-Err-clause-judged :
     goal.returns-in_ok-refusal_text-in-Err-clause-judged
 returns-in_ok-refusal_text-in-Err-clause-judged c =

@@ -2,7 +2,7 @@ use Rattle.lset_schedule.specs.Plan.{view}
 use Rattle.lset_schedule.proofs.VersionLaws.{schedule_has_words}
 use Rattle.tool_replay.proofs.replay_command.ReplayTool.answer.Goals as goal
 
--- A schedule that was read uses only calls of its version, so its report can be written in that version.
+-- The report can be written: a schedule that was read uses only words of its version, and so does its report.
 pub write_report-requires : goal.write_report-requires
 write_report-requires c =
     c.in-Ok.ensures.in_words (schedule_has_words (view c.in_ok-schedule.schedule) c.in_ok-schedule.ensures.found.0)
