@@ -277,7 +277,7 @@ function explained(engine, file = "-", name = file === "-" ? "FILE" : file) {
   }
 }
 
-const NO_RIGHT = "you have no right to read this file. If it is yours, chmod u+r gives you the right. To see whose the file and its folders are: namei -l FILE";
+const NO_RIGHT = "you have no right to read this file (of a file of yours: chmod u+r) or to enter its folder. To see whose they are: namei -l FILE";
 const NOT_READ = {
   ENOENT: "there is no such file. Look at its name, and at the folder that you are in: ls",
   EACCES: NO_RIGHT,

@@ -198,7 +198,7 @@ def test_a_file_without_the_right_to_read_it_is_explained(script):
     if os.access(script / "b.schedule", os.R_OK):
         return  # root reads every file
     _, said = at_terminal(["./listset", "replay", "b.schedule"], script)
-    assert said.startswith("listset: cannot read\nb.schedule: you have no right to read this file. If it is yours, chmod u+r gives you the right. To see whose the file and its folders are: namei -l b.schedule\n"), said
+    assert said.startswith("listset: cannot read\nb.schedule: you have no right to read this file (of a file of yours: chmod u+r) or to enter its folder. To see whose they are: namei -l b.schedule\n"), said
 
 
 def test_a_long_input_is_explained(script):

@@ -15,7 +15,7 @@ pub fn explain_unopened(alloc: Global, file: &str, kind: ErrorKind) -> Result<An
             "",
         ),
         ErrorKind::PermissionDenied => (
-            "you have no right to read this file. If it is yours, chmod u+r gives you the right. To see whose the file and its folders are: namei -l ",
+            "you have no right to read this file (of a file of yours: chmod u+r) or to enter its folder. To see whose they are: namei -l ",
             name,
         ),
         ErrorKind::IsADirectory => (
