@@ -68,7 +68,7 @@ AT_TERMINAL = {
     "example --broken full": ["listset: bad NAME: this example has no broken report\n", "These examples have one: ", "snip"],
     "judge --only x b.schedule": ["listset: bad KEY\n", "KEY 'x' is wrong. It is a number from 0 to 4294967295"],
     "judge --only 9 -- -x.calls": ["listset: bad KEY\n", "The recording has no call of key 9. To see its keys: grep '^call' ./-x.calls | cut -d ' ' -f 4"],
-    "judge --only -5 b.schedule": ["unexpected argument '-5' found\n", "KEY '-5' is wrong. It is a number from 0 to 4294967295\n"],
+    "judge --only -5 b.schedule": ["unexpected argument '-5' found\n", "KEY '-5' is wrong. It is a number from 0 to 4294967295"],
     "show --from -5 b.schedule": ["unexpected argument '-5' found\n", "FROM '-5' is wrong. First moment to draw: 1 to the last one"],
     "judge b.schedule -v": ["unexpected argument '-v' found\n", "./listset help judge lists its arguments and options\n"],
     "JUDGE": ["unrecognized subcommand 'JUDGE'\n", "Commands are in lower case: ./listset judge\n"],
