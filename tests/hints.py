@@ -253,7 +253,7 @@ def test_an_error_in_a_long_recording_is_shown(script):
 def test_a_long_line_of_a_long_recording_is_shown(script):
     (script / "long.calls").write_text("call 0 add 5 1 4 true " * 3_100_000)
     _, said = at_terminal(["./listset", "judge", "long.calls"], script)
-    assert "listset: line 1: NotEnded\nLine 1 is 'call 0 add 5 1 4 true call " in said and said.endswith("Write each call in a line of its own, which ends with LF\n"), said[:600]
+    assert "listset: line 1: NotEnded\nLine 1 is 'call 0 add 5 1 4 true call " in said and "Write the title and each call in a line of its own, which ends with LF." in said, said[:600]
 
 
 # Rows that Node cannot show: commands that only a built program has, errors with a tip of clap, and a hint about a wrong command line
