@@ -257,7 +257,7 @@ def test_a_long_line_of_a_long_recording_is_shown(script):
 
 
 # Rows that Node cannot show: commands that only a built program has, errors with a tip of clap, and a hint about a wrong command line
-NOT_OF_NODE = re.compile(r"(run|serve) |shwo|--prov|show --from -5")
+NOT_OF_NODE = re.compile(r"(run|serve) |shwo|--prov|show --from (-5|5 --from)|trace --chain=")
 
 
 @pytest.mark.needs("node")
