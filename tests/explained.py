@@ -185,7 +185,7 @@ def test_explain_suggests_no_edit_of_another_programs_file(program):
 def test_a_file_that_is_not_read_is_explained(program, room):
     wants(ran(program, "explain", "no-such", cwd=room), output="no-such: there is no such file. Look at its name, and at the folder that you are in: ls\n")
     wants(ran(program, "explain", "."), output=".: this is a folder. Name a file in it. To see its files: ls .\n")
-    wants(ran(program, "explain", "/dev/null/a"), output="/dev/null/a: a part of this path is a file, and no folder.\n")
+    wants(ran(program, "explain", "/dev/null/a"), output="/dev/null/a: a part of this path is a file, and no folder. To see which: namei /dev/null/a\n")
     wants(ran(program, "replay", "."), status=1, output="")
     long = room / "long"
     long.write_text(SCHEDULE)
