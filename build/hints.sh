@@ -96,8 +96,8 @@ title_of() {
 
 # Prints what is wrong in a file, and what to do: the last line of what the command explain prints. $3 and $4 are the
 # cause and the line in the error of the command $1. If the cause is Header and the file is of another kind than the
-# command reads, prints both kinds and the commands that read the file. If the kind of such a file is unknown, prints the first
-# line of what the command reads.
+# command reads, prints both kinds and the commands that read the file. If the kind of such a file is unknown, prints
+# the first line of what the command reads.
 explain_in_a_line() {
   local command=$1 file=$2 cause=${3-} number=${4-} said first last name use
   said=$(explain_file "$file")
