@@ -253,8 +253,8 @@ explain_port() {
   fi 2>/dev/null
 }
 
-# Explains why the output of a command could not be written: standard output is closed, a pipe whose reader has ended, or a
-# file or device.
+# Explains why the output of a command could not be written: standard output is closed, is a pipe whose reader has
+# ended, or is a file or device.
 explain_unwritten() {
   local to
   to=$(readlink "/proc/$$/fd/1") || to=""
@@ -292,8 +292,8 @@ print_last_moment() {
   sed -n 's/^moments .* of \([0-9]*\);.*/\1/p; s/^moment .* \([0-9]*\)$/\1/p' <<<"$picture" | head -n 1
 }
 
-# Prints how a number is spelled, as a sentence, if a value is not spelled so and $1 is the range of a number. Prints the
-# kind of list that a misspelled one means.
+# Prints a sentence about the spelling of a value, which begins with a period: how numbers are spelled, if the range $1
+# is of a number and the value $2 is none; or the list that a misspelled name means. Prints nothing for other values.
 explain_spelling() {
   local range=$1 value=$2 it plain
   plain=$(tr -cd a-z <<<"${value,,}")
