@@ -73,7 +73,7 @@ print_use() {
 # Prints the kind of text that a command reads.
 read_by() {
   case "$1" in
-    replay | trace) echo "a schedule" ;;
+    replay | trace | "show --lacks") echo "a schedule" ;;
     check) echo "a report" ;;
     draft) echo "a draft" ;;
     judge) echo "recorded calls" ;;
@@ -85,7 +85,7 @@ read_by() {
 # Prints the first line of what a command reads.
 title_of() {
   case "$1" in
-    replay | trace) echo "'listset-schedule 1' (or 2)" ;;
+    replay | trace | "show --lacks") echo "'listset-schedule 1' (or 2)" ;;
     check) echo "'listset-report 1' (or 2)" ;;
     draft) echo "'listset-draft 2'" ;;
     judge) echo "'listset-calls 1'" ;;
@@ -94,22 +94,48 @@ title_of() {
   esac
 }
 
-# Prints what is wrong in a file, and what to do: the last line of what the command explain prints. If the cause $3 is
-# Header and the file is of another kind than command $1 reads, prints both kinds and the commands that read the file.
-# If the kind of such a file is unknown, prints the first line of what the command reads.
+# Prints what is wrong in a file, and what to do: the last line of what the command explain prints. $3 and $4 are the
+# cause and the line in the error of the command $1. If the cause is Header and the file is of another kind than the
+# command reads, prints both kinds and the commands that read the file. If the kind of such a file is unknown, prints
+# the first line of what the command reads.
 explain_in_a_line() {
-  local command=$1 file=$2 said first last use
+  local command=$1 file=$2 cause=${3-} number=${4-} said first last name use
   said=$(explain_file "$file")
   first=${said%%$'\n'*}
   last=$(tail -n 1 <<<"$said")
+  name=$(quoted "$file")
   use=$(print_use "$file" "$first")
-  if [ "${3-}" = Header ] && [ -n "$use" ]; then
+  [[ "$first" != *", and line 1 has an error, Header:" ]] || cause=Header
+  [ "$command" != show ] || [ -z "${texts[lacks]-}" ] || command="show --lacks"
+  if [ "$cause" = Header ] && [ "$first" = "$name has no bytes." ] && [ "$file" -ef "/proc/$$/fd/1" ]; then
+    echo "$name has no bytes: the output goes to the file that is read, so the shell emptied it. Write the output to another file"
+  elif [ "$cause" = Header ] && [ "$first" = "$name has no bytes." ]; then
+    echo "$name has no bytes, and $command reads $(read_by "$command"): line 1 must be $(title_of "$command"). If a command wrote the file, look at what that command printed for an error"
+  elif [ "$cause" = Header ] && [ -n "$use" ]; then
     echo "${first%%, and *}, and $command reads $(read_by "$command"). $use"
-  elif [ "${3-}" = Header ] && [[ "$last" == "Line 1 must be one of"* ]]; then
-    echo "$(quoted "$file") is no text of listset. $command reads $(read_by "$command"): line 1 must be $(title_of "$command"), and docs/TEXTS.md has the lines below it"
+  elif [ "$cause" = Header ] && [[ "$last" == "Line 1 must be one of"* ]]; then
+    echo "$name is no text of listset. $command reads $(read_by "$command"): line 1 must be $(title_of "$command"), and docs/TEXTS.md has the lines below it"
+  elif [ -n "$number" ] && [ "$cause" != Header ] && [[ "$first" != *", and line $number has an error, $cause:" ]]; then
+    explain_other "$command" "$file" "$cause"
+  elif [[ "$first" == *" has more than 67108864 bytes." ]]; then
+    echo "$first $last"
   else
     echo "$last"
   fi
+}
+
+# Explains an error that the command explain does not find in the file: a broken list takes other steps.
+explain_other() {
+  if [ -n "${texts[lacks]-}" ]; then
+    echo "On the list that lacks ${texts[lacks]}, calls can take other steps than on the whole list. For each step above this line: listset trace --lacks ${texts[lacks]} $(quoted "$2"); for the cause: listset faults $3"
+  else
+    echo "listset faults $3 explains this error"
+  fi
+}
+
+# Succeeds if the last line of a file has no newline and more bytes than a line of a recording can have.
+is_end_long() {
+  [ -n "$(tail -c 1 -- "$1" | tr -d '\0')" ] && [ "$(tail -c 129 -- "$1" | wc -l)" = 0 ]
 }
 
 # Explains a refused line of a recording that is too long for the command explain. Prints the line and the cause.
@@ -119,9 +145,35 @@ explain_long() {
   why=$("${engine[@]}" faults "$cause" | sed -n '/in recorded calls/,/^$/p' | sed '1d; s/^ *//' | tr '\n' ' ')
   why=${why#"$cause"}
   why=$(sed 's/^ *//; s/ *$//' <<<"${why//FILE/$(quoted "$file")}")
+  if [ "$cause" = NotEnded ] && is_end_long "$file"; then
+    why="The line has more than the 128 bytes that a line can have, and no newline at its end. Write the title and each call in a line of its own, which ends with LF. If another sign is between the calls, such as a semicolon: tr ';' '\n' < $(quoted "$file") > NEW"
+  fi
   [ -z "$line" ] || why="Line $number is '$line'. $why"
-  [ "$cause" != NotEnded ] || why+=" Write each call in a line of its own, which ends with LF"
   echo "$why"
+}
+
+# Prints the names of all broken lists, each with its list in parentheses, as in the help of --lacks.
+print_broken_lists() {
+  "${engine[@]}" help replay 2>/dev/null | sed -n 's/^ *--lacks <NAME> [^:]*: //p'
+}
+
+# Explains an option --lacks that does not fit the list of a schedule.
+explain_lacks() {
+  local lacks=${texts[lacks]} file=$1 list="" names it of="" fitting=""
+  names=$(print_broken_lists)
+  [ ! -f "$file" ] || list=$(sed -n '2{s/^list //p;q}' "$file")
+  while read -r it; do
+    [ "${it%% *}" != "$lacks" ] || of=${it##* }
+    [ "${it##* }" != "($list)" ] || fitting+="${fitting:+, }${it%% *}"
+  done <<<"${names//, /$'\n'}"
+  of=${of//[()]/}
+  if [ -n "$fitting" ]; then
+    echo "$lacks is a check of the $of list, and line 2 is 'list $list'. The checks of the $list list: $fitting"
+  elif [ -f "$file" ] && [ -n "$list" ]; then
+    explain_in_a_line replay "$file"
+  else
+    echo "$lacks is a check of the $of list, and line 2 is of another list. All checks: $names"
+  fi
 }
 
 # Explains a refused line in a command's input.
@@ -129,7 +181,7 @@ explain_line() {
   local command=$1 number=$2 cause=$3 file
   file=$(print_file "$command")
   if [ "$cause" = Kind ] && [ -n "${texts[lacks]-}" ]; then
-    echo "${texts[lacks]} is a check of another list than the one in line 2; listset help replay lists the checks of each list"
+    explain_lacks "$file"
   elif [ ! -f "$file" ] && [ "$cause" = Header ]; then
     echo "$command reads $(read_by "$command"): line 1 must be $(title_of "$command"), and the input is empty or closed, or begins otherwise. For a text in a file, listset explain FILE says what is wrong"
   elif [ ! -f "$file" ]; then
@@ -137,9 +189,9 @@ explain_line() {
   elif [ "$command" = judge ] && [ "$(stat -c %s -- "$file")" -gt 67108864 ]; then
     explain_long "$file" "$number" "$cause"
   elif [ "$command $cause" = "serve Line" ]; then
-    explain_in_a_line serve "$file" Header
+    explain_in_a_line serve "$file" Header "$number"
   else
-    explain_in_a_line "$command" "$file" "$cause"
+    explain_in_a_line "$command" "$file" "$cause" "$number"
   fi
 }
 
@@ -161,6 +213,10 @@ print_meant() {
   found=$(compgen -G "$(printf '%q' "$name").*" 2>/dev/null) || true
   if [ "$name" = help ]; then
     echo "To read about this command: listset help $command"
+  elif [[ "$name" == "~"* ]]; then
+    echo "A shell replaces ~ by your folder only outside of quotes"
+  elif [[ "$name" == *://* ]]; then
+    echo "listset reads files, no addresses. To read it from a pipe: curl -s $(quoted "$name") | listset $command"
   elif [ -f "$found" ]; then
     echo "Perhaps you mean $(quoted "$found")"
   elif [[ "$command" =~ ^(replay|show|trace)$ ]] && is_example "$name"; then
@@ -197,6 +253,35 @@ explain_port() {
   fi 2>/dev/null
 }
 
+# Explains why the output of a command could not be written: standard output is closed, is a pipe whose reader has
+# ended, or is a file or device.
+explain_unwritten() {
+  local to
+  to=$(readlink "/proc/$$/fd/1") || to=""
+  if [ -n "$is_output_closed" ]; then
+    echo "Standard output is closed. To see the output, leave out '>&-'; to keep it: listset $1 .. > FILE"
+  elif [ -p "/proc/$$/fd/1" ]; then
+    echo "The command after the pipe ended before it had read all of the output, as head does. If it should read all, look there for an error"
+  elif [ -e "$to" ]; then
+    echo "The output could not be written to $(quoted "$to"): the device is full, or failed. To see how full it is: df -h $(quoted "$to")"
+  else
+    echo "The output could not be written. Write it to a file: listset $1 .. > FILE"
+  fi
+}
+
+# Explains an input that has more bytes than the command reads.
+explain_too_long() {
+  local command=$1 file
+  file=$(print_file "$command")
+  if [ -n "$file" ]; then
+    explain_in_a_line "$command" "$file"
+  elif [ "$command" = judge ]; then
+    echo "Only a recording can have more than 67108864 bytes: line 1 must be 'listset-calls 1', and no line has more than 128 bytes"
+  else
+    echo "Standard input has more than 67108864 bytes, and only judge reads more. To let $command read the first lines alone: .. | head -n 1000 | listset $command"
+  fi
+}
+
 # Prints the last moment of the command's file that show can draw. Prints nothing if the command reads standard input.
 print_last_moment() {
   local file picture lacks=()
@@ -207,15 +292,31 @@ print_last_moment() {
   sed -n 's/^moments .* of \([0-9]*\);.*/\1/p; s/^moment .* \([0-9]*\)$/\1/p' <<<"$picture" | head -n 1
 }
 
+# Prints a sentence about the spelling of a value, which begins with a period: how numbers are spelled, if the range $1
+# is of a number and the value $2 is none; or the list that a misspelled name means. Prints nothing for other values.
+explain_spelling() {
+  local range=$1 value=$2 it plain
+  plain=$(tr -cd a-z <<<"${value,,}")
+  if [[ "$range" =~ [0-9]\ to\ |:\ the\ first ]]; then
+    [[ "$value" =~ ^(0|[1-9][0-9]*)$ ]] || echo ". A number has decimal digits alone, and no leading zero"
+  else
+    for it in coarse fine optimistic lazy lock-free; do
+      [ "${plain%list}" != "${it/-/}" ] || echo ". Perhaps you mean $it"
+    done
+  fi
+}
+
 # Explains a wrong option of show, using the command's help text.
 explain_option() {
-  local name=$1 range=$2 last
+  local name=$1 range=$2 value last
+  value=${texts[${name,,}]}
+  range+=$(explain_spelling "$range" "$value")
   case "$name" in
     FROM) last=$(print_last_moment)
       [ -z "$last" ] || range+="; of this file, 1 to $last" ;;
     TO) range+="; here, ${texts[from]-1} or a later one" ;;
   esac
-  echo "$name '${texts[${name,,}]-}' is wrong. $range"
+  echo "$name '$value' is wrong. $range"
 }
 
 # Succeeds if an example has this name.
@@ -223,12 +324,20 @@ is_example() {
   [[ $'\n'$("${engine[@]}" example 2>/dev/null) == *$'\n'"$1 "* ]]
 }
 
-# Explains a wrong name of an example.
+# Explains a missing or wrong name of an example.
 explain_example() {
-  local name=${1##*/}
+  local name=${1##*/} alike
+  if [ -z "$1" ]; then
+    echo "NAME is missing. listset example lists the names. Some have a broken report: $(print_broken)"
+    return
+  fi
   name=${name%.schedule}
+  alike=$("${engine[@]}" example 2>/dev/null | sed 's/ .*//' | grep -i -F -e "${name// /-}" | tr '\n' ' ') || alike=""
+  alike=${alike% }
   if [ "$name" != "$1" ] && is_example "$name"; then
     echo "The name of this example is $name: listset example $name"
+  elif [ -n "$alike" ]; then
+    echo "There is no example '$1'. Perhaps you mean ${alike// /, }"
   else
     echo "There is no example '$1'. listset example lists the names"
   fi
@@ -236,16 +345,17 @@ explain_example() {
 
 # Explains a wrong key of judge --only.
 explain_key() {
+  local range="It is a number from 0 to 4294967295"
   if [[ "$1" =~ ^(0|[1-9][0-9]{0,9})$ ]] && [ "$1" -le 4294967295 ]; then
-    echo "The recording has no call of key $1"
+    echo "The recording has no call of key $1. To see its keys: grep '^call' $(quoted "${values[0]-FILE}") | cut -d ' ' -f 4 | sort -n -u"
   else
-    echo "KEY '$1' is wrong. It is a number from 0 to 4294967295"
+    echo "KEY '$1' is wrong. $range$(explain_spelling "$range" "$1")"
   fi
 }
 
 # Explains a missing or wrong argument, using the command's help text.
 explain_value() {
-  local command=$1 name=$2 help usage range words at=0
+  local command=$1 name=$2 help usage range value words at=0
   help=$("${engine[@]}" help "$command" 2>/dev/null)
   usage=$(sed -n 's/^Usage: //p' <<<"$help")
   read -ra words <<<"$usage"
@@ -259,11 +369,22 @@ explain_value() {
   for ((at = 2; at < ${#words[@]}; at++)); do
     case "${words[at]}" in "$name" | "[$name]") break ;; esac
   done
+  value=${values[at - 2]-}
   if [ $((at - 2)) -ge ${#values[@]} ]; then
-    echo "$name is missing. Usage: $usage"
+    echo "$name is missing. $range. Usage: $usage"
+  elif [ -z "$value" ]; then
+    echo "$name is empty. Perhaps a variable of the shell has no value. $range. Usage: $usage"
   else
-    echo "$name '${values[at - 2]}' is wrong. $range. Usage: $usage"
+    echo "$name '$value' is wrong. $range$(explain_spelling "$range" "$value"). Usage: $usage"
   fi
+}
+
+# Explains an option without a value, using the command's help text.
+explain_no_value() {
+  local option about
+  option=$(sed -n "1s/.*required for '\(--[a-z]*\).*/\1/p" <<<"$2")
+  about=$("${engine[@]}" help "$1" 2>/dev/null | sed -n "s/^ *$option <\([A-Z]*\)> *\(.*\)/\1: \2/p")
+  echo "Write the value after $option. ${about:-listset help $1 says what it can be}"
 }
 
 # Prints the number of arguments before this one that are not options.
@@ -276,27 +397,74 @@ count_before() {
   echo "$at"
 }
 
+# Explains a number below 0: prints the range of the option or argument that it is given for.
+explain_negative() {
+  local command=$1 word=$2 help words name at
+  for ((at = 1; at < ${#given[@]}; at++)); do
+    case "${given[at]} ${given[at - 1]}" in
+      "$word"*\ --only | "$word"*\ --from | "$word"*\ --to | "$word"*\ --width)
+        name=${given[at - 1]#--}
+        texts[$name]=${given[at]}
+        name=${name/only/key}
+        explain_value "$command" "${name^^}" && return ;;
+    esac
+  done
+  help=$("${engine[@]}" help "$command" 2>/dev/null)
+  read -ra words <<<"$(sed -n 's/^Usage: //p' <<<"$help")"
+  name=${words[$(($(count_before "$word") + 2))]-}
+  name=${name#[}
+  name=${name%]}
+  echo "$name '$word' is wrong. $(sed -n "s/^ *\[$name\] *//p" <<<"$help")"
+}
+
+# Explains an argument that begins with a hyphen and is no option of any command.
+explain_hyphen() {
+  local command=$1 word=$2 usage name file
+  for name in svg from to width brief only chain broken lacks; do
+    for file in "${given[@]}"; do
+      case "$file" in "-$name" | "-$name="*) echo "An option has two hyphens: --$name" && return ;; esac
+    done
+  done
+  for file in "${given[@]}"; do
+    [[ "$file" != "$word"* ]] || [ ! -e "./$file" ] || { echo "If you mean the file: listset $command $(quoted "$file")" && return; }
+  done
+  usage=$("${engine[@]}" help "$command" 2>/dev/null | sed -n 's/^Usage: //p')
+  name=${word#--}
+  name=${name^^}
+  if [[ "$word" =~ ^(-o|--out|--output)$ ]]; then
+    echo "The result goes to standard output. To write it to a file: listset $command .. > FILE"
+  elif "${engine[@]}" help "${word#--}" >/dev/null 2>&1; then
+    echo "A command has no hyphens: listset ${word#--}"
+  elif [[ " ${usage//[][]/ } " == *" $name "* ]]; then
+    echo "$name is known by its place, without $word. Usage: $usage"
+  elif [[ "$command" == -* ]]; then
+    echo "listset --help lists the commands"
+  else
+    echo "listset help $command lists its arguments and options"
+  fi
+}
+
+# Explains an argument after the last one that the command accepts.
+explain_further() {
+  local command=$1 word=$2
+  case "$command" in
+    gen | run | serve) echo "$command has fewer arguments: leave out '$word'" ;;
+    example) echo "example prints one schedule. Run the command once for each" ;;
+    faults) echo "faults explains one cause, the last word of an error line. Run the command once for each" ;;
+    *)
+      if [ -f "${values[*]}" ]; then
+        echo "If you mean one file, quote its name: listset $command $(quoted "${values[*]}")"
+      else
+        echo "$command reads one file. Run the command once for each"
+      fi ;;
+  esac
+}
+
 # Explains an argument that the command does not accept.
 explain_word() {
-  local command=$1 word=$2 help usage words name file at
+  local command=$1 word=$2
   case "$word" in
-    -[0-9]*)
-      for ((at = 1; at < ${#given[@]}; at++)); do
-        case "${given[at]} ${given[at - 1]}" in
-          "$word"*\ --only | "$word"*\ --from | "$word"*\ --to | "$word"*\ --width)
-            name=${given[at - 1]#--}
-            texts[$name]=${given[at]}
-            name=${name/only/key}
-            explain_value "$command" "${name^^}" && return ;;
-        esac
-      done
-      help=$("${engine[@]}" help "$command" 2>/dev/null)
-      usage=$(sed -n 's/^Usage: //p' <<<"$help")
-      read -ra words <<<"$usage"
-      name=${words[$(($(count_before "$word") + 2))]-}
-      name=${name#[}
-      name=${name%]}
-      echo "$name '$word' is wrong. $(sed -n "s/^ *\[$name\] *//p" <<<"$help")" ;;
+    -[0-9]*) explain_negative "$command" "$word" ;;
     --chain) echo "--chain is an option of trace" ;;
     --svg | --from | --to | --width) echo "$word is an option of show" ;;
     --broken) echo "--broken is an option of example" ;;
@@ -308,30 +476,8 @@ explain_word() {
       else
         echo "listset help $command lists its arguments and options"
       fi ;;
-    -*)
-      for name in svg from to width brief only chain broken lacks; do
-        for file in "${given[@]}"; do
-          case "$file" in "-$name" | "-$name="*) echo "An option has two hyphens: --$name" && return ;; esac
-        done
-      done
-      case "$word" in -o | --output | --out) echo "The result goes to standard output. To write it to a file: listset $command .. > FILE" && return ;; esac
-      for file in "${given[@]}"; do
-        [[ "$file" != "$word"* ]] || [ ! -e "./$file" ] || { echo "If you mean the file: listset $command $(quoted "$file")" && return; }
-      done
-      if "${engine[@]}" help "${word#--}" >/dev/null 2>&1; then
-        echo "A command has no hyphens: listset ${word#--}"
-      elif [[ "$command" == -* ]]; then
-        echo "listset --help lists the commands"
-      else
-        echo "listset help $command lists its arguments and options"
-      fi ;;
-    *)
-      case "$command" in
-        gen | run | serve) ;;
-        example) echo "example prints one schedule. Run the command once for each" ;;
-        faults) echo "faults explains one cause, the last word of an error line. Run the command once for each" ;;
-        *) echo "$command reads one file. Run the command once for each" ;;
-      esac ;;
+    -*) explain_hyphen "$command" "$word" ;;
+    *) explain_further "$command" "$word" ;;
   esac
 }
 
@@ -343,6 +489,10 @@ explain_command() {
     use=$(print_use "$1" "$first")
     [ -n "$use" ] || use="listset explain $(quoted "$1") says what it has"
     echo "If you mean the file: ${first%%, and *}. $use"
+  elif [ -z "$1" ]; then
+    echo "The command is empty. Perhaps a variable of the shell has no value. listset --help lists the commands"
+  elif [ "$1" = - ]; then
+    echo "A command comes first, such as: listset replay -"
   elif [ "$1" = version ]; then
     echo "listset --version prints the version"
   elif [ "$1" != "${1,,}" ] && "${engine[@]}" help "${1,,}" >/dev/null 2>&1; then
@@ -362,7 +512,7 @@ print_broken() {
     it=${it##*/}
     names+="${names:+, }${it%.broken.report}"
   done
-  echo "These examples have one: $names"
+  echo "$names"
 }
 
 # Prints a text in which listset's commands begin with the name under which the script was called.
@@ -388,19 +538,20 @@ explain_error() {
       number=${said#listset: line }
       explain_line "$1" "${number%%:*}" "${said##*: }" ;;
     "listset: cannot read") explain_unread "$1" ;;
-    "listset: too long") [ "$1" != judge ] || { echo "Only a recording can have more than 67108864 bytes: line 1 must be 'listset-calls 1', and no line has more than 128 bytes" && return; }
-      echo "An input has at most 67108864 bytes; only judge reads more. Make the text shorter" ;;
-    "listset: cannot write") echo "The output was closed, as by head, or its device failed or is full: df -h" ;;
+    "listset: too long") explain_too_long "$1" ;;
+    "listset: cannot write") explain_unwritten "$1" ;;
     "listset: cannot listen") explain_port ;;
     "listset: out of memory") echo "The system gave no more memory: free -h; ulimit -v" ;;
     "listset: an argument is not UTF-8") echo "A file with such a name can be read from standard input: listset $1 < FILE" ;;
     "listset: work: "* | "listset: serve: "*) echo "listset faults ${said##*: } explains this error" ;;
-    "listset: bad NAME: this example"*) print_broken ;;
-    "listset: bad NAME: "*) ;;
+    "listset: bad NAME: this example"*) echo "These examples have one: $(print_broken)" ;;
+    "listset: bad NAME: "*) echo "NAME '${texts[lacks]-}' is wrong. --lacks takes one of $(print_broken_lists)" ;;
     "listset: bad "*) explain_value "$1" "${said#listset: bad }" ;;
     "error: unrecognized subcommand"*"tip:"*) [ ! -f "$1" ] || explain_command "$1" ;;
     "error: unrecognized subcommand"*) explain_command "$1" ;;
-    "error: a value is required for"*) echo "listset help $1 says what it can be" ;;
+    "error: a value is required for"*) explain_no_value "$1" "$said" ;;
+    "error: unexpected value"*) echo "$(sed -n "1s/.* for '\([^']*\)' found.*/\1/p" <<<"$said") has no value: leave out the = and what comes after it" ;;
+    "error: the argument"*"multiple times"*) echo "Keep one of them: the command takes it once" ;;
     *"tip: a similar argument exists"*) ;;
     "error: unexpected argument"*) explain_word "$1" "$word" ;;
   esac

@@ -42,6 +42,10 @@ class Help:
         about = next(about for option, _, about in self.options("replay") if option == "lacks")
         return re.findall(r"([\w-]+) \([\w-]+\)", about)
 
+    def causes(self):
+        """Returns the causes and faults that the command faults explains."""
+        return sorted(set(re.findall(r"^  ([A-Z]\w+)  ", self.pages["faults"], re.M)))
+
     def options(self, name):
         """Returns the options of a command except --help: the name, the name of the value (or ""), and what the option
         does.
@@ -67,6 +71,8 @@ def man_page(said, version, date):
         parts += [f'.SH "listset {name}"', *filled(text)]
     parts += ['.SH "EXIT STATUS"', *(line for it, text in STATUSES.items() for line in entry(it, text))]
     parts += [".SH EXAMPLES", *(line for it in said.examples() for line in (".PP", ".nf", quoted(it), ".fi"))]
+    # A paragraph without text, as above an example that is left out, is left out too.
+    parts = [it for it, below in zip(parts, [*parts[1:], ".SH"]) if it != ".PP" or not below.startswith((".PP", ".SH"))]
     return "\n".join(parts) + "\n"
 
 
@@ -98,20 +104,28 @@ def filled(text):
 def for_bash(said):
     rows = [f'    {name}) said="{" ".join(f"--{it}" for it, _, _ in said.options(name))}" ;;' for name in said.pages]
     lists = f'  case $COMP_CWORD:${{COMP_WORDS[1]}} in {" | ".join(f"2:{it}" for it in OF_A_LIST)}) said="$said {LISTS}" ;; esac'
+    with_value = sorted({f"--{it}" for name in said.pages for it, value, _ in said.options(name) if value})
     return f"""# completions of listset for bash
 _listset() {{
-  local said=""
+  local said="" before=${{COMP_WORDS[COMP_CWORD - 1]}} word=$2
   case "${{COMP_WORDS[1]}}" in
 {chr(10).join(rows)}
   esac
 {lists}
-  case "${{COMP_WORDS[1]}}" in
-    example) said="$said $(listset example | cut -d' ' -f1)" ;;
-    help) said="{" ".join(said.pages)}" ;;
+  case "$COMP_CWORD:${{COMP_WORDS[1]}}" in
+    2:help) said="{" ".join(said.pages)}" ;;
+    2:faults) said="{" ".join(said.causes())}" ;;
+    *:example) said="$said $(listset example | cut -d' ' -f1)" ;;
   esac
-  [ "${{COMP_WORDS[COMP_CWORD - 1]}}" != --lacks ] || said="{" ".join(said.broken_lists())}"
+  # bash splits --lacks=NAME into three words
+  [ "$before" != = ] || before=${{COMP_WORDS[COMP_CWORD - 2]}}
+  [ "$word" != = ] || {{ before=${{COMP_WORDS[COMP_CWORD - 1]}} && word=""; }}
+  case "$before" in
+    --lacks) said="{" ".join(said.broken_lists())}" ;;
+    {" | ".join(it for it in with_value if it != "--lacks")}) said="" ;;
+  esac
   [ "$COMP_CWORD" -gt 1 ] || said="{" ".join(said.about)} --help --version"
-  mapfile -t COMPREPLY < <(compgen -W "$said" -- "$2")
+  mapfile -t COMPREPLY < <(compgen -W "$said" -- "$word")
 }}
 complete -o default -F _listset listset
 """
@@ -132,6 +146,7 @@ def for_zsh(said):
         files = "'*:list:(" + LISTS + ")'" if name in OF_A_LIST else "'*:file:_files'"
         rows.append(f"  {name}) _arguments {options} {files} ;;")
     rows.append(f"  help) _arguments '1:command:({' '.join(said.pages)})' ;;")
+    rows = [it if not it.startswith("  faults)") else f"  faults) _arguments '1:cause:({' '.join(said.causes())})' ;;" for it in rows]
     words = [f"  '{name}:{told(about)}'" for name, about in said.about.items()]
     return f"""#compdef listset
 local -a words_of_listset
@@ -153,6 +168,7 @@ def for_fish(said):
 
     rows = [f"complete -c listset -n __fish_use_subcommand -f -a {name} -d {in_quotes(about)}" for name, about in said.about.items()]
     rows.append(f"complete -c listset -n '__fish_seen_subcommand_from help' -f -a '{' '.join(said.pages)}'")
+    rows.append(f"complete -c listset -n '__fish_seen_subcommand_from faults' -f -a '{' '.join(said.causes())}'")
     for name in said.pages:
         seen = f"-n '__fish_seen_subcommand_from {name}'"
         for it, value, about in said.options(name):

@@ -266,22 +266,25 @@ function answerTo(engine, { name, functions, isJudge, isExplain, isOn, texts: { 
   return tried.status === WRONG ? tried : ask(bytesOf(opened(values[0])));
 }
 
-// Returns what explain prints about a file, also about an unreadable one.
+// Returns what explain prints about a file, also about an unreadable one. `name` is how the file is called in a text of it.
 function explained(engine, file = "-", name = file === "-" ? "FILE" : file) {
   try {
     return engine.askBytes("listset_explain", Buffer.from(name), bytesOf(opened(file)));
   } catch (fault) {
     if (fault.syscall === undefined) throw fault;
-    return { status: 0, bytes: Buffer.from(`${name}: ${NOT_READ[fault.code] ?? "the system did not read this file."}\n`) };
+    const why = (NOT_READ[fault.code] ?? NOT_READ.other).replaceAll("FILE", quoted(file));
+    return { status: 0, bytes: Buffer.from(`${file}: ${why}\n`) };
   }
 }
 
+const NO_RIGHT = "you have no right to read this file (of a file of yours: chmod u+r) or to enter its folder. To see whose they are: namei -l FILE";
 const NOT_READ = {
   ENOENT: "there is no such file. Look at its name, and at the folder that you are in: ls",
-  EACCES: "you have no right to read this file. To see whose it is: ls -l",
-  EPERM: "you have no right to read this file. To see whose it is: ls -l",
-  EISDIR: "this is a folder. Name a file in it.",
-  ENOTDIR: "a part of this path is a file, and no folder.",
+  EACCES: NO_RIGHT,
+  EPERM: NO_RIGHT,
+  EISDIR: "this is a folder. Name a file in it. To see its files: ls FILE",
+  ENOTDIR: "a part of this path is a file, and no folder. To see which: namei FILE",
+  other: "the system did not read this file. To see what it is: ls -l FILE",
 };
 
 function answerOrTrouble(engine, words) {
@@ -339,11 +342,11 @@ function hintOf(engine, { name, isOfFile, texts, values }, said) {
   const [, number, cause] = /^listset: line (\d+): (\w+)/.exec(said) ?? [];
   if (value) return valueHint(engine, { name, texts, values }, value);
   if (said.startsWith("listset: bad NAME: this example")) return `These examples have one: ${brokenExamples(engine).join(", ")}`;
-  if (said.startsWith("listset: bad ")) return "";
-  if (said.startsWith("listset: cannot write")) return "The output was closed, as by head, or its device failed or is full: df -h";
-  if (said.startsWith("listset: too long")) return `An input has at most ${LONGEST} bytes; only judge reads more. Make the text shorter`;
-  if (cause === "Kind" && texts.lacks !== undefined) return `${texts.lacks} is a check of another list than the one in line 2; listset help replay lists the checks of each list`;
-  if (isOfFile && file !== "-") return fileHint(engine, name, file, number, cause);
+  if (said.startsWith("listset: bad ")) return `NAME '${texts.lacks}' is wrong. --lacks takes one of ${BROKEN_LISTS}`;
+  if (said.startsWith("listset: cannot write")) return unwrittenHint(name);
+  if (cause === "Kind" && texts.lacks !== undefined) return lacksHint(engine, texts.lacks, file);
+  if (isOfFile && file !== "-") return fileHint(engine, { name, texts, file, number, cause });
+  if (said.startsWith("listset: too long")) return tooLongHint(name);
   if (cause === "Header") return `${name} reads ${READS[name]}: line 1 must be ${TITLES[name]}, and the input is empty or closed, or begins otherwise. For a text in a file, listset explain FILE says what is wrong`;
   if (cause) return `listset faults ${cause} explains this error; for a text in a file, listset explain FILE says what is wrong`;
   return /cannot read/.test(said) ? `Standard input could not be read. Name a file: listset ${name} FILE` : "";
@@ -360,11 +363,20 @@ const KINDS = [
   [/^(key |(listening|sessions|calls) [^ ]*$)/, "has keys for serve", "A server opens with these keys: listset serve KIND SEATS QUOTA PORT SESSIONS FILE"],
 ];
 
-const READS = { replay: "a schedule", trace: "a schedule", check: "a report", draft: "a draft", judge: "recorded calls", show: "a schedule or a report" };
+const READS = {
+  replay: "a schedule",
+  trace: "a schedule",
+  check: "a report",
+  draft: "a draft",
+  judge: "recorded calls",
+  show: "a schedule or a report",
+  "show --lacks": "a schedule",
+};
 const SCHEDULE = "'listset-schedule 1' (or 2)";
 const TITLES = {
   replay: SCHEDULE,
   trace: SCHEDULE,
+  "show --lacks": SCHEDULE,
   check: "'listset-report 1' (or 2)",
   draft: "'listset-draft 2'",
   judge: "'listset-calls 1'",
@@ -401,21 +413,84 @@ function lineOf(file, number) {
 }
 
 // Returns what is wrong in a file, and what to do.
-function fileHint(engine, name, file, number, cause) {
+function fileHint(engine, { name, texts, file, number, cause }) {
   const isLong = fs.existsSync(file) && fs.statSync(file).size > LONGEST;
   if (isLong && name === "judge" && cause) return longHint(engine, file, number, cause);
-  const kind = cause === "Header" ? kindOf(file) : null;
-  const isOther = kind !== null && !READS[name].split(" or ").some((it) => kind.is.endsWith(it));
-  if (isOther) return `${kind.is}, and ${name} reads ${READS[name]}. ${kind.use}`;
-  const line = Buffer.from(explained(engine, file, "FILE").bytes).toString().trimEnd().split("\n").at(-1);
-  const last = line.replaceAll("FILE", line.startsWith("FILE: ") ? file : quoted(file));
-  if (cause === "Header" && last.startsWith("Line 1 must be one of")) return `${quoted(file)} is no text of listset. ${name} reads ${READS[name]}: line 1 must be ${TITLES[name]}, and docs/TEXTS.md has the lines below it`;
+  const lines = Buffer.from(explained(engine, file).bytes).toString().trimEnd().split("\n");
+  const [first, last] = [lines[0], lines.at(-1)];
+  const reader = name === "show" && texts.lacks !== undefined ? "show --lacks" : name;
+  if (cause === "Header" || first.endsWith(", and line 1 has an error, Header:")) return headerHint(reader, file, first, last);
+  if (cause && !first.endsWith(`, and line ${number} has an error, ${cause}:`)) return otherHint(texts.lacks, file, cause);
+  if (first.endsWith(` has more than ${LONGEST} bytes.`)) return `${first} ${last}`;
   return last.includes(": there is no such file") ? `${last}\n${meant(engine, name, file)}`.trimEnd() : last;
+}
+
+// Returns a hint for a file whose first line is wrong for a command: what the file is, and what the command reads. `first` and `last` are lines of
+// the file's explanation.
+function headerHint(name, file, first, last) {
+  const reads = `${name} reads ${READS[name]}: line 1 must be ${TITLES[name]}`;
+  const kind = KINDS.find(([, is]) => first.startsWith(`${quoted(file)} ${is},`));
+  if (first === `${quoted(file)} has no bytes.`) return isOutput(file) ? EMPTIED.replace("FILE", quoted(file)) : `${quoted(file)} has no bytes, and ${reads}. If a command wrote the file, look at what that command printed for an error`;
+  if (kind) return `${quoted(file)} ${kind[1]}, and ${name} reads ${READS[name]}. ${kind[2].replaceAll("FILE", quoted(file))}`;
+  if (last.startsWith("Line 1 must be one of")) return `${quoted(file)} is no text of listset. ${reads}, and docs/TEXTS.md has the lines below it`;
+  return last;
+}
+
+const EMPTIED = "FILE has no bytes: the output goes to the file that is read, so the shell emptied it. Write the output to another file";
+
+// Decides whether standard output goes to a file.
+function isOutput(file) {
+  const [one, other] = [fs.statSync(file), fs.fstatSync(1)];
+  return one.ino === other.ino && one.dev === other.dev;
+}
+
+// Returns a hint for an error that the engine's explanation of the file does not have: a broken list takes other steps.
+function otherHint(lacks, file, cause) {
+  if (lacks === undefined) return `listset faults ${cause} explains this error`;
+  return `On the list that lacks ${lacks}, calls can take other steps than on the whole list. For each step above this line: listset trace --lacks ${lacks} ${quoted(file)}; for the cause: listset faults ${cause}`;
+}
+
+// All broken lists, each with its list in parentheses.
+const BROKEN_LISTS = /^ *--lacks <NAME> [^:]*: (.*)$/m.exec(HELP.replay)?.[1] ?? "";
+
+// Returns a hint for an option --lacks that does not fit the list of a schedule.
+function lacksHint(engine, lacks, file) {
+  const all = [...BROKEN_LISTS.matchAll(/([\w-]+) \(([\w-]+)\)/g)].map(([, name, list]) => ({ name, list }));
+  const of = all.find((it) => it.name === lacks)?.list;
+  const list = file === "-" ? undefined : /^list (.*)$/.exec(lineOf(file, 2))?.[1];
+  const fitting = all.filter((it) => it.list === list).map((it) => it.name);
+  if (fitting.length > 0) return `${lacks} is a check of the ${of} list, and line 2 is 'list ${list}'. The checks of the ${list} list: ${fitting.join(", ")}`;
+  if (list) return fileHint(engine, { name: "replay", texts: {}, file });
+  return `${lacks} is a check of the ${of} list, and line 2 is of another list. All checks: ${BROKEN_LISTS}`;
+}
+
+// Explains why the output could not be written: standard output is closed, a pipe whose reader has ended, or a file or device.
+function unwrittenHint(name) {
+  if (isOutputClosed()) return `Standard output is closed. To see the output, leave out '>&-'; to keep it: listset ${name} .. > FILE`;
+  if (fs.fstatSync(1).isFIFO()) return "The command after the pipe ended before it had read all of the output, as head does. If it should read all, look there for an error";
+  const to = linkOf("/proc/self/fd/1");
+  if (!fs.existsSync(to)) return `The output could not be written. Write it to a file: listset ${name} .. > FILE`;
+  return `The output could not be written to ${quoted(to)}: the device is full, or failed. To see how full it is: df -h ${quoted(to)}`;
+}
+
+function linkOf(file) {
+  try {
+    return fs.readlinkSync(file);
+  } catch {
+    return "";
+  }
+}
+
+function tooLongHint(name) {
+  if (name === "judge") return `Only a recording can have more than ${LONGEST} bytes: line 1 must be 'listset-calls 1', and no line has more than 128 bytes`;
+  return `Standard input has more than ${LONGEST} bytes, and only judge reads more. To let ${name} read the first lines alone: .. | head -n 1000 | listset ${name}`;
 }
 
 // Returns what a name means that is no file's: the command help, an example, or the only file with this name and an ending.
 function meant(engine, name, file) {
   if (file === "help") return `To read about this command: listset help ${name}`;
+  if (file.startsWith("~")) return "A shell replaces ~ by your folder only outside of quotes";
+  if (file.includes("://")) return `listset reads files, no addresses. To read it from a pipe: curl -s ${quoted(file)} | listset ${name}`;
   const ended = onlyWithEnding(file);
   if (ended) return `Perhaps you mean ${quoted(ended)}`;
   return ["replay", "show", "trace"].includes(name) && isExample(engine, file) ? `If you mean the example: listset example ${file} | listset ${name}` : "";
@@ -434,14 +509,26 @@ function onlyWithEnding(file) {
 
 const isExample = (engine, name) => engine.ask("listset_example", name).status === 0;
 
+// Decides whether the last line of a file has no newline and more bytes than a line of a recording can have.
+function isEndLong(file) {
+  const input = fs.openSync(file, "r");
+  const piece = Buffer.alloc(129);
+  const count = fs.readSync(input, piece, 0, 129, Math.max(0, fs.statSync(file).size - 129));
+  fs.closeSync(input);
+  return count === 129 && !piece.includes(10);
+}
+
 // Returns the refused line of a recording that is too long for explain, and its cause.
 function longHint(engine, file, number, cause) {
   const [, part] = engine.ask("listset_fault", cause).text.split(", in recorded calls; exit status 1\n");
   const [why] = part.split("\n\n");
   const line = lineOf(file, Number(number));
-  const shown = why.replace(/\s+/g, " ").trim().slice(cause.length).trim().replaceAll("FILE", quoted(file));
-  const advice = cause === "NotEnded" ? " Write each call in a line of its own, which ends with LF" : "";
-  return `${line ? `Line ${number} is '${line}'. ` : ""}${shown}${advice}`;
+  const shown = line ? `Line ${number} is '${line}'. ` : "";
+  const name = quoted(file);
+  if (cause === "NotEnded" && isEndLong(file)) {
+    return `${shown}The line has more than the 128 bytes that a line can have, and no newline at its end. Write the title and each call in a line of its own, which ends with LF. If another sign is between the calls, such as a semicolon: tr ';' '\\n' < ${name} > NEW`;
+  }
+  return `${shown}${why.replace(/\s+/g, " ").trim().slice(cause.length).trim().replaceAll("FILE", name)}`;
 }
 
 // Returns a hint if a recording without `key` lines is refused for its final keys.
@@ -453,33 +540,56 @@ function keysHint({ name, values: [file = "-"] }, bytes) {
   return `${quoted(file)} has no 'key' lines, so it says that the set is empty at the end. If its final keys are not known, write 'cut' instead of 'end': sed -i '$s/^end$/cut/' ${quoted(file)}`;
 }
 
+const namesOfExamples = (engine) => engine.ask("listset_examples").text.trimEnd().split("\n").map((line) => line.split(" ")[0]);
+
 function brokenExamples(engine) {
-  const names = engine.ask("listset_examples").text.trimEnd().split("\n").map((line) => line.split(" ")[0]);
-  return names.filter((it) => engine.ask("listset_broken_example", it).status === 0).sort();
+  return namesOfExamples(engine).filter((it) => engine.ask("listset_broken_example", it).status === 0).sort();
+}
+
+// Returns how a number is spelled, as a sentence after a range, if a value is not spelled so; or the kind of list that a misspelled one means.
+function spelling(range, value) {
+  if (/[0-9] to |: the first/.test(range)) return /^(0|[1-9][0-9]*)$/.test(value) ? "" : ". A number has decimal digits alone, and no leading zero";
+  const plain = value.toLowerCase().replace(/[^a-z]/g, "").replace(/list$/, "");
+  const kind = ["coarse", "fine", "optimistic", "lazy", "lock-free"].find((it) => it.replace("-", "") === plain);
+  return kind ? `. Perhaps you mean ${kind}` : "";
 }
 
 // Returns the range of an argument or option, from the help of its command.
 function valueHint(engine, { name, texts, values }, value) {
   const help = HELP[name] ?? "";
+  const given = texts[value.toLowerCase()];
   const ofOption = new RegExp(`--${value.toLowerCase()} <[MN]> +(.*)`).exec(help)?.[1];
-  if (ofOption) return `${value} '${texts[value.toLowerCase()]}' is wrong. ${ofOption}${ofThisFile(engine, { texts, values }, value)}`;
-  const range = new RegExp(`^ +\\[${value}\\] +(.*)`, "m").exec(help)?.[1];
+  if (ofOption) return `${value} '${given}' is wrong. ${ofOption}${spelling(ofOption, given)}${ofThisFile(engine, { texts, values }, value)}`;
   if (name === "example") return exampleHint(engine, values[0]);
   if (name === "faults") return `There is no cause '${values[0]}'. listset faults lists all causes`;
-  if (value === "KEY") return keyHint(texts.only);
-  const given = values[usageOf(name).split(" ").indexOf(value) - 2];
-  return given === undefined ? `${value} is missing. Usage: ${usageOf(name)}` : `${value} '${given}' is wrong. ${range}. Usage: ${usageOf(name)}`;
+  if (value === "KEY") return keyHint(texts.only, values[0]);
+  const range = new RegExp(`^ +\\[${value}\\] +(.*)`, "m").exec(help)?.[1];
+  return argumentHint(value, values[usageOf(name).split(" ").indexOf(value) - 2], range, usageOf(name));
 }
 
-function exampleHint(engine, given) {
+// Returns a hint for a missing or wrong argument.
+function argumentHint(value, given, range, usage) {
+  if (given === undefined) return `${value} is missing. ${range}. Usage: ${usage}`;
+  if (given === "") return `${value} is empty. Perhaps a variable of the shell has no value. ${range}. Usage: ${usage}`;
+  return `${value} '${given}' is wrong. ${range}${spelling(range, given)}. Usage: ${usage}`;
+}
+
+function exampleHint(engine, given = "") {
+  if (given === "") return `NAME is missing. listset example lists the names. Some have a broken report: ${brokenExamples(engine).join(", ")}`;
   const name = path.basename(given).replace(/\.schedule$/, "");
   if (name !== given && isExample(engine, name)) return `The name of this example is ${name}: listset example ${name}`;
+  const alike = namesOfExamples(engine).filter((it) => it.includes(name.toLowerCase().replaceAll(" ", "-")));
+  if (alike.length > 0) return `There is no example '${given}'. Perhaps you mean ${alike.join(", ")}`;
   return `There is no example '${given}'. listset example lists the names`;
 }
 
 const isKey = (text) => /^(0|[1-9][0-9]{0,9})$/.test(text) && Number(text) < 2 ** 32;
 
-const keyHint = (only) => (isKey(only) ? `The recording has no call of key ${only}` : `KEY '${only}' is wrong. It is a number from 0 to 4294967295`);
+function keyHint(only, file = "FILE") {
+  const range = "It is a number from 0 to 4294967295";
+  if (!isKey(only)) return `KEY '${only}' is wrong. ${range}${spelling(range, only)}`;
+  return `The recording has no call of key ${only}. To see its keys: grep '^call' ${quoted(file)} | cut -d ' ' -f 4 | sort -n -u`;
+}
 
 // Returns the range of an option of show for the given file.
 function ofThisFile(engine, { texts, values: [file = "-"] }, value) {
@@ -492,7 +602,8 @@ function ofThisFile(engine, { texts, values: [file = "-"] }, value) {
 
 // Returns a hint with the words that start this script in place of the program's name.
 function asCalled(hint) {
-  const called = `node ${quoted(path.relative("", process.argv[1]))}`;
+  const [from, whole] = [path.relative("", process.argv[1]), process.argv[1]];
+  const called = `node ${quoted(from.length < whole.length ? from : whole)}`;
   return hint.replace(/\blistset (?=((replay|judge|check|show|trace|draft|example|gen|run|serve|faults|explain|help)\b|--version|--help))/g, `${called} `);
 }
 
@@ -501,12 +612,25 @@ function wordsHint(given, said) {
   const [name = ""] = given;
   const [, word] = /unexpected argument '([^' ]*)/.exec(said) ?? [];
   if (/unrecognized subcommand/.test(said)) return commandHint(name, said);
-  if (/^error: a value is required/.test(said)) return `listset help ${name} says what it can be`;
+  const [, option] = /^error: a value is required for '(--\w+)/.exec(said) ?? [];
+  if (option) return noValueHint(name, option);
+  const [, flag] = /^error: unexpected value .* for '([^']*)' found/.exec(said) ?? [];
+  if (flag) return `${flag} has no value: leave out the = and what comes after it`;
+  if (/^error: the argument .* multiple times/.test(said)) return "Keep one of them: the command takes it once";
   if (word?.startsWith("-")) return optionHint(given, word);
-  if (!word || COMMANDS[name]?.most > 1) return "";
+  if (!word) return "";
+  if (COMMANDS[name]?.most > 1) return `${name} has fewer arguments: leave out '${word}'`;
   if (name === "example") return "example prints one schedule. Run the command once for each";
   if (name === "faults") return "faults explains one cause, the last word of an error line. Run the command once for each";
+  const whole = given.slice(1).filter(isValue).join(" ");
+  if (fs.existsSync(whole) && fs.statSync(whole).isFile()) return `If you mean one file, quote its name: listset ${name} ${quoted(whole)}`;
   return `${name} reads one file. Run the command once for each`;
+}
+
+// Returns a hint for an option without a value.
+function noValueHint(name, option) {
+  const [, value, about] = new RegExp(`^ *${option} <([A-Z]*)> *(.*)`, "m").exec(HELP[name] ?? "") ?? [];
+  return `Write the value after ${option}. ${value ? `${value}: ${about}` : `listset help ${name} says what it can be`}`;
 }
 
 // Returns a hint for a word in place of a command.
@@ -516,6 +640,8 @@ function commandHint(word, said) {
     return `If you mean the file: ${kind ? `${kind.is}. ${kind.use}` : `listset explain ${quoted(word)}`}`;
   }
   if (/tip:/.test(said)) return "";
+  if (word === "") return "The command is empty. Perhaps a variable of the shell has no value. listset --help lists the commands";
+  if (word === "-") return "A command comes first, such as: listset replay -";
   if (word === "version") return "listset --version prints the version";
   const isCapital = word !== word.toLowerCase() && Object.hasOwn(COMMANDS, word.toLowerCase());
   return isCapital ? `Commands are in lower case: listset ${word.toLowerCase()}` : "listset --help lists the commands";
@@ -539,6 +665,8 @@ function optionHint(given, word) {
   const alike = Object.hasOwn(COMMANDS, name) && optionsOf(name).find((it) => distance(it, word) <= 2);
   if (alike) return `If you mean the option: ${alike}`;
   if (Object.hasOwn(HELP, word.replace(/^-*/, ""))) return `A command has no hyphens: listset ${word.replace(/^-*/, "")}`;
+  const value = word.slice(2).toUpperCase();
+  if (value !== "" && Object.hasOwn(COMMANDS, name) && usageOf(name).split(/[[\] ]+/).includes(value)) return `${value} is known by its place, without ${word}. Usage: ${usageOf(name)}`;
   return name.startsWith("-") ? "listset --help lists the commands" : `listset help ${name} lists its arguments and options`;
 }
 
@@ -566,7 +694,8 @@ async function main(given) {
   const isOther = process.env.LISTSET_ENGINE === "other";
   const engine = words.isBuilt || isOther ? null : await startedEngine(readForEngine);
   if (engine !== null) return write(answerOrTrouble(engine, words), hintOn(engine, words));
-  const why = words.isBuilt ? `${words.name} needs a built program, which Node does not have (README.md, "Try it")` : NOT_RUN;
+  const instead = words.name === "run" ? asCalled(". To see random calls in Node, step by step: listset gen lazy 2 4 9 5 1 | listset replay") : "";
+  const why = words.isBuilt ? `${words.name} needs a built program, which Node does not have (README.md, "Try it")${instead}` : NOT_RUN;
   if (process.env.LISTSET_ENGINE === undefined) process.stderr.write(`listset: ${why}\n`);
   process.exitCode = NO_ENGINE;
 }

@@ -51,9 +51,9 @@ ROWS = {
     "a recording for show": ("show", RIGHT_CALLS, "line 1: Header", ["recorded calls", "listset judge FILE"]),
     "a schedule for draft": ("draft", RIGHT, "line 1: Header", ["a schedule", "listset replay FILE"]),
     "no first line": ("judge", ADD + "key 5\nend\n", "line 1: Header", ["sed -i '1i listset-calls 1' FILE"]),
-    "empty line": ("replay", RIGHT.replace("go", "\ngo"), "line 6: Event", ["is empty", "sed -i '6d' FILE"]),
+    "empty line": ("replay", RIGHT.replace("go", "\ngo"), "line 6: Event", ["is empty", "sed -i '/^$/d' FILE"]),
     "comment": ("replay", SCHEDULE + "# add\n", "line 5: Event", ["# add", "no comments"]),
-    "space at the end": ("replay", SCHEDULE + "begin 0 add 5 \n", "line 5: Event", ["ends with a space", "sed -i '5s/ *$//' FILE"]),
+    "space at the end": ("replay", SCHEDULE + "begin 0 add 5 \n", "line 5: Event", ["ends with a space", "sed -i 's/ *$//' FILE"]),
     "tab": ("replay", SCHEDULE + "begin\t0 add 5\n", "line 5: Event", [r"begin\t0 add 5", "a tab"]),
     "two spaces": ("replay", SCHEDULE + "go  0 1\n", "line 5: Event", ["two spaces"]),
     "insert": ("replay", SCHEDULE + "begin 0 insert 4\n", "line 5: Event", ["'insert' is no call", "add, remove, contains"]),
@@ -62,7 +62,9 @@ ROWS = {
     "key too large": ("replay", SCHEDULE + "begin 0 add 4294967296\n", "line 5: Number", ["'4294967296'", "from 0 to 4294967295"]),
     "out in a schedule": ("replay", SCHEDULE + "begin 0 add 5\ngo 0 out\n", "line 6: Number", ["a line of a draft", "listset draft FILE"]),
     "no such thread": ("replay", SCHEDULE + "begin 2 add 5\n", "line 5: NoThread", ["no thread 2", "threads 2", "from 0 to 1"]),
-    "second begin": ("replay", SCHEDULE + "begin 0 add 5\nbegin 0 add 6\n", "line 6: Busy", ["Thread 0", "since line 5", "go 0 STEPS"]),
+    "second begin": ("replay", SCHEDULE + "begin 0 add 5\nbegin 0 add 6\n", "line 6: Busy", ["Thread 0", "since line 5", "add the line 'go 0 11' above"]),
+    "second begin of a draft": ("draft", DRAFT + "begin 0 add 5\nbegin 0 add 6\n", "line 6: Busy", ["since line 5", "add the line 'go 0 out' above"]),
+    "second begin while a lock is held": ("replay", SCHEDULE + "begin 0 add 5\ngo 0 5\nbegin 1 add 5\ngo 1 3\nbegin 1 add 6\n", "line 9: Busy", ["since line 7", "by a line 'go 1 STEPS'"]),
     "step without a call": ("replay", SCHEDULE + "go 0 1\n", "line 5: Idle", ["Thread 0 has begun no call", "begin 0 add 5"]),
     "one step too many": ("replay", SCHEDULE + "begin 0 add 5\ngo 0 12\n", "line 6: Idle", ["line 5 ends after 11 steps", "Write 'go 0 11'"]),
     "step after the end": ("replay", RIGHT + "go 0 1\n", "line 7: Idle", ["no pending call", "line 5 has ended"]),
@@ -71,25 +73,30 @@ ROWS = {
     "65 threads": ("replay", SCHEDULE.replace("threads 2", "threads 65"), "line 3: Threads", ["threads 65", "from 1 to 64"]),
     "large quota": ("replay", SCHEDULE.replace("quota 4", "quota 20000"), "line 4: Quota", ["quota 20000", "from 0 to 16384"]),
     "no newline": ("replay", SCHEDULE + "begin 0 add 5", "line 5: NotEnded", ["no newline", "echo >> FILE"]),
-    "a lock": ("draft", DRAFT + "begin 0 add 5\ngo 0 2\nbegin 1 add 7\ngo 1 out\n", "line 8: Waits", ["Thread 1 waits for list.lock", "thread 0 holds"]),
+    "a lock": ("draft", DRAFT + "begin 0 add 5\ngo 0 2\nbegin 1 add 7\ngo 1 out\n", "line 8: Waits", ["Thread 1 waits for list.lock", "thread 0 holds", "'go 0 out' above this one"]),
     "no such row": ("draft", DRAFT + "begin 0 add 5\ngo 0 to 9\n", "line 6: Idle", ["line 5 ends after 7 steps", "Write 'go 0 7'"]),
+    "a row that is missing": ("draft", DRAFT + "begin 0 add 5\ngo 0 to\n", "line 6: Number", ["row is missing", "'go 0 to 4'"]),
+    "a number that is missing in a draft": ("draft", DRAFT + "begin 0 add 5\ngo 0\n", "line 6: Event", ["'go THREAD out'", "'go THREAD to ROW'"]),
+    "too many events": ("replay", SCHEDULE + "begin 0 add 5\n" + "go 0 10000\n" * 100, "line 105: TooMany", ["head -n 104 FILE > NEW"]),
     "True": ("judge", CALLS + "call 0 add 5 1 4 True\nend\n", "line 2: Line", ["'True' is no reply", "true or false"]),
     "1 as a reply": ("judge", CALLS + "call 0 add 5 1 4 1\nend\n", "line 2: Line", ["'1' is no reply"]),
-    "insert in a recording": ("judge", CALLS + "call 0 insert 5 1 4 true\nend\n", "line 2: Line", ["'insert' is no call"]),
+    "insert in a recording": ("judge", CALLS + "call 0 insert 5 1 4 true\nend\n", "line 2: Line", ["'insert' is no call", "Leave out lines of other calls"]),
     "full": ("judge", CALLS + "call 0 add 5 1 4 full\nend\n", "line 2: Line", ["grep -v -e ceiling -e full FILE"]),
     "end before begin": ("judge", CALLS + "call 0 add 5 4 1 true\nend\n", "line 2: History", ["ends at moment 1", "begins", "Take the begin before the call's first step"]),
     "end before begin in a report": ("check", RIGHT_REPORT.replace("1 8", "8 1"), "line 5: History", ["ends at moment 1", "listset replay"]),
     "one moment twice": ("judge", CALLS + ADD + "call 1 add 7 4 6 true\nend\n", "line 3: History", ["Moment 4", "line 2", "one counter"]),
     "not sorted": ("judge", CALLS + "call 0 add 5 5 6 true\ncall 1 add 7 1 2 true\nend\n", "line 3: History", ["before the call of line 2", "sort -n -k 5,5"]),
     "two calls of a thread": ("judge", CALLS + "call 0 add 5 1 4 true\ncall 0 add 7 2 3 true\nend\n", "line 3: History", ["line 2 has not ended", "one call at a time"]),
-    "a pending call with a reply": ("judge", CALLS + "call 0 add 5 1 - true\nend\n", "line 2: Number", ["A pending call has '-' for END and for REPLY"]),
+    "a pending call with a reply": ("judge", CALLS + "call 0 add 5 1 - true\nend\n", "line 2: Number", ["A pending call has '-' for END and for REPLY", "write '-' for both"]),
     "a key above the calls": ("judge", CALLS + "key 5\n" + ADD + "end\n", "line 3: Line", ["move this line up", "'opening K'"]),
     "large moment": ("judge", CALLS + "call 0 add 5 1 9223372036854775808 true\nend\n", "line 2: Number", ["'9223372036854775808'", "from 1 to 9223372036854775807"]),
     "moment 0": ("judge", CALLS + "call 0 add 5 0 4 true\nend\n", "line 2: Number", ["BEGIN '0'", "from 1 to", "one counter that starts at 1"]),
     "1.5": ("judge", CALLS + "call 0 add 5 1.5 4 true\nend\n", "line 2: Number", ["BEGIN '1.5'", "point"]),
     "a key abc": ("judge", CALLS + "call 0 add abc 1 4 true\nend\n", "line 2: Number", ["KEY 'abc'", "from 0 to 4294967295", "a number of its own for each key"]),
     "a thread main": ("judge", CALLS + "call main add 5 1 4 true\nend\n", "line 2: Number", ["THREAD 'main'", "Number the threads"]),
-    "no end": ("judge", CALLS + ADD, "line 3: NotEnded", ["stops after line 2", "echo end >> FILE", "echo cut >> FILE"]),
+    "no end": ("judge", CALLS + ADD, "line 3: NotEnded", ["stops after line 2, without final keys", "echo end >> FILE", "echo cut >> FILE"]),
+    "no end after final keys": ("judge", CALLS + ADD + "key 5\n", "line 4: NotEnded", ["stops after line 3, a final key", "echo end >> FILE", "(grep -v '^key' FILE; echo cut) > NEW"]),
+    "no newlines": ("judge", CALLS + ADD[:-1] * 9, "line 2: NotEnded", ["no newline", "more than the 128 bytes", "a line of its own"]),
     "keys do not increase": ("judge", CALLS + ADD + "key 7\nkey 5\nend\n", "line 4: Opening", ["'key 5' comes after 'key 7'", "increase"]),
     "a line after the end": ("judge", RIGHT_CALLS + "\n", "line 5: Line", ["is empty"]),
     "a call after the end": ("judge", RIGHT_CALLS + ADD, "line 5: Line", ["ended with line 4"]),
@@ -125,7 +132,7 @@ def test_a_mistake_is_explained(program, name):
 
 
 # Matches a command in an explanation, up to the end of the line
-COMMAND = re.compile(r"(?:sed -i|\(head|\(grep|grep|gzip|bzip2|xz|iconv|tr|echo cut) .*")
+COMMAND = re.compile(r"(?:sed -i|\(head|head -n|\(grep|grep|gzip|bzip2|xz|iconv|tr|echo cut) .*")
 
 
 @pytest.mark.parametrize("name", ROWS)
@@ -177,8 +184,8 @@ def test_explain_suggests_no_edit_of_another_programs_file(program):
 
 def test_a_file_that_is_not_read_is_explained(program, room):
     wants(ran(program, "explain", "no-such", cwd=room), output="no-such: there is no such file. Look at its name, and at the folder that you are in: ls\n")
-    wants(ran(program, "explain", "."), output=".: this is a folder. Name a file in it.\n")
-    wants(ran(program, "explain", "/dev/null/a"), output="/dev/null/a: a part of this path is a file, and no folder.\n")
+    wants(ran(program, "explain", "."), output=".: this is a folder. Name a file in it. To see its files: ls .\n")
+    wants(ran(program, "explain", "/dev/null/a"), output="/dev/null/a: a part of this path is a file, and no folder. To see which: namei /dev/null/a\n")
     wants(ran(program, "replay", "."), status=1, output="")
     long = room / "long"
     long.write_text(SCHEDULE)

@@ -10,7 +10,7 @@ import socket
 import subprocess
 
 import pytest
-from explained import CALLS, RIGHT, RIGHT_CALLS, SCHEDULE, ADD
+from explained import ADD, CALLS, RIGHT, RIGHT_CALLS, RIGHT_REPORT, SCHEDULE
 from harness.programs import SECONDS, TOP, ran, wants, well
 
 # Arguments of the script, the error line that a pipe gets too, and the lines that a terminal shows below it
@@ -18,7 +18,24 @@ AT_TERMINAL = {
     "replay no-such": ["listset: cannot read\n", "no-such: there is no such file"],
     "judge .": ["listset: cannot read\n", ".: this is a folder"],
     "replay a.schedule": ["listset: line 6: Idle\n", "Write 'go 0 11'"],
-    "replay --lacks mark a.schedule": ["listset: line 2: Kind\n", "mark is a check of another list"],
+    "replay --lacks mark a.schedule": ["listset: line 2: Kind\n", "mark is a check of the lock-free list, and line 2 is 'list lazy'. The checks of the lazy list: marks-in-validation,"],
+    "replay --lacks mark c.schedule": ["listset: line 2: Kind\n", "Line 2 must be 'list KIND'."],
+    "replay --lacks lock lock.schedule": ["listset: line 16: Idle\n", "On the list that lacks lock, calls can take other steps than on the whole list. For each step above this line: ./listset trace --lacks lock lock.schedule; for the cause: ./listset faults Idle\n"],
+    "replay --lacks mark -": ["listset: line 1: Header\n", "replay reads a schedule"],
+    "replay --lacks nothing a.schedule": ["listset: bad NAME: 'listset help replay' lists the names\n", "NAME 'nothing' is wrong. --lacks takes one of lock (coarse), second-lock (fine)"],
+    "show --lacks mark a.report": ["listset: line 1: Header\n", "a.report is a report, and show --lacks reads a schedule."],
+    "judge empty": ["listset: line 1: Header\n", "empty has no bytes, and judge reads recorded calls: line 1 must be 'listset-calls 1'."],
+    "judge half": ["listset: line 1: NotEnded\n", "half is no text of listset."],
+    "judge https://example.org/a": ["listset: cannot read\n", "curl -s https://example.org/a | ./listset judge\n"],
+    "judge ~/a": ["listset: cannot read\n", "A shell replaces ~"],
+    "judge a.schedule/b": ["listset: cannot read\n", "To see which: namei a.schedule/b\n"],
+    "judge two words": ["unexpected argument 'words' found\n", "If you mean one file, quote its name: ./listset judge 'two words'\n"],
+    "example two": ["listset: bad NAME\n", "Perhaps you mean two-removers\n"],
+    "run --threads 4": ["unexpected argument '--threads' found\n", "THREADS is known by its place, without --threads. Usage: ./listset run KIND THREADS"],
+    "trace --chain=yes b.schedule": ["unexpected value 'yes' for '--chain' found; no more were expected\n", "--chain has no value"],
+    "show --from 5 --from 6 b.schedule": ["the argument '--from <M>' cannot be used multiple times\n", "Keep one of them"],
+    "show --width": ["a value is required for '--width <N>' but none was supplied\n", "N: Maximum width of the text in characters"],
+    "-": ["unrecognized subcommand '-'\n", "A command comes first, such as: ./listset replay -\n"],
     "check a.schedule": ["listset: line 1: Header\n", "a.schedule is a schedule, and check reads a report. For its report: ./listset replay a.schedule; for its picture: ./listset show a.schedule\n"],
     "judge my.csv": ["listset: line 1: Header\n", "my.csv is no text of listset. judge reads recorded calls: line 1 must be 'listset-calls 1', and docs/TEXTS.md"],
     "show my.csv": ["listset: line 1: Header\n", "line 1 must be 'listset-schedule 1' or 'listset-report 1' (or 2)"],
@@ -32,9 +49,13 @@ AT_TERMINAL = {
     "show help": ["listset: cannot read\n", "To read about this command: ./listset help show\n"],
     "judge -x": ["unexpected argument '-x' found\n", "./listset help judge lists its arguments and options\n"],
     "judge old.calls": ["listset: line 1: Header\n", "'listset-calls 2' is no title that this version reads."],
-    "gen": ["listset: bad KIND\n", "KIND is missing. Usage: ./listset gen KIND THREADS QUOTA CALLS KEYS SEED"],
-    "gen lazy": ["listset: bad THREADS\n", "THREADS is missing"],
-    "gen Lazy 2 4 9 5 1": ["listset: bad KIND\n", "KIND 'Lazy' is wrong. List: coarse, fine"],
+    "gen": ["listset: bad KIND\n", "KIND is missing. List: coarse, fine, optimistic, lazy or lock-free. Usage: ./listset gen KIND THREADS QUOTA CALLS KEYS SEED"],
+    "gen lazy": ["listset: bad THREADS\n", "THREADS is missing. Number of threads: 1 to 64. Usage"],
+    "serve lazy 2 4": ["listset: bad PORT\n", "PORT is missing. Port to listen on: 0 to 65535"],
+    "gen Lazy 2 4 9 5 1": ["listset: bad KIND\n", "KIND 'Lazy' is wrong. List: coarse, fine", "Perhaps you mean lazy."],
+    "gen LockFreeList 2 4 9 5 1": ["listset: bad KIND\n", "Perhaps you mean lock-free."],
+    "gen lazy 1,000 4 9 5 1": ["listset: bad THREADS\n", "1 to 64. A number has decimal digits alone, and no leading zero. Usage"],
+    "gen lazy 2 4 9 5 1 1": ["unexpected argument '1' found\n", "gen has fewer arguments: leave out '1'\n"],
     "gen lazy 65 4 9 5 1": ["listset: bad THREADS\n", "THREADS '65' is wrong. Number of threads", "1 to 64"],
     "gen lazy 2 4 9 5 0x10": ["listset: bad SEED\n", "SEED '0x10' is wrong", "0 to 18446744073709551615"],
     "gen lazy 2 4 9 5 -1": ["unexpected argument '-1' found\n", "SEED '-1' is wrong", "0 to 18446744073709551615"],
@@ -46,8 +67,8 @@ AT_TERMINAL = {
     "example nosuch": ["listset: bad NAME\n", "There is no example 'nosuch'. ./listset example lists the names"],
     "example --broken full": ["listset: bad NAME: this example has no broken report\n", "These examples have one: ", "snip"],
     "judge --only x b.schedule": ["listset: bad KEY\n", "KEY 'x' is wrong. It is a number from 0 to 4294967295"],
-    "judge --only 9 -- -x.calls": ["listset: bad KEY\n", "The recording has no call of key 9\n"],
-    "judge --only -5 b.schedule": ["unexpected argument '-5' found\n", "KEY '-5' is wrong. It is a number from 0 to 4294967295\n"],
+    "judge --only 9 -- -x.calls": ["listset: bad KEY\n", "The recording has no call of key 9. To see its keys: grep '^call' ./-x.calls | cut -d ' ' -f 4"],
+    "judge --only -5 b.schedule": ["unexpected argument '-5' found\n", "KEY '-5' is wrong. It is a number from 0 to 4294967295"],
     "show --from -5 b.schedule": ["unexpected argument '-5' found\n", "FROM '-5' is wrong. First moment to draw: 1 to the last one"],
     "judge b.schedule -v": ["unexpected argument '-v' found\n", "./listset help judge lists its arguments and options\n"],
     "JUDGE": ["unrecognized subcommand 'JUDGE'\n", "Commands are in lower case: ./listset judge\n"],
@@ -64,7 +85,7 @@ AT_TERMINAL = {
     "b.schedule": ["unrecognized subcommand 'b.schedule'\n", "If you mean the file: b.schedule is a schedule. For its report: ./listset replay b.schedule; "],
     "judge -x.calls": ["unexpected argument '-x' found\n", "If you mean the file: ./listset judge ./-x.calls"],
     "serve lazy 1 4 0 0 b.schedule": ["listset: line 1: Line\n", "b.schedule is a schedule, and serve reads lines 'key K'."],
-    "replay --lacks": ["a value is required for '--lacks <NAME>' but none was supplied\n", "./listset help replay says what it can be\n"],
+    "replay --lacks": ["a value is required for '--lacks <NAME>' but none was supplied\n", "NAME: Run a broken list, with one check removed: lock (coarse)"],
     "explain a.schedule b.schedule": ["unexpected argument 'b.schedule' found\n", "explain reads one file"],
     "judge a.schedule b.schedule": ["unexpected argument 'b.schedule' found\n", "judge reads one file"],
     "show --chain b.schedule": ["unexpected argument '--chain' found\n", "--chain is an option of trace"],
@@ -106,6 +127,12 @@ def script(program, room):
     shutil.copy(program, tree / "crates/listset/out/listset")
     (tree / "a.schedule").write_text(SCHEDULE + "begin 0 add 5\ngo 0 12\n")
     (tree / "b.schedule").write_text(RIGHT)
+    (tree / "c.schedule").write_text(RIGHT.replace("lazy", "Lazy"))
+    (tree / "a.report").write_text(RIGHT_REPORT)
+    (tree / "lock.schedule").write_text(well(program, *"gen coarse 3 4 7 2 1".split()))
+    (tree / "two words").write_text(RIGHT_CALLS)
+    (tree / "empty").write_text("")
+    (tree / "half").write_text("half a line")
     (tree / "long.schedule").write_text(SCHEDULE + "begin 0 contains 5\ngo 0 2\n" * 200)
     (tree / "-x.calls").write_text(RIGHT_CALLS)
     (tree / "old.calls").write_text(RIGHT_CALLS.replace("calls 1", "calls 2"))
@@ -144,12 +171,42 @@ def test_commands_in_a_hint_have_the_name_that_the_user_typed(script):
         assert f"For its report: {called} replay b.schedule; for its picture: {called} show b.schedule\n" in said, said
 
 
-@pytest.mark.parametrize("closed, line, hint", [("<&-", "cannot read", "Standard input is closed. Name a file: ./listset replay FILE"), (">&-", "cannot write", "The output was closed")])
-def test_a_closed_input_or_output_is_named(script, closed, line, hint):
-    words = f"./listset {'replay' if closed == '<&-' else 'example'} {closed}"
+# A command line of a shell in which the input cannot be read or the output not written, the fixed line, and the hint.
+NOT_OPEN = {
+    "./listset replay <&-": ("cannot read", "Standard input is closed. Name a file: ./listset replay FILE"),
+    "./listset example >&-": ("cannot write", "Standard output is closed. To see the output, leave out '>&-'; to keep it: ./listset example .. > FILE"),
+    "./listset example > /dev/full": ("cannot write", "The output could not be written to /dev/full: the device is full, or failed. To see how full it is: df -h /dev/full"),
+    "cp b.schedule d.schedule; ./listset judge d.schedule > d.schedule": ("line 1: Header", "d.schedule has no bytes: the output goes to the file that is read, so the shell emptied it."),
+}
+
+
+@pytest.mark.parametrize("words", NOT_OPEN)
+def test_an_input_or_output_that_is_not_open_is_named(script, words):
+    line, hint = NOT_OPEN[words]
     status, said = at_terminal(["sh", "-c", words], script)
     assert (status, said.startswith(f"listset: {line}\n{hint}")) == (1, True), said
     wants(ran("sh", "-c", words, cwd=script), status=1, tells=[f"listset: {line}\n"], no=[hint])
+
+
+def test_a_pipe_whose_reader_has_ended_is_named(script):
+    _, said = at_terminal(["sh", "-c", "./listset gen lazy 2 40 9000 9 1 | head -n 1"], script)
+    assert "listset: cannot write\nThe command after the pipe ended before it had read all of the output, as head does." in said, said
+
+
+def test_a_file_without_the_right_to_read_it_is_explained(script):
+    (script / "b.schedule").chmod(0)
+    if os.access(script / "b.schedule", os.R_OK):
+        return  # root reads every file
+    _, said = at_terminal(["./listset", "replay", "b.schedule"], script)
+    assert said.startswith("listset: cannot read\nb.schedule: you have no right to read this file (of a file of yours: chmod u+r) or to enter its folder. To see whose they are: namei -l b.schedule\n"), said
+
+
+def test_a_long_input_is_explained(script):
+    for name, text, use in (("a.schedule", SCHEDULE, "head -n 1000004 a.schedule > NEW"), ("a.report", RIGHT_REPORT, "shorten its schedule"), ("half", "x\n", "head -c 1000 half > NEW")):
+        (script / name).write_text(text)
+        os.truncate(script / name, 67_108_865)
+        _, said = at_terminal(["./listset", "show", name], script)
+        assert said.startswith(f"listset: too long\n{name} has more than 67108864 bytes. Only the command judge reads more") and use in said, said
 
 
 def test_a_refused_port_is_explained(script):
@@ -196,11 +253,11 @@ def test_an_error_in_a_long_recording_is_shown(script):
 def test_a_long_line_of_a_long_recording_is_shown(script):
     (script / "long.calls").write_text("call 0 add 5 1 4 true " * 3_100_000)
     _, said = at_terminal(["./listset", "judge", "long.calls"], script)
-    assert "listset: line 1: NotEnded\nLine 1 is 'call 0 add 5 1 4 true call " in said and said.endswith("Write each call in a line of its own, which ends with LF\n"), said[:600]
+    assert "listset: line 1: NotEnded\nLine 1 is 'call 0 add 5 1 4 true call " in said and "Write the title and each call in a line of its own, which ends with LF." in said, said[:600]
 
 
 # Rows that Node cannot show: commands that only a built program has, errors with a tip of clap, and a hint about a wrong command line
-NOT_OF_NODE = re.compile(r"(run|serve) |shwo|--prov|show --from -5")
+NOT_OF_NODE = re.compile(r"(run|serve) |shwo|--prov|show --from (-5|5 --from)|trace --chain=")
 
 
 @pytest.mark.needs("node")
@@ -217,7 +274,7 @@ def test_a_terminal_shows_a_result_unchanged(script):
     assert (status, said) == (0, well(script / "crates/listset/out/listset", "example", "snip"))
 
 
-READ = {"judge": "recorded calls", "replay": "a schedule", "replay --lacks mark": "a schedule", "trace --chain -": "a schedule", "check": "a report",
+READ = {"judge": "recorded calls", "replay": "a schedule", "replay --lacks mark": "a schedule", "trace --chain -": "a schedule", "judge --only 5": "recorded calls", "show --from 2 --to=9": "a schedule or a report", "check": "a report",
         "draft": "a draft", "show --svg": "a schedule or a report", "show --lacks=mark": "a schedule or a report", "explain": "a text", "serve lazy 1 4 0 0 -": "the keys of the set"}
 
 
@@ -225,6 +282,14 @@ READ = {"judge": "recorded calls", "replay": "a schedule", "replay --lacks mark"
 def test_a_terminal_shows_what_a_command_reads(script, words):
     _, said = at_terminal(["./listset", *words.split()], script, typed=b"\x04")
     assert f"listset: reading {READ[words]} from the terminal, up to Ctrl-D (see listset help {words.split()[0]})\n" in said, said
+
+
+def test_what_clients_write_is_shown_at_a_terminal(script):
+    (script / "keys").write_text("key 5\nkey 3\n")
+    words = ["./listset", "serve", "lazy", "1", "4", "0", "2", "keys"]
+    note = "listset: a client writes lines such as ADD 7, REMOVE 7, CONTAINS 7 and QUIT: nc -N 127.0.0.1 PORT (Debian's package netcat-openbsd). Any other line is answered by BAD (docs/TEXTS.md). After session 2 the server ends\n"
+    assert at_terminal(words, script)[1].startswith(note + "listset: line 2: Opening\n")
+    assert ran(*words, cwd=script).stderr == "listset: line 2: Opening\n"
 
 
 def test_the_size_of_a_long_recording_is_shown(script):

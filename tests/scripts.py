@@ -189,12 +189,21 @@ def test_a_mark_of_an_unknown_tool_is_refused(room):
     assert done.returncode and "needs no-such-tool, which build/needs.txt does not list" in done.stdout + done.stderr, done
 
 
+# The words of an incomplete command line, as bash splits it, and how its last word can go on
+COMPLETED = {"ju": "judge", "help ju": "judge", "gen la": "lazy", "faults He": "Header", "show --w": "--width", "show --from 1": "", "replay --lacks marks": "marks-in-validation",
+             "trace --lacks =": "lock second-lock hand-over-hand second-walk same-node marks-in-validation mark-in-contains mark-in-ceiling mark mark-in-add mark-in-remove mark-at-key new-slot",
+             "replay --lacks = marks": "marks-in-validation", "replay --lacks marks --l": "--lacks"}
+
+
 def test_the_man_page_and_the_completions_are_printed(program, room):
     make = [sys.executable, TOP / "build/man_page_and_completions.py"]
     page = well(*make, "man", program)
     assert page.startswith(".TH LISTSET 1 ") and ".SH EXAMPLES" in page and '.SH "listset judge"' in page
-    (room / "bash").write_text(well(*make, "bash", program) + "COMP_WORDS=(listset ju); COMP_CWORD=1; _listset listset ju; echo ${COMPREPLY[*]}\n")
-    assert well("bash", room / "bash") == "judge\n"
+    completions = well(*make, "bash", program)
+    for words, completed in COMPLETED.items():
+        asked = f"COMP_WORDS=(listset {words}); COMP_CWORD={len(words.split())}; _listset listset {words.split()[-1]}; echo ${{COMPREPLY[*]}}\n"
+        (room / "bash").write_text(completions + asked)
+        assert well("bash", room / "bash") == f"{completed}\n", words
     wants(ran(*make, "dash"), status=2, output="", tells=["man_page_and_completions.py man | man -l -"])
 
 

@@ -55,8 +55,7 @@ const CAUSE: &str = "Cause in an error line, such as Idle; without it every mess
 const BROKEN_FLAG: &str =
     "Print the report that a broken list would produce, if the example has one";
 
-const BRIEF_FLAG: &str =
-    "Print the verdict with its numbers, without advice and without what is wrong";
+const BRIEF_FLAG: &str = "Print only the verdict and its numbers, no diagnosis and no advice";
 
 const ONLY_OPTION: &str =
     "Print a recording of one key alone, or of the few calls that show its refusal";

@@ -7,7 +7,7 @@ use crate::written::put_no_call;
 use std::alloc::AllocError;
 
 pub(crate) const HALF_PENDING: &str =
-    "A pending call has '-' for END and for REPLY. This one has '-' for one of them only.\n";
+    "A pending call has '-' for END and for REPLY. This one has '-' for one of them only: write '-' for both, or the moment and the reply at the call's end.\n";
 
 pub(crate) const OF_RECORDING: CallFields = CallFields {
     thread: 1,

@@ -4,6 +4,9 @@ use crate::kinds::{Place, TextKind};
 use crate::lined::{Lines, count_fields, field_or_empty, put_quoted};
 use std::alloc::AllocError;
 
+/// The maximum number of bytes in a line of a recording.
+const MOST_OF_LINE: usize = 128;
+
 /// Explains a text that is empty, is encoded in UTF-16, begins with a byte order mark, or is compressed. For any other
 /// text, writes nothing and returns `false`.
 pub fn put_encoding(out: &mut String, file: &str, text: &[u8]) -> Result<bool, AllocError> {
@@ -132,7 +135,7 @@ pub fn put_spoiled(out: &mut String, place: Place<'_>) -> Result<bool, AllocErro
         [.., b'\r'] => put_cr(out, file)?,
         [] => writeln!(
             out,
-            "The line is empty. A text has no empty lines. To remove this one: sed -i '{number}d' {file}"
+            "The line is empty. A text has no empty lines. To remove all of them: sed -i '/^$/d' {file}"
         )?,
         [b'#', ..] | [b'/', b'/', ..] | [b';', ..] => writeln!(
             out,
@@ -140,19 +143,19 @@ pub fn put_spoiled(out: &mut String, place: Place<'_>) -> Result<bool, AllocErro
         )?,
         [.., b' '] => writeln!(
             out,
-            "The line ends with a space. To remove it: sed -i '{number}s/ *$//' {file}"
+            "The line ends with a space. To remove the spaces at the end of all lines: sed -i 's/ *$//' {file}"
         )?,
         [b' ' | b'\t', ..] => writeln!(
             out,
-            "The line begins with a space or a tab. To remove it: sed -i '{number}s/^[ \\t]*//' {file}"
+            "The line begins with a space or a tab. To remove these in all lines: sed -i 's/^[ \\t]*//' {file}"
         )?,
         line if line.contains(&b'\t') => writeln!(
             out,
-            "The line has a tab. Fields are separated by one space: sed -i '{number}s/\\t/ /g' {file}"
+            "The line has a tab. Fields are separated by one space. To change all lines: sed -i 's/\\t/ /g' {file}"
         )?,
         line if has_two_spaces(line) => writeln!(
             out,
-            "The line has two spaces in a row. Fields are separated by one: sed -i '{number}s/  */ /g' {file}"
+            "The line has two spaces in a row. Fields are separated by one. To change all lines: sed -i 's/  */ /g' {file}"
         )?,
         line if line.contains(&b',') && !line.contains(&b' ') => writeln!(
             out,
@@ -216,18 +219,34 @@ fn has_two_spaces(line: &[u8]) -> bool {
 }
 
 /// Explains the end of a text: the last line has no newline (if `is_line`), or a last line such as `end` is missing.
-pub fn put_not_ended(out: &mut String, place: Place<'_>, is_line: bool) -> Result<(), AllocError> {
+pub fn put_not_ended(
+    out: &mut String,
+    lines: &Lines<'_>,
+    place: Place<'_>,
+    is_line: bool,
+) -> Result<(), AllocError> {
     let (file, last) = (place.file, place.number.saturating_sub(1));
+    if is_line && place.kind == TextKind::Recording && place.line.len() > MOST_OF_LINE {
+        return writeln!(
+            out,
+            "The last line has no newline, and more than the {MOST_OF_LINE} bytes that a line can have. Write each call in a line of its own, which ends with LF."
+        );
+    }
     if is_line {
         return writeln!(
             out,
             "The last line has no newline. To add one: echo >> {file}; if the line is not whole, to remove it: sed -i '$d' {file}"
         );
     }
+    let is_key = field_or_empty(lines.line(last), 0) == b"key".as_slice();
     match place.kind {
+        TextKind::Recording if is_key => writeln!(
+            out,
+            "The text stops after line {last}, a final key. If no final key is missing, add the last line: echo end >> {file}; else leave out the keys: (grep -v '^key' {file}; echo cut) > NEW"
+        ),
         TextKind::Recording => writeln!(
             out,
-            "The text stops after line {last}. If its 'key' lines are all final keys, add the last line: echo end >> {file}; if the final keys are not known and there is no 'key' line: echo cut >> {file}"
+            "The text stops after line {last}, without final keys. If they are not known, add the last line: echo cut >> {file}; if the set is empty at the end: echo end >> {file}"
         ),
         _ => writeln!(
             out,

@@ -124,7 +124,15 @@ pub fn put_no_call(
         return Ok(false);
     }
     put_quoted(out, word)?;
-    writeln!(out, " is no call. The calls are {calls}, in lower case.")?;
+    let advice = if place.kind == TextKind::Recording {
+        " Leave out lines of other calls."
+    } else {
+        ""
+    };
+    writeln!(
+        out,
+        " is no call. The calls are {calls}, in lower case.{advice}"
+    )?;
     Ok(true)
 }
 

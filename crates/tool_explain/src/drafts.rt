@@ -69,7 +69,7 @@ pub(crate) fn put_lock(
             lacks: None,
         };
         if let Some(trace) = answer_on(alloc, &trace, &schedule) {
-            return put_last_step(alloc, out, &trace, thread);
+            return put_last_step(alloc, out, &trace, place);
         }
     }
     writeln!(
@@ -83,8 +83,10 @@ fn put_last_step(
     alloc: Global,
     out: &mut String,
     trace: &[u8],
-    thread: &str,
+    place: Place<'_>,
 ) -> Result<(), AllocError> {
+    let thread = thread_text(place.line);
+    let row = str::from_utf8(field_or_empty(place.line, 3)).unwrap_or("?");
     let lines = Lines::of(alloc, trace)?;
     let step = lines.line(lines.count().saturating_sub(1));
     let word = str::from_utf8(field_or_empty(step, 7)).unwrap_or("a lock");
@@ -92,11 +94,11 @@ fn put_last_step(
     match seen.strip_prefix('t') {
         Some(holder) if field_or_empty(step, 6) == b"exchange".as_slice() => writeln!(
             out,
-            "Thread {thread} waits for {word}, which thread {holder} holds. Let thread {holder} release it first, by a line above this one."
+            "Thread {thread} waits for {word}, which thread {holder} holds. Let thread {holder} release it first, by a line such as 'go {holder} out' above this one."
         ),
         _ => writeln!(
             out,
-            "Thread {thread}'s call ends, or continues for 10000 steps, and does not come to that row. The command trace shows its rows."
+            "Thread {thread}'s call ends, or continues for 10000 steps, and does not come to row {row}. Take a row of the list's table (docs/TABLES.md), or let the call end: 'go {thread} out'."
         ),
     }
 }

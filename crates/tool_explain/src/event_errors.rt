@@ -22,13 +22,20 @@ pub(crate) fn put_event(
         Cause::Event => put_form(out, lines, place),
         Cause::Number => put_event_number(out, place),
         Cause::NoThread => put_no_thread(out, lines, place),
-        Cause::Busy => put_busy(out, lines, place),
+        Cause::Busy => put_busy(alloc, out, lines, place),
         Cause::Idle => put_idle(alloc, out, lines, place),
         Cause::Waits => put_lock(alloc, out, lines, place),
-        _ => out.push_str(
-            "Up to this line there are more than 1000000 events, or more than 1048576 opening keys. Make the schedule shorter.\n",
-        ),
+        _ => put_too_many(out, place),
     }
+}
+
+/// Explains a line beyond the limits of a schedule.
+fn put_too_many(out: &mut String, place: Place<'_>) -> Result<(), AllocError> {
+    let (file, last) = (place.file, place.number.saturating_sub(1));
+    writeln!(
+        out,
+        "Up to this line there are more than 1000000 events, or more than 1048576 opening keys. To keep the lines above: head -n {last} {file} > NEW"
+    )
 }
 
 /// Explains a line that does not have the form of an event.
@@ -47,6 +54,9 @@ fn put_form(out: &mut String, lines: &Lines<'_>, place: Place<'_>) -> Result<(),
         }
         (b"begin", _) => out.push_str(
             "A begin has four fields: begin THREAD CALL KEY, as in 'begin 0 add 5'.\n",
+        ),
+        (b"go", _) if place.kind == TextKind::Draft => out.push_str(
+            "A go is 'go THREAD STEPS', 'go THREAD out' or 'go THREAD to ROW', as in 'go 0 7'.\n",
         ),
         (b"go", _) => out.push_str("A go has three fields: go THREAD STEPS, as in 'go 0 7'.\n"),
         (b"opening", 2) if is_first => {
@@ -71,7 +81,11 @@ fn put_form(out: &mut String, lines: &Lines<'_>, place: Place<'_>) -> Result<(),
 fn put_event_number(out: &mut String, place: Place<'_>) -> Result<(), AllocError> {
     let (line, file) = (place.line, place.file);
     let is_stop = matches!(field_or_empty(line, 2), b"out" | b"to");
+    let is_to = field_or_empty(line, 2) == b"to".as_slice();
     match field_or_empty(line, 0) {
+        b"go" if is_to && place.kind == TextKind::Draft && count_fields(line) == 3 => out.push_str(
+            "The row is missing after 'to': write 'go THREAD to ROW', as in 'go 0 to 4'.\n",
+        ),
         b"go" if is_stop && place.kind == TextKind::Schedule => writeln!(
             out,
             "This is a line of a draft. Make line 1 'listset-draft 2', then: listset draft {file} | listset replay"
@@ -109,14 +123,44 @@ pub(crate) fn thread_text(line: &[u8]) -> &str {
 }
 
 /// Explains why a thread cannot begin a call: the thread already has a pending call.
-fn put_busy(out: &mut String, lines: &Lines<'_>, place: Place<'_>) -> Result<(), AllocError> {
+fn put_busy(
+    alloc: Global,
+    out: &mut String,
+    lines: &Lines<'_>,
+    place: Place<'_>,
+) -> Result<(), AllocError> {
     let thread = thread_text(place.line);
-    match begun_before(lines, place) {
-        Some(since) => writeln!(
+    let Some(since) = begun_before(lines, place) else {
+        return writeln!(out, "Thread {thread} has a pending call.");
+    };
+    write!(
+        out,
+        "Thread {thread} has had a pending call since line {since}. "
+    )?;
+    put_ending(alloc, out, lines, place)
+}
+
+/// Prints how the pending call of the error's thread can end above the line with the error.
+fn put_ending(
+    alloc: Global,
+    out: &mut String,
+    lines: &Lines<'_>,
+    place: Place<'_>,
+) -> Result<(), AllocError> {
+    let thread = thread_text(place.line);
+    match steps_out(alloc, lines, place)? {
+        Some(_) if place.kind == TextKind::Draft => writeln!(
             out,
-            "Thread {thread} has had a pending call since line {since}. Let that call end first, by a line 'go {thread} STEPS' above this one, or let another thread begin this call."
+            "To end that call first, add the line 'go {thread} out' above this one; or begin this call in another thread."
         ),
-        None => writeln!(out, "Thread {thread} has a pending call."),
+        Some(steps) => writeln!(
+            out,
+            "To end that call first, add the line 'go {thread} {steps}' above this one; or begin this call in another thread."
+        ),
+        None => writeln!(
+            out,
+            "Let that call end first, by a line 'go {thread} STEPS' above this one; or begin this call in another thread."
+        ),
     }
 }
 

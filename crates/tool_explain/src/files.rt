@@ -1,21 +1,37 @@
 use crate::text_explained::explain_text;
 use std::alloc::Global;
 use std::io::{ErrorKind, Read};
+use text_errors::quoted_name;
 use tool_base::{Answer, LONGEST, READ_SIZE, Trouble};
 
 /// Explains why a file could not be opened or read. `file` is the file's name. Returns `Trouble::Memory` if an
 /// allocation fails.
 pub fn explain_unopened(alloc: Global, file: &str, kind: ErrorKind) -> Result<Answer, Trouble> {
-    let why = match kind {
-        ErrorKind::NotFound =>
+    let quoted = quoted_name(alloc, file)?;
+    let name = quoted.as_str();
+    let (why, name) = match kind {
+        ErrorKind::NotFound => (
             "there is no such file. Look at its name, and at the folder that you are in: ls",
-        ErrorKind::PermissionDenied =>
-            "you have no right to read this file. To see whose it is: ls -l",
-        ErrorKind::IsADirectory => "this is a folder. Name a file in it.",
-        ErrorKind::NotADirectory => "a part of this path is a file, and no folder.",
-        _ => "the system did not read this file.",
+            "",
+        ),
+        ErrorKind::PermissionDenied => (
+            "you have no right to read this file (of a file of yours: chmod u+r) or to enter its folder. To see whose they are: namei -l ",
+            name,
+        ),
+        ErrorKind::IsADirectory => (
+            "this is a folder. Name a file in it. To see its files: ls ",
+            name,
+        ),
+        ErrorKind::NotADirectory => (
+            "a part of this path is a file, and no folder. To see which: namei ",
+            name,
+        ),
+        _ => (
+            "the system did not read this file. To see what it is: ls -l ",
+            name,
+        ),
     };
-    let text = format!(in alloc; "{file}: {why}\n")?;
+    let text = format!(in alloc; "{file}: {why}{name}\n")?;
     Ok(Answer {
         text: text.into_bytes(),
         status: 0,

@@ -32,15 +32,26 @@ fn put_too_long(out: &mut String, file: &str, text: &[u8]) -> Result<(), AllocEr
         Some((first, _)) => first,
         None => b"",
     };
-    if TextKind::of(first) == TextKind::Recording {
-        return writeln!(
-            out,
-            "{file} has recorded calls, more than {LONGEST} bytes of them.\nThis is more than explain reads. To find the first line with an error: listset judge {file}; what its cause means: listset faults"
-        );
-    }
+    let advice = match TextKind::of(first) {
+        TextKind::Recording => {
+            return writeln!(
+                out,
+                "{file} has recorded calls, more than {LONGEST} bytes of them.\nThis is more than explain reads. To find the first line with an error: listset judge {file}; what its cause means: listset faults"
+            );
+        }
+        TextKind::Schedule | TextKind::Draft => {
+            "A schedule has at most 1000000 events. To keep the first ones: head -n 1000004"
+        }
+        TextKind::Report => {
+            "Make a report of fewer calls: shorten its schedule, then listset replay. To keep the first lines: head -n 1000"
+        }
+        _ => {
+            "Line 1 of recorded calls must be 'listset-calls 1'. To see how this text begins: head -c 1000"
+        }
+    };
     writeln!(
         out,
-        "{file} has more than {LONGEST} bytes.\nNo command but judge reads more than {LONGEST} bytes. Make the text shorter."
+        "{file} has more than {LONGEST} bytes.\nOnly the command judge reads more. {advice} {file} > NEW"
     )
 }
 
@@ -199,7 +210,7 @@ fn put_sentence(
 ) -> Result<(), AllocError> {
     let is_line = place.number <= lines.count();
     if cause == Cause::NotEnded {
-        return put_not_ended(out, place, is_line);
+        return put_not_ended(out, lines, place, is_line);
     }
     if cause == Cause::Header {
         return put_no_title(out, lines, place);
