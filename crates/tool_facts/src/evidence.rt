@@ -76,6 +76,15 @@ fn losses_of(alloc: Global, gone: &[Place]) -> Result<Vec<Place>, AllocError> {
     Ok(losses)
 }
 
+/// Returns whether the first contradiction of a refused key is among these, which are in the order of time. Otherwise all
+/// of them begin after the moment up to which the key's calls have no order.
+fn has_first(places: &[Place], refused: Refused) -> bool {
+    match places.first() {
+        Some(place) => place.clash.begun() <= refused.moment,
+        None => false,
+    }
+}
+
 /// Returns the places of all refused keys, with their tally.
 fn places_of_all(
     alloc: Global,
@@ -90,6 +99,7 @@ fn places_of_all(
         tally: Tally::default(),
         split: None,
     };
+    found.tally.keys = u64::try_from(refused.len()).unwrap_or(u64::MAX);
     for one in refused {
         if found.places.len() >= MOST_PLACES {
             break;
@@ -101,8 +111,8 @@ fn places_of_all(
             found.tally.add_change(&key, place, neighbours);
             found.places.push(*place)?;
         }
-        if !places.is_empty() {
-            found.tally.keys = found.tally.keys.saturating_add(1);
+        if !has_first(&places, *one) {
+            found.tally.unplaced = found.tally.unplaced.saturating_add(1);
         }
         found.split = larger_split(found.split, longest_split(alloc, &key)?);
     }
