@@ -21,6 +21,7 @@ mod splits;
 mod stretches;
 mod symptoms;
 mod tally;
+mod verdict_clash;
 
 pub use contradictions::Clash;
 pub use evidence::{Evidence, Found, evidence_of, find_all};
@@ -35,5 +36,6 @@ pub use run_reader::{Recorded, RunReader};
 pub use runs::{Refused, Runs, first_of};
 pub use splits::{Split, Votes};
 pub use stretches::{Stretch, stretches_of};
-pub use symptoms::{Place, Symptom};
+pub use symptoms::{Place, Symptom, place_of};
 pub use tally::Tally;
+pub use verdict_clash::verdict_clash;

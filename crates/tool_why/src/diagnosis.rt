@@ -6,7 +6,7 @@ use std::alloc::{AllocError, Global};
 use tool_facts::{
     Clash, Evidence, Found, KeyCalls, Made, NEVER, Neighbours, Odd, Operation, Place, Recorded,
     Refused, Runs, Symptom, evidence_of, find_all, first_of, is_answer, is_expected, other,
-    stretches_of,
+    place_of, stretches_of, verdict_clash,
 };
 
 /// The note beside a call in a picture.
@@ -61,22 +61,81 @@ pub struct Diagnosis {
     pub first_moment: u64,
     /// The end of the contradiction in the picture; `NEVER` if the final state contradicts.
     pub until: u64,
+    /// Whether the picture shows the contradiction that the verdict names.
+    pub is_first: bool,
 }
 
-/// The maximum length of the first contradiction of the run for which the first one is preferred to a shorter one.
-const SHORT: u64 = 120;
+/// A longer contradiction is shown only if no other one shows the bug.
+const SHORT: u64 = 300;
+
+/// The contradiction that the verdict names: the first refused key, the moment, and the contradiction, if the judge
+/// found one.
+#[derive(Clone, Copy)]
+struct Named {
+    first: Refused,
+    clash: Option<Clash>,
+    place: Option<Place>,
+}
+
+/// Returns whether two contradictions are between the same calls.
+fn are_same(one: &Clash, two: &Clash) -> bool {
+    one.first == two.first && one.second == two.second
+}
+
+impl Named {
+    /// Returns whether a contradiction is between the calls that the verdict names, or of a wrong answer among them.
+    fn has_calls_of(&self, place: &Place) -> bool {
+        match self.clash {
+            Some(clash) => {
+                let is_of = place.wrong == clash.first || place.wrong == clash.second;
+                are_same(&clash, &place.clash) || (place.wrong.is_some() && is_of)
+            }
+            None => false,
+        }
+    }
+
+    /// Returns whether a contradiction is the one that the verdict names, or ends at the moment that the verdict names.
+    fn is(&self, place: &Place) -> bool {
+        let is_at_moment = place.key == self.first.key && place.clash.until == self.first.moment;
+        is_at_moment || self.has_calls_of(place)
+    }
+}
+
+/// Returns the contradiction that the verdict names as a place: that of one of its calls if this is a wrong answer of the
+/// odd operation.
+fn place_named(
+    alloc: Global,
+    runs: &Runs<'_>,
+    found: &Found,
+    clash: Clash,
+) -> Result<Option<Place>, AllocError> {
+    if found.odd.is_some() {
+        for place in &found.places {
+            let is_of = place.wrong == clash.first || place.wrong == clash.second;
+            if place.wrong.is_some() && is_of {
+                return Ok(Some(*place));
+            }
+        }
+        return Ok(None);
+    }
+    let Some(call) = clash.second.or(clash.first) else {
+        return Ok(None);
+    };
+    let key = runs.calls_of(call.key)?;
+    let stretches = stretches_of(alloc, &key)?;
+    Ok(Some(place_of(alloc, &key, &stretches, clash)?))
+}
 
 /// Returns how well a contradiction shows the bug; 0 is best. A contradiction of another kind than the likely cause
 /// explains shows it worst. Otherwise the first contradiction of the run is best, which the verdict names, unless it is
 /// long; then a short contradiction is better than a long one, and one of the key that the verdict names is better than
 /// one of another key.
-fn rank(place: &Place, first: Refused, shows: bool) -> u64 {
-    let is_first = place.key == first.key && place.clash.until == first.moment;
+fn rank(place: &Place, named: &Named, shows: bool) -> u64 {
     let length = place.length();
-    if is_first && shows && length <= SHORT {
+    if shows && length <= SHORT && named.is(place) {
         return 0;
     }
-    let other_key = if place.key == first.key { 0 } else { OTHER_KEY };
+    let other_key = if place.key == named.first.key { 0 } else { OTHER_KEY };
     let other_kind = if shows { 0 } else { OTHER_KIND };
     length
         .saturating_add(1)
@@ -128,28 +187,32 @@ fn shows(place: &Place, cause: Option<Cause>, is_odd: bool, neighbours: &Neighbo
     }
 }
 
+/// Returns the first place in a long split.
+fn place_in_split(found: &Found, named: &Named) -> Option<Place> {
+    let split = found.split.filter(|split| split.is_long())?;
+    for place in named.place.iter().chain(found.places.iter()) {
+        if place.key == split.key && place.clash.until > split.since {
+            return Some(*place);
+        }
+    }
+    None
+}
+
 /// Returns the place that is shown: the first place in a long split, or the place that shows the bug best.
 fn place_shown(
     found: &Found,
-    first: Refused,
+    named: &Named,
     cause: Option<Cause>,
     neighbours: &Neighbours,
 ) -> Option<Place> {
-    if let Some(split) = found.split.filter(|split| split.is_long()) {
-        for place in &found.places {
-            if place.key == split.key && place.clash.until > split.since {
-                return Some(*place);
-            }
-        }
+    let mut best = place_in_split(found, named);
+    if best.is_some() {
+        return best;
     }
-    let mut best: Option<Place> = None;
     let mut least = u64::MAX;
-    for place in &found.places {
-        let rank = rank(
-            place,
-            first,
-            shows(place, cause, found.odd.is_some(), neighbours),
-        );
+    for place in named.place.iter().chain(found.places.iter()) {
+        let shows = shows(place, cause, found.odd.is_some(), neighbours);
+        let rank = rank(place, named, shows);
         if best.is_none() || rank < least {
             best = Some(*place);
             least = rank;
@@ -189,6 +252,7 @@ fn begin(alloc: Global, first: Refused, was: Presence, evidence: Evidence) -> Di
         first_key: first.key,
         first_moment: first.moment,
         until: first.moment,
+        is_first: true,
     }
 }
 
@@ -209,7 +273,8 @@ pub fn diagnose(alloc: Global, recorded: &Recorded) -> Result<Option<Diagnosis>,
     };
     let mut diagnosis = begin(alloc, first, was, evidence);
     diagnosis.few = few_of(alloc, &found)?;
-    let Some(place) = place_shown(&found, first, diagnosis.cause, &neighbours) else {
+    let named = named(alloc, &runs, &found, first)?;
+    let Some(place) = place_shown(&found, &named, diagnosis.cause, &neighbours) else {
         diagnosis.second = found.wrong;
         if let (Some(odd), Some(wrong)) = (found.odd, found.wrong) {
             let key = with_one_answer(alloc, runs.calls_of(wrong.key)?, odd, wrong)?;
@@ -224,8 +289,30 @@ pub fn diagnose(alloc: Global, recorded: &Recorded) -> Result<Option<Diagnosis>,
         (Some(odd), Some(wrong)) => with_one_answer(alloc, key, odd, wrong)?,
         _ => key,
     };
+    diagnosis.is_first = named.is(&place);
+    if named.has_calls_of(&place) {
+        diagnosis.show_named(&named)?;
+    }
     diagnosis.show(alloc, &key, place, &neighbours)?;
     Ok(Some(diagnosis))
+}
+
+/// Returns the contradiction that the verdict names.
+fn named(
+    alloc: Global,
+    runs: &Runs<'_>,
+    found: &Found,
+    first: Refused,
+) -> Result<Named, AllocError> {
+    let mut named = Named {
+        first,
+        clash: verdict_clash(alloc, runs.recorded)?,
+        place: None,
+    };
+    if let Some(clash) = named.clash {
+        named.place = place_named(alloc, runs, found, clash)?;
+    }
+    Ok(named)
 }
 
 /// Returns the contradiction of a wrong answer with a later call: the answer leaves the key in a state that the later
@@ -348,6 +435,17 @@ impl Diagnosis {
         }
         for call in &mut self.beside {
             *call = recorded_call(calls, *call);
+        }
+    }
+
+    /// Adds the calls that the verdict names to the picture.
+    fn show_named(&mut self, named: &Named) -> Result<(), AllocError> {
+        match named.clash {
+            Some(clash) => {
+                self.add_if(clash.first)?;
+                self.add_if(clash.second)
+            }
+            None => Ok(()),
         }
     }
 
@@ -532,7 +630,23 @@ impl Diagnosis {
                 return Ok(());
             }
         }
+        self.mark_found(clash);
         Ok(())
+    }
+
+    /// Marks the state in which the contradicting call finds the key.
+    fn mark_found(&mut self, clash: &Clash) {
+        let Some(second) = clash.second else {
+            return;
+        };
+        if let Some(state) = second.needs() {
+            self.mark(second, Mark::Finds(state));
+        }
+        if let Some(first) = clash.first.filter(|_| clash.overlaps()) {
+            if let Some(state) = first.needs() {
+                self.mark(first, Mark::Finds(state));
+            }
+        }
     }
 
     /// Returns the first later call that finds the key in the state that the contradiction leaves. If only one reply is

@@ -343,14 +343,14 @@ fn put_unseen(out: &mut String, odd: &Odd) -> Result<(), AllocError> {
     )
 }
 
-/// Writes that the picture shows a later contradiction than the verdict, if it does.
+/// Writes that the picture shows another contradiction than the verdict, if it does.
 fn put_first(out: &mut String, diagnosis: &Diagnosis) -> Result<(), AllocError> {
     let (key, moment) = (diagnosis.first_key, diagnosis.first_moment);
-    let is_listed = diagnosis.shown.is_empty() || !diagnosis.few.is_empty();
-    if !is_listed && moment < diagnosis.until && moment < NEVER {
+    let is_first = diagnosis.is_first || diagnosis.shown.is_empty();
+    if !is_first && moment < diagnosis.until && moment < NEVER {
         writeln!(
             out,
-            "the calls above are of a later contradiction; the first of the run: key {key} up to moment {moment}"
+            "headline and picture are of a contradiction that ends later than the first one (key {key}, moment {moment})"
         )?;
     }
     Ok(())
@@ -449,6 +449,7 @@ pub(crate) fn cause_text(cause: Cause) -> &'static str {
 
 /// Writes the scope and the duration.
 pub(crate) fn put_known(out: &mut String, diagnosis: &Diagnosis) -> Result<(), AllocError> {
+    put_first(out, diagnosis)?;
     match &diagnosis.evidence.odd {
         Some(odd) => {
             put_odd(out, odd)?;
@@ -464,7 +465,6 @@ pub(crate) fn put_known(out: &mut String, diagnosis: &Diagnosis) -> Result<(), A
     } else if !matches!(diagnosis.cause, Some(Cause::OneThread | Cause::Overflow)) {
         put_apart(out, &diagnosis.evidence.tally)?;
     }
-    put_first(out, diagnosis)?;
     if diagnosis.evidence.is_part {
         let calls = diagnosis.evidence.calls;
         writeln!(out, "only the first {calls} calls were looked at")?;
