@@ -5,6 +5,7 @@ use crate::made_calls::Made;
 use crate::merged::merged_keys;
 use crate::neighbours::Neighbours;
 use crate::odd_facts::{Odd, find_odd, places_of_odd};
+use crate::pairs::{Bound, bound_of};
 use crate::runs::{Refused, Runs};
 use crate::splits::{Split, longest_split};
 use crate::symptoms::{Place, Symptom, places_of};
@@ -19,6 +20,8 @@ pub struct Evidence {
     pub odd: Option<Odd>,
     pub tally: Tally,
     pub split: Option<Split>,
+    /// Two keys that undo each other's changes.
+    pub bound: Option<Bound>,
     /// The number of keys of the recording.
     pub keys: u64,
     /// The number of calls of the recording.
@@ -43,6 +46,7 @@ pub struct Found {
     pub odd: Option<Odd>,
     pub tally: Tally,
     pub split: Option<Split>,
+    pub bound: Option<Bound>,
 }
 
 /// The maximum number of moments of a loss that is compared with removes of other keys. In a longer time any remove can
@@ -62,6 +66,30 @@ fn gone_of(alloc: Global, places: &[Place]) -> Result<Vec<Place>, AllocError> {
     }
     gone.sort_unstable_by_key(|place| place.clash.begun());
     Ok(gone)
+}
+
+/// Returns those of some places that have a symptom.
+fn of_symptom(alloc: Global, places: &[Place], symptom: Symptom) -> Result<Vec<Place>, AllocError> {
+    let mut found = Vec::new(alloc);
+    for place in places {
+        if place.symptom == symptom {
+            found.push(*place)?;
+        }
+    }
+    Ok(found)
+}
+
+/// Returns the places that one opposite reply repairs, in the order of time.
+fn replies_of(alloc: Global, places: &[Place]) -> Result<Vec<Place>, AllocError> {
+    let mut found = Vec::new(alloc);
+    for place in places {
+        let is_reply = place.wrong.is_some() || (place.is_gone() && place.is_turned);
+        if is_reply && place.clash.second.is_some() {
+            found.push(*place)?;
+        }
+    }
+    found.sort_unstable_by_key(|place| place.clash.begun());
+    Ok(found)
 }
 
 /// Returns those of `gone` in which a call shows within `MOST_MOMENTS` that a key was lost.
@@ -98,8 +126,10 @@ fn places_of_all(
         odd: None,
         tally: Tally::default(),
         split: None,
+        bound: None,
     };
     found.tally.keys = u64::try_from(refused.len()).unwrap_or(u64::MAX);
+    let (mut bound, mut unbound) = (0u64, 0u64);
     for one in refused {
         if found.places.len() >= MOST_PLACES {
             break;
@@ -114,11 +144,27 @@ fn places_of_all(
         if !has_first(&places, *one) {
             found.tally.unplaced = found.tally.unplaced.saturating_add(1);
         }
+        match bound_of(alloc, &key, &places, neighbours)? {
+            Some(one) => {
+                bound = bound.saturating_add(1);
+                found.bound = larger_bound(found.bound, one);
+            }
+            None if places.len() >= MANY_PLACES => unbound = unbound.saturating_add(1),
+            None => {}
+        }
         found.split = larger_split(found.split, longest_split(alloc, &key)?);
     }
     let calls = &runs.recorded.calls;
     let gone = gone_of(alloc, &found.places)?;
     found.tally.add_together(&gone);
+    if bound < 2 || unbound > 0 || found.tally.keys < 3 {
+        found.bound = None;
+    }
+    let replies = replies_of(alloc, &found.places)?;
+    found.tally.add_replies(&replies);
+    let returns = of_symptom(alloc, &gone, Symptom::CameBack)?;
+    let lost = of_symptom(alloc, &gone, Symptom::Lost)?;
+    found.tally.add_swapped_adds(&lost, &returns);
     let losses = losses_of(alloc, &gone)?;
     found
         .tally
@@ -128,6 +174,17 @@ fn places_of_all(
         found.tally.add_fullness(calls, &losses, &full);
     }
     Ok(found)
+}
+
+/// From so many contradictions on a key without a partner shows that keys have none.
+const MANY_PLACES: usize = 20;
+
+/// Returns the pair with more undone changes.
+fn larger_bound(one: Option<Bound>, two: Bound) -> Option<Bound> {
+    match one {
+        Some(first) if first.of >= two.of => one,
+        _ => Some(two),
+    }
 }
 
 /// Returns the split with more answers.
@@ -161,6 +218,7 @@ pub fn find_all(
         odd: Some(odd),
         tally: Tally::default(),
         split: None,
+        bound: None,
     })
 }
 
@@ -177,6 +235,7 @@ pub fn evidence_of(
         odd: found.odd,
         tally: found.tally,
         split: found.split,
+        bound: found.bound,
         keys: u64::try_from(keys.len()).unwrap_or(u64::MAX),
         calls: u64::try_from(runs.recorded.calls.len()).unwrap_or(u64::MAX),
         is_part: runs.recorded.is_part,

@@ -25,7 +25,7 @@ fn put_because_of_found(out: &mut String, odd: &Odd, cause: Cause) -> Result<(),
                 "at {starting} of the {found} wrong answers an add of the key was still running"
             )
         }
-        Cause::TakenLater => writeln!(
+        Cause::TakenLater | Cause::MarkOrCopy => writeln!(
             out,
             "it {only}finds absent keys, and at {running} of {found} of these answers a remove of the key still ran"
         ),
@@ -78,11 +78,14 @@ fn put_because_of_odd(out: &mut String, odd: &Odd, cause: Cause) -> Result<(), A
         Cause::MarkNotRead
         | Cause::SeenEarly
         | Cause::TakenLater
+        | Cause::MarkOrCopy
         | Cause::ThreadCache
         | Cause::LateCopy => put_because_of_found(out, odd, cause),
-        Cause::NotSeenYet | Cause::LastKey | Cause::SizeFirst | Cause::Shortcut => {
-            put_because_of_missed(out, odd, cause)
-        }
+        Cause::NotSeenYet
+        | Cause::LastKey
+        | Cause::SizeFirst
+        | Cause::Shortcut
+        | Cause::MovedOrShortcut => { put_because_of_missed(out, odd, cause) }
         Cause::OneKey => writeln!(
             out,
             "it never found the {keys} of its {wrong} wrong answers, and found others"
@@ -175,6 +178,59 @@ fn put_because_of_lost(out: &mut String, tally: &Tally, cause: Cause) -> Result<
     }
 }
 
+/// Writes the fact for a cause of keys that are lost although they were added.
+fn put_because_of_adds(out: &mut String, tally: &Tally, cause: Cause) -> Result<(), AllocError> {
+    let (lost, back, placed) = (tally.lost, tally.came_back, tally.placed);
+    let (adds, removes, both) = (tally.with_add, tally.with_remove, tally.both_adds);
+    let never = match tally.found {
+        0 => ", but never come back",
+        _ => "",
+    };
+    match cause {
+        Cause::AddLost => writeln!(
+            out,
+            "keys are lost ({lost}) and added twice ({both}){never}, and no two removes return true"
+        ),
+        Cause::SharedPlace => writeln!(
+            out,
+            "keys are lost ({lost}), come back {back} times, and at {adds} of {placed} an add of another key overlapped the add (a remove at {removes})"
+        ),
+        _ => writeln!(
+            out,
+            "keys are lost ({lost}), come back {back} times, and at {removes} of {placed} a remove of another key overlapped the add (an add at {adds})"
+        ),
+    }
+}
+
+/// Writes the fact for a cause of calls that are mixed up.
+fn put_because_of_mixed(out: &mut String, tally: &Tally, cause: Cause) -> Result<(), AllocError> {
+    let (replies, crossed) = (tally.replies, tally.crossed_replies);
+    let some = tally.swapped.saturating_add(tally.swapped_adds);
+    let all = tally.undone.saturating_add(tally.unadded);
+    match cause {
+        Cause::OtherReply | Cause::MixedCalls => writeln!(
+            out,
+            "at {crossed} of {replies} contradictions that one other reply explains, another key has one at the same time"
+        ),
+        _ => writeln!(
+            out,
+            "during {some} of {all} changes that were not kept another key changed without a call"
+        ),
+    }
+}
+
+/// Writes the fact for keys that are written back together.
+fn put_because_of_pairs(out: &mut String, evidence: &Evidence) -> Result<(), AllocError> {
+    let Some(bound) = evidence.bound else {
+        return Ok(());
+    };
+    let (one, two, hits, of) = (bound.one, bound.two, bound.hits, bound.of);
+    writeln!(
+        out,
+        "at {hits} of {of} losses and returns of key {one} a change of key {two} overlapped the change before, clearly more often than changes of any other key"
+    )
+}
+
 /// Writes the fact for a cause that needs no race.
 fn put_because_of_one(
     out: &mut String,
@@ -192,6 +248,10 @@ fn put_because_of_one(
         Cause::KeptTwice if lost == 0 => writeln!(
             out,
             "keys come back ({back}), {undone} times after a remove that returned true{never}"
+        ),
+        Cause::KeptTwice if tally.readded != lost => writeln!(
+            out,
+            "at {undone} of {back} returns the key came back after a remove that returned true"
         ),
         Cause::KeptTwice => writeln!(
             out,
@@ -230,7 +290,7 @@ fn put_because_of_gone(
             out,
             "at {alone} of {timed} losses and returns no change of another key that returned true was running"
         ),
-        Cause::OldCopy => writeln!(
+        Cause::OldCopy | Cause::OldCopyByAdd | Cause::OldCopyByRemove => writeln!(
             out,
             "keys are lost ({lost}) and come back ({back}), two calls return true ({both}), and at {beside} of {timed} another key changes (by an add at {added}, by a remove at {removed})"
         ),
@@ -287,6 +347,13 @@ pub(crate) fn put_because(
         Cause::Displaced | Cause::Batch | Cause::Evicted => {
             put_because_of_lost(out, &evidence.tally, cause)
         }
+        Cause::AddLost | Cause::SharedPlace | Cause::BehindUnlinked => {
+            put_because_of_adds(out, &evidence.tally, cause)
+        }
+        Cause::OtherReply | Cause::OtherCall | Cause::MixedCalls => {
+            put_because_of_mixed(out, &evidence.tally, cause)
+        }
+        Cause::SharedWord => put_because_of_pairs(out, evidence),
         Cause::KeptTwice | Cause::Overflow | Cause::OneThread => {
             put_because_of_one(out, evidence, cause)
         }

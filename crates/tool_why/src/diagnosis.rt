@@ -135,7 +135,11 @@ fn rank(place: &Place, named: &Named, shows: bool) -> u64 {
     if shows && length <= SHORT && named.is(place) {
         return 0;
     }
-    let other_key = if place.key == named.first.key { 0 } else { OTHER_KEY };
+    let other_key = if place.key == named.first.key {
+        0
+    } else {
+        OTHER_KEY
+    };
     let other_kind = if shows { 0 } else { OTHER_KIND };
     length
         .saturating_add(1)

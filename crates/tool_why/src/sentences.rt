@@ -366,9 +366,13 @@ fn answers_cause_text(cause: Cause) -> &'static str {
         Cause::NotSeenYet =>
             "contains does not look at what add changes first (it reads a cache, a counter, a second link)",
         Cause::TakenLater =>
-            "contains reads a copy that removed keys leave only later (a delayed removal, a cache, a replica, a filter)",
+            "contains reads a copy that removed keys leave only later (a delayed removal, a cache, a replica, an upper level)",
         Cause::Shortcut =>
-            "contains has a shortcut that returns false too early (a size, a filter, a bucket)",
+            "contains has a shortcut that returns false too early (a size, a filter, a bucket, a remembered node)",
+        Cause::MovedOrShortcut =>
+            "contains walks while other calls move its key, or has a shortcut that returns false too early (a size, a filter)",
+        Cause::MarkOrCopy =>
+            "contains finds a key just removed: it does not look at a mark, or reads a copy that is updated a little later",
         Cause::SizeFirst =>
             "contains looks at a size first that add updates late (it returns false if the size is 0)",
         Cause::ThreadCache =>
@@ -435,6 +439,24 @@ pub(crate) fn cause_text(cause: Cause) -> &'static str {
             "calls of one key do not exclude each other (two locks, a lock that fails, a load and then a store)",
         Cause::OldCopy =>
             "an older copy is written over newer changes of other keys (copy on write, a whole table, a shared word)",
+        Cause::SharedPlace =>
+            "two adds at the same time take the same place, and one overwrites the other (a free slot or node given out twice, a head stored over another)",
+        Cause::AddLost =>
+            "two adds at the same time both write, and one is lost, yet returns true (a compare-and-swap whose failure is not checked, adds that do not exclude each other)",
+        Cause::BehindUnlinked =>
+            "a key is added behind a node that is being removed (no mark, or a mark that add does not check)",
+        Cause::OldCopyByAdd =>
+            "add writes back what it read before, over newer changes (a copy or link stored without a compare-and-swap, a lock released too early); remove does not",
+        Cause::OldCopyByRemove =>
+            "remove writes back what it read before, over newer changes (a copy or word stored without a compare-and-swap); add does not",
+        Cause::SharedWord =>
+            "some keys share a word or bucket, and a change of one writes back an older state of the other (a load, then a store)",
+        Cause::OtherReply =>
+            "a call returns the reply of another call (a combiner or batch that hands replies to the wrong callers)",
+        Cause::MixedCalls =>
+            "calls are mixed up: a call returns the reply of another call, or is carried out with its key (a combiner, a batch, a shared record)",
+        Cause::OtherCall =>
+            "a call is carried out with the key of another call (a combiner or a shared record that is read too late)",
         Cause::OldLink =>
             "a link is written without a check that it is current (an insert behind an unlinked node, a head stored over another)",
         Cause::Unlinked =>
