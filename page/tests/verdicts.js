@@ -571,7 +571,7 @@ const OF_WHY = [
     const next = told.wrong.map((answer) => [answer, nextCall(it, answer, operation)]).filter(([, one]) => one !== undefined).map(([, one]) => told.wrong.includes(one));
     return told.isAll && next.filter((isWrong) => !isWrong).length === Number(right) && next.filter((isWrong) => isWrong).length === Number(wrong);
   }],
-  [/^fact the calls above are of a later contradiction; the first of the run: key (\d+) up to moment (\d+)$/, (it, [key, moment], why) => {
+  [/^fact headline and picture are of a contradiction that ends later than the first one \(key (\d+), moment (\d+)\)$/, (it, [key, moment], why) => {
     const isLater = why.shown.some(({ call }) => (call.ended ?? LAST) > Number(moment));
     const isFirst = keysOf(it).every((one) => hasOrder(knownBy(ofKey(it, one), Number(moment) - 1), one, opens(it, one)));
     return isLater && isFirst && !hasOrder(knownBy(ofKey(it, Number(key)), Number(moment)), Number(key), opens(it, Number(key)));
@@ -645,6 +645,16 @@ const OF_WHY = [
     [tally.lost, tally["came back"]].sort().join() === [Number(one), Number(other)].sort().join() && Number(some) <= Number(all) && (both === undefined || Number(both) === bothTrue(tally))],
   [/^because another key was lost at (\d+) of the (\d+) removes after which their key came back$/, (it, [some, all], { tally }) => Number(some) <= Number(all) && Number(all) <= tally["came back"]],
   [/^because (\d+) keys are hit, each once$/, (it, [count]) => keysOf(it).filter((key) => !hasOrderOf(it, key)).length === Number(count)],
+  [/^because keys are lost \((\d+)\) and added twice \((\d+)\)(, but never come back)?, and no two removes return true$/, (it, [lost, twice, never], { tally }) =>
+    Number(lost) === tally.lost && Number(twice) === tally["two adds true"] && tally["two removes true"] === 0 && (never === undefined || (tally["came back"] === 0 && !isFoundAgain(it)))],
+  [/^because keys are lost \((\d+)\), come back (\d+) times, and at (\d+) of (\d+) an? (?:add|remove) of another key overlapped the add \(an? (?:add|remove) at (\d+)\)$/,
+    (it, [lost, back, some, all, other], { tally }) => Number(lost) === tally.lost && Number(back) === tally["came back"] && Math.max(Number(some), Number(other)) <= Number(all) && Number(all) <= tally.lost],
+  [/^because at (\d+) of (\d+) returns the key came back after a remove that returned true$/, (it, [some, all], { tally }) => Number(some) <= Number(all) && Number(all) === tally["came back"]],
+  [/^because at (\d+) of (\d+) contradictions that one other reply explains, another key has one at the same time$/, (it, [some, all]) =>
+    Number(some) <= Number(all) && keysOf(it).filter((key) => !hasOrderOf(it, key)).length >= 2],
+  [/^because during (\d+) of (\d+) changes that were not kept another key changed without a call$/, (it, [some, all], { tally }) => Number(some) <= Number(all) && Number(all) <= tally.lost + tally["came back"]],
+  [/^because at (\d+) of (\d+) losses and returns of key (\d+) a change of key (\d+) overlapped the change before, clearly more often than changes of any other key$/, (it, [some, all, one, two], { tally }) =>
+    Number(some) <= Number(all) && Number(all) <= tally.lost + tally["came back"] && one !== two && !hasOrderOf(it, Number(one))],
   [/^because they disagree as long as nothing changes the key$/, () => true],
 ];
 
