@@ -69,11 +69,7 @@ fn gone_of(alloc: Global, places: &[Place]) -> Result<Vec<Place>, AllocError> {
 }
 
 /// Returns those of some places that have a symptom.
-fn of_symptom(
-    alloc: Global,
-    places: &[Place],
-    symptom: Symptom,
-) -> Result<Vec<Place>, AllocError> {
+fn of_symptom(alloc: Global, places: &[Place], symptom: Symptom) -> Result<Vec<Place>, AllocError> {
     let mut found = Vec::new(alloc);
     for place in places {
         if place.symptom == symptom {
@@ -108,6 +104,15 @@ fn losses_of(alloc: Global, gone: &[Place]) -> Result<Vec<Place>, AllocError> {
     Ok(losses)
 }
 
+/// Returns whether the first contradiction of a refused key is among these, which are in the order of time. Otherwise all
+/// of them begin after the moment up to which the key's calls have no order.
+fn has_first(places: &[Place], refused: Refused) -> bool {
+    match places.first() {
+        Some(place) => place.clash.begun() <= refused.moment,
+        None => false,
+    }
+}
+
 /// Returns the places of all refused keys, with their tally.
 fn places_of_all(
     alloc: Global,
@@ -124,6 +129,7 @@ fn places_of_all(
         bound: None,
     };
     let (mut bound, mut unbound) = (0u64, 0u64);
+    found.tally.keys = u64::try_from(refused.len()).unwrap_or(u64::MAX);
     for one in refused {
         if found.places.len() >= MOST_PLACES {
             break;
@@ -143,8 +149,8 @@ fn places_of_all(
             None if places.len() >= MANY_PLACES => unbound = unbound.saturating_add(1),
             None => {}
         }
-        if !places.is_empty() {
-            found.tally.keys = found.tally.keys.saturating_add(1);
+        if !has_first(&places, *one) {
+            found.tally.unplaced = found.tally.unplaced.saturating_add(1);
         }
         found.split = larger_split(found.split, longest_split(alloc, &key)?);
     }

@@ -639,12 +639,12 @@ fn count_answer(sound: &Sound, call: Made, odd: &mut Odd, neighbours: &Neighbour
 const SOON: u64 = 50;
 
 /// Counts who made the change to the state `was` that a wrong answer did not see, and how long before, if that change
-/// had ended.
+/// had ended. Two overlapping changes to this state are not counted: either can be the last to take effect.
 fn count_unseen(sound: &KeyCalls, call: Made, was: Presence, odd: &mut Odd) {
     let Some(change) = sound.change_before(was, call.begun) else {
         return;
     };
-    if change.ended >= call.begun {
+    if change.ended >= call.begun || !sound.no_change_runs(was, change.begun) {
         return;
     }
     if change.thread == call.thread {

@@ -89,8 +89,10 @@ pub struct Tally {
     pub swapped_adds: u64,
     /// At how many contradictions, of all kinds, no call of the recording began while another call was running.
     pub apart: u64,
-    /// The number of keys with contradictions.
+    /// The number of refused keys.
     pub keys: u64,
+    /// The number of refused keys whose first contradiction is not among those counted.
+    pub unplaced: u64,
     /// The largest number of calls of one key that had begun by the end of a contradiction of that key.
     pub begun: u64,
 }

@@ -159,7 +159,11 @@ fn put_because_of_calls(out: &mut String, tally: &Tally, cause: Cause) -> Result
 fn put_because_of_lost(out: &mut String, tally: &Tally, cause: Cause) -> Result<(), AllocError> {
     let (lost, sharp, short) = (tally.lost, tally.sharp, tally.short);
     let (added, removed, least) = (tally.displaced, tally.unlinked, tally.least_full);
-    write!(out, "keys are lost ({lost}) and never come back, and at ")?;
+    let never = match tally.found {
+        0 => " and never come back",
+        _ => "",
+    };
+    write!(out, "keys are lost ({lost}){never}, and at ")?;
     match cause {
         Cause::Displaced => writeln!(
             out,
@@ -234,10 +238,14 @@ fn put_because_of_one(
     let (tally, span) = (&evidence.tally, evidence.span);
     let (lost, back, undone) = (tally.lost, tally.came_back, tally.undone);
     let (apart, places) = (tally.apart, tally.places);
+    let (only, never) = match tally.missed {
+        0 => ("only ", ", and are never lost"),
+        _ => ("", ""),
+    };
     match cause {
         Cause::KeptTwice if lost == 0 => writeln!(
             out,
-            "keys come back ({back}), {undone} times after a remove that returned true, and are never lost"
+            "keys come back ({back}), {undone} times after a remove that returned true{never}"
         ),
         Cause::KeptTwice if tally.readded != lost => writeln!(
             out,
@@ -245,7 +253,7 @@ fn put_because_of_one(
         ),
         Cause::KeptTwice => writeln!(
             out,
-            "keys come back ({back}), only an add misses one ({lost}), and at {apart} of {places} no two calls overlapped"
+            "keys come back ({back}), {only}an add misses one ({lost}), and at {apart} of {places} no two calls overlapped"
         ),
         Cause::Overflow => writeln!(
             out,

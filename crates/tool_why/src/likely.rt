@@ -316,7 +316,7 @@ fn cause_of_odd(odd: &Odd, keys: u64) -> Option<Cause> {
 fn is_first_use(evidence: &Evidence) -> bool {
     let tally = evidence.tally;
     let calls = evidence.calls.checked_div(evidence.keys).unwrap_or(0);
-    let is_repeated = tally.places > 1 && tally.gone() > 0;
+    let is_repeated = tally.places > 1 && tally.gone() > 0 && tally.unplaced == 0;
     is_repeated && calls > tally.begun.saturating_mul(25)
 }
 
@@ -663,7 +663,7 @@ fn cause_of_races(evidence: &Evidence) -> Option<Cause> {
         });
     }
     let calls = evidence.calls.checked_div(evidence.keys).unwrap_or(0);
-    if tally.places == tally.keys && tally.keys >= 8 && calls >= MANY_CALLS {
+    if tally.unplaced == 0 && tally.places == tally.keys && tally.keys >= 8 && calls >= MANY_CALLS {
         return Some(Cause::Replaced);
     }
     if tally.others.saturating_mul(2) > tally.places {

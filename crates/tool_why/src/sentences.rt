@@ -184,8 +184,9 @@ fn symptom_text(symptom: Symptom) -> &'static str {
     }
 }
 
-/// Writes each of a few contradictions: the key, the symptom, and the time.
-fn put_few(out: &mut String, few: &[Place]) -> Result<(), AllocError> {
+/// Writes each of a few contradictions: the key, the symptom, and the time. `is_all` says that there are no others.
+fn put_few(out: &mut String, few: &[Place], is_all: bool) -> Result<(), AllocError> {
+    out.push_str(if is_all { "" } else { "at least " })?;
     put_count(out, places_len(few), "contradiction", "contradictions")?;
     let mut mark = ":";
     for place in few {
@@ -216,11 +217,12 @@ fn put_tally(out: &mut String, diagnosis: &Diagnosis) -> Result<(), AllocError> 
         return Ok(());
     }
     if !diagnosis.few.is_empty() {
-        return put_few(out, &diagnosis.few);
+        return put_few(out, &diagnosis.few, tally.unplaced == 0);
     }
     let (keys, all) = (tally.keys, diagnosis.evidence.keys);
     let is_capped = tally.places >= MOST_PLACES;
-    out.push_str(if is_capped { "at least " } else { "" })?;
+    let is_least = is_capped || tally.unplaced > 0;
+    out.push_str(if is_least { "at least " } else { "" })?;
     put_count(out, tally.places, "contradiction", "contradictions")?;
     if keys < all && !is_capped {
         write!(out, " of {keys} of {all} keys")?;
