@@ -128,8 +128,8 @@ fn places_of_all(
         split: None,
         bound: None,
     };
-    found.tally.keys = u64::try_from(refused.len()).unwrap_or(u64::MAX);
     let (mut bound, mut unbound) = (0u64, 0u64);
+    found.tally.keys = u64::try_from(refused.len()).unwrap_or(u64::MAX);
     for one in refused {
         if found.places.len() >= MOST_PLACES {
             break;
@@ -141,9 +141,6 @@ fn places_of_all(
             found.tally.add_change(&key, place, neighbours);
             found.places.push(*place)?;
         }
-        if !has_first(&places, *one) {
-            found.tally.unplaced = found.tally.unplaced.saturating_add(1);
-        }
         match bound_of(alloc, &key, &places, neighbours)? {
             Some(one) => {
                 bound = bound.saturating_add(1);
@@ -151,6 +148,9 @@ fn places_of_all(
             }
             None if places.len() >= MANY_PLACES => unbound = unbound.saturating_add(1),
             None => {}
+        }
+        if !has_first(&places, *one) {
+            found.tally.unplaced = found.tally.unplaced.saturating_add(1);
         }
         found.split = larger_split(found.split, longest_split(alloc, &key)?);
     }

@@ -2,6 +2,7 @@
 //! overlapped the change before, more often than changes of any third key.
 
 use crate::key_calls::KeyCalls;
+use crate::made_calls::Made;
 use crate::neighbours::Neighbours;
 use crate::symptoms::Place;
 use std::alloc::{AllocError, Global};
@@ -71,6 +72,23 @@ impl Partners {
     }
 }
 
+/// Returns the completed change that was undone, if a call shows that the key was lost or came back after this change had
+/// ended.
+fn undone_change(key: &KeyCalls, place: &Place) -> Option<Made> {
+    let second = place.clash.second?;
+    let first = place.clash.first?;
+    let change = if first.changes() {
+        first
+    } else {
+        key.change_before(place.clash.was, first.begun)?
+    };
+    if place.is_gone() && change.ended < second.begun {
+        Some(change)
+    } else {
+        None
+    }
+}
+
 /// Returns the keys that were changed beside changes of a key that were undone.
 fn partners_of(
     alloc: Global,
@@ -83,10 +101,7 @@ fn partners_of(
         of: 0,
     };
     for place in places {
-        let Some(second) = place.clash.second.filter(|_| place.is_gone()) else {
-            continue;
-        };
-        let Some(change) = key.change_before(place.clash.was, second.begun) else {
+        let Some(change) = undone_change(key, place) else {
             continue;
         };
         partners.of = partners.of.saturating_add(1);
@@ -105,8 +120,8 @@ fn partners_of(
     Ok(partners)
 }
 
-/// Returns a key and its partner, if a change of the partner overlapped at least 90 percent of the key's changes that were
-/// undone, and changes of each third key at most 75 percent. `places` are the contradictions of the key. Allocates.
+/// Returns a key and its partner, if a change of the partner overlapped at least 85 percent of the key's changes that were
+/// undone, and changes of each third key at most 70 percent as many. `places` are the contradictions of the key. Allocates.
 pub fn bound_of(
     alloc: Global,
     key: &KeyCalls,
@@ -118,8 +133,8 @@ pub fn bound_of(
     let Some((best, second)) = partners.best() else {
         return Ok(None);
     };
-    let is_most = best.hits.saturating_mul(100) >= of.saturating_mul(90);
-    let is_only = second.saturating_mul(100) <= of.saturating_mul(75);
+    let is_most = best.hits.saturating_mul(100) >= of.saturating_mul(85);
+    let is_only = second.saturating_mul(100) <= best.hits.saturating_mul(70);
     let is_each_counted = partners.found.len() < MOST_KEYS;
     if of < LEAST || !is_most || !is_only || !is_each_counted {
         return Ok(None);
