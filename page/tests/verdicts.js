@@ -636,7 +636,7 @@ const OF_WHY = [
   [/^because keys are lost \((\d+)\)( and never come back)?, and at (\d+)(?: of (\d+))? losses (?:beside one|that a call shows)/, (it, [lost, never, some, all], { tally }) =>
     Number(lost) === tally.lost && Number(some) <= Number(all ?? lost) && (never === undefined || (tally["came back"] === 0 && !isFoundAgain(it)))],
   [/^because keys come back \((\d+)\), (\d+) times after a remove that returned true(, and are never lost)?$/, (it, [back, after, never], { tally }) =>
-    Number(back) === tally["came back"] && Number(after) <= Number(back) && tally.lost === 0 && (never === undefined || !isMissed(it, isChange))],
+    Number(back) === tally["came back"] && Number(after) <= Number(back) && (never === undefined || (tally.lost === 0 && !isMissed(it, isChange)))],
   [/^because keys come back \((\d+)\), (only )?an add misses one \((\d+)\), and at (\d+) of (\d+) no two calls overlapped$/, (it, [back, only, lost, some, all], { tally }) =>
     Number(back) === tally["came back"] && Number(lost) === tally.lost && Number(some) <= Number(all) && (only === undefined || !isMissed(it, () => true))],
   [/^because at (\d+) of (\d+) no two calls overlapped(?:, and keys differ by up to (\d+))?$/, (it, [some, all, span]) => Number(some) <= Number(all) && isWrongAlone(it)
@@ -645,15 +645,14 @@ const OF_WHY = [
     [tally.lost, tally["came back"]].sort().join() === [Number(one), Number(other)].sort().join() && Number(some) <= Number(all) && (both === undefined || Number(both) === bothTrue(tally))],
   [/^because another key was lost at (\d+) of the (\d+) removes after which their key came back$/, (it, [some, all], { tally }) => Number(some) <= Number(all) && Number(all) <= tally["came back"]],
   [/^because (\d+) keys are hit, each once$/, (it, [count]) => keysOf(it).filter((key) => !hasOrderOf(it, key)).length === Number(count)],
-  [/^because keys are lost \((\d+)\) and added twice \((\d+)\)(, but never come back)?, and no two removes return true$/, (it, [lost, twice, never], { tally }) =>
-    Number(lost) === tally.lost && Number(twice) === tally["two adds true"] && tally["two removes true"] === 0 && (never === undefined || (tally["came back"] === 0 && !isFoundAgain(it)))],
-  [/^because keys are lost \((\d+)\), come back (\d+) times, and at (\d+) of (\d+) an? (?:add|remove) of another key overlapped the add \(an? (?:add|remove) at (\d+)\)$/,
-    (it, [lost, back, some, all, other], { tally }) => Number(lost) === tally.lost && Number(back) === tally["came back"] && Math.max(Number(some), Number(other)) <= Number(all) && Number(all) <= tally.lost],
-  [/^because at (\d+) of (\d+) returns the key came back after a remove that returned true$/, (it, [some, all], { tally }) => Number(some) <= Number(all) && Number(all) === tally["came back"]],
-  [/^because at (\d+) of (\d+) contradictions that one other reply explains, another key has one at the same time$/, (it, [some, all]) =>
+  [/^because keys are lost \((\d+)\) and added twice \((\d+)\), none comes back, and none is removed twice$/, (it, [lost, twice], { tally }) =>
+    Number(lost) === tally.lost && Number(twice) === tally["two adds true"] && tally["two removes true"] === 0 && tally["came back"] === 0 && !isFoundAgain(it)],
+  [/^because at (\d+) of (\d+) losses an? (?:add|remove) of another key overlapped the lost key's add \(of 100 adds: at (\d+)\)$/, (it, [some, all, usual], { tally }) =>
+    Number(some) <= Number(all) && Number(all) <= tally.lost && Number(usual) <= 100],
+  [/^because of (\d+) contradictions that one other reply repairs (\d+) share time with one of another key$/, (it, [all, some]) =>
     Number(some) <= Number(all) && keysOf(it).filter((key) => !hasOrderOf(it, key)).length >= 2],
-  [/^because during (\d+) of (\d+) changes that were not kept another key changed without a call$/, (it, [some, all], { tally }) => Number(some) <= Number(all) && Number(all) <= tally.lost + tally["came back"]],
-  [/^because at (\d+) of (\d+) losses and returns of key (\d+) a change of key (\d+) overlapped the change before, clearly more often than changes of any other key$/, (it, [some, all, one, two], { tally }) =>
+  [/^because during (\d+) of (\d+) changes that were undone another key came back or was lost$/, (it, [some, all], { tally }) => Number(some) <= Number(all) && Number(all) <= tally.lost + tally["came back"]],
+  [/^because (\d+) of (\d+) undone changes of key (\d+) overlapped changes of key (\d+), and fewer overlapped those of any third key$/, (it, [some, all, one, two], { tally }) =>
     Number(some) <= Number(all) && Number(all) <= tally.lost + tally["came back"] && one !== two && !hasOrderOf(it, Number(one))],
   [/^because they disagree as long as nothing changes the key$/, () => true],
 ];

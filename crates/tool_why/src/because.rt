@@ -85,7 +85,9 @@ fn put_because_of_odd(out: &mut String, odd: &Odd, cause: Cause) -> Result<(), A
         | Cause::LastKey
         | Cause::SizeFirst
         | Cause::Shortcut
-        | Cause::MovedOrShortcut => { put_because_of_missed(out, odd, cause) }
+        | Cause::MovedOrShortcut => {
+            put_because_of_missed(out, odd, cause)
+        }
         Cause::OneKey => writeln!(
             out,
             "it never found the {keys} of its {wrong} wrong answers, and found others"
@@ -182,14 +184,10 @@ fn put_because_of_lost(out: &mut String, tally: &Tally, cause: Cause) -> Result<
 fn put_because_of_adds(out: &mut String, tally: &Tally, cause: Cause) -> Result<(), AllocError> {
     let (lost, back, placed) = (tally.lost, tally.came_back, tally.placed);
     let (adds, removes, both) = (tally.with_add, tally.with_remove, tally.both_adds);
-    let never = match tally.found {
-        0 => ", but never come back",
-        _ => "",
-    };
     match cause {
         Cause::AddLost => writeln!(
             out,
-            "keys are lost ({lost}) and added twice ({both}){never}, and no two removes return true"
+            "keys are lost ({lost}) and added twice ({both}), but never come back, and no two removes return true"
         ),
         Cause::SharedPlace => writeln!(
             out,
@@ -210,7 +208,7 @@ fn put_because_of_mixed(out: &mut String, tally: &Tally, cause: Cause) -> Result
     match cause {
         Cause::OtherReply | Cause::MixedCalls => writeln!(
             out,
-            "at {crossed} of {replies} contradictions that one other reply explains, another key has one at the same time"
+            "at {crossed} of {replies} wrong replies a call of another key had a wrong reply at the same time"
         ),
         _ => writeln!(
             out,
@@ -251,7 +249,7 @@ fn put_because_of_one(
         ),
         Cause::KeptTwice if tally.readded != lost => writeln!(
             out,
-            "at {undone} of {back} returns the key came back after a remove that returned true"
+            "{undone} of the {back} keys that came back did so after a remove that returned true"
         ),
         Cause::KeptTwice => writeln!(
             out,
