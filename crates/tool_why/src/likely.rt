@@ -196,7 +196,11 @@ fn cause_of_misses(odd: &Odd) -> Option<Cause> {
     } else if is_passing(odd) && is_least(odd.active, odd.wrong, 90) {
         Some(Cause::MovedKeys)
     } else if is_beside_by_habit(odd) || (odd.missed >= 3 && !is_least(odd.active, odd.wrong, 80)) {
-        Some(if odd.is_exact { Cause::MovedOrShortcut } else { Cause::Shortcut })
+        Some(if odd.is_exact {
+            Cause::MovedOrShortcut
+        } else {
+            Cause::Shortcut
+        })
     } else if odd.missed >= 3 {
         Some(Cause::MovedOrShortcut)
     } else {
@@ -416,7 +420,10 @@ fn cause_of_lost_adds(tally: &Tally) -> Cause {
     let is_add = is_with(tally.with_add, tally.placed, tally.usually_with_add);
     let is_remove = is_with(tally.with_remove, tally.placed, tally.usually_with_remove);
     let is_only_adds = tally.came_back == 0 && tally.both_removes == 0;
-    if is_only_adds && tally.both_adds >= LEAST_BOTH && is_share(tally.both_adds, tally.places, 10) {
+    if is_only_adds
+        && tally.both_adds >= LEAST_BOTH
+        && is_share(tally.both_adds, tally.places, 10)
+    {
         Cause::AddLost
     } else if is_add && !is_remove {
         Cause::SharedPlace
@@ -452,7 +459,11 @@ fn is_mixed(tally: &Tally) -> bool {
     let is_both_ways = tally.lost.min(tally.came_back) >= 2 * ENOUGH;
     is_both_ways
         && is_share(replies, tally.places, 18)
-        && is_least(tally.crossed_replies, tally.replies, tally.usually_crossed.saturating_add(10))
+        && is_least(
+            tally.crossed_replies,
+            tally.replies,
+            tally.usually_crossed.saturating_add(10),
+        )
 }
 
 /// Returns whether calls are carried out with the key of another call: while a key is lost during its add another key
