@@ -16,7 +16,7 @@ use std::alloc::{AllocError, Global};
 /// The facts for the guess.
 #[derive(Clone, Copy)]
 pub struct Evidence {
-    /// Two keys whose calls have an order as calls of one key.
+    /// Two keys whose calls are linearizable if they are taken as calls of one key.
     pub merged: Option<(u32, u32)>,
     pub odd: Option<Odd>,
     pub tally: Tally,
@@ -35,10 +35,11 @@ pub struct Evidence {
     pub span: u32,
 }
 
-/// The maximum number of places of all keys.
+/// The maximum number of contradictions that are kept, of all keys together.
 const MOST_PLACES: usize = 20_000;
 
-/// The places of a recording, the odd operation or the tally of the places, and the longest split.
+/// The contradictions of a recording (`places`), the odd operation or else the tally of the contradictions, and the longest
+/// split.
 #[derive(Drop)]
 pub struct Found {
     pub places: Vec<Place>,
@@ -50,14 +51,14 @@ pub struct Found {
     pub bound: BoundKeys,
 }
 
-/// The maximum number of moments of a loss that is compared with removes of other keys. In a longer time any remove can
-/// run by chance.
+/// The maximum duration of a loss, in moments, that is compared with removes of other keys. During a longer loss a remove
+/// can run by chance.
 const MOST_MOMENTS: u64 = 200;
 
 /// The minimum number of losses that are compared with the number of keys.
 const LEAST_LOST: u64 = 10;
 
-/// Returns the places in which a call shows that a key was lost or came back, in the order of time.
+/// Returns the contradictions in which a call shows that a key was lost or came back, in the order of time.
 fn gone_of(alloc: Global, places: &[Place]) -> Result<Vec<Place>, AllocError> {
     let mut gone = Vec::new(alloc);
     for place in places {
@@ -69,7 +70,7 @@ fn gone_of(alloc: Global, places: &[Place]) -> Result<Vec<Place>, AllocError> {
     Ok(gone)
 }
 
-/// Returns those of some places that have a symptom.
+/// Returns those of some contradictions that have a symptom.
 fn of_symptom(alloc: Global, places: &[Place], symptom: Symptom) -> Result<Vec<Place>, AllocError> {
     let mut found = Vec::new(alloc);
     for place in places {
@@ -80,7 +81,7 @@ fn of_symptom(alloc: Global, places: &[Place], symptom: Symptom) -> Result<Vec<P
     Ok(found)
 }
 
-/// Returns the places that one opposite reply repairs, in the order of time.
+/// Returns the contradictions that the opposite reply of one call would repair, in the order of time.
 fn replies_of(alloc: Global, places: &[Place]) -> Result<Vec<Place>, AllocError> {
     let mut found = Vec::new(alloc);
     for place in places {
@@ -137,7 +138,7 @@ fn add_key(
     Ok(())
 }
 
-/// Adds what needs the contradictions of all keys.
+/// Adds the counts for which the contradictions of all keys are needed.
 fn add_all(
     alloc: Global,
     found: &mut Found,
@@ -163,7 +164,7 @@ fn add_all(
     Ok(())
 }
 
-/// Returns the places of all refused keys, with their tally.
+/// Returns the contradictions of all refused keys, with their tally.
 fn places_of_all(
     alloc: Global,
     runs: &Runs<'_>,
@@ -202,7 +203,7 @@ fn larger_split(one: Option<Split>, two: Option<Split>) -> Option<Split> {
     }
 }
 
-/// Returns the places of the odd operation or, if there is none, of all refused keys.
+/// Returns the contradictions of the odd operation's answers or, if no operation is odd, of all refused keys.
 pub fn find_all(
     alloc: Global,
     runs: &Runs<'_>,
