@@ -22,7 +22,7 @@ mod splits;
 mod stretches;
 mod symptoms;
 mod tally;
-mod verdict_clash;
+mod verdicts;
 
 pub use contradictions::Clash;
 pub use evidence::{Evidence, Found, evidence_of, find_all};
@@ -40,4 +40,4 @@ pub use splits::{Split, Votes};
 pub use stretches::{Stretch, stretches_of};
 pub use symptoms::{Place, Symptom, place_of};
 pub use tally::Tally;
-pub use verdict_clash::verdict_clash;
+pub use verdicts::verdict_clash;

@@ -146,3 +146,49 @@ pub fn bound_of(
         of,
     }))
 }
+
+/// From so many contradictions on, a key without a partner shows that keys have none.
+const MANY_PLACES: usize = 20;
+
+/// How many keys have a partner, and the pair with the most undone changes.
+#[derive(Clone, Copy)]
+pub struct BoundKeys {
+    best: Option<Bound>,
+    bound: u64,
+    unbound: u64,
+}
+
+impl BoundKeys {
+    /// Creates the counts without keys.
+    pub fn new() -> BoundKeys {
+        BoundKeys {
+            best: None,
+            bound: 0,
+            unbound: 0,
+        }
+    }
+
+    /// Adds a key with this many contradictions.
+    pub fn add(&mut self, found: Option<Bound>, places: usize) {
+        let Some(next) = found else {
+            if places >= MANY_PLACES {
+                self.unbound = self.unbound.saturating_add(1);
+            }
+            return;
+        };
+        self.bound = self.bound.saturating_add(1);
+        match self.best {
+            Some(best) if best.of >= next.of => {}
+            _ => self.best = Some(next),
+        }
+    }
+
+    /// Returns the pair with the most undone changes, if at least two of at least three refused keys have a partner, and
+    /// no key with many contradictions has none.
+    pub fn pair(&self, keys: u64) -> Option<Bound> {
+        if self.bound < 2 || self.unbound > 0 || keys < 3 {
+            return None;
+        }
+        self.best
+    }
+}

@@ -85,9 +85,7 @@ fn put_because_of_odd(out: &mut String, odd: &Odd, cause: Cause) -> Result<(), A
         | Cause::LastKey
         | Cause::SizeFirst
         | Cause::Shortcut
-        | Cause::MovedOrShortcut => {
-            put_because_of_missed(out, odd, cause)
-        }
+        | Cause::MovedOrShortcut => { put_because_of_missed(out, odd, cause) }
         Cause::OneKey => writeln!(
             out,
             "it never found the {keys} of its {wrong} wrong answers, and found others"
@@ -182,20 +180,19 @@ fn put_because_of_lost(out: &mut String, tally: &Tally, cause: Cause) -> Result<
 
 /// Writes the fact for a cause of keys that are lost although they were added.
 fn put_because_of_adds(out: &mut String, tally: &Tally, cause: Cause) -> Result<(), AllocError> {
-    let (lost, back, placed) = (tally.lost, tally.came_back, tally.placed);
-    let (adds, removes, both) = (tally.with_add, tally.with_remove, tally.both_adds);
+    let (lost, placed, both) = (tally.lost, tally.placed, tally.both_adds);
+    let (count, usual, word) = match cause {
+        Cause::SharedPlace => (tally.with_add, tally.usually_with_add, "an add"),
+        _ => (tally.with_remove, tally.usually_with_remove, "a remove"),
+    };
     match cause {
         Cause::AddLost => writeln!(
             out,
-            "keys are lost ({lost}) and added twice ({both}), but never come back, and no two removes return true"
-        ),
-        Cause::SharedPlace => writeln!(
-            out,
-            "keys are lost ({lost}), come back {back} times, and at {adds} of {placed} an add of another key overlapped the add (a remove at {removes})"
+            "keys are lost ({lost}) and added twice ({both}), none comes back, and none is removed twice"
         ),
         _ => writeln!(
             out,
-            "keys are lost ({lost}), come back {back} times, and at {removes} of {placed} a remove of another key overlapped the add (an add at {adds})"
+            "at {count} of {placed} losses {word} of another key overlapped the lost key's add (of 100 adds: at {usual})"
         ),
     }
 }
@@ -208,11 +205,11 @@ fn put_because_of_mixed(out: &mut String, tally: &Tally, cause: Cause) -> Result
     match cause {
         Cause::OtherReply | Cause::MixedCalls => writeln!(
             out,
-            "at {crossed} of {replies} wrong replies a call of another key had a wrong reply at the same time"
+            "of {replies} contradictions that one other reply repairs {crossed} share time with one of another key"
         ),
         _ => writeln!(
             out,
-            "during {some} of {all} changes that were not kept another key changed without a call"
+            "during {some} of {all} changes that were undone another key came back or was lost"
         ),
     }
 }
@@ -225,7 +222,7 @@ fn put_because_of_pairs(out: &mut String, evidence: &Evidence) -> Result<(), All
     let (one, two, hits, of) = (bound.one, bound.two, bound.hits, bound.of);
     writeln!(
         out,
-        "at {hits} of {of} losses and returns of key {one} a change of key {two} overlapped the change before, clearly more often than changes of any other key"
+        "{hits} of {of} undone changes of key {one} overlapped changes of key {two}, and fewer overlapped those of any third key"
     )
 }
 
@@ -249,7 +246,7 @@ fn put_because_of_one(
         ),
         Cause::KeptTwice if tally.readded != lost => writeln!(
             out,
-            "{undone} of the {back} keys that came back did so after a remove that returned true"
+            "keys come back ({back}), {undone} times after a remove that returned true"
         ),
         Cause::KeptTwice => writeln!(
             out,

@@ -101,22 +101,51 @@ impl Named {
     }
 }
 
-/// Returns the contradiction that the verdict names as a place: that of one of its calls if this is a wrong answer of the
-/// odd operation.
+/// Returns whether a call, if there is one, is an answer of the odd operation.
+fn is_odd(call: Option<Made>, odd: &Odd) -> bool {
+    match call {
+        Some(call) => is_answer(call, odd.operation),
+        None => false,
+    }
+}
+
+/// Returns the symptom of a wrong answer.
+fn symptom_of(wrong: Made) -> Symptom {
+    match wrong.needs() {
+        Some(Presence::Present) => Symptom::Found(wrong.operation),
+        _ => Symptom::Missed(wrong.operation),
+    }
+}
+
+/// Returns the contradiction of a wrong answer that the verdict names: one call of the two is an answer of the odd
+/// operation, and the other is none.
+fn place_of_odd(runs: &Runs<'_>, odd: &Odd, clash: Clash) -> Option<Place> {
+    let wrong = match (is_odd(clash.first, odd), is_odd(clash.second, odd)) {
+        (true, false) => clash.first?,
+        (false, true) => clash.second?,
+        _ => return None,
+    };
+    let calls = runs.made_of(wrong.key);
+    Some(Place {
+        key: wrong.key,
+        clash,
+        symptom: symptom_of(wrong),
+        wrong: Some(wrong),
+        silent: None,
+        is_turned: true,
+        begun: calls.partition_point(|call| call.begun <= clash.until),
+    })
+}
+
+/// Returns the contradiction that the verdict names as a place.
 fn place_named(
     alloc: Global,
     runs: &Runs<'_>,
     found: &Found,
     clash: Clash,
 ) -> Result<Option<Place>, AllocError> {
-    if found.odd.is_some() {
-        for place in &found.places {
-            let is_of = place.wrong == clash.first || place.wrong == clash.second;
-            if place.wrong.is_some() && is_of {
-                return Ok(Some(*place));
-            }
-        }
-        return Ok(None);
+    if let Some(odd) = &found.odd {
+        return Ok(place_of_odd(runs, odd, clash));
     }
     let Some(call) = clash.second.or(clash.first) else {
         return Ok(None);
@@ -335,14 +364,10 @@ fn place_after(key: &KeyCalls, wrong: Made) -> Option<Place> {
                 since: wrong.begun,
                 until: call.ended,
             };
-            let symptom = match was {
-                Presence::Present => Symptom::Found(wrong.operation),
-                Presence::Absent => Symptom::Missed(wrong.operation),
-            };
             return Some(Place {
                 key: key.key,
                 clash,
-                symptom,
+                symptom: symptom_of(wrong),
                 wrong: Some(wrong),
                 silent: None,
                 is_turned: true,
