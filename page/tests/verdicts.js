@@ -459,8 +459,8 @@ const bothTrue = (tally) => tally["two adds true"] + tally["two removes true"];
 const isMissed = (it, isOfKind) => it.calls.some((call) => call.operation !== "add" && call.reply === "false"
   && ofKey(it, call.key).some((first) => first.ended !== null && first.ended < call.begun && leaves(first) && isOfKind(first) && isNoneBetween(it, call.key, "remove", first.begun, call.ended)));
 
-// Decides whether a call finds a key although an earlier remove contradicts it.
-const isFoundAgain = (it) => it.calls.some((call) => call.ended !== null && needsKey(call)
+// Decides whether a call that changes nothing finds a key although an earlier remove contradicts it.
+const isFoundAgain = (it) => it.calls.some((call) => call.ended !== null && !isChange(call) && needsKey(call)
   && ofKey(it, call.key).some((first) => first.operation === "remove" && first.reply === "true" && first.ended < call.begun && isNoneBetween(it, call.key, "add", first.begun, call.ended)));
 
 const TALLIED = ["lost", "came back", "two adds true", "two removes true", "one wrong answer", "none of these"];
@@ -634,7 +634,7 @@ const OF_WHY = [
     /^because at (\d+) of (\d+) losses and returns a smaller key was removed, and (?:the smallest key is never hit|at \d+ any other key)$/].map((pattern) =>
     [pattern, (it, [some, all, both], { tally }) => Number(some) <= Number(all) && Number(all) <= tally.lost + tally["came back"] && (both === undefined || Number(both) === bothTrue(tally))]),
   [/^because keys are lost \((\d+)\)( and never come back)?, and at (\d+)(?: of (\d+))? losses (?:beside one|that a call shows)/, (it, [lost, never, some, all], { tally }) =>
-    Number(lost) === tally.lost && Number(some) <= Number(all ?? lost) && (never === undefined || (tally["came back"] === 0 && !isFoundAgain(it)))],
+    Number(lost) === tally.lost && Number(some) <= Number(all ?? lost) && (never === undefined || (tally["came back"] === 0 && (tally["none of these"] > 0 || !isFoundAgain(it))))],
   [/^because keys come back \((\d+)\), (\d+) times after a remove that returned true(, and are never lost)?$/, (it, [back, after, never], { tally }) =>
     Number(back) === tally["came back"] && Number(after) <= Number(back) && (never === undefined || (tally.lost === 0 && !isMissed(it, isChange)))],
   [/^because keys come back \((\d+)\), (only )?an add misses one \((\d+)\), and at (\d+) of (\d+) no two calls overlapped$/, (it, [back, only, lost, some, all], { tally }) =>
@@ -646,7 +646,7 @@ const OF_WHY = [
   [/^because another key was lost at (\d+) of the (\d+) removes after which their key came back$/, (it, [some, all], { tally }) => Number(some) <= Number(all) && Number(all) <= tally["came back"]],
   [/^because (\d+) keys are hit, each once$/, (it, [count]) => keysOf(it).filter((key) => !hasOrderOf(it, key)).length === Number(count)],
   [/^because keys are lost \((\d+)\) and added twice \((\d+)\), none comes back, and none is removed twice$/, (it, [lost, twice], { tally }) =>
-    Number(lost) === tally.lost && Number(twice) === tally["two adds true"] && tally["two removes true"] === 0 && tally["came back"] === 0 && !isFoundAgain(it)],
+    Number(lost) === tally.lost && Number(twice) === tally["two adds true"] && tally["two removes true"] === 0 && tally["came back"] === 0],
   [/^because at (\d+) of (\d+) losses an? (?:add|remove) of another key overlapped the lost key's add \(of 100 adds: at (\d+)\)$/, (it, [some, all, usual], { tally }) =>
     Number(some) <= Number(all) && Number(all) <= tally.lost && Number(usual) <= 100],
   [/^because of (\d+) contradictions that one other reply repairs (\d+) share time with one of another key$/, (it, [all, some]) =>
