@@ -141,11 +141,11 @@ fn put_because_of_calls(out: &mut String, tally: &Tally, cause: Cause) -> Result
             out,
             "{both} of {places} are two calls that both returned true"
         ),
-        Cause::AddChecks => writeln!(
+        Cause::AddChecks | Cause::OldCopyByAdd => writeln!(
             out,
             "{adds} of {places} are two adds that both returned true, {removes} are two removes"
         ),
-        Cause::RemoveChecks => writeln!(
+        Cause::RemoveChecks | Cause::OldCopyByRemove => writeln!(
             out,
             "{removes} of {places} are two removes that both returned true, {adds} are two adds"
         ),
@@ -285,7 +285,7 @@ fn put_because_of_gone(
             out,
             "at {alone} of {timed} losses and returns no change of another key that returned true was running"
         ),
-        Cause::OldCopy | Cause::OldCopyByAdd | Cause::OldCopyByRemove => writeln!(
+        Cause::OldCopy => writeln!(
             out,
             "keys are lost ({lost}) and come back ({back}), two calls return true ({both}), and at {beside} of {timed} another key changes (by an add at {added}, by a remove at {removed})"
         ),
@@ -338,6 +338,8 @@ pub(crate) fn put_because(
         | Cause::BothCheck
         | Cause::AddChecks
         | Cause::RemoveChecks
+        | Cause::OldCopyByAdd
+        | Cause::OldCopyByRemove
         | Cause::TwoPlaces => put_because_of_calls(out, &evidence.tally, cause),
         Cause::Displaced | Cause::Batch | Cause::Evicted => {
             put_because_of_lost(out, &evidence.tally, cause)

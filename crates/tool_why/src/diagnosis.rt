@@ -18,7 +18,8 @@ pub enum Mark {
     Expected(bool),
     /// In every order, the key is in this state after this call takes effect, until the contradicting call does.
     Leaves(Presence),
-    /// A later call, which finds the key in this state.
+    /// This call finds the key in this state. It is a later call, or a contradicting call if no reply is known to be the
+    /// expected one.
     Finds(Presence),
     /// One of the two calls with this mark must return false.
     Either,
@@ -44,9 +45,10 @@ pub struct Diagnosis {
     pub wrong: Option<Made>,
     /// The key's calls in the picture, in the order in which they began.
     pub shown: Vec<Shown>,
-    /// Changes of other keys at the same time, of many those that the likely cause names, then the longest.
+    /// Changes of other keys that ran during the contradiction. Of many, those that the likely cause names are chosen first,
+    /// then the longest.
     pub beside: Vec<Made>,
-    /// The number of changes of other keys at the same time.
+    /// The number of changes of other keys that ran during the contradiction.
     pub beside_count: usize,
     /// All contradictions in the order of time, if they are few and no operation alone is wrong.
     pub few: Vec<Place>,
@@ -65,7 +67,7 @@ pub struct Diagnosis {
     pub is_first: bool,
 }
 
-/// A longer contradiction is shown only if no other one shows the bug.
+/// The maximum duration, in moments, up to which the verdict's contradiction is preferred to a shorter one.
 const SHORT: u64 = 300;
 
 /// The contradiction that the verdict names: the first refused key, the moment, and the contradiction, if the judge
@@ -176,10 +178,10 @@ fn rank(place: &Place, named: &Named, shows: bool) -> u64 {
         .saturating_add(other_kind)
 }
 
-/// By how much a contradiction of another key than the verdict's counts as longer.
+/// This many moments are added to the duration of a contradiction of another key than the verdict's.
 const OTHER_KEY: u64 = 1_000_000_000_000;
 
-/// By how much a contradiction of another kind than the likely cause explains counts as longer.
+/// This many moments are added to the duration of a contradiction that the likely cause does not explain.
 const OTHER_KIND: u64 = 1_000_000_000_000_000;
 
 /// Returns whether a completed change of another key, by an operation if one is given, ran at a contradiction.
@@ -187,7 +189,7 @@ fn is_beside(place: &Place, neighbours: &Neighbours, operation: Option<Operation
     neighbours.overlap(place.key, place.clash.begun(), place.clash.until, operation)
 }
 
-/// Returns whether a contradiction shows what a likely cause explains.
+/// Returns whether a contradiction is an example of what a likely cause explains.
 fn shows(place: &Place, cause: Option<Cause>, is_odd: bool, neighbours: &Neighbours) -> bool {
     let (since, until) = (place.clash.begun(), place.clash.until);
     match cause {
@@ -220,7 +222,7 @@ fn shows(place: &Place, cause: Option<Cause>, is_odd: bool, neighbours: &Neighbo
     }
 }
 
-/// Returns the first place in a long split.
+/// Returns the first contradiction in a long split.
 fn place_in_split(found: &Found, named: &Named) -> Option<Place> {
     let split = found.split.filter(|split| split.is_long())?;
     for place in named.place.iter().chain(found.places.iter()) {
@@ -231,7 +233,7 @@ fn place_in_split(found: &Found, named: &Named) -> Option<Place> {
     None
 }
 
-/// Returns the place that is shown: the first place in a long split, or the place that shows the bug best.
+/// Returns the contradiction that is drawn: the first one in a long split, or the one that shows the bug best.
 fn place_shown(
     found: &Found,
     named: &Named,
@@ -254,7 +256,7 @@ fn place_shown(
     best
 }
 
-/// The maximum number of contradictions of which each is listed.
+/// If there are at most this many contradictions, each is listed.
 const MOST_LISTED: usize = 6;
 
 /// Returns all contradictions in the order of time, if they are few and no operation alone is wrong.
@@ -398,7 +400,7 @@ fn with_one_answer(
 /// The maximum number of calls of the key in the picture before a later one is added.
 const MOST_SHOWN: usize = 3;
 
-/// The number of calls of the key before the end of a wrong answer that are looked at for those that overlap it.
+/// How many calls of the key, counted back from the end of a wrong answer, are searched for calls that overlap it.
 const MOST_EARLIER: usize = 64;
 
 /// The maximum number of changes of other keys in the picture.
@@ -407,7 +409,7 @@ const MOST_BESIDE: usize = 3;
 /// The maximum number of changes of other keys that are counted.
 pub(crate) const MOST_AROUND: usize = 1_000;
 
-/// A change that began more moments before is not shown with a call that finds its state.
+/// A change is not shown beside a call that finds its state if it began more than this many moments earlier.
 const LONG_AGO: u64 = 200;
 
 /// Returns the time of a contradiction in which changes of other keys are shown: the time of a wrong answer if one of

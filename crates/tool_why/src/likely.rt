@@ -11,7 +11,7 @@ pub enum Cause {
     NotSeenYet,
     /// `contains` traverses while changes of other keys move its key.
     MovedKeys,
-    /// A key is in the set twice.
+    /// A key is in the set twice, and a remove takes out one of the two.
     KeptTwice,
     /// An add of another key displaces a key.
     Displaced,
@@ -55,11 +55,11 @@ pub enum Cause {
     MadeAgain,
     /// A check and the later write are not atomic.
     CheckThenAct,
-    /// In both changes a check and a later write are not one step.
+    /// In `add` and in `remove` the check and the later write are not atomic.
     BothCheck,
-    /// In `add` alone a check and a later write are not one step.
+    /// In `add` alone the check and the later write are not atomic.
     AddChecks,
-    /// In `remove` alone a check and a later write are not one step.
+    /// In `remove` alone the check and the later write are not atomic.
     RemoveChecks,
     /// A change is carried out a second time, after a later change of its key.
     CarriedOutTwice,
@@ -69,7 +69,7 @@ pub enum Cause {
     EndsEarly,
     /// `add` gives up although the key is absent.
     AddGivesUp,
-    /// A lock does not exclude other calls of the same key.
+    /// Calls of one key do not exclude each other.
     NoLock,
     /// A whole copy overwrites newer changes.
     OldCopy,
@@ -99,7 +99,7 @@ pub enum Cause {
     OldCopyByAdd,
     /// `remove` alone writes an older copy back.
     OldCopyByRemove,
-    /// A few pairs of keys are written back together.
+    /// Some keys share a word or bucket that is written back as a whole.
     SharedWord,
     /// A call returns the reply of another call.
     OtherReply,
@@ -575,7 +575,7 @@ fn is_only_full(tally: &Tally) -> bool {
     tally.least_full >= LEAST_FULL && share_of_all(tally.usually_full, tally.short) < 10_000
 }
 
-/// At least this many keys count as many.
+/// At least this many present keys count as many.
 const LEAST_FULL: u64 = 4;
 
 /// Returns whether nearly all keys that come back do so after a remove that returned true, two calls hardly ever both
@@ -613,10 +613,10 @@ fn cause_in_one_thread(evidence: &Evidence) -> Option<Cause> {
 /// If two keys differ by at least this much, their difference overflows a signed 32-bit number.
 const WIDE: u32 = 0x8000_0000;
 
-/// The number of calls of a key from which on it is no chance that each key is hit only once.
+/// If keys have at least this many calls, it is no coincidence that each key is hit only once.
 const MANY_CALLS: u64 = 30;
 
-/// At least so many pairs of one operation that were both true show that this operation looks first and then acts.
+/// At least this many pairs of calls that both returned true show that an operation checks first and then acts.
 const LEAST_BOTH: u64 = 3;
 
 /// Returns whether two calls of a key look before either changes it: many contradictions are pairs of calls that both
