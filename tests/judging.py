@@ -213,6 +213,11 @@ def is_true(lines, key, judged):
     return not may_be_made(of_key, word[need], first.begin if first else 0, second.end if second else LAST + 2)
 
 
+def ends_after(line, moment):
+    """Returns whether the second call of a contradiction, described by this line, ends after a moment."""
+    return any(int(end) > moment for end in re.findall(r", \d+ to (\d+), needs", line))
+
+
 MORE = "listset judge FILE, with a file, also says what is wrong\n"
 
 
@@ -227,6 +232,10 @@ def test_the_verdict_and_its_lines_are_right(program, few, seed):
         printed, _, more = done.stdout.partition("\n\n")
         assert more == MORE * is_refused, text
         said, shown = printed.splitlines()[:len(due)], printed.splitlines()[len(due):]
+        later = [f"  this contradiction ends after moment {judged.moment}; the judge found none up to there"]
+        is_later = bool(judged.moment and shown) and ends_after(shown[1], judged.moment)
+        assert shown[3:] == (later if is_later else []), text
+        shown = shown[:3]
         assert (done.returncode, said, done.stderr) == (int(is_refused), due, ""), text
         assert not shown or is_refused and is_true(shown, judged.key, judged), done.stdout
         found["without a clash"] += is_refused and not shown

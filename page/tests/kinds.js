@@ -1,5 +1,5 @@
 // Kinds of random recordings for verdicts.js: dense calls of one key, three keys, one operation alone, many keys with a short run each, changes of
-// other keys all the time, long gaps and large moments, and opening and final keys that are never called.
+// other keys all the time, long gaps and large moments, sets with several bugs, and opening and final keys that are never called.
 "use strict";
 
 // Returns the kinds: functions that draw a recording. The arguments are the random numbers and the sequential set of verdicts.js.
@@ -59,6 +59,7 @@ module.exports = ({ draw, pick, replyOf, keysAfter, paddingAfter }) => {
   }
 
   const FAULTS = ["reply", "read", "miss", "find", "twice", "refuse", "lose", "back", "undo", "gone"];
+  const BUGS = ["add wrong", "remove wrong", "contains wrong", "stale", "true", "add lost", "remove lost", "lose", "back", "other", "undo"];
   const someFaults = () => (draw(3) === 0 ? FAULTS : [pick(FAULTS)]);
 
   function recordingOf(calls, opening, keys, padding = []) {
@@ -122,6 +123,46 @@ module.exports = ({ draw, pick, replyOf, keysAfter, paddingAfter }) => {
       const opening = draw(2) === 0 ? [5] : [];
       const { calls, set } = simulated({ keys: [5, 7], threads: 3, count: 3 + draw(7), opening, faults: someFaults(), rate: 30, pending: draw(4) === 0 ? 10 : 0, operations: ["add", "remove", "contains"], gap: () => pick([1, 2, 99, 100, 101, 150, 5000, 1e9, 2e9, 1e12]), start: pick([0, 1e15, 3]), thread0: 0 });
       return recordingOf(calls, opening, leftWith(set));
+    },
+    function wrong() { // a set with up to three bugs, of several keys or all, and threads with long numbers
+      const [many, all, count] = [pick([1, 2, 3, 5, 8]), pick([1, 2, 3, 4, 6]), 8 + draw(12)];
+      const keys = [1, 2, 5, 6, 9, 20, 21, 30].slice(0, many);
+      const bugs = new Map([1, 2, 3].slice(draw(3)).map(() => [pick(BUGS), pick([1, 3, 8, 20])]));
+      const [hot, operations, length] = [draw(3) === 0 ? pick(keys) : null, pick([["add", "remove", "contains"], ["add", "remove"], ["add", "remove", "contains", "contains", "contains"]]), 1 + draw(6)];
+      const opening = keys.filter(() => draw(3) === 0);
+      const [set, calls, open, before] = [new Set(opening), [], [], [new Set(opening)]];
+      const names = Array.from({ length: all }, (_, at) => (draw(6) === 0 ? 100000 + at : at));
+      let moment = 0;
+      const has = (bug, key) => (hot === null || hot === key) && bugs.has(bug) && draw(100) < bugs.get(bug);
+      const take = (call) => {
+        const { operation, key } = call;
+        let is = (set.has(key) !== (operation === "add")) !== has(`${operation} wrong`, key);
+        if (operation === "contains" && has("stale", key)) is = before[Math.max(0, before.length - 1 - draw(4))].has(key);
+        if (operation !== "contains" && has("true", key)) is = true;
+        if (operation === "add" && !has("add lost", key)) set.add(key);
+        if (operation === "remove" && !has("remove lost", key)) set.delete(key);
+        if (has("lose", key)) set.delete(key);
+        if (has("back", key)) set.add(key);
+        if (has("other", key)) set.delete(pick(keys));
+        if (has("undo", key)) for (const one of keys.filter(() => draw(2) === 0)) before[Math.max(0, before.length - 2)].has(one) ? set.add(one) : set.delete(one);
+        Object.assign(call, { reply: String(is), taken: true });
+        before.push(new Set(set));
+      };
+      while (calls.length < count * many || open.length > 0) {
+        moment++;
+        const idle = names.filter((thread) => !open.some((call) => call.thread === thread));
+        if (calls.length < count * many && idle.length > 0 && (open.length === 0 || draw(length + 1) < length)) {
+          calls.push({ thread: pick(idle), operation: pick(operations), key: pick(keys), begun: moment, ended: null, reply: null });
+          open.push(calls.at(-1));
+          if (draw(2) === 0) take(calls.at(-1));
+        } else {
+          const [call] = open.splice(draw(open.length), 1);
+          if (!call.taken) take(call);
+          call.ended = moment;
+        }
+      }
+      for (const call of calls) delete call.taken;
+      return recordingOf(calls, opening, draw(4) === 0 ? null : [...set]);
     },
     function ends() { // opening and final keys, few calls or none
       const all = [1, 5, 7, 9];

@@ -74,10 +74,38 @@ function asLook(call) {
   return { ...call, operation: "contains", key: Number(found ?? call.key), reply: String(found !== undefined) };
 }
 
-// Returns the states in which the calls of a key can leave it, starting from a given state.
+// Returns the states in which the calls of a key can leave it, starting from a given state. A node is the key's state and the pending calls that
+// have taken effect. A call that changes nothing takes effect as soon as it can.
 function waysLeft(calls, key, isThere) {
-  const ofKey = calls.map(asLook).filter((call) => call.key === key);
-  return [...leftByOrders(ofKey, isThere ? [key] : [])].map((keys) => keys !== "");
+  const ofKey = calls.map(asLook).filter((call) => call.key === key && (call.ended !== null || mayChange(call)));
+  const events = ofKey.flatMap((call) => [[call.begun, call, true], ...(call.ended === null ? [] : [[call.ended, call, false]])]).sort(([one], [other]) => one - other);
+  const number = new Map(ofKey.map((call, at) => [call, at]));
+  const add = (nodes, state, done) => nodes.set(`${state} ${[...done].map((call) => number.get(call)).sort()}`, { state, done });
+  let [nodes, pending] = [add(new Map(), isThere, new Set()), new Set()];
+  const settle = () => {
+    const [todo, settled] = [[...nodes.values()], new Map()];
+    while (todo.length > 0) {
+      const { state, done: before } = todo.pop();
+      const done = new Set([...before, ...[...pending].filter((call) => !mayChange(call) && needs(call) === state)]);
+      const { size } = settled;
+      add(settled, state, done);
+      if (settled.size === size) continue;
+      for (const call of pending) if (mayChange(call) && !done.has(call) && (call.operation === "add") !== state) todo.push({ state: !state, done: new Set([...done, call]) });
+    }
+    nodes = settled;
+  };
+  for (const [, call, isBegin] of events) {
+    if (isBegin) {
+      pending.add(call);
+      settle();
+      continue;
+    }
+    pending.delete(call);
+    const left = [...nodes.values()].filter(({ done }) => done.has(call));
+    nodes = new Map();
+    for (const { state, done } of left) add(nodes, state, new Set([...done].filter((one) => one !== call)));
+  }
+  return [...new Set([...nodes.values()].map(({ state }) => state))];
 }
 
 const quotaIn = (report) => Number(/^quota (\d+)$/m.exec(report)[1]);
@@ -250,6 +278,15 @@ function checkWhy(ask, it) {
   return checkText(ask, it, told);
 }
 
+// Decides whether bars one below another overlap exactly if their calls overlap in time.
+function doBarsMeet(lines) {
+  const bars = lines.flatMap((line) => {
+    const [, before, bar, begun, ended] = /^(thread \d+ +)(\[\w+ \d+-*(?:\w+\]|\.\.)) +(\d+) to (\d+|\.\.)/.exec(line) ?? [];
+    return bar === undefined ? [] : [{ from: before.length, to: before.length + bar.length - 1, begun: Number(begun), ended: ended === ".." ? LAST : Number(ended) }];
+  });
+  return bars.every((one) => bars.every((other) => (one.from <= other.to && other.from <= one.to) === (one.begun <= other.ended && other.begun <= one.ended)));
+}
+
 // Checks that the text of a diagnosis contains the statements in its record, and a bar for each call. A long text leaves out facts.
 function checkText(ask, it, told) {
   const isOfCount = (line) => /^(contradiction: | {2}(need key|and (no|only)) )/.test(line);
@@ -271,7 +308,7 @@ function checkText(ask, it, told) {
   const isFact = (statement) => told.some(({ says }) => says === `fact ${statement}`);
   const leftOut = statements.filter((statement) => !printed.includes(statement));
   const isSame = printed.join("\n") === statements.filter((statement) => printed.includes(statement)).join("\n") && leftOut.every(isFact) && (leftOut.length === 0 || lines.length >= 10);
-  if (isDrawn && isSame) return result.passed++;
+  if (isDrawn && isSame && doBarsMeet(lines)) return result.passed++;
   return result.failed.push(`the text and the record differ:\n${lines.join("\n")}\n${JSON.stringify(told)} on\n${it.text}`);
 }
 
@@ -324,7 +361,9 @@ function startsOf(calls, key, isThere) {
 // reaches the end.
 function* around(it, key, call) {
   const calls = ofKey(it, key);
-  for (const [start, isThere] of startsOf(calls, key, opens(it, key)).filter(([moment]) => moment < call.begun)) {
+  it.starts ??= new Map();
+  if (!it.starts.has(key)) it.starts.set(key, startsOf(calls, key, opens(it, key)));
+  for (const [start, isThere] of it.starts.get(key).filter(([moment]) => moment < call.begun)) {
     const part = calls.filter(({ begun }) => begun > start);
     for (const until of [...part.map(({ begun }) => begun).filter((begun) => begun > call.begun), (call.ended ?? 0) + 0.5]) {
       yield { isThere, calls: knownBy(part.filter(({ begun }) => begun < until), until), left: null, since: start, until };
@@ -414,6 +453,16 @@ function isWrongAlone(it) {
   });
 }
 
+const bothTrue = (tally) => tally["two adds true"] + tally["two removes true"];
+
+// Decides whether a contains or remove that returned false contradicts an earlier call that left the key, and is one of a kind.
+const isMissed = (it, isOfKind) => it.calls.some((call) => call.operation !== "add" && call.reply === "false"
+  && ofKey(it, call.key).some((first) => first.ended !== null && first.ended < call.begun && leaves(first) && isOfKind(first) && isNoneBetween(it, call.key, "remove", first.begun, call.ended)));
+
+// Decides whether a call that changes nothing finds a key although an earlier remove contradicts it.
+const isFoundAgain = (it) => it.calls.some((call) => call.ended !== null && !isChange(call) && needsKey(call)
+  && ofKey(it, call.key).some((first) => first.operation === "remove" && first.reply === "true" && first.ended < call.begun && isNoneBetween(it, call.key, "add", first.begun, call.ended)));
+
 const TALLIED = ["lost", "came back", "two adds true", "two removes true", "one wrong answer", "none of these"];
 // Returns the next completed call of an operation on the key of an answer, if no change of the key ran between the two.
 function nextCall(it, answer, operation) {
@@ -470,21 +519,25 @@ const OF_WHY = [
       why.told = wrongAnswers(it, "contains", aside !== undefined);
       return why.told !== null && isTold(it, why.told, ["contains", atLeast, count, of, found, missed]);
     }],
-  [/^fact (?:at least )?(\d+) contradictions?(?: of (?:(\d+) of |all )?(\d+) keys)?; (.*)$/, (it, [count, hit, all, kinds]) => {
-    const told = kinds.split("; ").map((kind) => kind.split(": "));
+  [/^fact (at least )?(\d+) contradictions?(?: of (?:(\d+) of |all )?(\d+) keys)?; (.*)$/, (it, [atLeast, count, hit, all, kinds], why) => {
+    why.tally = Object.fromEntries(TALLIED.map((kind) => [kind, 0]));
+    for (const [kind, many] of kinds.split("; ").map((one) => one.split(": "))) why.tally[kind] = Number(many);
     const refused = keysOf(it).filter((key) => !hasOrderOf(it, key)).length;
-    return told.every(([kind]) => TALLIED.includes(kind)) && told.reduce((sum, [, many]) => sum + Number(many), 0) === Number(count) && Number(hit ?? all ?? 1) <= refused;
+    const isSum = Object.keys(why.tally).length === TALLIED.length && Object.values(why.tally).reduce((sum, many) => sum + many, 0) === Number(count);
+    const isOfKeys = all === undefined || (Number(hit ?? all) === refused && Number(all) === keysOf(it).length);
+    return isSum && isOfKeys && (atLeast !== undefined || Number(count) >= refused);
   }],
   [/^fact at (\d+) of (\d+) losses and returns another key was changed \(by an add at (\d+), by a remove at (\d+)\), at (\d+) of (\d+) a call that returned false can have done it$/, (it, [beside, timed, added, removed, silent, gone]) => {
-    const isBesideBy = (count, operations) => Number(count) === 0 || it.calls.some((one) => operations.includes(one.operation) && one.reply === "true" && it.calls.some((two) => two.key !== one.key && inTime(two, one.begun, one.ended)));
+    const isBesideBy = (count, operations) => Number(count) === 0 || keysOf(it).some((key) => !hasOrderOf(it, key) && it.calls.some((one) => one.key !== key && operations.includes(one.operation) && one.reply === "true"));
     const [some, ofAdds, ofRemoves] = [beside, added, removed].map(Number);
     const isBeside = isBesideBy(beside, ["add", "remove"]) && isBesideBy(added, ["add"]) && isBesideBy(removed, ["remove"]) && Math.max(ofAdds, ofRemoves) <= some && some <= ofAdds + ofRemoves;
     const isSilent = Number(silent) === 0 || it.calls.some((one) => one.operation !== "contains" && one.reply === "false" && !hasOrderOf(it, one.key));
     return Number(beside) <= Number(timed) && Number(timed) <= Number(gone) && Number(silent) <= Number(gone) && isBeside && isSilent;
   }],
-  [/^fact (\d+) contradictions?: (.*)$/, (it, [count, listed]) => {
+  [/^fact (at least )?(\d+) contradictions?: (.*)$/, (it, [atLeast, count, listed]) => {
     const told = listed.split("; ");
-    return told.length === Number(count) && told.every((one) => isListed(it, one));
+    const isOfEach = keysOf(it).every((key) => hasOrderOf(it, key) || told.some((one) => one.startsWith(`key ${key} `)));
+    return told.length === Number(count) && told.every((one) => isListed(it, one)) && (atLeast !== undefined || isOfEach);
   }],
   [/^fact an add of the key ran during (\d+) of them, a remove of the key during (\d+), only changes of other keys that returned true during (\d+), none of these during (\d+)$/, (it, found, { told }) => {
     const [isAdded, isRemoved] = ["add", "remove"].map((operation) => (call) => runsDuring(it, call, (one) => one.key === call.key && one.operation === operation));
@@ -501,8 +554,12 @@ const OF_WHY = [
   [/^fact a change of another key ran during it, and no other add or remove of its own key$/, (it, found, { told }) =>
     told.wrong.some((call) => !runsDuring(it, call, (one) => one.key === call.key) && runsDuring(it, call, (one) => one.key !== call.key && one.reply === "true"))],
   [/^fact the last completed change that they contradict was made by the same thread before (\d+) of them and by another before (\d+), and had ended at most (\d+) moments earlier$/, (it, found, { told }) => {
-    const lastChange = (answer) => ofKey(it, answer.key).filter((call) => isChange(call) && call.ended !== null && (call.operation === "add") !== needsKey(answer) && call.begun <= answer.begun)
-      .sort((one, other) => one.begun - other.begun).at(-1);
+    // (of two changes that overlap, either can be the last one)
+    const lastChange = (answer) => {
+      const changes = ofKey(it, answer.key).filter((call) => isChange(call) && (call.operation === "add") !== needsKey(answer) && call.begun <= answer.begun).sort((one, other) => one.begun - other.begun);
+      const last = changes.filter((call) => call.ended !== null).at(-1);
+      return changes.some((call) => call !== last && call.begun < last?.begun && inTime(call, last.begun, LAST)) ? undefined : last;
+    };
     const changes = told.wrong.map((answer) => ({ answer, change: lastChange(answer) })).filter(({ answer, change }) => change !== undefined && change.ended < answer.begun);
     const own = changes.filter(({ answer, change }) => answer.thread === change.thread).length;
     const latest = Math.max(...changes.map(({ answer, change }) => answer.begun - change.ended));
@@ -514,7 +571,7 @@ const OF_WHY = [
     const next = told.wrong.map((answer) => [answer, nextCall(it, answer, operation)]).filter(([, one]) => one !== undefined).map(([, one]) => told.wrong.includes(one));
     return told.isAll && next.filter((isWrong) => !isWrong).length === Number(right) && next.filter((isWrong) => isWrong).length === Number(wrong);
   }],
-  [/^fact the calls above are of a later contradiction; the first of the run: key (\d+) up to moment (\d+)$/, (it, [key, moment], why) => {
+  [/^fact headline and picture are of a contradiction that ends later than the first one \(key (\d+), moment (\d+)\)$/, (it, [key, moment], why) => {
     const isLater = why.shown.some(({ call }) => (call.ended ?? LAST) > Number(moment));
     const isFirst = keysOf(it).every((one) => hasOrder(knownBy(ofKey(it, one), Number(moment) - 1), one, opens(it, one)));
     return isLater && isFirst && !hasOrder(knownBy(ofKey(it, Number(key)), Number(moment)), Number(key), opens(it, Number(key)));
@@ -567,7 +624,37 @@ const OF_WHY = [
     const isLonely = (answer) => keysOf(it).every((key) => key === answer.key || isAbsent(key, answer.begun));
     return told !== null && told.wrong.length === Number(all) && told.wrong.filter(isLonely).length === Number(some);
   }],
-  [/^because all is among the first (\d+) calls of a key$/, (it, [count]) => keysOf(it).some((key) => ofKey(it, key).length >= Number(count))],
+  [/^because all is among the first (\d+) calls of a key$/, (it, [count]) => keysOf(it).every((key) => {
+    const moment = ofKey(it, key)[Number(count)]?.begun ?? LAST;
+    return moment === LAST || hasOrderOf(it, key) || !hasOrder(knownBy(ofKey(it, key), moment), key, opens(it, key));
+  })],
+  ...[/^because at (\d+) of (?:the )?(\d+) losses /, /^because at (\d+) of (\d+) losses and returns one other reply gives an order; two calls true: (\d+)$/,
+    /^because at (\d+) of (\d+) losses and returns a call that returned false can have done it; two calls true: (\d+)$/,
+    /^because at (\d+) of (\d+) losses and returns no change of another key that returned true was running$/,
+    /^because at (\d+) of (\d+) losses and returns a smaller key was removed, and (?:the smallest key is never hit|at \d+ any other key)$/].map((pattern) =>
+    [pattern, (it, [some, all, both], { tally }) => Number(some) <= Number(all) && Number(all) <= tally.lost + tally["came back"] && (both === undefined || Number(both) === bothTrue(tally))]),
+  [/^because keys are lost \((\d+)\)( and never come back)?, and at (\d+)(?: of (\d+))? losses (?:beside one|that a call shows)/, (it, [lost, never, some, all], { tally }) =>
+    Number(lost) === tally.lost && Number(some) <= Number(all ?? lost) && (never === undefined || (tally["came back"] === 0 && (tally["none of these"] > 0 || !isFoundAgain(it))))],
+  [/^because keys come back \((\d+)\), (\d+) times after a remove that returned true(, and are never lost)?$/, (it, [back, after, never], { tally }) =>
+    Number(back) === tally["came back"] && Number(after) <= Number(back) && (never === undefined || (tally.lost === 0 && !isMissed(it, isChange)))],
+  [/^because keys come back \((\d+)\), (only )?an add misses one \((\d+)\), and at (\d+) of (\d+) no two calls overlapped$/, (it, [back, only, lost, some, all], { tally }) =>
+    Number(back) === tally["came back"] && Number(lost) === tally.lost && Number(some) <= Number(all) && (only === undefined || !isMissed(it, () => true))],
+  [/^because at (\d+) of (\d+) no two calls overlapped(?:, and keys differ by up to (\d+))?$/, (it, [some, all, span]) => Number(some) <= Number(all) && isWrongAlone(it)
+    && (span === undefined || Number(span) === Math.max(...keysOf(it)) - Math.min(...keysOf(it)))],
+  [/^because keys (?:are lost|come back) \((\d+)\) (?:and come back|and are lost|more than they come back) \((\d+)\)(?:, two calls return true \((\d+)\))?, (?:and )?at (\d+) of (\d+) /, (it, [one, other, both, some, all], { tally }) =>
+    [tally.lost, tally["came back"]].sort().join() === [Number(one), Number(other)].sort().join() && Number(some) <= Number(all) && (both === undefined || Number(both) === bothTrue(tally))],
+  [/^because another key was lost at (\d+) of the (\d+) removes after which their key came back$/, (it, [some, all], { tally }) => Number(some) <= Number(all) && Number(all) <= tally["came back"]],
+  [/^because (\d+) keys are hit, each once$/, (it, [count]) => keysOf(it).filter((key) => !hasOrderOf(it, key)).length === Number(count)],
+  [/^because keys are lost \((\d+)\) and added twice \((\d+)\), none comes back, and none is removed twice$/, (it, [lost, twice], { tally }) =>
+    Number(lost) === tally.lost && Number(twice) === tally["two adds true"] && tally["two removes true"] === 0 && tally["came back"] === 0],
+  [/^because at (\d+) of (\d+) losses an? (?:add|remove) of another key overlapped the lost key's add \(of 100 adds: at (\d+)\)$/, (it, [some, all, usual], { tally }) =>
+    Number(some) <= Number(all) && Number(all) <= tally.lost && Number(usual) <= 100],
+  [/^because of (\d+) contradictions that one other reply repairs (\d+) share time with one of another key$/, (it, [all, some]) =>
+    Number(some) <= Number(all) && (Number(some) === 0 || keysOf(it).filter((key) => !hasOrderOf(it, key)).length >= 2)],
+  [/^because during (\d+) of (\d+) changes that were undone another key came back or was lost$/, (it, [some, all], { tally }) => Number(some) <= Number(all) && Number(all) <= tally.lost + tally["came back"]],
+  [/^because (\d+) of (\d+) undone changes of key (\d+) overlapped changes of key (\d+), and fewer overlapped those of any third key$/, (it, [some, all, one, two], { tally }) =>
+    Number(some) <= Number(all) && Number(all) <= tally.lost + tally["came back"] && one !== two && !hasOrderOf(it, Number(one))],
+  [/^because they disagree as long as nothing changes the key$/, () => true],
 ];
 
 // ---- A key whose calls disagree for long: adds find it present and removes absent, while nothing changes it.

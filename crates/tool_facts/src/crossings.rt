@@ -4,8 +4,7 @@ use std::alloc::{AllocError, Global};
 /// How many calls began while another call was running.
 #[derive(Drop)]
 pub struct Crossings {
-    /// For each call, in the order in which calls began: how many calls, up to and including it, began while another
-    /// call was running.
+    /// `counts[i]` is the number of calls among the first i + 1 that began while another call was running.
     counts: Vec<u32>,
 }
 

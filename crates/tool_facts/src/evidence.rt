@@ -1,10 +1,12 @@
 //! The facts about a refused recording, from which the message and the guess are made.
 
 use crate::fullness::Fullness;
+use crate::key_calls::KeyCalls;
 use crate::made_calls::Made;
 use crate::merged::merged_keys;
 use crate::neighbours::Neighbours;
 use crate::odd_facts::{Odd, find_odd, places_of_odd};
+use crate::pairs::{Bound, BoundKeys, bound_of};
 use crate::runs::{Refused, Runs};
 use crate::splits::{Split, longest_split};
 use crate::symptoms::{Place, Symptom, places_of};
@@ -14,11 +16,13 @@ use std::alloc::{AllocError, Global};
 /// The facts for the guess.
 #[derive(Clone, Copy)]
 pub struct Evidence {
-    /// Two keys whose calls have an order as calls of one key.
+    /// Two keys whose calls are linearizable if they are taken as calls of one key.
     pub merged: Option<(u32, u32)>,
     pub odd: Option<Odd>,
     pub tally: Tally,
     pub split: Option<Split>,
+    /// Two keys that undo each other's changes.
+    pub bound: Option<Bound>,
     /// The number of keys of the recording.
     pub keys: u64,
     /// The number of calls of the recording.
@@ -31,10 +35,11 @@ pub struct Evidence {
     pub span: u32,
 }
 
-/// The maximum number of places of all keys.
+/// The maximum number of contradictions that are kept, of all keys together.
 const MOST_PLACES: usize = 20_000;
 
-/// The places of a recording, the odd operation or the tally of the places, and the longest split.
+/// The contradictions of a recording (`places`), the odd operation or else the tally of the contradictions, and the longest
+/// split.
 #[derive(Drop)]
 pub struct Found {
     pub places: Vec<Place>,
@@ -43,16 +48,17 @@ pub struct Found {
     pub odd: Option<Odd>,
     pub tally: Tally,
     pub split: Option<Split>,
+    pub bound: BoundKeys,
 }
 
-/// The maximum number of moments of a loss that is compared with removes of other keys. In a longer time any remove can
-/// run by chance.
+/// The maximum duration of a loss, in moments, that is compared with removes of other keys. During a longer loss a remove
+/// can run by chance.
 const MOST_MOMENTS: u64 = 200;
 
 /// The minimum number of losses that are compared with the number of keys.
 const LEAST_LOST: u64 = 10;
 
-/// Returns the places in which a call shows that a key was lost or came back, in the order of time.
+/// Returns the contradictions in which a call shows that a key was lost or came back, in the order of time.
 fn gone_of(alloc: Global, places: &[Place]) -> Result<Vec<Place>, AllocError> {
     let mut gone = Vec::new(alloc);
     for place in places {
@@ -62,6 +68,30 @@ fn gone_of(alloc: Global, places: &[Place]) -> Result<Vec<Place>, AllocError> {
     }
     gone.sort_unstable_by_key(|place| place.clash.begun());
     Ok(gone)
+}
+
+/// Returns those of some contradictions that have a symptom.
+fn of_symptom(alloc: Global, places: &[Place], symptom: Symptom) -> Result<Vec<Place>, AllocError> {
+    let mut found = Vec::new(alloc);
+    for place in places {
+        if place.symptom == symptom {
+            found.push(*place)?;
+        }
+    }
+    Ok(found)
+}
+
+/// Returns the contradictions that the opposite reply of one call would repair, in the order of time.
+fn replies_of(alloc: Global, places: &[Place]) -> Result<Vec<Place>, AllocError> {
+    let mut found = Vec::new(alloc);
+    for place in places {
+        let is_reply = place.wrong.is_some() || (place.is_gone() && place.is_turned);
+        if is_reply && place.clash.second.is_some() {
+            found.push(*place)?;
+        }
+    }
+    found.sort_unstable_by_key(|place| place.clash.begun());
+    Ok(found)
 }
 
 /// Returns those of `gone` in which a call shows within `MOST_MOMENTS` that a key was lost.
@@ -76,7 +106,65 @@ fn losses_of(alloc: Global, gone: &[Place]) -> Result<Vec<Place>, AllocError> {
     Ok(losses)
 }
 
-/// Returns the places of all refused keys, with their tally.
+/// Returns whether the first contradiction of a refused key is among these, which are in the order of time. Otherwise all
+/// of them begin after the moment up to which the key's calls have no order.
+fn has_first(places: &[Place], refused: Refused) -> bool {
+    match places.first() {
+        Some(place) => place.clash.begun() <= refused.moment,
+        None => false,
+    }
+}
+
+/// Adds the contradictions of a refused key.
+fn add_key(
+    alloc: Global,
+    found: &mut Found,
+    key: &KeyCalls,
+    refused: Refused,
+    neighbours: &Neighbours,
+) -> Result<(), AllocError> {
+    let places = places_of(alloc, key)?;
+    for place in &places {
+        found.tally.add(place);
+        found.tally.add_change(key, place, neighbours);
+        found.places.push(*place)?;
+    }
+    let bound = bound_of(alloc, key, &places, neighbours)?;
+    found.bound.add(bound, places.len());
+    if !has_first(&places, refused) {
+        found.tally.unplaced = found.tally.unplaced.saturating_add(1);
+    }
+    found.split = larger_split(found.split, longest_split(alloc, key)?);
+    Ok(())
+}
+
+/// Adds the counts for which the contradictions of all keys are needed.
+fn add_all(
+    alloc: Global,
+    found: &mut Found,
+    runs: &Runs<'_>,
+    neighbours: &Neighbours,
+) -> Result<(), AllocError> {
+    let calls = &runs.recorded.calls;
+    let gone = gone_of(alloc, &found.places)?;
+    found.tally.add_together(&gone);
+    let replies = replies_of(alloc, &found.places)?;
+    found.tally.add_replies(&replies);
+    let returns = of_symptom(alloc, &gone, Symptom::CameBack)?;
+    let lost = of_symptom(alloc, &gone, Symptom::Lost)?;
+    found.tally.add_swapped_adds(&lost, &returns);
+    let losses = losses_of(alloc, &gone)?;
+    found
+        .tally
+        .add_times(alloc, &found.places, calls, neighbours, &losses)?;
+    if found.tally.lost >= LEAST_LOST && found.tally.came_back == 0 {
+        let full = Fullness::of(alloc, runs)?;
+        found.tally.add_fullness(calls, &losses, &full);
+    }
+    Ok(())
+}
+
+/// Returns the contradictions of all refused keys, with their tally.
 fn places_of_all(
     alloc: Global,
     runs: &Runs<'_>,
@@ -89,34 +177,17 @@ fn places_of_all(
         odd: None,
         tally: Tally::default(),
         split: None,
+        bound: BoundKeys::new(),
     };
+    found.tally.keys = u64::try_from(refused.len()).unwrap_or(u64::MAX);
     for one in refused {
         if found.places.len() >= MOST_PLACES {
             break;
         }
         let key = runs.calls_of(one.key)?;
-        let places = places_of(alloc, &key)?;
-        for place in &places {
-            found.tally.add(place);
-            found.tally.add_change(&key, place, neighbours);
-            found.places.push(*place)?;
-        }
-        if !places.is_empty() {
-            found.tally.keys = found.tally.keys.saturating_add(1);
-        }
-        found.split = larger_split(found.split, longest_split(alloc, &key)?);
+        add_key(alloc, &mut found, &key, *one, neighbours)?;
     }
-    let calls = &runs.recorded.calls;
-    let gone = gone_of(alloc, &found.places)?;
-    found.tally.add_together(&gone);
-    let losses = losses_of(alloc, &gone)?;
-    found
-        .tally
-        .add_times(alloc, &found.places, calls, neighbours, &losses)?;
-    if found.tally.lost >= LEAST_LOST && found.tally.came_back == 0 {
-        let full = Fullness::of(alloc, runs)?;
-        found.tally.add_fullness(calls, &losses, &full);
-    }
+    add_all(alloc, &mut found, runs, neighbours)?;
     Ok(found)
 }
 
@@ -132,7 +203,7 @@ fn larger_split(one: Option<Split>, two: Option<Split>) -> Option<Split> {
     }
 }
 
-/// Returns the places of the odd operation or, if there is none, of all refused keys.
+/// Returns the contradictions of the odd operation's answers or, if no operation is odd, of all refused keys.
 pub fn find_all(
     alloc: Global,
     runs: &Runs<'_>,
@@ -151,6 +222,7 @@ pub fn find_all(
         odd: Some(odd),
         tally: Tally::default(),
         split: None,
+        bound: BoundKeys::new(),
     })
 }
 
@@ -167,6 +239,7 @@ pub fn evidence_of(
         odd: found.odd,
         tally: found.tally,
         split: found.split,
+        bound: found.bound.pair(found.tally.keys),
         keys: u64::try_from(keys.len()).unwrap_or(u64::MAX),
         calls: u64::try_from(runs.recorded.calls.len()).unwrap_or(u64::MAX),
         is_part: runs.recorded.is_part,

@@ -25,6 +25,15 @@ impl Makers {
         Ok(Makers { begins, latest })
     }
 
+    /// Returns whether all changes that began before a moment had ended by then.
+    fn have_ended(&self, moment: u64) -> bool {
+        let at = self.begins.partition_point(|begun| *begun < moment);
+        match self.latest.get(at.wrapping_sub(1)) {
+            Some(last) => *last < moment,
+            None => true,
+        }
+    }
+
     fn overlap(&self, since: u64, until: u64) -> bool {
         let at = self.begins.partition_point(|begun| *begun <= until);
         match self.latest.get(at.wrapping_sub(1)) {
@@ -116,6 +125,15 @@ impl KeyCalls {
         match state {
             Presence::Present => self.puts.overlap(since, until),
             Presence::Absent => self.takes.overlap(since, until),
+        }
+    }
+
+    /// Returns `true` if all calls that change the key to this state, or can do so, and began before a moment had ended
+    /// by then.
+    pub fn no_change_runs(&self, state: Presence, moment: u64) -> bool {
+        match state {
+            Presence::Present => self.puts.have_ended(moment),
+            Presence::Absent => self.takes.have_ended(moment),
         }
     }
 

@@ -4,8 +4,8 @@ use std::alloc::{AllocError, Global};
 /// The maximum number of earlier changes that are checked.
 const MOST_BACK: usize = 100_000;
 
-/// The completed changes of all keys, in the order in which they began. Each has the latest end of all changes up to
-/// it.
+/// The completed changes of all keys, in the order in which they began. `latest[i]` is the latest end of the first i + 1
+/// changes.
 #[derive(Drop)]
 pub struct Neighbours {
     changes: Vec<Made>,

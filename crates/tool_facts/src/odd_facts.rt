@@ -192,8 +192,8 @@ pub fn find_odd(
 /// The maximum number of adds and removes that are searched for one that overlaps an answer.
 const MOST_WRITERS: usize = 100_000;
 
-/// The adds and removes of some calls, whatever they returned, in the order of their begins, each with the latest end of
-/// those up to it.
+/// The adds and removes among some calls, whatever they returned, in the order in which they began. `latest[i]` is the
+/// latest end of the first i + 1 of them.
 #[derive(Drop)]
 struct Writers {
     calls: Vec<Made>,
@@ -244,7 +244,7 @@ struct Sound {
     writers: Writers,
 }
 
-/// The number of calls of a key from which on no stretches are searched for its wrong answers.
+/// No stretches are searched for the wrong answers of a key with at least this many calls.
 const MOST_STRETCHED: usize = 50_000;
 
 /// Returns the calls of a key without the answers of the odd operation, indexed for searches.
@@ -271,7 +271,7 @@ fn sound_calls(
     })
 }
 
-/// Returns the place of a wrong answer among the right calls.
+/// Returns the contradiction of a wrong answer with the right calls.
 fn place_of_answer(sound: &KeyCalls, call: Made, clash: Clash) -> Place {
     Place {
         key: sound.key,
@@ -334,7 +334,7 @@ fn more(count: &mut u64) {
 /// The maximum number of contradictions of wrong answers that are looked at.
 const MOST_PLACED: usize = 400;
 
-/// Adds the places of the wrong answers, and returns the facts about the odd operation. Allocates.
+/// Adds the contradictions of the wrong answers to `places`, and returns the facts about the odd operation. Allocates.
 pub fn places_of_odd(
     alloc: Global,
     runs: &Runs<'_>,
@@ -635,16 +635,16 @@ fn count_answer(sound: &Sound, call: Made, odd: &mut Odd, neighbours: &Neighbour
     }
 }
 
-/// At most so many moments after a change a wrong answer begins soon.
+/// A wrong answer comes soon after a change if at most this many moments are between them.
 const SOON: u64 = 50;
 
 /// Counts who made the change to the state `was` that a wrong answer did not see, and how long before, if that change
-/// had ended.
+/// had ended. Two overlapping changes to this state are not counted: either can be the last to take effect.
 fn count_unseen(sound: &KeyCalls, call: Made, was: Presence, odd: &mut Odd) {
     let Some(change) = sound.change_before(was, call.begun) else {
         return;
     };
-    if change.ended >= call.begun {
+    if change.ended >= call.begun || !sound.no_change_runs(was, change.begun) {
         return;
     }
     if change.thread == call.thread {

@@ -67,10 +67,32 @@ pub struct Tally {
     pub fits: u64,
     /// Of `made`: another add or remove of the key that returned true overlapped the change.
     pub own: u64,
+    /// Of `lost` that a call shows: the add before is known.
+    pub placed: u64,
+    /// Of `placed`: an add of another key that returned true overlapped that add.
+    pub with_add: u64,
+    /// Of `placed`: a remove of another key that returned true overlapped that add.
+    pub with_remove: u64,
+    /// Of 100 adds that returned true, in a sample: an add of another key that returned true overlapped.
+    pub usually_with_add: u64,
+    /// Of 100 adds that returned true, in a sample: a remove of another key that returned true overlapped.
+    pub usually_with_remove: u64,
+    /// Wrong answers, and losses and returns that one opposite reply would repair.
+    pub replies: u64,
+    /// Of `replies`: another key had one of these at the same time.
+    pub crossed_replies: u64,
+    /// The percentage of other periods of the same length in which another key had one of these.
+    pub usually_crossed: u64,
+    /// Of `lost` as shown by a call: the first call is an add that returned true.
+    pub unadded: u64,
+    /// Of `unadded`, those where another key came back during the add.
+    pub swapped_adds: u64,
     /// At how many contradictions, of all kinds, no call of the recording began while another call was running.
     pub apart: u64,
-    /// The number of keys with contradictions.
+    /// The number of refused keys.
     pub keys: u64,
+    /// The number of refused keys whose first contradiction is not among those counted.
+    pub unplaced: u64,
     /// The largest number of calls of one key that had begun by the end of a contradiction of that key.
     pub begun: u64,
 }
@@ -154,8 +176,78 @@ impl Tally {
         if neighbours.has_since(change, since) {
             more(&mut self.fits);
         }
+        if place.symptom == Symptom::Lost {
+            self.add_placed(change, neighbours);
+        }
         if key.has_change_beside(change) {
             more(&mut self.own);
+        }
+    }
+
+    /// Counts an add whose key was lost afterwards, and whether changes of other keys overlapped the add.
+    fn add_placed(&mut self, change: Made, neighbours: &Neighbours) {
+        let (key, since, until) = (change.key, change.begun, change.ended);
+        more(&mut self.placed);
+        if neighbours.overlap(key, since, until, Some(Operation::Add)) {
+            more(&mut self.with_add);
+        }
+        if neighbours.overlap(key, since, until, Some(Operation::Remove)) {
+            more(&mut self.with_remove);
+        }
+    }
+
+    /// Computes how often changes of other keys overlap an add. `calls` are all calls of the recording.
+    fn add_usual(&mut self, calls: &[Made], neighbours: &Neighbours) {
+        let step = calls.len().checked_div(MOST_COMPARED).unwrap_or(0);
+        let (mut adds, mut removes, mut tried, mut next) = (0u64, 0u64, 0u64, 0usize);
+        for (index, call) in calls.iter().enumerate() {
+            let is_add = call.operation == Operation::Add && call.reply == Some(true);
+            if index < next || !is_add {
+                continue;
+            }
+            next = index.saturating_add(step);
+            more(&mut tried);
+            let (key, since, until) = (call.key, call.begun, call.ended);
+            if neighbours.overlap(key, since, until, Some(Operation::Add)) {
+                more(&mut adds);
+            }
+            if neighbours.overlap(key, since, until, Some(Operation::Remove)) {
+                more(&mut removes);
+            }
+        }
+        self.usually_with_add = adds.saturating_mul(100).checked_div(tried).unwrap_or(0);
+        self.usually_with_remove = removes.saturating_mul(100).checked_div(tried).unwrap_or(0);
+    }
+
+    /// Counts the wrong replies at whose time another key had one. `replies` must be ordered by time.
+    pub fn add_replies(&mut self, replies: &[Place]) {
+        let (mut beside, mut tried) = (0u64, 0u64);
+        for place in replies {
+            let (since, until) = (place.clash.begun(), place.clash.until);
+            more(&mut self.replies);
+            if has_beside(place.key, since, until, replies) {
+                more(&mut self.crossed_replies);
+            }
+            for later in LATER {
+                let (since, until) = (since.saturating_add(later), until.saturating_add(later));
+                more(&mut tried);
+                if has_beside(place.key, since, until, replies) {
+                    more(&mut beside);
+                }
+            }
+        }
+        self.usually_crossed = beside.saturating_mul(100).checked_div(tried).unwrap_or(0);
+    }
+
+    /// Counts the lost keys during whose add another key came back. `returns` must be ordered by time.
+    pub fn add_swapped_adds(&mut self, losses: &[Place], returns: &[Place]) {
+        for place in losses {
+            if let Some(first) = place.clash.first.filter(|first| first.changes()) {
+                more(&mut self.unadded);
+                if has_beside(first.key, first.begun, first.ended, returns) {
+                    more(&mut self.swapped_adds);
+                }
+            }
         }
     }
 
@@ -263,6 +355,7 @@ impl Tally {
         let crossings = Crossings::of(alloc, calls)?;
         self.add_swapped(places, losses);
         self.usual = usual_share(places, neighbours);
+        self.add_usual(calls, neighbours);
         for place in places {
             self.add_time(alloc, place, neighbours)?;
             if crossings.has_none(calls, place.clash.since, place.clash.until) {

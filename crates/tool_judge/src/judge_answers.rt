@@ -7,7 +7,7 @@ ghost use Rattle.tool_base.specs.declared.trouble.Trouble.TheVariants.{CannotRea
 ghost use Rattle.tool_judge.specs.Judging.{IsAnswerTo, Judges};
 ghost use Rattle.tool_judge.specs.Exact.{AnswersAreRight};
 
-use crate::texts::{ok_text, refused_text};
+use crate::texts::{ok_text, refusal_text};
 use lset_judge::Verdict;
 use lset_recording::{RecordingAnswer, RecordingReader};
 use std::alloc::{AllocError, Global};
@@ -63,7 +63,7 @@ fn answer_to(alloc: Global, said: RecordingAnswer, detail: Detail) -> Result<Ans
             status: 0,
         }),
         Verdict::NotLinearizable(refusal, clash) => Ok(Answer {
-            text: refused_text(alloc, refusal, clash)?,
+            text: refusal_text(alloc, refusal, clash)?,
             status: 1,
         }),
     }

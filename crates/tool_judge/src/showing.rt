@@ -1,4 +1,4 @@
-use crate::texts::refused_text;
+use crate::texts::refusal_text;
 use lset_history::History;
 use lset_judge::{Clash, Judged, Refusal, StreamCall, is_judged, judge};
 use lset_picture::Picture;
@@ -123,7 +123,7 @@ fn claim_text(alloc: Global, picture: &Picture) -> Result<Vec<u8>, AllocError> {
         Claim::NoSuchReply(number, call, reply) => {
             no_such_reply_text(alloc, number, call, reply)
         }
-        Claim::NotLinearizable(refusal, clash) => refused_text(alloc, refusal, clash),
+        Claim::NotLinearizable(refusal, clash) => refusal_text(alloc, refusal, clash),
         Claim::Explained => Vec::from_slice(alloc, EXPLAINED),
         Claim::Unknown => Vec::from_slice(alloc, UNKNOWN),
     }

@@ -105,7 +105,7 @@ fn clash_text(alloc: Global, key: u32, clash: Option<Clash>) -> Result<Vec<u8>, 
 
 /// Returns the whole answer if no order explains the calls: `not linearizable`, the key and the moment, and the three
 /// lines of the contradiction if one was found. Allocates.
-pub(crate) fn refused_text(
+fn refused_text(
     alloc: Global,
     refusal: Refusal,
     clash: Option<Clash>,
@@ -114,5 +114,36 @@ pub(crate) fn refused_text(
 {
     let mut text = refused_lines(alloc, refusal)?;
     text.extend_from_slice(&clash_text(alloc, refusal.key.0, clash)?)?;
+    Ok(text)
+}
+
+/// Returns the moment at which a contradiction ends. `None` without a contradiction, and for one with the final state.
+fn end_of(clash: Option<Clash>) -> Option<u64> {
+    let (end, _) = clash?.second?.ended?;
+    Some(end)
+}
+
+/// Returns a line that says that the contradiction ends later than the moment of the refusal; empty if it does not.
+fn later_note(alloc: Global, refusal: Refusal, clash: Option<Clash>) -> Result<String, AllocError> {
+    match (refusal.moment, end_of(clash)) {
+        (Some(moment), Some(end)) if moment < end => format!(in alloc;
+            "  this contradiction ends after moment {moment}; the judge found none up to there\n"
+        ),
+        _ => Ok(String::new(alloc)),
+    }
+}
+
+/// Returns the lines of `refused_text`, and a line if the contradiction ends later than the moment of the refusal.
+/// Allocates.
+pub(crate) fn refusal_text(
+    alloc: Global,
+    refusal: Refusal,
+    clash: Option<Clash>,
+) -> Result<Vec<u8>, AllocError>
+    ensures { IfOk result (λ text. Begins (refused_text refusal clash) text.items) }
+{
+    let mut text = refused_text(alloc, refusal, clash)?;
+    let note = later_note(alloc, refusal, clash)?.into_bytes();
+    text.extend_from_slice(&note)?;
     Ok(text)
 }

@@ -10,10 +10,11 @@ const WIDTH: usize = 66;
 /// A gap without drawn calls is left out if it is longer than this.
 const LONG: u64 = 100;
 
-/// A call drawn as a bar: the texts and columns of its two ends, and the note beside it.
+/// A call drawn as a bar: the name of its thread, the texts and columns of its two ends, and the note beside it.
 #[derive(Drop)]
 struct Bar {
     call: Made,
+    name: String,
     head: String,
     tail: String,
     note: String,
@@ -41,13 +42,14 @@ fn note_of(alloc: Global, call: Made, mark: Mark) -> Result<String, AllocError> 
 
 impl Bar {
     fn new(alloc: Global, call: Made, mark: Mark) -> Result<Bar, AllocError> {
-        let (word, key) = (call.operation.word(), call.key);
+        let (word, key, thread) = (call.operation.word(), call.key, call.thread);
         let tail = match call.reply {
             Some(yes) => format!(in alloc; "{yes}]")?,
             None => String::from_str(alloc, "..")?,
         };
         Ok(Bar {
             call,
+            name: format!(in alloc; "thread {thread}")?,
             head: format!(in alloc; "[{word} {key}")?,
             tail,
             note: note_of(alloc, call, mark)?,
@@ -62,11 +64,12 @@ impl Bar {
         self.from.saturating_add(width)
     }
 
-    fn put(&self, out: &mut String, width: usize) -> Result<(), AllocError> {
-        let (thread, head, tail) = (self.call.thread, &self.head, &self.tail);
+    /// Writes the bar. The names of threads take up `names` columns, and the bars `width` columns.
+    fn put(&self, out: &mut String, names: usize, width: usize) -> Result<(), AllocError> {
+        let (name, head, tail) = (&self.name, &self.head, &self.tail);
         let (from, note, begun) = (self.from, &self.note, self.call.begun);
         let dashes = self.to.saturating_add(1).saturating_sub(self.least_end());
-        write!(out, "thread {thread:<3} {:from$}", "")?;
+        write!(out, "{name:<names$} {:from$}", "")?;
         write!(out, "{head}{:-<dashes$}{tail}", "")?;
         let used = from.saturating_add(head.len()).saturating_add(tail.len());
         let room = width.saturating_sub(used.saturating_add(dashes));
@@ -114,6 +117,18 @@ fn place_all(alloc: Global, bars: &mut [Bar]) -> Result<(), AllocError> {
         column = place_moment(bars, *moment, column);
     }
     Ok(())
+}
+
+/// The minimum number of columns for the names of threads.
+const LEAST_NAMES: usize = 10;
+
+/// Returns the number of columns that the names of threads need.
+fn names_of(bars: &[Bar]) -> usize {
+    let mut names = LEAST_NAMES;
+    for bar in bars {
+        names = names.max(bar.name.len());
+    }
+    names
 }
 
 /// Returns the number of columns that all bars need.
@@ -179,17 +194,17 @@ pub(crate) fn put_picture(
         bars.push(Bar::new(alloc, *call, Mark::Nothing)?)?;
     }
     place_all(alloc, &mut bars)?;
-    let width = width_of(&bars);
+    let (names, width) = (names_of(&bars), width_of(&bars));
     let gaps = bars.len().saturating_add(count_gaps(&bars, own)) <= most;
     for (i, bar) in bars.iter().enumerate() {
         if i == own {
             put_rule(out, beside.len(), diagnosis.beside_count)?;
         }
         if gaps && i < own && is_after_gap(&bars, bar.call) {
-            let from = bar.from;
-            writeln!(out, "           {:from$}...", "")?;
+            let from = names.saturating_add(bar.from);
+            writeln!(out, " {:from$}...", "")?;
         }
-        bar.put(out, if width > WIDTH { 0 } else { width })?;
+        bar.put(out, names, if width > WIDTH { 0 } else { width })?;
     }
     Ok(())
 }

@@ -25,7 +25,7 @@ fn put_because_of_found(out: &mut String, odd: &Odd, cause: Cause) -> Result<(),
                 "at {starting} of the {found} wrong answers an add of the key was still running"
             )
         }
-        Cause::TakenLater => writeln!(
+        Cause::TakenLater | Cause::MarkOrCopy => writeln!(
             out,
             "it {only}finds absent keys, and at {running} of {found} of these answers a remove of the key still ran"
         ),
@@ -78,11 +78,14 @@ fn put_because_of_odd(out: &mut String, odd: &Odd, cause: Cause) -> Result<(), A
         Cause::MarkNotRead
         | Cause::SeenEarly
         | Cause::TakenLater
+        | Cause::MarkOrCopy
         | Cause::ThreadCache
         | Cause::LateCopy => put_because_of_found(out, odd, cause),
-        Cause::NotSeenYet | Cause::LastKey | Cause::SizeFirst | Cause::Shortcut => {
-            put_because_of_missed(out, odd, cause)
-        }
+        Cause::NotSeenYet
+        | Cause::LastKey
+        | Cause::SizeFirst
+        | Cause::Shortcut
+        | Cause::MovedOrShortcut => { put_because_of_missed(out, odd, cause) }
         Cause::OneKey => writeln!(
             out,
             "it never found the {keys} of its {wrong} wrong answers, and found others"
@@ -138,11 +141,11 @@ fn put_because_of_calls(out: &mut String, tally: &Tally, cause: Cause) -> Result
             out,
             "{both} of {places} are two calls that both returned true"
         ),
-        Cause::AddChecks => writeln!(
+        Cause::AddChecks | Cause::OldCopyByAdd => writeln!(
             out,
             "{adds} of {places} are two adds that both returned true, {removes} are two removes"
         ),
-        Cause::RemoveChecks => writeln!(
+        Cause::RemoveChecks | Cause::OldCopyByRemove => writeln!(
             out,
             "{removes} of {places} are two removes that both returned true, {adds} are two adds"
         ),
@@ -154,7 +157,11 @@ fn put_because_of_calls(out: &mut String, tally: &Tally, cause: Cause) -> Result
 fn put_because_of_lost(out: &mut String, tally: &Tally, cause: Cause) -> Result<(), AllocError> {
     let (lost, sharp, short) = (tally.lost, tally.sharp, tally.short);
     let (added, removed, least) = (tally.displaced, tally.unlinked, tally.least_full);
-    write!(out, "keys are lost ({lost}) and never come back, and at ")?;
+    let never = match tally.found {
+        0 => " and never come back",
+        _ => "",
+    };
+    write!(out, "keys are lost ({lost}){never}, and at ")?;
     match cause {
         Cause::Displaced => writeln!(
             out,
@@ -171,6 +178,54 @@ fn put_because_of_lost(out: &mut String, tally: &Tally, cause: Cause) -> Result<
     }
 }
 
+/// Writes the fact for a cause of keys that are lost although they were added.
+fn put_because_of_adds(out: &mut String, tally: &Tally, cause: Cause) -> Result<(), AllocError> {
+    let (lost, placed, both) = (tally.lost, tally.placed, tally.both_adds);
+    let (count, usual, word) = match cause {
+        Cause::SharedPlace => (tally.with_add, tally.usually_with_add, "an add"),
+        _ => (tally.with_remove, tally.usually_with_remove, "a remove"),
+    };
+    match cause {
+        Cause::AddLost => writeln!(
+            out,
+            "keys are lost ({lost}) and added twice ({both}), none comes back, and none is removed twice"
+        ),
+        _ => writeln!(
+            out,
+            "at {count} of {placed} losses {word} of another key overlapped the lost key's add (of 100 adds: at {usual})"
+        ),
+    }
+}
+
+/// Writes the fact for a cause of calls that are mixed up.
+fn put_because_of_mixed(out: &mut String, tally: &Tally, cause: Cause) -> Result<(), AllocError> {
+    let (replies, crossed) = (tally.replies, tally.crossed_replies);
+    let some = tally.swapped.saturating_add(tally.swapped_adds);
+    let all = tally.undone.saturating_add(tally.unadded);
+    match cause {
+        Cause::OtherReply | Cause::MixedCalls => writeln!(
+            out,
+            "of {replies} contradictions that one other reply repairs {crossed} share time with one of another key"
+        ),
+        _ => writeln!(
+            out,
+            "during {some} of {all} changes that were undone another key came back or was lost"
+        ),
+    }
+}
+
+/// Writes the fact for keys that are written back together.
+fn put_because_of_pairs(out: &mut String, evidence: &Evidence) -> Result<(), AllocError> {
+    let Some(bound) = evidence.bound else {
+        return Ok(());
+    };
+    let (one, two, hits, of) = (bound.one, bound.two, bound.hits, bound.of);
+    writeln!(
+        out,
+        "{hits} of {of} undone changes of key {one} overlapped changes of key {two}, and fewer overlapped those of any third key"
+    )
+}
+
 /// Writes the fact for a cause that needs no race.
 fn put_because_of_one(
     out: &mut String,
@@ -180,14 +235,22 @@ fn put_because_of_one(
     let (tally, span) = (&evidence.tally, evidence.span);
     let (lost, back, undone) = (tally.lost, tally.came_back, tally.undone);
     let (apart, places) = (tally.apart, tally.places);
+    let (only, never) = match tally.missed {
+        0 => ("only ", ", and are never lost"),
+        _ => ("", ""),
+    };
     match cause {
         Cause::KeptTwice if lost == 0 => writeln!(
             out,
-            "keys come back ({back}), {undone} times after a remove that returned true, and are never lost"
+            "keys come back ({back}), {undone} times after a remove that returned true{never}"
+        ),
+        Cause::KeptTwice if tally.readded != lost => writeln!(
+            out,
+            "keys come back ({back}), {undone} times after a remove that returned true"
         ),
         Cause::KeptTwice => writeln!(
             out,
-            "keys come back ({back}), only an add misses one ({lost}), and at {apart} of {places} no two calls overlapped"
+            "keys come back ({back}), {only}an add misses one ({lost}), and at {apart} of {places} no two calls overlapped"
         ),
         Cause::Overflow => writeln!(
             out,
@@ -275,10 +338,19 @@ pub(crate) fn put_because(
         | Cause::BothCheck
         | Cause::AddChecks
         | Cause::RemoveChecks
+        | Cause::OldCopyByAdd
+        | Cause::OldCopyByRemove
         | Cause::TwoPlaces => put_because_of_calls(out, &evidence.tally, cause),
         Cause::Displaced | Cause::Batch | Cause::Evicted => {
             put_because_of_lost(out, &evidence.tally, cause)
         }
+        Cause::AddLost | Cause::SharedPlace | Cause::BehindUnlinked => {
+            put_because_of_adds(out, &evidence.tally, cause)
+        }
+        Cause::OtherReply | Cause::OtherCall | Cause::MixedCalls => {
+            put_because_of_mixed(out, &evidence.tally, cause)
+        }
+        Cause::SharedWord => put_because_of_pairs(out, evidence),
         Cause::KeptTwice | Cause::Overflow | Cause::OneThread => {
             put_because_of_one(out, evidence, cause)
         }

@@ -6,7 +6,7 @@ use std::alloc::{AllocError, Global};
 use tool_facts::{
     Clash, Evidence, Found, KeyCalls, Made, NEVER, Neighbours, Odd, Operation, Place, Recorded,
     Refused, Runs, Symptom, evidence_of, find_all, first_of, is_answer, is_expected, other,
-    stretches_of,
+    place_of, stretches_of, verdict_clash,
 };
 
 /// The note beside a call in a picture.
@@ -18,7 +18,8 @@ pub enum Mark {
     Expected(bool),
     /// In every order, the key is in this state after this call takes effect, until the contradicting call does.
     Leaves(Presence),
-    /// A later call, which finds the key in this state.
+    /// This call finds the key in this state. It is a later call, or a contradicting call if no reply is known to be the
+    /// expected one.
     Finds(Presence),
     /// One of the two calls with this mark must return false.
     Either,
@@ -44,9 +45,10 @@ pub struct Diagnosis {
     pub wrong: Option<Made>,
     /// The key's calls in the picture, in the order in which they began.
     pub shown: Vec<Shown>,
-    /// Changes of other keys at the same time, of many those that the likely cause names, then the longest.
+    /// Changes of other keys that ran during the contradiction. Of many, those that the likely cause names are chosen first,
+    /// then the longest.
     pub beside: Vec<Made>,
-    /// The number of changes of other keys at the same time.
+    /// The number of changes of other keys that ran during the contradiction.
     pub beside_count: usize,
     /// All contradictions in the order of time, if they are few and no operation alone is wrong.
     pub few: Vec<Place>,
@@ -61,22 +63,114 @@ pub struct Diagnosis {
     pub first_moment: u64,
     /// The end of the contradiction in the picture; `NEVER` if the final state contradicts.
     pub until: u64,
+    /// Whether the picture shows the contradiction that the verdict names.
+    pub is_first: bool,
 }
 
-/// The maximum length of the first contradiction of the run for which the first one is preferred to a shorter one.
-const SHORT: u64 = 120;
+/// The maximum duration, in moments, up to which the verdict's contradiction is preferred to a shorter one.
+const SHORT: u64 = 300;
+
+/// The contradiction that the verdict names: the first refused key, the moment, and the contradiction, if the judge
+/// found one.
+#[derive(Clone, Copy)]
+struct Named {
+    first: Refused,
+    clash: Option<Clash>,
+    place: Option<Place>,
+}
+
+/// Returns whether two contradictions are between the same calls.
+fn are_same(one: &Clash, two: &Clash) -> bool {
+    one.first == two.first && one.second == two.second
+}
+
+impl Named {
+    /// Returns whether a contradiction is between the calls that the verdict names, or of a wrong answer among them.
+    fn has_calls_of(&self, place: &Place) -> bool {
+        match self.clash {
+            Some(clash) => {
+                let is_of = place.wrong == clash.first || place.wrong == clash.second;
+                are_same(&clash, &place.clash) || (place.wrong.is_some() && is_of)
+            }
+            None => false,
+        }
+    }
+
+    /// Returns whether a contradiction is the one that the verdict names, or ends at the moment that the verdict names.
+    fn is(&self, place: &Place) -> bool {
+        let is_at_moment = place.key == self.first.key && place.clash.until == self.first.moment;
+        is_at_moment || self.has_calls_of(place)
+    }
+}
+
+/// Returns whether a call, if there is one, is an answer of the odd operation.
+fn is_odd(call: Option<Made>, odd: &Odd) -> bool {
+    match call {
+        Some(call) => is_answer(call, odd.operation),
+        None => false,
+    }
+}
+
+/// Returns the symptom of a wrong answer.
+fn symptom_of(wrong: Made) -> Symptom {
+    match wrong.needs() {
+        Some(Presence::Present) => Symptom::Found(wrong.operation),
+        _ => Symptom::Missed(wrong.operation),
+    }
+}
+
+/// Returns the contradiction of a wrong answer that the verdict names: one call of the two is an answer of the odd
+/// operation, and the other is none.
+fn place_of_odd(runs: &Runs<'_>, odd: &Odd, clash: Clash) -> Option<Place> {
+    let wrong = match (is_odd(clash.first, odd), is_odd(clash.second, odd)) {
+        (true, false) => clash.first?,
+        (false, true) => clash.second?,
+        _ => return None,
+    };
+    let calls = runs.made_of(wrong.key);
+    Some(Place {
+        key: wrong.key,
+        clash,
+        symptom: symptom_of(wrong),
+        wrong: Some(wrong),
+        silent: None,
+        is_turned: true,
+        begun: calls.partition_point(|call| call.begun <= clash.until),
+    })
+}
+
+/// Returns the contradiction that the verdict names as a place.
+fn place_named(
+    alloc: Global,
+    runs: &Runs<'_>,
+    found: &Found,
+    clash: Clash,
+) -> Result<Option<Place>, AllocError> {
+    if let Some(odd) = &found.odd {
+        return Ok(place_of_odd(runs, odd, clash));
+    }
+    let Some(call) = clash.second.or(clash.first) else {
+        return Ok(None);
+    };
+    let key = runs.calls_of(call.key)?;
+    let stretches = stretches_of(alloc, &key)?;
+    Ok(Some(place_of(alloc, &key, &stretches, clash)?))
+}
 
 /// Returns how well a contradiction shows the bug; 0 is best. A contradiction of another kind than the likely cause
 /// explains shows it worst. Otherwise the first contradiction of the run is best, which the verdict names, unless it is
 /// long; then a short contradiction is better than a long one, and one of the key that the verdict names is better than
 /// one of another key.
-fn rank(place: &Place, first: Refused, shows: bool) -> u64 {
-    let is_first = place.key == first.key && place.clash.until == first.moment;
+fn rank(place: &Place, named: &Named, shows: bool) -> u64 {
     let length = place.length();
-    if is_first && shows && length <= SHORT {
+    if shows && length <= SHORT && named.is(place) {
         return 0;
     }
-    let other_key = if place.key == first.key { 0 } else { OTHER_KEY };
+    let other_key = if place.key == named.first.key {
+        0
+    } else {
+        OTHER_KEY
+    };
     let other_kind = if shows { 0 } else { OTHER_KIND };
     length
         .saturating_add(1)
@@ -84,10 +178,10 @@ fn rank(place: &Place, first: Refused, shows: bool) -> u64 {
         .saturating_add(other_kind)
 }
 
-/// By how much a contradiction of another key than the verdict's counts as longer.
+/// This many moments are added to the duration of a contradiction of another key than the verdict's.
 const OTHER_KEY: u64 = 1_000_000_000_000;
 
-/// By how much a contradiction of another kind than the likely cause explains counts as longer.
+/// This many moments are added to the duration of a contradiction that the likely cause does not explain.
 const OTHER_KIND: u64 = 1_000_000_000_000_000;
 
 /// Returns whether a completed change of another key, by an operation if one is given, ran at a contradiction.
@@ -95,7 +189,7 @@ fn is_beside(place: &Place, neighbours: &Neighbours, operation: Option<Operation
     neighbours.overlap(place.key, place.clash.begun(), place.clash.until, operation)
 }
 
-/// Returns whether a contradiction shows what a likely cause explains.
+/// Returns whether a contradiction is an example of what a likely cause explains.
 fn shows(place: &Place, cause: Option<Cause>, is_odd: bool, neighbours: &Neighbours) -> bool {
     let (since, until) = (place.clash.begun(), place.clash.until);
     match cause {
@@ -128,28 +222,32 @@ fn shows(place: &Place, cause: Option<Cause>, is_odd: bool, neighbours: &Neighbo
     }
 }
 
-/// Returns the place that is shown: the first place in a long split, or the place that shows the bug best.
+/// Returns the first contradiction in a long split.
+fn place_in_split(found: &Found, named: &Named) -> Option<Place> {
+    let split = found.split.filter(|split| split.is_long())?;
+    for place in named.place.iter().chain(found.places.iter()) {
+        if place.key == split.key && place.clash.until > split.since {
+            return Some(*place);
+        }
+    }
+    None
+}
+
+/// Returns the contradiction that is drawn: the first one in a long split, or the one that shows the bug best.
 fn place_shown(
     found: &Found,
-    first: Refused,
+    named: &Named,
     cause: Option<Cause>,
     neighbours: &Neighbours,
 ) -> Option<Place> {
-    if let Some(split) = found.split.filter(|split| split.is_long()) {
-        for place in &found.places {
-            if place.key == split.key && place.clash.until > split.since {
-                return Some(*place);
-            }
-        }
+    let mut best = place_in_split(found, named);
+    if best.is_some() {
+        return best;
     }
-    let mut best: Option<Place> = None;
     let mut least = u64::MAX;
-    for place in &found.places {
-        let rank = rank(
-            place,
-            first,
-            shows(place, cause, found.odd.is_some(), neighbours),
-        );
+    for place in named.place.iter().chain(found.places.iter()) {
+        let shows = shows(place, cause, found.odd.is_some(), neighbours);
+        let rank = rank(place, named, shows);
         if best.is_none() || rank < least {
             best = Some(*place);
             least = rank;
@@ -158,7 +256,7 @@ fn place_shown(
     best
 }
 
-/// The maximum number of contradictions of which each is listed.
+/// If there are at most this many contradictions, each is listed.
 const MOST_LISTED: usize = 6;
 
 /// Returns all contradictions in the order of time, if they are few and no operation alone is wrong.
@@ -189,6 +287,7 @@ fn begin(alloc: Global, first: Refused, was: Presence, evidence: Evidence) -> Di
         first_key: first.key,
         first_moment: first.moment,
         until: first.moment,
+        is_first: true,
     }
 }
 
@@ -209,7 +308,8 @@ pub fn diagnose(alloc: Global, recorded: &Recorded) -> Result<Option<Diagnosis>,
     };
     let mut diagnosis = begin(alloc, first, was, evidence);
     diagnosis.few = few_of(alloc, &found)?;
-    let Some(place) = place_shown(&found, first, diagnosis.cause, &neighbours) else {
+    let named = named(alloc, &runs, &found, first)?;
+    let Some(place) = place_shown(&found, &named, diagnosis.cause, &neighbours) else {
         diagnosis.second = found.wrong;
         if let (Some(odd), Some(wrong)) = (found.odd, found.wrong) {
             let key = with_one_answer(alloc, runs.calls_of(wrong.key)?, odd, wrong)?;
@@ -224,8 +324,30 @@ pub fn diagnose(alloc: Global, recorded: &Recorded) -> Result<Option<Diagnosis>,
         (Some(odd), Some(wrong)) => with_one_answer(alloc, key, odd, wrong)?,
         _ => key,
     };
+    diagnosis.is_first = named.is(&place);
+    if named.has_calls_of(&place) {
+        diagnosis.show_named(&named)?;
+    }
     diagnosis.show(alloc, &key, place, &neighbours)?;
     Ok(Some(diagnosis))
+}
+
+/// Returns the contradiction that the verdict names.
+fn named(
+    alloc: Global,
+    runs: &Runs<'_>,
+    found: &Found,
+    first: Refused,
+) -> Result<Named, AllocError> {
+    let mut named = Named {
+        first,
+        clash: verdict_clash(alloc, runs.recorded)?,
+        place: None,
+    };
+    if let Some(clash) = named.clash {
+        named.place = place_named(alloc, runs, found, clash)?;
+    }
+    Ok(named)
 }
 
 /// Returns the contradiction of a wrong answer with a later call: the answer leaves the key in a state that the later
@@ -244,14 +366,10 @@ fn place_after(key: &KeyCalls, wrong: Made) -> Option<Place> {
                 since: wrong.begun,
                 until: call.ended,
             };
-            let symptom = match was {
-                Presence::Present => Symptom::Found(wrong.operation),
-                Presence::Absent => Symptom::Missed(wrong.operation),
-            };
             return Some(Place {
                 key: key.key,
                 clash,
-                symptom,
+                symptom: symptom_of(wrong),
                 wrong: Some(wrong),
                 silent: None,
                 is_turned: true,
@@ -282,7 +400,7 @@ fn with_one_answer(
 /// The maximum number of calls of the key in the picture before a later one is added.
 const MOST_SHOWN: usize = 3;
 
-/// The number of calls of the key before the end of a wrong answer that are looked at for those that overlap it.
+/// How many calls of the key, counted back from the end of a wrong answer, are searched for calls that overlap it.
 const MOST_EARLIER: usize = 64;
 
 /// The maximum number of changes of other keys in the picture.
@@ -291,7 +409,7 @@ const MOST_BESIDE: usize = 3;
 /// The maximum number of changes of other keys that are counted.
 pub(crate) const MOST_AROUND: usize = 1_000;
 
-/// A change that began more moments before is not shown with a call that finds its state.
+/// A change is not shown beside a call that finds its state if it began more than this many moments earlier.
 const LONG_AGO: u64 = 200;
 
 /// Returns the time of a contradiction in which changes of other keys are shown: the time of a wrong answer if one of
@@ -348,6 +466,17 @@ impl Diagnosis {
         }
         for call in &mut self.beside {
             *call = recorded_call(calls, *call);
+        }
+    }
+
+    /// Adds the calls that the verdict names to the picture.
+    fn show_named(&mut self, named: &Named) -> Result<(), AllocError> {
+        match named.clash {
+            Some(clash) => {
+                self.add_if(clash.first)?;
+                self.add_if(clash.second)
+            }
+            None => Ok(()),
         }
     }
 
@@ -532,7 +661,23 @@ impl Diagnosis {
                 return Ok(());
             }
         }
+        self.mark_found(clash);
         Ok(())
+    }
+
+    /// Marks the state in which the contradicting call finds the key.
+    fn mark_found(&mut self, clash: &Clash) {
+        let Some(second) = clash.second else {
+            return;
+        };
+        if let Some(state) = second.needs() {
+            self.mark(second, Mark::Finds(state));
+        }
+        if let Some(first) = clash.first.filter(|_| clash.overlaps()) {
+            if let Some(state) = first.needs() {
+                self.mark(first, Mark::Finds(state));
+            }
+        }
     }
 
     /// Returns the first later call that finds the key in the state that the contradiction leaves. If only one reply is

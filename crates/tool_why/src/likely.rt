@@ -11,7 +11,7 @@ pub enum Cause {
     NotSeenYet,
     /// `contains` traverses while changes of other keys move its key.
     MovedKeys,
-    /// A key is in the set twice.
+    /// A key is in the set twice, and a remove takes out one of the two.
     KeptTwice,
     /// An add of another key displaces a key.
     Displaced,
@@ -55,11 +55,11 @@ pub enum Cause {
     MadeAgain,
     /// A check and the later write are not atomic.
     CheckThenAct,
-    /// In both changes a check and a later write are not one step.
+    /// In `add` and in `remove` the check and the later write are not atomic.
     BothCheck,
-    /// In `add` alone a check and a later write are not one step.
+    /// In `add` alone the check and the later write are not atomic.
     AddChecks,
-    /// In `remove` alone a check and a later write are not one step.
+    /// In `remove` alone the check and the later write are not atomic.
     RemoveChecks,
     /// A change is carried out a second time, after a later change of its key.
     CarriedOutTwice,
@@ -69,7 +69,7 @@ pub enum Cause {
     EndsEarly,
     /// `add` gives up although the key is absent.
     AddGivesUp,
-    /// A lock does not exclude other calls of the same key.
+    /// Calls of one key do not exclude each other.
     NoLock,
     /// A whole copy overwrites newer changes.
     OldCopy,
@@ -89,6 +89,28 @@ pub enum Cause {
     ReplacedAtOnce,
     /// `contains` finds a key whose add is not finished.
     SeenEarly,
+    /// Two adds of different keys take the same place.
+    SharedPlace,
+    /// An add whose write was lost returns true.
+    AddLost,
+    /// A key is added behind a node that is being removed.
+    BehindUnlinked,
+    /// `add` alone writes an older copy back.
+    OldCopyByAdd,
+    /// `remove` alone writes an older copy back.
+    OldCopyByRemove,
+    /// Some keys share a word or bucket that is written back as a whole.
+    SharedWord,
+    /// A call returns the reply of another call.
+    OtherReply,
+    /// A call is carried out with the key of another call.
+    OtherCall,
+    /// Calls return the replies of other calls, or are carried out with their keys.
+    MixedCalls,
+    /// `contains` misses keys that other calls move, or takes a shortcut.
+    MovedOrShortcut,
+    /// `contains` finds keys that were removed just before: a mark, or a copy.
+    MarkOrCopy,
 }
 
 /// The minimum number of contradictions that indicate a rule.
@@ -169,11 +191,33 @@ fn cause_of_misses(odd: &Odd) -> Option<Cause> {
         Some(Cause::EndsEarly)
     } else if is_beside_others(odd) || is_beside_writers(odd) || is_removed_beside {
         Some(Cause::MovedKeys)
-    } else if is_beside_by_habit(odd) || (odd.missed >= 3 && !is_least(odd.active, odd.wrong, 80)) {
+    } else if is_lasting(odd) {
         Some(Cause::Shortcut)
+    } else if is_passing(odd) && is_least(odd.active, odd.wrong, 90) {
+        Some(Cause::MovedKeys)
+    } else if is_beside_by_habit(odd) || (odd.missed >= 3 && !is_least(odd.active, odd.wrong, 80)) {
+        Some(if odd.is_exact {
+            Cause::MovedOrShortcut
+        } else {
+            Cause::Shortcut
+        })
+    } else if odd.missed >= 3 {
+        Some(Cause::MovedOrShortcut)
     } else {
         None
     }
+}
+
+/// Returns whether many wrong answers are followed by another wrong answer, with no change of the key between.
+fn is_lasting(odd: &Odd) -> bool {
+    let next = odd.then_right.saturating_add(odd.then_wrong);
+    odd.is_exact && odd.then_wrong >= 3 && is_least(odd.then_wrong, next, 20)
+}
+
+/// Returns whether nearly all wrong answers are followed by a right answer, with no change of the key between.
+fn is_passing(odd: &Odd) -> bool {
+    let next = odd.then_right.saturating_add(odd.then_wrong);
+    odd.is_exact && odd.then_right >= 3 && is_least(odd.then_right, next, 90)
 }
 
 /// Returns `true` if `contains` mostly misses a key when no other key is present, more often than by chance.
@@ -197,7 +241,13 @@ fn cause_of_finds(odd: &Odd) -> Option<Cause> {
     } else if odd.found >= 3 && is_least(odd.starting, odd.found, 90) {
         Some(Cause::SeenEarly)
     } else if odd.starting.saturating_mul(2) < odd.found && is_once_present {
-        Some(Cause::TakenLater)
+        let unseen = odd.by_same.saturating_add(odd.by_others);
+        let is_soon = odd.found < 50 && is_least(odd.soon, unseen, 90);
+        Some(if is_soon {
+            Cause::MarkOrCopy
+        } else {
+            Cause::TakenLater
+        })
     } else {
         None
     }
@@ -236,7 +286,6 @@ fn cause_of_remove(odd: &Odd) -> Cause {
 
 /// Returns the likely cause if add alone is wrong.
 fn cause_of_add(odd: &Odd) -> Option<Cause> {
-    let is_lasting = odd.then_wrong.saturating_mul(2) > odd.wrong;
     if odd
         .running
         .saturating_add(odd.by_same)
@@ -245,7 +294,7 @@ fn cause_of_add(odd: &Odd) -> Option<Cause> {
     {
         return None;
     }
-    if needs_no_overlap(odd) || is_lasting || odd.running.saturating_mul(2) >= odd.wrong {
+    if needs_no_overlap(odd) || is_lasting(odd) || odd.running.saturating_mul(2) >= odd.wrong {
         Some(Cause::AddSeesRemoved)
     } else if is_beside_others(odd) {
         Some(Cause::AddGivesUp)
@@ -271,7 +320,7 @@ fn cause_of_odd(odd: &Odd, keys: u64) -> Option<Cause> {
 fn is_first_use(evidence: &Evidence) -> bool {
     let tally = evidence.tally;
     let calls = evidence.calls.checked_div(evidence.keys).unwrap_or(0);
-    let is_repeated = tally.places > 1 && tally.gone() > 0;
+    let is_repeated = tally.places > 1 && tally.gone() > 0 && tally.unplaced == 0;
     is_repeated && calls > tally.begun.saturating_mul(25)
 }
 
@@ -308,6 +357,7 @@ fn is_at_once(tally: &Tally) -> bool {
     let least = tally.usually_together.saturating_add(40);
     let is_clear = tally.others.saturating_mul(2) <= tally.places && !has_other_replies(tally);
     is_clear
+        && tally.both().saturating_mul(20) <= tally.places
         && tally.timed() >= LEAST_TIMED
         && is_least(tally.together, tally.timed(), least.max(50))
 }
@@ -329,22 +379,24 @@ fn cause_of_old_state(evidence: &Evidence) -> Option<Cause> {
     let is_even = lost.saturating_mul(3) < back.saturating_mul(4);
     let is_mostly_lost = lost.saturating_mul(10) >= back.saturating_mul(18);
     let is_below = evidence.keys <= FEW_KEYS && is_least(tally.below, tally.timed(), 85);
-    let is_of_others = !is_least(tally.own, tally.made, 22);
+    let is_of_others = !is_least(tally.own, tally.made, 35);
     let least = if is_twice && is_even && is_of_others {
         55
     } else {
         75
     };
-    if back == 0 && tally.both() == 0 {
+    if back == 0 && tally.both() == 0 && !is_with_change(tally) {
         None
-    } else if lost >= back.saturating_mul(8) || (is_often_twice && is_mostly_lost) {
-        Some(Cause::OldLink)
+    } else if lost >= back.saturating_mul(8) {
+        Some(cause_of_lost_adds(tally))
+    } else if is_often_twice && is_mostly_lost {
+        Some(old_copy(tally, Cause::OldLink))
     } else if is_least(replies, tally.places, 10) {
         None
     } else if is_below && is_least(tally.removed, tally.timed(), 97) {
         Some(Cause::Unlinked)
     } else if is_least(tally.fits, tally.made, least) {
-        Some(Cause::OldCopy)
+        Some(old_copy(tally, Cause::OldCopy))
     } else if is_below {
         Some(Cause::WrittenBack)
     } else {
@@ -352,10 +404,83 @@ fn cause_of_old_state(evidence: &Evidence) -> Option<Cause> {
     }
 }
 
+/// Returns whether `count` of `of` adds is clearly more than usual: of 100 adds it is usually `usual`.
+fn is_with(count: u64, of: u64, usual: u64) -> bool {
+    of >= 2 * ENOUGH && is_least(count, of, usual.saturating_add(20).min(100))
+}
+
+/// Returns whether nearly all lost keys were added beside an add of another key, or beside a remove.
+fn is_with_change(tally: &Tally) -> bool {
+    is_with(tally.with_add, tally.placed, tally.usually_with_add)
+        || is_with(tally.with_remove, tally.placed, tally.usually_with_remove)
+}
+
+/// Returns the likely cause if keys are lost and hardly ever come back.
+fn cause_of_lost_adds(tally: &Tally) -> Cause {
+    let is_add = is_with(tally.with_add, tally.placed, tally.usually_with_add);
+    let is_remove = is_with(tally.with_remove, tally.placed, tally.usually_with_remove);
+    let is_only_adds = tally.came_back == 0 && tally.both_removes == 0;
+    if is_only_adds
+        && tally.both_adds >= LEAST_BOTH
+        && is_share(tally.both_adds, tally.places, 10)
+    {
+        Cause::AddLost
+    } else if is_add && !is_remove {
+        Cause::SharedPlace
+    } else if is_remove && !is_add {
+        Cause::BehindUnlinked
+    } else {
+        Cause::OldLink
+    }
+}
+
+/// Returns which operation writes an older copy back: the one of which alone two calls return true. `other` if both do,
+/// or neither.
+fn old_copy(tally: &Tally, other: Cause) -> Cause {
+    let (adds, removes) = (tally.both_adds, tally.both_removes);
+    if adds >= 2 * ENOUGH && adds >= removes.saturating_mul(10) {
+        Cause::OldCopyByAdd
+    } else if removes >= 2 * ENOUGH && removes >= adds.saturating_mul(10) {
+        Cause::OldCopyByRemove
+    } else {
+        other
+    }
+}
+
+/// Returns whether several keys have a wrong reply at the same time, more often than by chance.
+fn has_crossed_replies(tally: &Tally) -> bool {
+    let least = tally.usually_crossed.saturating_add(25).max(50);
+    tally.replies >= 4 * ENOUGH && is_least(tally.crossed_replies, tally.replies, least)
+}
+
+/// Returns whether keys are lost and come back, and beside that many single replies are wrong.
+fn is_mixed(tally: &Tally) -> bool {
+    let replies = tally.missed.saturating_add(tally.found);
+    let is_both_ways = tally.lost.min(tally.came_back) >= 2 * ENOUGH;
+    is_both_ways
+        && is_share(replies, tally.places, 18)
+        && is_least(
+            tally.crossed_replies,
+            tally.replies,
+            tally.usually_crossed.saturating_add(10),
+        )
+}
+
+/// Returns whether calls are carried out with the key of another call: while a key is lost during its add another key
+/// comes back, and while a key comes back during its remove another key is lost.
+fn is_of_other_calls(tally: &Tally) -> bool {
+    let some = tally.swapped.saturating_add(tally.swapped_adds);
+    let all = tally.undone.saturating_add(tally.unadded);
+    tally.swapped >= 4 && tally.swapped_adds >= 4 && is_least(some, all, 60)
+}
+
 /// Returns the likely cause if keys were lost and came back.
 fn cause_of_gone(evidence: &Evidence) -> Option<Cause> {
     let tally = &evidence.tally;
     let is_written_over = is_least(tally.fits, tally.made, 60);
+    if is_of_other_calls(tally) && !is_written_over {
+        return Some(Cause::OtherCall);
+    }
     if tally.swapped >= 4 && is_least(tally.swapped, tally.undone, 60) && !is_written_over {
         return Some(Cause::OtherKey);
     }
@@ -363,7 +488,14 @@ fn cause_of_gone(evidence: &Evidence) -> Option<Cause> {
         return None;
     }
     if has_other_replies(tally) {
-        return Some(Cause::EarlierLook);
+        return Some(if has_crossed_replies(tally) {
+            Cause::OtherReply
+        } else {
+            Cause::EarlierLook
+        });
+    }
+    if is_mixed(tally) {
+        return Some(Cause::MixedCalls);
     }
     if is_carried_out_twice(tally) {
         return Some(Cause::CarriedOutTwice);
@@ -417,7 +549,8 @@ fn needs_no_race(tally: &Tally) -> bool {
 fn is_displaced(tally: &Tally) -> bool {
     let is_alone = !is_least(tally.fits, tally.made, 60);
     let is_crossed = is_least(tally.crossed, tally.lost, 60);
-    needs_no_race(tally) || (tally.both() == 0 && is_alone && !is_crossed)
+    let is_single = tally.both().saturating_mul(50) <= tally.places;
+    needs_no_race(tally) || (is_single && is_alone && !is_crossed)
 }
 
 /// Returns the likely cause if keys are lost while other keys change, and never come back.
@@ -442,8 +575,17 @@ fn is_only_full(tally: &Tally) -> bool {
     tally.least_full >= LEAST_FULL && share_of_all(tally.usually_full, tally.short) < 10_000
 }
 
-/// At least this many keys count as many.
+/// At least this many present keys count as many.
 const LEAST_FULL: u64 = 4;
+
+/// Returns whether nearly all keys that come back do so after a remove that returned true, two calls hardly ever both
+/// return true, and other changes cannot have written the keys back.
+fn is_kept(tally: &Tally) -> bool {
+    tally.came_back >= 4 * ENOUGH
+        && is_least(tally.undone, tally.came_back, 90)
+        && tally.both().saturating_mul(20) <= tally.places
+        && !is_least(tally.fits, tally.made, 60)
+}
 
 /// Returns the likely cause if the set fails without a race.
 fn cause_in_one_thread(evidence: &Evidence) -> Option<Cause> {
@@ -451,7 +593,7 @@ fn cause_in_one_thread(evidence: &Evidence) -> Option<Cause> {
     let (lost, back) = (tally.lost, tally.came_back);
     let is_undone = lost == 0 && back >= 4 && is_least(tally.undone, back, 80);
     let is_readded = needs_no_race(tally) && back > 0 && lost > 0 && tally.readded == lost;
-    if is_undone || is_readded {
+    if is_undone || is_readded || is_kept(tally) {
         return Some(Cause::KeptTwice);
     }
     match cause_of_losses(tally) {
@@ -471,10 +613,10 @@ fn cause_in_one_thread(evidence: &Evidence) -> Option<Cause> {
 /// If two keys differ by at least this much, their difference overflows a signed 32-bit number.
 const WIDE: u32 = 0x8000_0000;
 
-/// The number of calls of a key from which on it is no chance that each key is hit only once.
+/// If keys have at least this many calls, it is no coincidence that each key is hit only once.
 const MANY_CALLS: u64 = 30;
 
-/// At least so many pairs of one operation that were both true show that this operation looks first and then acts.
+/// At least this many pairs of calls that both returned true show that an operation checks first and then acts.
 const LEAST_BOTH: u64 = 3;
 
 /// Returns whether two calls of a key look before either changes it: many contradictions are pairs of calls that both
@@ -483,7 +625,11 @@ const LEAST_BOTH: u64 = 3;
 fn is_check_then_act(tally: &Tally) -> bool {
     let (adds, removes, both) = (tally.both_adds, tally.both_removes, tally.both());
     let is_all = tally.places >= 2 && both == tally.places;
-    let is_only_adds = tally.came_back == 0 && removes == 0 && is_share(both, tally.places, 30);
+    let is_not_lost = tally.lost <= both;
+    let is_only_adds = tally.came_back == 0
+        && removes == 0
+        && is_not_lost
+        && is_share(both, tally.places, 30);
     let is_balanced = is_least(adds.min(removes), both, 20) && is_share(both, tally.places, 25);
     let is_repaired = is_least(tally.turned, tally.gone(), 95);
     let is_often = both >= LEAST_BOTH && is_share(both, tally.places, 40);
@@ -519,14 +665,16 @@ fn cause_of_races(evidence: &Evidence) -> Option<Cause> {
         let usual = tally.usually_together.saturating_add(6);
         let is_of_pairs = tally.both_adds > 0 && tally.both_removes > 0;
         let is_apart = is_of_pairs && !is_least(tally.together, tally.timed(), usual);
-        return Some(if is_apart {
+        return Some(if has_crossed_replies(tally) && !is_least(tally.both(), tally.places, 10) {
+            Cause::OtherReply
+        } else if is_apart {
             Cause::BothCheck
         } else {
             Cause::EarlierLook
         });
     }
     let calls = evidence.calls.checked_div(evidence.keys).unwrap_or(0);
-    if tally.places == tally.keys && tally.keys >= 8 && calls >= MANY_CALLS {
+    if tally.unplaced == 0 && tally.places == tally.keys && tally.keys >= 8 && calls >= MANY_CALLS {
         return Some(Cause::Replaced);
     }
     if tally.others.saturating_mul(2) > tally.places {
@@ -564,6 +712,9 @@ pub(crate) fn likely(evidence: &Evidence) -> Option<Cause> {
     let tally = &evidence.tally;
     if is_check_then_act(tally) {
         return Some(check_then_act(tally));
+    }
+    if evidence.bound.is_some() {
+        return Some(Cause::SharedWord);
     }
     if is_unlinked(evidence) {
         return Some(Cause::Unlinked);

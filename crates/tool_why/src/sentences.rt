@@ -184,8 +184,9 @@ fn symptom_text(symptom: Symptom) -> &'static str {
     }
 }
 
-/// Writes each of a few contradictions: the key, the symptom, and the time.
-fn put_few(out: &mut String, few: &[Place]) -> Result<(), AllocError> {
+/// Writes each of a few contradictions: the key, the symptom, and the time. `is_all` says that there are no others.
+fn put_few(out: &mut String, few: &[Place], is_all: bool) -> Result<(), AllocError> {
+    out.push_str(if is_all { "" } else { "at least " })?;
     put_count(out, places_len(few), "contradiction", "contradictions")?;
     let mut mark = ":";
     for place in few {
@@ -216,11 +217,12 @@ fn put_tally(out: &mut String, diagnosis: &Diagnosis) -> Result<(), AllocError> 
         return Ok(());
     }
     if !diagnosis.few.is_empty() {
-        return put_few(out, &diagnosis.few);
+        return put_few(out, &diagnosis.few, tally.unplaced == 0);
     }
     let (keys, all) = (tally.keys, diagnosis.evidence.keys);
     let is_capped = tally.places >= MOST_PLACES;
-    out.push_str(if is_capped { "at least " } else { "" })?;
+    let is_least = is_capped || tally.unplaced > 0;
+    out.push_str(if is_least { "at least " } else { "" })?;
     put_count(out, tally.places, "contradiction", "contradictions")?;
     if keys < all && !is_capped {
         write!(out, " of {keys} of {all} keys")?;
@@ -341,14 +343,14 @@ fn put_unseen(out: &mut String, odd: &Odd) -> Result<(), AllocError> {
     )
 }
 
-/// Writes that the picture shows a later contradiction than the verdict, if it does.
+/// Writes that the picture shows another contradiction than the verdict, if it does.
 fn put_first(out: &mut String, diagnosis: &Diagnosis) -> Result<(), AllocError> {
     let (key, moment) = (diagnosis.first_key, diagnosis.first_moment);
-    let is_listed = diagnosis.shown.is_empty() || !diagnosis.few.is_empty();
-    if !is_listed && moment < diagnosis.until && moment < NEVER {
+    let is_first = diagnosis.is_first || diagnosis.shown.is_empty();
+    if !is_first && moment < diagnosis.until && moment < NEVER {
         writeln!(
             out,
-            "the calls above are of a later contradiction; the first of the run: key {key} up to moment {moment}"
+            "headline and picture are of a contradiction that ends later than the first one (key {key}, moment {moment})"
         )?;
     }
     Ok(())
@@ -364,9 +366,13 @@ fn answers_cause_text(cause: Cause) -> &'static str {
         Cause::NotSeenYet =>
             "contains does not look at what add changes first (it reads a cache, a counter, a second link)",
         Cause::TakenLater =>
-            "contains reads a copy that removed keys leave only later (a delayed removal, a cache, a replica, a filter)",
+            "contains reads a copy that removed keys leave only later (a delayed removal, a cache, a replica, an upper level)",
         Cause::Shortcut =>
-            "contains has a shortcut that returns false too early (a size, a filter, a bucket)",
+            "contains has a shortcut that returns false too early (a size, a filter, a bucket, a remembered node)",
+        Cause::MovedOrShortcut =>
+            "contains walks while other calls move its key, or has a shortcut that returns false too early (a size, a filter)",
+        Cause::MarkOrCopy =>
+            "contains finds a key just removed: it does not look at a mark, or reads a copy that is updated a little later",
         Cause::SizeFirst =>
             "contains looks at a size first that add updates late (it returns false if the size is 0)",
         Cause::ThreadCache =>
@@ -433,6 +439,24 @@ pub(crate) fn cause_text(cause: Cause) -> &'static str {
             "calls of one key do not exclude each other (two locks, a lock that fails, a load and then a store)",
         Cause::OldCopy =>
             "an older copy is written over newer changes of other keys (copy on write, a whole table, a shared word)",
+        Cause::SharedPlace =>
+            "two adds at the same time take the same place, and one overwrites the other (a free slot or node given out twice, a head stored over another)",
+        Cause::AddLost =>
+            "two adds at the same time both write, and one is lost, yet returns true (a compare-and-swap whose failure is not checked, adds that do not exclude each other)",
+        Cause::BehindUnlinked =>
+            "a key is added behind a node that is being removed (no mark, or a mark that add does not check)",
+        Cause::OldCopyByAdd =>
+            "add writes back what it read before, over newer changes (a copy or link stored without a compare-and-swap, a lock released too early); remove does not",
+        Cause::OldCopyByRemove =>
+            "remove writes back what it read before, over newer changes (a copy or word stored without a compare-and-swap); add does not",
+        Cause::SharedWord =>
+            "some keys share a word or bucket, and a change of one writes back an older state of the other (a load, then a store)",
+        Cause::OtherReply =>
+            "a call returns the reply of another call (a combiner or batch that hands replies to the wrong callers)",
+        Cause::MixedCalls =>
+            "calls are mixed up: a call returns the reply of another call, or is carried out with its key (a combiner, a batch, a shared record)",
+        Cause::OtherCall =>
+            "a call is carried out with the key of another call (a combiner or a shared record that is read too late)",
         Cause::OldLink =>
             "a link is written without a check that it is current (an insert behind an unlinked node, a head stored over another)",
         Cause::Unlinked =>
@@ -447,6 +471,7 @@ pub(crate) fn cause_text(cause: Cause) -> &'static str {
 
 /// Writes the scope and the duration.
 pub(crate) fn put_known(out: &mut String, diagnosis: &Diagnosis) -> Result<(), AllocError> {
+    put_first(out, diagnosis)?;
     match &diagnosis.evidence.odd {
         Some(odd) => {
             put_odd(out, odd)?;
@@ -462,7 +487,6 @@ pub(crate) fn put_known(out: &mut String, diagnosis: &Diagnosis) -> Result<(), A
     } else if !matches!(diagnosis.cause, Some(Cause::OneThread | Cause::Overflow)) {
         put_apart(out, &diagnosis.evidence.tally)?;
     }
-    put_first(out, diagnosis)?;
     if diagnosis.evidence.is_part {
         let calls = diagnosis.evidence.calls;
         writeln!(out, "only the first {calls} calls were looked at")?;
