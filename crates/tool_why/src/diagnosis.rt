@@ -308,7 +308,7 @@ pub fn diagnose(alloc: Global, recorded: &Recorded) -> Result<Option<Diagnosis>,
     };
     let mut diagnosis = begin(alloc, first, was, evidence);
     diagnosis.few = few_of(alloc, &found)?;
-    let named = named(alloc, &runs, &found, first)?;
+    let named = named_by_verdict(alloc, &runs, &found, first)?;
     let Some(place) = place_shown(&found, &named, diagnosis.cause, &neighbours) else {
         diagnosis.second = found.wrong;
         if let (Some(odd), Some(wrong)) = (found.odd, found.wrong) {
@@ -333,7 +333,7 @@ pub fn diagnose(alloc: Global, recorded: &Recorded) -> Result<Option<Diagnosis>,
 }
 
 /// Returns the contradiction that the verdict names.
-fn named(
+fn named_by_verdict(
     alloc: Global,
     runs: &Runs<'_>,
     found: &Found,
