@@ -650,7 +650,7 @@ const OF_WHY = [
   [/^because at (\d+) of (\d+) losses an? (?:add|remove) of another key overlapped the lost key's add \(of 100 adds: at (\d+)\)$/, (it, [some, all, usual], { tally }) =>
     Number(some) <= Number(all) && Number(all) <= tally.lost && Number(usual) <= 100],
   [/^because of (\d+) contradictions that one other reply repairs (\d+) share time with one of another key$/, (it, [all, some]) =>
-    Number(some) <= Number(all) && keysOf(it).filter((key) => !hasOrderOf(it, key)).length >= 2],
+    Number(some) <= Number(all) && (Number(some) === 0 || keysOf(it).filter((key) => !hasOrderOf(it, key)).length >= 2)],
   [/^because during (\d+) of (\d+) changes that were undone another key came back or was lost$/, (it, [some, all], { tally }) => Number(some) <= Number(all) && Number(all) <= tally.lost + tally["came back"]],
   [/^because (\d+) of (\d+) undone changes of key (\d+) overlapped changes of key (\d+), and fewer overlapped those of any third key$/, (it, [some, all, one, two], { tally }) =>
     Number(some) <= Number(all) && Number(all) <= tally.lost + tally["came back"] && one !== two && !hasOrderOf(it, Number(one))],
