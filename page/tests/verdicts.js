@@ -649,7 +649,7 @@ const OF_WHY = [
     Number(lost) === tally.lost && Number(twice) === tally["two adds true"] && tally["two removes true"] === 0 && tally["came back"] === 0],
   [/^because at (\d+) of (\d+) losses an? (?:add|remove) of another key overlapped the lost key's add \(of 100 adds: at (\d+)\)$/, (it, [some, all, usual], { tally }) =>
     Number(some) <= Number(all) && Number(all) <= tally.lost && Number(usual) <= 100],
-  [/^because of (\d+) contradictions that one other reply repairs (\d+) share time with one of another key$/, (it, [all, some]) =>
+  [/^because (\d+) of (\d+) contradictions that one other reply repairs share time with one of another key$/, (it, [some, all]) =>
     Number(some) <= Number(all) && (Number(some) === 0 || keysOf(it).filter((key) => !hasOrderOf(it, key)).length >= 2)],
   [/^because during (\d+) of (\d+) changes that were undone another key came back or was lost$/, (it, [some, all], { tally }) => Number(some) <= Number(all) && Number(all) <= tally.lost + tally["came back"]],
   [/^because (\d+) of (\d+) undone changes of key (\d+) overlapped changes of key (\d+), and fewer overlapped those of any third key$/, (it, [some, all, one, two], { tally }) =>

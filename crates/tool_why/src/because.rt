@@ -205,7 +205,7 @@ fn put_because_of_mixed(out: &mut String, tally: &Tally, cause: Cause) -> Result
     match cause {
         Cause::OtherReply | Cause::MixedCalls => writeln!(
             out,
-            "of {replies} contradictions that one other reply repairs {crossed} share time with one of another key"
+            "{crossed} of {replies} contradictions that one other reply repairs share time with one of another key"
         ),
         _ => writeln!(
             out,

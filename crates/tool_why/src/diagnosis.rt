@@ -5,7 +5,7 @@ use lset_words::Presence;
 use std::alloc::{AllocError, Global};
 use tool_facts::{
     Clash, Evidence, Found, KeyCalls, Made, NEVER, Neighbours, Odd, Operation, Place, Recorded,
-    Refused, Runs, Symptom, evidence_of, find_all, first_of, is_answer, is_expected, other,
+    Refused, Runs, Split, Symptom, evidence_of, find_all, first_of, is_answer, is_expected, other,
     place_of, stretches_of, verdict_clash,
 };
 
@@ -211,9 +211,14 @@ fn shows(place: &Place, cause: Option<Cause>, is_odd: bool, neighbours: &Neighbo
         Some(Cause::Batch) => {
             place.is_gone() && is_beside(place, neighbours, Some(Operation::Remove))
         }
-        Some(Cause::OldLink | Cause::OldCopy | Cause::OtherKey) => {
-            place.is_gone() && is_beside(place, neighbours, None)
-        }
+        Some(
+            Cause::OldLink
+            | Cause::OldCopy
+            | Cause::OtherKey
+            | Cause::SharedWord
+            | Cause::SharedPlace
+            | Cause::BehindUnlinked,
+        ) => { place.is_gone() && is_beside(place, neighbours, None) }
         Some(Cause::MovedKeys | Cause::AddGivesUp | Cause::RemoveShortcut) => match place.wrong {
             Some(wrong) => neighbours.overlap(wrong.key, wrong.begun, wrong.ended, None),
             None => true,
@@ -222,11 +227,21 @@ fn shows(place: &Place, cause: Option<Cause>, is_odd: bool, neighbours: &Neighbo
     }
 }
 
+/// Returns whether a contradiction is of the key of a split and ends after the split has begun.
+fn is_in(place: &Place, split: &Split) -> bool {
+    place.key == split.key && place.clash.until > split.since
+}
+
 /// Returns the first contradiction in a long split.
 fn place_in_split(found: &Found, named: &Named) -> Option<Place> {
     let split = found.split.filter(|split| split.is_long())?;
-    for place in named.place.iter().chain(found.places.iter()) {
-        if place.key == split.key && place.clash.until > split.since {
+    if let Some(place) = named.place {
+        if is_in(&place, &split) {
+            return Some(place);
+        }
+    }
+    for place in &found.places {
+        if is_in(place, &split) {
             return Some(*place);
         }
     }
@@ -240,14 +255,18 @@ fn place_shown(
     cause: Option<Cause>,
     neighbours: &Neighbours,
 ) -> Option<Place> {
-    let mut best = place_in_split(found, named);
-    if best.is_some() {
-        return best;
+    let in_split = place_in_split(found, named);
+    if in_split.is_some() {
+        return in_split;
     }
-    let mut least = u64::MAX;
-    for place in named.place.iter().chain(found.places.iter()) {
-        let shows = shows(place, cause, found.odd.is_some(), neighbours);
-        let rank = rank(place, named, shows);
+    let is_odd = found.odd.is_some();
+    let mut best = named.place;
+    let mut least = match &named.place {
+        Some(place) => rank(place, named, shows(place, cause, is_odd, neighbours)),
+        None => u64::MAX,
+    };
+    for place in &found.places {
+        let rank = rank(place, named, shows(place, cause, is_odd, neighbours));
         if best.is_none() || rank < least {
             best = Some(*place);
             least = rank;
@@ -308,7 +327,7 @@ pub fn diagnose(alloc: Global, recorded: &Recorded) -> Result<Option<Diagnosis>,
     };
     let mut diagnosis = begin(alloc, first, was, evidence);
     diagnosis.few = few_of(alloc, &found)?;
-    let named = named(alloc, &runs, &found, first)?;
+    let named = named_by_verdict(alloc, &runs, &found, first)?;
     let Some(place) = place_shown(&found, &named, diagnosis.cause, &neighbours) else {
         diagnosis.second = found.wrong;
         if let (Some(odd), Some(wrong)) = (found.odd, found.wrong) {
@@ -333,7 +352,7 @@ pub fn diagnose(alloc: Global, recorded: &Recorded) -> Result<Option<Diagnosis>,
 }
 
 /// Returns the contradiction that the verdict names.
-fn named(
+fn named_by_verdict(
     alloc: Global,
     runs: &Runs<'_>,
     found: &Found,
