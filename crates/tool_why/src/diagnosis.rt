@@ -333,6 +333,7 @@ pub fn diagnose(alloc: Global, recorded: &Recorded) -> Result<Option<Diagnosis>,
         if let (Some(odd), Some(wrong)) = (found.odd, found.wrong) {
             let key = with_one_answer(alloc, runs.calls_of(wrong.key)?, odd, wrong)?;
             if let Some(place) = place_after(&key, wrong) {
+                diagnosis.is_first = named.is(&place);
                 diagnosis.show(alloc, &key, place, &neighbours)?;
             }
         }
