@@ -1,7 +1,7 @@
-"""Checks every sentence that `check` and `show` print about a report. Each kind of sentence is a property, which a search
-of all orders decides. The reports have 3 to 9 random calls and are right or wrong. A line without a property fails the
-test. `trace` and `show` must also show the calls of the report that `replay` prints. (tests/judging.py checks sentences
-about recordings.)
+"""Checks every sentence that `check` and `show` print about a report. Each kind of sentence is a property, which a
+search through all orders decides. The reports have 3 to 9 random calls and are right or wrong. A line without a
+property fails the test. `trace` and `show` must also show the calls of the report that `replay` prints.
+(tests/judging.py checks sentences about recordings.)
 
 The environment variable CASES is the number of cases that each test draws per seed; `--few` draws a tenth.
 """
@@ -51,7 +51,7 @@ class Sentences:
             case.met[holds.__name__] += 1
 
 
-# ---- The search of all orders, for calls of a set with several keys, a quota and ceilings
+# ---- The search through all orders, for calls of a set with several keys, a quota and ceilings
 
 
 def is_reply(word, key, reply):
