@@ -16,8 +16,8 @@ const MOST_OPENING: u64 = 1 << 20;
 /// keys.
 ///
 /// A thread gets its own seat from [`RenewedSet::split`], and returns it by dropping it. Calls wait during a renewal.
-/// The renewal waits for pending calls, but not for threads that are between two calls. A call waits for another one
-/// for at most [`patience`](RenewedSet::with_patience), and then returns [`Fault::TimedOut`] without having been made.
+/// The renewal waits for pending calls, but not for threads that are between two calls. A call waits for another call
+/// for at most [`patience`](RenewedSet::with_patience); after that it returns [`Fault::TimedOut`] and has no effect.
 /// The page FOREIGN.md states what is promised about the order of calls.
 ///
 /// ```
