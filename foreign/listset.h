@@ -237,7 +237,7 @@ LISTSET_USED listset_reply listset_contains_now(listset_seat *seat, uint32_t key
 /// quota and `opening` keys. Returns 0 if no set can be opened with these.
 uint64_t listset_most_reads(uint32_t seats, uint32_t quota, uint32_t opening);
 
-/// Stores a receipt of everything that `seat` has seen in `out`, which must be empty. The receipt can be sent to
+/// Stores in `out`, which must be empty, a receipt of everything that `seat` has seen. The receipt can be sent to
 /// another thread with any message.
 LISTSET_USED listset_fault listset_receipt_of(listset_seat *seat, listset_receipt *out);
 

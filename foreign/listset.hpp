@@ -153,9 +153,9 @@ private:
 /// and `opening` keys. Returns 0 if no set can be opened with these.
 inline uint64_t most_reads(uint32_t seats, uint32_t quota, uint32_t opening) { return listset_most_reads(seats, quota, opening); }
 
-/// A thread's seat in a set, or nothing. It can be moved but not copied, and only one thread at a time may use it. A
-/// call that begins while another thread is making a call from the seat throws `fault`. Seats are aligned to cache
-/// lines, since a call writes to its seat.
+/// A thread's seat in a set (the right to call the set as one thread), or nothing. It can be moved but not copied, and
+/// only one thread at a time may use it. A call that begins while another thread is making a call from the seat throws
+/// `fault`. Seats are aligned to cache lines, since a call writes to its seat.
 class alignas(128) seat {
 public:
   seat() = default;
@@ -308,6 +308,7 @@ inline void renew(std::vector<seat> &seats, list kind, uint32_t count, uint32_t 
 /// `patience`; after that it throws with LISTSET_TIMED_OUT and has no effect. docs/FOREIGN.md states what is promised
 /// about the order of calls.
 class renewed_set {
+  // A place in the set: a seat with its lock, and whether a thread has the seat.
   struct alignas(128) place {
     std::mutex lock;
     listset_seat raw = LISTSET_NONE;
@@ -351,7 +352,7 @@ class renewed_set {
     return it;
   }
 
-  // Holds the locks of all places.
+  // Holds the locks of all places during its lifetime.
   class all_taken {
     std::atomic<bool> &is_wanted;
     held one;

@@ -313,8 +313,9 @@ class Receipt:
 
 
 class Seat:
-    """A thread's seat in a set, or nothing after it has been gathered or closed. Only one thread at a time may use it: a
-    call that begins while another thread is making a call from it raises `Fault`.
+    """A thread's seat in a set (the right to call the set as one thread), or nothing after it has been gathered or
+    closed. Only one thread at a time may use it: a call that begins while another thread is making a call from it
+    raises `Fault`.
     """
 
     def __init__(self):
@@ -462,10 +463,10 @@ def _renew(seats, kind, quota):
 
 
 def renew(seats, kind, count, quota):
-    """Closes the set whose seats are all in `seats`, and opens a set of the list `kind` with its keys. Returns the `count`
-    seats of the new set, each with this quota. During the call, no thread may use a seat in `seats`. If it raises,
-    nothing is lost: either the given seats still are the set (they may have been gathered), or the first one is closed,
-    and its `close` returns the keys.
+    """Closes the set whose seats are all in `seats`, and opens a set of the list `kind` with its keys. Returns the
+    `count` seats of the new set, each with this quota. During the call, no thread may use a seat in `seats`. If it
+    raises, nothing is lost: either the set is still open and the given seats contain all its seats (some can have been
+    gathered), or the first one is closed, and its `close` returns the keys.
     """
     given, many, kind = list(seats), _number(count, "number of seats"), _list(kind)
     places = given + [Seat() for _ in range(len(given), min(many, 64))]
@@ -555,6 +556,8 @@ class Shared:
 
 
 class _Place:
+    """A place in the set: a seat with its lock, and whether a thread has the seat."""
+
     def __init__(self, seat):
         self.lock, self.seat, self.is_taken, self.adds, self.removes = threading.Lock(), seat, False, 0, 0
 

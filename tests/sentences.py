@@ -55,7 +55,7 @@ class Sentences:
 
 
 def is_reply(word, key, reply):
-    """Returns whether a set with these keys gives this reply to a call."""
+    """Returns whether a set can return this reply to a call on this key."""
     if word == "ceiling":
         return reply == "nothing" or (reply.startswith("at-") and int(reply[3:]) >= key)
     return reply in ("true", "false") or (word, reply) == ("add", "full")

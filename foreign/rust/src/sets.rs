@@ -138,8 +138,8 @@ pub(crate) fn told(code: u8) -> Result<(), Fault> {
     }
 }
 
-/// A thread's seat in a set. It cannot be copied. Only one thread at a time uses it, but it can be passed to another
-/// thread.
+/// A thread's seat in a set: the right to call the set as one thread. It cannot be copied. Only one thread at a time
+/// uses it, but it can be passed to another thread.
 ///
 /// ```
 /// use listset::{open, Added, List};
