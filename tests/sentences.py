@@ -89,9 +89,9 @@ def left_by_orders(calls, opening, quota):
 
 
 def drawn_calls(rng, quota, opening):
-    """Draws overlapping calls of threads, with the end and reply of those that have ended. Returns the calls, their
-    numbers in the order in which they took effect with the set's replies, and the final keys. Occasionally, a call
-    returns a wrong reply.
+    """Draws overlapping calls of threads, with the end and reply of those that have ended. Returns the calls; the order
+    in which they took effect, as numbers with the set's replies; and the final keys. Occasionally, a call returns a
+    wrong reply.
     """
     held, calls, pending, order, moment = SetModel(quota, opening), [], {}, [], 0
     count, wrong = rng.randrange(3, 10), rng.choice([0, 0.1, 0.3])

@@ -168,8 +168,8 @@ def drips(connection, end):
 
 
 def test_clients_of_one_seat_are_served_in_turn(program):
-    """Clients use one seat, which can add 2 keys, one after another. The system refuses a connection to another address
-    of this machine, and the client after the last session.
+    """Clients take turns on one seat, which can add 2 keys. The system refuses a connection to another address of this
+    machine, and the client after the last session.
     """
     with serving(program, ONE_LIST, 1, 2, 6) as server:
         with pytest.raises(ConnectionRefusedError):
