@@ -1,6 +1,6 @@
 """Builds the benches, which are Rattle programs that the gate does not prove. They are proved and built in a separate
-tree, together with the libraries below them. Their file names here end in `_`, since rt accepts .rt and .antt files
-only in crates.
+tree, together with their dependencies. Their file names here end in `_`, since rt accepts .rt and .antt files only in
+crates.
 """
 
 import pathlib
@@ -27,7 +27,7 @@ def lines_with_benches():
 
 
 def lay_out(room, names):
-    """Creates a tree with these benches and the libraries below them in a folder."""
+    """Creates a tree with these benches and their dependencies in a folder."""
     wanted = crates_txt.below(names, lines=lines_with_benches())
     (room / "crates.txt").write_text("".join(f"{lines_with_benches()[it]}\n" for it in wanted))
     shutil.copy2(TOP / "HANDLES", room)
@@ -65,8 +65,8 @@ def by_rustc(source, room):
 
 
 def read():
-    """Reads each bench and the libraries below it without a proof, to check that names and types still match. Returns the
-    exit status.
+    """Checks each bench and its dependencies without a proof, to see that names and types still match. Returns the exit
+    status.
     """
     failed = 0
     with tempfile.TemporaryDirectory(prefix="bench-") as room:

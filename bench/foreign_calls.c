@@ -1,6 +1,6 @@
-// Makes calls on a running set from C. Arguments: SET THREADS CALLS KEYS. Prints the nanoseconds of all threads
-// together, divided by the number of calls. One third each of the calls are add, remove and contains, with random keys.
-// Half of the keys are in the set.
+// Makes calls on a running set from C. Arguments: SET THREADS CALLS KEYS; each thread makes CALLS calls. Prints the
+// elapsed nanoseconds, divided by the calls of all threads. One third each of the calls are add, remove and contains,
+// with random keys. About half of the keys are in the set.
 #define _POSIX_C_SOURCE 200809L
 #include <listset.h>
 #include <pthread.h>

@@ -34,9 +34,9 @@ RECORDINGS = {
 
 
 def judge():
-    """Prints the table of recordings: the minimum time of several alternating runs, the peak memory, the instructions per
-    call, which are counted in a recording with a tenth of the calls, and how many times these instructions the whole
-    recording takes.
+    """Prints the table of recordings. The time is the minimum of several runs, which alternate between the two judges.
+    The memory is the peak. The instructions per call are counted in a recording with a tenth of the calls; the last
+    column states how many times as many instructions the whole recording takes.
     """
     measures = "`judge`, s", "KB", "by hand, s", "KB", "ratio of s", "of KB", "instructions a call", "by hand", "ratio", "ten times"
     heading("Recording", *measures)
@@ -62,9 +62,9 @@ def ratio(ours, hand):
 
 
 def instructions(programs, room, whole, calls, *asked):
-    """Returns the table cells with the instructions per call, counted in a recording with a tenth of the calls, and with
-    how many times these instructions the whole recording takes. The last cell is `-` for a recording of more than a
-    million calls.
+    """Returns the table cells about instructions: the instructions per call of both judges, counted in a recording with
+    a tenth of the calls, and their ratio. The last cell states how many times as many instructions the whole recording
+    takes; it is `-` for a recording of more than a million calls.
     """
     file = write(f"{room}/tenth", calls // 10, *asked)
     ours, hand = (instructions_of(words, file) or 0 for words in programs)
@@ -73,8 +73,8 @@ def instructions(programs, room, whole, calls, *asked):
 
 
 def lines_of(calls, threads, keys, has_spanning):
-    """Yields the lines of a recording. Random threads begin a call or end their pending one. A call takes effect at its
-    begin or at its end.
+    """Yields the lines of a recording. Random threads begin a call or end their pending one. A call takes effect when
+    it starts or when it ends.
     """
     yield "listset-calls 1\n"
     if has_spanning:

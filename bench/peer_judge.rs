@@ -1,7 +1,7 @@
 // A judge of recordings written by hand, as a baseline. It reads `listset-calls 1` from standard input and prints `ok N
 // calls`, or `not linearizable` and the key. Its rule is that of crates/lset_judge/specs/Rule.antt: a key changes only
 // if a call that ends requires it, through the pending change with the nearest end. It works in one pass. It checks the
-// format of its input, but not that calls are in the order of their begins and that moments differ.
+// format of its input, but not that calls are ordered by start or that moments differ.
 use std::collections::{BinaryHeap, HashMap, HashSet};
 use std::cmp::Reverse;
 use std::io::Read;

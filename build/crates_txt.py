@@ -14,7 +14,7 @@ NO_EDITS = shutil.ignore_patterns("out", "must-fail")
 
 
 def lines_by_crate(text):
-    """Returns the lines of a crates.txt by crate, lowest crate first."""
+    """Returns the lines of a crates.txt by crate, dependencies first."""
     lines = [line.partition("#")[0].strip() for line in text.splitlines()]
     return {line.partition(":")[0].split()[0]: line for line in lines if line}
 
@@ -30,8 +30,8 @@ def tests():
 
 
 def below(names, root=TOP, lines=None):
-    """Returns these crates and all crates below them, lowest first. (crates.txt lists each crate after those that it
-    uses.)
+    """Returns these crates and all their dependencies, dependencies first. (crates.txt lists each crate after those
+    that it uses.)
     """
     lines, wanted = lines or lines_of(root), set(names)
     for name in reversed(lines):

@@ -27,7 +27,7 @@ def packed(content):
 
 
 def tar(packed_files, root, when):
-    """Returns a .tar.gz with the files below the folder `root`, all of which have the time `when`, in seconds."""
+    """Returns a .tar.gz with the files below the folder `root`, each with the modification time `when`, in seconds."""
     made = io.BytesIO()
     folders = {str(it) for name in packed_files for it in pathlib.PurePosixPath(root + name).parents} - {"."}
     with tarfile.open(fileobj=made, mode="w", format=tarfile.USTAR_FORMAT) as archive:

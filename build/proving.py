@@ -40,7 +40,7 @@ def wait_for(room, names):
 
 
 def wait_for_those_below(room, names):
-    """Waits like `wait_for` until the crates below these are proved, and lets the proofs run first (nice)."""
+    """Waits like `wait_for` until the dependencies of these crates are proved, and lets the proofs run first (nice)."""
     os.nice(10)
     if not wait_for(room, [it for it in crates_txt.below(names) if it not in names]):
         raise toolchain.NotBuilt("a crate below is not proved")
@@ -100,8 +100,8 @@ def telling_each_minute(room, tell, began):
 
 
 def prove_below(room, names, tell):
-    """Proves these crates and those below them in the folder `room`. Prints each crate that is done and, once a minute,
-    those in progress. Raises NotBuilt if a crate is not proved.
+    """Proves these crates and their dependencies in the folder `room`. Prints each crate that is done and, once a
+    minute, those in progress. Raises NotBuilt if a crate is not proved.
     """
     names, lines, done, began = crates_txt.below(names), [], [], time.monotonic()
     processors = len(os.sched_getaffinity(0))

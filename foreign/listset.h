@@ -20,9 +20,10 @@
 //
 // Any number of threads may call at the same time. A call keeps no state and does not block.
 //
-// THE SETS: each thread calls from its own seat. `listset_open` returns a seat that contains all others;
-// `listset_split` takes one of these out for another thread; `listset_gather` puts a seat back into another one of its
-// set. Once one seat has gathered all others, `listset_close` closes the set and `listset_keys` returns its final keys.
+// THE SETS: each thread calls from its own seat, the right to call the set as one thread. `listset_open` returns a seat
+// that contains all others; `listset_split` takes one of these out for another thread; `listset_gather` merges a seat
+// into another seat of the same set. Once one seat has gathered all others, `listset_close` closes the set and
+// `listset_keys` returns its final keys.
 //
 //     uint32_t none;
 //     listset_seat seat = LISTSET_NONE;
@@ -47,7 +48,7 @@
 // - Sets that are open at the same time have different numbers, and a new set does not have the number of any remaining
 //   receipt. A function that takes two seats, or a seat and a receipt, gets two different ones.
 //
-// A call that needs a lock of another thread waits for it: it spins, and then yields the processor.
+// A call that needs a lock that another thread holds waits for it: it spins, and then yields the processor.
 #ifndef LISTSET_H
 #define LISTSET_H
 
@@ -157,8 +158,8 @@ typedef struct {
 
 #define LISTSET_NONE {false, NULL}
 
-/// A receipt of everything that a seat had seen when it issued the receipt, or nothing. It is initialized with
-/// LISTSET_NONE, and can be passed to any thread.
+/// A receipt, or nothing. A receipt records everything that a seat had seen when it issued the receipt. It is
+/// initialized with LISTSET_NONE, and can be passed to any thread.
 typedef struct {
   bool full;
   void *at;
@@ -228,15 +229,15 @@ LISTSET_USED listset_reply listset_contains(listset_seat *seat, uint32_t key);
 /// lock-free list the call can wait until another thread adds or removes a key.
 LISTSET_USED listset_reply listset_ceiling(listset_seat *seat, uint32_t key, uint32_t *at);
 
-/// Makes a `listset_contains` of a lazy or a lock-free list. Such a call waits for no lock, and makes at most `listset_most_reads` steps,
-/// whatever the other threads do. Makes no call and replies LISTSET_MAY_BLOCK on the other lists.
+/// Replies like `listset_contains`, but waits for no lock and makes at most `listset_most_reads` steps, whatever the
+/// other threads do. Only for lazy and lock-free lists: on any other list, makes no call and replies LISTSET_MAY_BLOCK.
 LISTSET_USED listset_reply listset_contains_now(listset_seat *seat, uint32_t key);
 
-/// Returns the maximum number of steps of a `listset_contains_now` of a list that was opened with `seats` seats, this quota and
-/// `opening` keys; 0 if no set opens with these.
+/// Returns the maximum number of steps of `listset_contains_now` on a list that was opened with `seats` seats, this
+/// quota and `opening` keys. Returns 0 if no set can be opened with these.
 uint64_t listset_most_reads(uint32_t seats, uint32_t quota, uint32_t opening);
 
-/// Stores a receipt of everything that `seat` has seen in `out`, which must be empty. The receipt can be sent to
+/// Stores in `out`, which must be empty, a receipt of everything that `seat` has seen. The receipt can be sent to
 /// another thread with any message.
 LISTSET_USED listset_fault listset_receipt_of(listset_seat *seat, listset_receipt *out);
 

@@ -132,8 +132,8 @@ inline std::vector<uint32_t> keys_of(listset_seat &closed) {
   return keys;
 }
 
-/// A receipt of everything that a seat had seen when it issued the receipt, or nothing. It can be moved but not copied,
-/// and can be passed to any thread.
+/// A receipt, or nothing. A receipt records everything that a seat had seen when it issued the receipt. It can be moved
+/// but not copied, and can be passed to any thread.
 class receipt {
 public:
   receipt() = default;
@@ -149,13 +149,13 @@ private:
   friend class seat;
 };
 
-/// Returns the maximum number of steps of `seat::contains_now` of a list that was opened with `seats` seats, this quota and
-/// `opening` keys; 0 if no set opens with these.
+/// Returns the maximum number of steps of `seat::contains_now` on a list that was opened with `seats` seats, this quota
+/// and `opening` keys. Returns 0 if no set can be opened with these.
 inline uint64_t most_reads(uint32_t seats, uint32_t quota, uint32_t opening) { return listset_most_reads(seats, quota, opening); }
 
-/// A thread's seat in a set, or nothing. It can be moved but not copied, and only one thread at a time may use it. A
-/// call that begins while another thread is making a call from the seat throws `fault`. Seats are aligned to cache
-/// lines, since a call writes to its seat.
+/// A thread's seat in a set (the right to call the set as one thread), or nothing. It can be moved but not copied, and
+/// only one thread at a time may use it. A call that begins while another thread is making a call from the seat throws
+/// `fault`. Seats are aligned to cache lines, since a call writes to its seat.
 class alignas(128) seat {
 public:
   seat() = default;
@@ -185,8 +185,9 @@ public:
   /// Returns whether a key is in the set.
   bool contains(uint32_t key) { return by(listset_contains, key) == LISTSET_TRUE; }
 
-  /// Makes a `contains` of a lazy or a lock-free list. Such a call waits for no lock, and makes at most `most_reads` steps, whatever the
-  /// other threads do. Throws, with LISTSET_READS_BLOCK, on the other lists.
+  /// Returns whether a key is in the set, like `contains`, but waits for no lock and makes at most `most_reads` steps,
+  /// whatever the other threads do. Only for lazy and lock-free lists: on any other list, throws with
+  /// LISTSET_READS_BLOCK.
   bool contains_now(uint32_t key) {
     listset_answer answer = by(listset_contains_now, key);
     if (answer == LISTSET_MAY_BLOCK) throw fault(LISTSET_READS_BLOCK);
@@ -303,10 +304,11 @@ inline void renew(std::vector<seat> &seats, list kind, uint32_t count, uint32_t 
 /// keys.
 ///
 /// A thread gets its own seat from `split`; the seat's destructor returns it. Calls wait during a renewal. The renewal
-/// waits for pending calls, but not for threads that are between two calls. A call waits for another one for at most
-/// `patience`, and then throws with LISTSET_TIMED_OUT without having been made. docs/FOREIGN.md states what is
-/// promised about the order of calls.
+/// waits for pending calls, but not for threads that are between two calls. A call waits for another call for at most
+/// `patience`; after that it throws with LISTSET_TIMED_OUT and has no effect. docs/FOREIGN.md states what is promised
+/// about the order of calls.
 class renewed_set {
+  // A place in the set: a seat with its lock, and whether a thread has the seat.
   struct alignas(128) place {
     std::mutex lock;
     listset_seat raw = LISTSET_NONE;
@@ -350,7 +352,7 @@ class renewed_set {
     return it;
   }
 
-  // Holds the locks of all places.
+  // Holds the locks of all places during its lifetime.
   class all_taken {
     std::atomic<bool> &is_wanted;
     held one;

@@ -12,7 +12,8 @@ A text is str or bytes. If the program `listset` would not exit with status 0, a
 and the text that the program would print. Any number of threads may call at the same time, and run in parallel: a call
 releases Python's global interpreter lock.
 
-The sets are for tests and teaching. Each thread calls from its own seat, and only one thread at a time uses a seat:
+The sets are for tests and teaching. Each thread calls from its own seat (the right to call the set as one thread), and
+only one thread at a time uses a seat:
 
     mine = listset.open("lazy", seats=2, quota=1000)
     other = mine.split()
@@ -222,7 +223,7 @@ class Full(Fault):
 
 
 class TimedOut(Fault, TimeoutError):
-    """Raised by a `RenewedSet` if another thread was in a call for too long, so that this call was not made."""
+    """Raised by a `RenewedSet` if a call had to wait too long for a call of another thread. The call has no effect."""
 
     def __init__(self):
         super().__init__(TIMED_OUT)
@@ -297,7 +298,9 @@ def _closed_keys(closed):
 
 
 class Receipt:
-    """A receipt of everything that a seat had seen when it issued the receipt. It can be passed to any thread."""
+    """A receipt, which records everything that a seat had seen when it issued the receipt. It can be passed to any
+    thread.
+    """
 
     def __init__(self):
         self.raw = _Raw()
@@ -310,8 +313,9 @@ class Receipt:
 
 
 class Seat:
-    """A thread's seat in a set, or nothing after it has been gathered or closed. Only one thread at a time may use it: a
-    call that begins while another thread is making a call from it raises `Fault`.
+    """A thread's seat in a set (the right to call the set as one thread), or nothing after it has been gathered or
+    closed. Only one thread at a time may use it: a call that begins while another thread is making a call from it
+    raises `Fault`.
     """
 
     def __init__(self):
@@ -375,8 +379,9 @@ class Seat:
     __contains__ = contains
 
     def contains_now(self, key):
-        """Makes a `contains` of a lazy or a lock-free list. Such a call waits for no lock, and makes at most `most_reads` steps, whatever the
-        other threads do. Raises `Fault` on the other lists."""
+        """Returns whether a key is in the set, like `contains`, but waits for no lock and makes at most `most_reads`
+        steps, whatever the other threads do. Only for lazy and lock-free lists: on any other list, raises `Fault`.
+        """
         reply = self._reply(_NOW, key)
         if reply == MAY_BLOCK:
             raise Fault(READS_BLOCK)
@@ -427,8 +432,9 @@ class Seat:
 
 
 def most_reads(seats, quota, keys=0):
-    """Returns the maximum number of steps of `Seat.contains_now` of a list that was opened with `seats` seats, this quota and `keys` keys;
-    0 if no set opens with these."""
+    """Returns the maximum number of steps of `Seat.contains_now` on a list that was opened with `seats` seats, this
+    quota and `keys` keys. Returns 0 if no set can be opened with these.
+    """
     return _MOST_READS(_number(seats, "number of seats"), _number(quota, "quota"), _number(keys, "number of keys"))
 
 
@@ -457,10 +463,10 @@ def _renew(seats, kind, quota):
 
 
 def renew(seats, kind, count, quota):
-    """Closes the set whose seats are all in `seats`, and opens a set of the list `kind` with its keys. Returns the `count`
-    seats of the new set, each with this quota. During the call, no thread may use a seat in `seats`. If it raises,
-    nothing is lost: either the given seats still are the set (they may have been gathered), or the first one is closed,
-    and its `close` returns the keys.
+    """Closes the set whose seats are all in `seats`, and opens a set of the list `kind` with its keys. Returns the
+    `count` seats of the new set, each with this quota. During the call, no thread may use a seat in `seats`. If it
+    raises, nothing is lost: either the set is still open and the given seats contain all its seats (some can have been
+    gathered), or the first one is closed, and its `close` returns the keys.
     """
     given, many, kind = list(seats), _number(count, "number of seats"), _list(kind)
     places = given + [Seat() for _ in range(len(given), min(many, 64))]
@@ -550,6 +556,8 @@ class Shared:
 
 
 class _Place:
+    """A place in the set: a seat with its lock, and whether a thread has the seat."""
+
     def __init__(self, seat):
         self.lock, self.seat, self.is_taken, self.adds, self.removes = threading.Lock(), seat, False, 0, 0
 
@@ -565,8 +573,8 @@ class RenewedSet:
 
     A thread gets its own seat from `split`, and returns it with `drop` or at the end of a `with` block. Calls wait
     during a renewal. The renewal waits for pending calls, but not for threads that are between two calls. A call waits
-    for another one for at most `patience` seconds, or forever if that is None, and then raises `TimedOut` without
-    having been made. docs/FOREIGN.md states what is promised about the order of calls.
+    for another call for at most `patience` seconds (forever if it is None); after that it raises `TimedOut` and has no
+    effect. docs/FOREIGN.md states what is promised about the order of calls.
     """
 
     def __init__(self, kind, seats, quota, keys=(), *, patience=None):

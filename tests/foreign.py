@@ -121,7 +121,7 @@ def words_of_program(program):
 
 @needs("gcc")
 def test_a_c_program_prints_what_the_program_prints(installed, program):
-    """A C program over each library prints the same bytes as listset, with the same exit status."""
+    """A C program that is linked with either library prints the same bytes as listset, with the same exit status."""
     static, shared, run_path = installed.built("words.c"), installed.room / "shared", f"-Wl,-rpath,{installed.library}"
     well("gcc", "-std=c11", *WARN, installed.include, TESTS / "words.c", f"-L{installed.library}", "-llistset", run_path, "-o", shared)
     text = (EXAMPLES / "snip.schedule").read_bytes()

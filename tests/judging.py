@@ -1,4 +1,4 @@
-"""Compares `judge` with a search of all orders: the verdict, and the key and the moment that a refusal names. Also
+"""Compares `judge` with a search through all orders: the verdict, and the key and the moment that a refusal names. Also
 tests texts that arrive in pieces. `--few` tries a tenth of the texts.
 """
 
@@ -78,7 +78,7 @@ def text_of(calls, opening, keys):
     return "".join(f"{it}\n" for it in [TITLE, *(f"opening {it}" for it in opening), *map(call_line, calls), *ends])
 
 
-# ---- The search of all orders
+# ---- The search through all orders
 
 
 def changes(it):
@@ -115,7 +115,7 @@ def known_at(calls, moment):
 
 
 class Judged:
-    """A recording, and the result of searching all its orders."""
+    """A recording, and the result of a search through all orders of its calls."""
 
     def __init__(self, calls, opening, keys):
         self.calls, self.opening, self.keys = calls, opening, keys
@@ -129,7 +129,7 @@ class Judged:
             self.key = min(wrong, key=lambda it: (it not in opening and not self.may_be_changed(it), it), default=None)
 
     def may_be_changed(self, key):
-        """Returns whether a call of the key has ended or can change the key."""
+        """Returns whether a call on the key has ended or can change the key."""
         return any(it.end or changes(it) for it in self.of_key[key])
 
     def overlapped(self):

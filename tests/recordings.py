@@ -25,7 +25,7 @@ RECORDINGS = [recording(1), recording(2), recording(3), recording(1, is_cut=True
 @pytest.mark.parametrize("text", RECORDINGS, ids=range(len(RECORDINGS)))
 @pytest.mark.parametrize("parts", [4, 30])
 def test_the_parts_of_a_recording_have_its_verdict(program, room, text, parts):
-    """The refusal that is named, or the part with an error, can be another one."""
+    """The verdict must be the same, but a refusal can name another key, and an error can be found in another part."""
     recorded = room / "run.calls"
     recorded.write_text(text)
     done, due = ran(TOP / "examples/recordings/judge_by_key", recorded, parts, env={**os.environ, "LISTSET": program}), ran(program, "judge", recorded)

@@ -1,7 +1,7 @@
-"""Checks every sentence that `check` and `show` print about a report. Each kind of sentence is a property, which a search
-of all orders decides. The reports have 3 to 9 random calls and are right or wrong. A line without a property fails the
-test. `trace` and `show` must also show the calls of the report that `replay` prints. (tests/judging.py checks sentences
-about recordings.)
+"""Checks every sentence that `check` and `show` print about a report. Each kind of sentence is a property, which a
+search through all orders decides. The reports have 3 to 9 random calls and are right or wrong. A line without a
+property fails the test. `trace` and `show` must also show the calls of the report that `replay` prints.
+(tests/judging.py checks sentences about recordings.)
 
 The environment variable CASES is the number of cases that each test draws per seed; `--few` draws a tenth.
 """
@@ -51,11 +51,11 @@ class Sentences:
             case.met[holds.__name__] += 1
 
 
-# ---- The search of all orders, for calls of a set with several keys, a quota and ceilings
+# ---- The search through all orders, for calls of a set with several keys, a quota and ceilings
 
 
 def is_reply(word, key, reply):
-    """Returns whether a set with these keys gives this reply to a call."""
+    """Returns whether a set can return this reply to a call on this key."""
     if word == "ceiling":
         return reply == "nothing" or (reply.startswith("at-") and int(reply[3:]) >= key)
     return reply in ("true", "false") or (word, reply) == ("add", "full")
@@ -89,9 +89,9 @@ def left_by_orders(calls, opening, quota):
 
 
 def drawn_calls(rng, quota, opening):
-    """Draws overlapping calls of threads, with the end and reply of those that have ended. Returns the calls, their
-    numbers in the order in which they took effect with the set's replies, and the final keys. Occasionally, a call
-    returns a wrong reply.
+    """Draws overlapping calls of threads, with the end and reply of those that have ended. Returns the calls; the order
+    in which they took effect, as numbers with the set's replies; and the final keys. Occasionally, a call returns a
+    wrong reply.
     """
     held, calls, pending, order, moment = SetModel(quota, opening), [], {}, [], 0
     count, wrong = rng.randrange(3, 10), rng.choice([0, 0.1, 0.3])

@@ -35,7 +35,7 @@ LATE = 3
 class Sharing:
     """A client with habits of its own: it sends its requests in pieces of random size, byte by byte, or all of them before
     it reads an answer. It ends with QUIT, in the middle of a line, or with random bytes. `told` contains the answers to
-    its calls of shared keys, and `own` its own keys.
+    its calls on shared keys, and `own` its own keys.
 
     On a LockFreeList there is no CEILING, because a ceiling that meets a marked node restarts until another call passes
     there.
@@ -116,8 +116,8 @@ def test_clients_at_once_receive_right_answers(program, kind):
 
 
 def test_more_clients_than_seats_are_served(program):
-    """There are more sessions than seats, than threads of a set, and than places in the queue. A session that ends with an
-    error ends no other. One client in ten resets its connection without having read all answers.
+    """There are more sessions than seats, than a set can have threads, and than fit into the queue. A session that ends
+    with an error ends no other session. One client in ten resets its connection without having read all answers.
     """
     def speak(key, connection):
         if key % 10 == 0:
@@ -168,8 +168,8 @@ def drips(connection, end):
 
 
 def test_clients_of_one_seat_are_served_in_turn(program):
-    """Clients use one seat, which can add 2 keys, one after another. The system refuses a connection to another address
-    of this machine, and the client after the last session.
+    """Clients take turns on one seat, which can add 2 keys. The system refuses a connection to another address of this
+    machine, and the client after the last session.
     """
     with serving(program, ONE_LIST, 1, 2, 6) as server:
         with pytest.raises(ConnectionRefusedError):

@@ -1,6 +1,6 @@
-"""Tests what `judge` prints below a refusal. page/tests/verdicts.js checks each sentence of the same engine in Node. The
-tests here check that the program prints the same. They also check the count, which only the text has, by a search of
-all orders.
+"""Tests what `judge` prints below a refusal. page/tests/verdicts.js checks each sentence of the same engine in Node.
+The tests here check that the program prints the same. They also check the contradictions by counting, which only the
+text has, with a search through all orders.
 """
 
 import itertools
@@ -34,8 +34,8 @@ def verdict_lines(output):
 
 
 def is_count(calls, opening, keys, lines):
-    """Returns whether the calls of a count, and the changes that could undo them, have no order. Returns None if the
-    message does not name all calls.
+    """Returns whether no order explains the calls that a contradiction by counting names, together with the calls that
+    could have changed the key back. Returns None if the message does not name all calls.
     """
     found = COUNT.match("\n".join(lines))
     named, key = found[1], int(found[2])
@@ -258,7 +258,7 @@ def test_a_linearizable_recording_has_no_diagnosis(program, path):
 
 
 def test_a_refusal_without_a_clash_has_a_count(program, path):
-    """Three adds and one remove overlap. No two of these calls contradict each other."""
+    """Three adds and one remove overlap. No two of these calls contradict each other, so `judge` must count."""
     calls = [Call(thread, "add", 7, 1 + thread, 10 + thread, "true") for thread in range(3)] + [Call(3, "remove", 7, 4, 9, "true")]
     path.write_text(text_of(calls, [], [7]))
     lines = verdict_lines(ran(program, "judge", path).stdout)

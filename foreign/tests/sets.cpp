@@ -73,7 +73,7 @@ static bool is_right_shared(list kind) {
   return found == 4000 && set.contains(1) && set.ceiling(3) == 4u && set.close() == due;
 }
 
-// Threads add more keys than the seats have quota for. Exactly as many adds as the quota allows must return true, and
+// Threads add more keys than all quotas together allow. Exactly as many adds as the quotas allow must return true, and
 // exactly these keys remain.
 static bool is_filled(uint32_t seats, uint32_t quota) {
   listset::shared set(list::lock_free, seats, quota); // On this list, a wrong call cannot leave a lock held.
@@ -91,8 +91,8 @@ static bool is_filled(uint32_t seats, uint32_t quota) {
   return due.size() == seats * quota && set.close() == due;
 }
 
-// Makes four threads add the same keys, as many as the seats have quota for. Returns how many adds return full. None may
-// do so: once no seat has quota left, all keys are present.
+// Makes four threads add the same keys, exactly as many as all quotas together allow. Returns how many adds return
+// full. None may do so: once no seat has quota left, all keys are present.
 static int full_too_soon() {
   const uint32_t many = 1000;
   listset::shared set(list::lazy, 2, many / 2);

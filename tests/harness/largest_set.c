@@ -1,5 +1,5 @@
-// Tests a set of maximum size for each list. It has the maximum number of opening keys and, below them, one key for
-// each slot of its seats. Calls traverse all of them, and the set is closed.
+// Tests a set of maximum size for each list. It has the maximum number of opening keys and, below them, as many added
+// keys as the quotas of its seats allow. Calls traverse all of them, and the set is closed.
 #include "listset.h"
 
 #include <stdio.h>
@@ -20,8 +20,8 @@ static void fill(int kind, listset_seat *seat, uint32_t first) {
   for (uint32_t number = QUOTA; number > 0; number--) expect(kind, "add", listset_add(seat, first + number - 1).is, LISTSET_TRUE);
 }
 
-// Splits all other seats off the first one, fills each, and gathers it again. A seat that has gathered another one
-// cannot be split any more.
+// Splits all other seats off the first one, uses up the quota of each, and merges it back into the first one. After a
+// merge, no more seats can be split off.
 static void fill_all(int kind, listset_seat *first) {
   listset_seat others[SEATS] = {LISTSET_NONE};
   for (uint32_t number = 1; number < SEATS; number++) expect(kind, "split", listset_split(first, &others[number]), LISTSET_OK);

@@ -32,8 +32,8 @@ def rows_of(text):
 
 
 def table(one):
-    """Returns a list's table: its rows, the row in which calls begin, and the rows in which add, remove and leave continue
-    (some lists leave by returning).
+    """Returns a list's table: its rows, the row in which calls begin, and the rows at which a call adds its key,
+    removes it, and exits. (On some lists, a call exits by returning and has no such row.)
     """
     own, reads = SECTIONS[one.type], SECTIONS["Reads without locks"] if one.has_reads() else ""
     places = {word: int(row) for text in (own, reads) for word, row in re.findall(r"(begin|begins|add|remove|leave|ceiling) at row (\d+)", text)}

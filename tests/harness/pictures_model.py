@@ -1,5 +1,5 @@
 """A model of the text picture that `show` prints, written from docs/TEXTS.md alone. A picture has a column for each moment,
-a row for each thread with the begins, ends and linearization points of its calls, the set after each change, and the
+a row for each thread with the starts, ends and linearization points of its calls, the set after each change, and the
 order below. A Picture shows a run (traces_model) or a report (reports_model).
 """
 

@@ -116,7 +116,7 @@ def picture_of_report(it):
 
 
 def spread(it):
-    """Multiplies the moments of a report so that they are up to 400,000,000."""
+    """Multiplies the moments of a report by a factor that makes the last one about 400,000,000."""
     last = max([1, *(one.begun for one in it.calls), *(end for end, _ in it.ends.values())])
     it.calls[:] = [one._replace(begun=one.begun * 400_000_000 // last) for one in it.calls]
     it.ends.update({number: (end * 400_000_000 // last, reply) for number, (end, reply) in it.ends.items()})

@@ -78,7 +78,7 @@ class Tracing:
         return ("Busy" if is_begin else "Idle") if is_busy == is_begin else None
 
     def event(self, number, pieces):
-        """Executes the event of a line: the begin of a call, or one step."""
+        """Executes the event of a line: the start of a call, or one step."""
         t, moment = int(pieces[1]), len(self.sets)
         told = f"event {moment} line {number} thread {t} "
         if pieces[0] == "begin":

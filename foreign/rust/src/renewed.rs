@@ -16,8 +16,8 @@ const MOST_OPENING: u64 = 1 << 20;
 /// keys.
 ///
 /// A thread gets its own seat from [`RenewedSet::split`], and returns it by dropping it. Calls wait during a renewal.
-/// The renewal waits for pending calls, but not for threads that are between two calls. A call waits for another one
-/// for at most [`patience`](RenewedSet::with_patience), and then returns [`Fault::TimedOut`] without having been made.
+/// The renewal waits for pending calls, but not for threads that are between two calls. A call waits for another call
+/// for at most [`patience`](RenewedSet::with_patience); after that it returns [`Fault::TimedOut`] and has no effect.
 /// The page FOREIGN.md states what is promised about the order of calls.
 ///
 /// ```
@@ -44,6 +44,7 @@ pub struct RenewedSet {
     places: Vec<Place>,
 }
 
+/// A place in the set: a seat with its lock, and whether a thread has the seat.
 #[derive(Debug)]
 #[repr(align(128))]
 struct Place {
@@ -158,7 +159,7 @@ impl RenewedSet {
         Ok(RenewedSet { list, quota, patience: Duration::MAX, renewing, is_wanted, places })
     }
 
-    /// Sets how long a call waits for another one. By default, a call waits forever.
+    /// Sets how long a call waits for another call. By default, a call waits forever.
     pub fn with_patience(self, patience: Duration) -> RenewedSet {
         RenewedSet { patience, ..self }
     }
@@ -325,8 +326,8 @@ mod tests {
 
     use super::*;
 
-    /// While a thread stays in a call, the calls of other threads time out without being made. Once that call has ended,
-    /// calls succeed again.
+    /// While a thread stays in a call, the calls of other threads time out and have no effect. Once that call has
+    /// ended, calls succeed again.
     #[test]
     fn a_call_that_does_not_return_makes_others_time_out() {
         let set = RenewedSet::open(List::Lazy, 2, 1, &[]).unwrap().with_patience(Duration::from_millis(20));

@@ -138,8 +138,8 @@ pub(crate) fn told(code: u8) -> Result<(), Fault> {
     }
 }
 
-/// A thread's seat in a set. It cannot be copied. Only one thread at a time uses it, but it can be passed to another
-/// thread.
+/// A thread's seat in a set: the right to call the set as one thread. It cannot be copied. Only one thread at a time
+/// uses it, but it can be passed to another thread.
 ///
 /// ```
 /// use listset::{open, Added, List};
@@ -167,7 +167,7 @@ unsafe impl Send for Seat {}
 // requires `Sync`.)
 unsafe impl Sync for Seat {}
 
-/// A receipt of everything that a seat had seen when it issued the receipt. It can be passed to any thread.
+/// A receipt, which records everything that a seat had seen when it issued the receipt. It can be passed to any thread.
 #[derive(Debug)]
 pub struct Receipt {
     raw: Raw,
@@ -179,8 +179,8 @@ unsafe impl Send for Receipt {}
 // SAFETY: no function takes `&Receipt`.
 unsafe impl Sync for Receipt {}
 
-/// Returns the maximum number of steps of [`Seat::contains_now`] of a list that was opened with `seats` seats, this quota and
-/// `keys` keys; 0 if no set opens with these.
+/// Returns the maximum number of steps of [`Seat::contains_now`] on a list that was opened with `seats` seats, this
+/// quota and `keys` keys. Returns 0 if no set can be opened with these.
 pub fn most_reads(seats: u32, quota: u32, keys: u32) -> u64 {
     // SAFETY: the function takes only numbers.
     unsafe { listset_most_reads(seats, quota, keys) }
@@ -311,8 +311,9 @@ impl Seat {
         replied(unsafe { listset_contains(&mut self.raw, key) }) == TRUE
     }
 
-    /// Makes a `contains` of a lazy or a lock-free list. Such a call waits for no lock, and makes at most [`most_reads`] steps,
-    /// whatever the other threads do. Returns [`Fault::ReadsBlock`] on the other lists.
+    /// Returns whether a key is in the set, like `contains`, but waits for no lock and makes at most [`most_reads`]
+    /// steps, whatever the other threads do. Only for lazy and lock-free lists: on any other list, returns
+    /// [`Fault::ReadsBlock`].
     pub fn contains_now(&mut self, key: u32) -> Result<bool, Fault> {
         match replied(unsafe { listset_contains_now(&mut self.raw, key) }) {
             MAY_BLOCK => Err(Fault::ReadsBlock),

@@ -112,8 +112,8 @@ fn threads_use_the_quota_of_each_seat() {
     }
 }
 
-/// Threads add the same keys, as many as the seats have quota for. An add may return full only if no seat has quota
-/// left; its key must then be present.
+/// Threads add the same keys, exactly as many as all quotas together allow. No add may return full: once no seat has
+/// quota left, all keys are present.
 #[test]
 fn no_add_is_full_while_a_seat_has_quota() {
     for _ in 0..20 {
