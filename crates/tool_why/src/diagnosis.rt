@@ -329,14 +329,7 @@ pub fn diagnose(alloc: Global, recorded: &Recorded) -> Result<Option<Diagnosis>,
     diagnosis.few = few_of(alloc, &found)?;
     let named = named_by_verdict(alloc, &runs, &found, first)?;
     let Some(place) = place_shown(&found, &named, diagnosis.cause, &neighbours) else {
-        diagnosis.second = found.wrong;
-        if let (Some(odd), Some(wrong)) = (found.odd, found.wrong) {
-            let key = with_one_answer(alloc, runs.calls_of(wrong.key)?, odd, wrong)?;
-            if let Some(place) = place_after(&key, wrong) {
-                diagnosis.is_first = named.is(&place);
-                diagnosis.show(alloc, &key, place, &neighbours)?;
-            }
-        }
+        diagnosis.show_wrong(alloc, &runs, &found, &named, &neighbours)?;
         return Ok(Some(diagnosis));
     };
     let key = runs.calls_of(place.key)?;
@@ -487,6 +480,26 @@ impl Diagnosis {
         for call in &mut self.beside {
             *call = recorded_call(calls, *call);
         }
+    }
+
+    /// Fills the picture with the first wrong answer of the odd operation, if a later call contradicts it.
+    fn show_wrong(
+        &mut self,
+        alloc: Global,
+        runs: &Runs<'_>,
+        found: &Found,
+        named: &Named,
+        neighbours: &Neighbours,
+    ) -> Result<(), AllocError> {
+        self.second = found.wrong;
+        if let (Some(odd), Some(wrong)) = (found.odd, found.wrong) {
+            let key = with_one_answer(alloc, runs.calls_of(wrong.key)?, odd, wrong)?;
+            if let Some(place) = place_after(&key, wrong) {
+                self.is_first = named.is(&place);
+                self.show(alloc, &key, place, neighbours)?;
+            }
+        }
+        Ok(())
     }
 
     /// Adds the calls that the verdict names to the picture.
