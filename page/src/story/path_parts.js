@@ -53,7 +53,7 @@ export function drawBar(stage, number, words = number === SCREENS.length ? "And 
   show.hidden = isDone;
   show.className = isLecture() && stage === "playing" ? "primary" : "quiet";
   on.hidden = !isDone && isNarrow();
-  show.textContent = isLecture() && stage !== "again" ? (stage === "playing" ? "Next step →" : "Reveal") : SHOW[stage];
+  show.textContent = (isLecture() && { guess: "Reveal", playing: "Next step →" }[stage]) || SHOW[stage];
   drawOn(isDone, words);
 }
 
