@@ -259,11 +259,14 @@ fn cause_of_contains(odd: &Odd) -> Option<Cause> {
         Some(Cause::ThreadCache)
     } else if odd.missed > 0 && odd.found > 0 {
         let is_moved = odd.wrong >= 8 && is_least(odd.active, odd.wrong, 95);
-        Some(if is_moved && is_beside_others(odd) {
-            Cause::MovedKeys
+        if is_moved && is_beside_others(odd) {
+            Some(Cause::MovedKeys)
+        } else if is_passing(odd) && odd.active == odd.wrong {
+            // (a copy that is updated late is wrong also while no change runs)
+            None
         } else {
-            Cause::LateCopy
-        })
+            Some(Cause::LateCopy)
+        }
     } else if odd.found > 0 {
         cause_of_finds(odd)
     } else {
@@ -346,11 +349,14 @@ fn is_carried_out_twice(tally: &Tally) -> bool {
         && !is_least(replies, tally.places, 10)
         && tally.gone() >= MANY_GONE
         && is_alone
-        && is_least(tally.silent, tally.gone(), 30)
+        && is_least(tally.silent, tally.gone(), 50)
 }
 
 /// The minimum number of losses and returns that show that a change is carried out twice.
 const MANY_GONE: u64 = 15;
+
+/// The minimum number of losses and returns that show that several keys change at the same time.
+const LEAST_AT_ONCE: u64 = 20;
 
 /// Returns whether several keys are lost or come back at the same time, more often than by chance.
 fn is_at_once(tally: &Tally) -> bool {
@@ -358,8 +364,8 @@ fn is_at_once(tally: &Tally) -> bool {
     let is_clear = tally.others.saturating_mul(2) <= tally.places && !has_other_replies(tally);
     is_clear
         && tally.both().saturating_mul(20) <= tally.places
-        && tally.timed() >= LEAST_TIMED
-        && is_least(tally.together, tally.timed(), least.max(50))
+        && tally.timed() >= LEAST_AT_ONCE
+        && is_least(tally.together, tally.timed(), least.max(75))
 }
 
 /// Returns whether many single replies are wrong, of calls that change nothing, and one other reply repairs nearly all
@@ -462,7 +468,7 @@ fn is_mixed(tally: &Tally) -> bool {
         && is_least(
             tally.crossed_replies,
             tally.replies,
-            tally.usually_crossed.saturating_add(10),
+            tally.usually_crossed.saturating_add(30),
         )
 }
 
@@ -544,6 +550,14 @@ fn needs_no_race(tally: &Tally) -> bool {
     tally.gone() >= 2 * ENOUGH && tally.apart >= ENOUGH && is_share(tally.apart, tally.places, 10)
 }
 
+/// Returns `true` if many contradictions occur without overlapping calls, and most are losses, returns or pairs of calls
+/// that both returned true.
+fn is_mostly_apart(tally: &Tally) -> bool {
+    needs_no_race(tally)
+        && is_least(tally.apart, tally.places, 30)
+        && !is_least(tally.others, tally.places, 65)
+}
+
 /// Returns whether the losses need no race, or no two calls are both true and most losses are not beside a change that
 /// can have written back what it read.
 fn is_displaced(tally: &Tally) -> bool {
@@ -599,7 +613,7 @@ fn cause_in_one_thread(evidence: &Evidence) -> Option<Cause> {
     match cause_of_losses(tally) {
         Some(cause) => Some(cause),
         None if is_at_once(tally) => Some(Cause::ReplacedAtOnce),
-        None if needs_no_race(tally) && !is_least(tally.others, tally.places, 65) => {
+        None if is_mostly_apart(tally) => {
             Some(if evidence.span >= WIDE {
                 Cause::Overflow
             } else {

@@ -416,7 +416,7 @@ pub(crate) fn cause_text(cause: Cause) -> &'static str {
         Cause::OneThread =>
             "an error without a race (a probe that ends too early, a comparison, a limit)",
         Cause::TwoPlaces =>
-            "calls reach the key by two ways that no longer agree (a node reused too early, as in ABA; a slot and its node)",
+            "calls test the key in two ways that no longer agree (a node reused too early, as in ABA; a slot and its node; a count that went below 0)",
         Cause::FirstUse =>
             "two first calls each create the same thing (a bucket, a node, a table), and one is lost",
         Cause::GoesOn =>
