@@ -264,7 +264,7 @@ struct slot {
     std::atomic<unsigned> begin, end;  // 0 until they happen
 };
 
-// How much of a run is in the file: the length of these lines, and the moment up to which they have all calls.
+// The part of a run that is in the file: the length of its lines, and the moment up to which it has all calls.
 struct saved {
     uint64_t length = 0;
     unsigned moment = 0;
@@ -278,7 +278,7 @@ struct area {
     slot *slots = nullptr;               // the calls, thread by thread
     std::atomic<unsigned> tickets{0}, there{0}, done{0}, begun{0};
     saved saves[2];
-    std::atomic<unsigned> save{0};  // which of them is valid, so that both of its numbers change in one step
+    std::atomic<unsigned> save{0};  // the index of the valid one: a change of the index changes both of its numbers in one step
     std::atomic<phase> at{GOING};
     std::atomic<bool> is_stopping{false}, is_busy{false}, is_interrupted{false}, is_end_known{true};
     char why[240] = "";
@@ -356,7 +356,7 @@ inline std::pair<std::string, std::string> lines_of(const area &from) {
     const unsigned now = from.tickets, since = from.saves[from.save].moment;
     std::map<unsigned, std::pair<const slot *, unsigned>> found;
     for (size_t i = 0; i < from.count(); i++) {
-        const unsigned end = from.slots[i].end, begin = from.slots[i].begin;  // (a call that has begun can have the end of a saved call)
+        const unsigned end = from.slots[i].end, begin = from.slots[i].begin;  // (a pending call's slot still has the end of an earlier call)
         if (begin > since && begin <= now) found[begin] = {&from.slots[i], end > now || end < begin ? 0 : end};
     }
     std::string lines, under_way;
@@ -528,12 +528,12 @@ template <class Make, class K> struct maker {
         if (!(file << lines << std::flush)) run.fail(UNMADE, "its recording cannot be written");
     }
 
-    // Writes all calls up to this moment, and before them `lines`. Threads make no calls meanwhile.
+    // Appends lines to the file and marks all calls up to this moment as saved. No thread makes a call during this.
     void save(area &run, const std::string &lines) {
         const unsigned now = run.save;
         write(run, lines);
         run.saves[1 - now] = {run.saves[now].length + lines.size(), run.tickets};
-        run.save = 1 - now;  // (until here, a process that ends leaves the calls in memory)
+        run.save = 1 - now;  // (a process that ends before this step has its last calls in memory alone)
     }
 
     // Creates each set and starts the threads on it, part by part. Writes each part to the file after its calls have
@@ -558,7 +558,7 @@ template <class Make, class K> struct maker {
             if (run.is_stopping) return;
             save(run, lines_of(run).first);
         }
-        write(run, run.is_end_known ? left + "end\n" : "cut\n");  // (not saved: what follows can still cut the run short)
+        write(run, run.is_end_known ? left + "end\n" : "cut\n");  // (not marked as saved: the run can still be cut short)
     }
 
     // Runs all threads. They are interrupted during calls if `is_own`, that is, if the process belongs to the set.
@@ -698,7 +698,7 @@ inline judge_found find_judge() {
     if (std::filesystem::is_directory(name)) throw no_verdict(say(IS_FOLDER, name));
     if (!is_command(is_script ? "node" : name)) throw no_verdict(say(NO_JUDGE, name));
     const std::string command = (is_script ? "node " : "") + quoted(name);
-    const answer version = ran(command + " --version --long");  // (the user sees what a judge prints while it is built)
+    const answer version = ran(command + " --version --long");  // (stderr is not captured: ./listset first builds the judge and prints its progress there)
     if (version.status == 127) throw no_verdict(say(NO_JUDGE, name));
     return {name, proof_in(version.said), [command](const std::string &file) {
                 const std::string asked = command + " judge " + quoted(file);

@@ -47,7 +47,7 @@ func (t *text) set(to string) { t.length = uint32(copy(t.bytes[:], to)) }
 
 func (t *text) String() string { return string(t.bytes[:t.length]) }
 
-// saved is how much of a run is in the file: the length of these lines, and the moment up to which they have all calls.
+// saved is the part of a run that is in the file: the length of its lines, and the moment up to which it has all calls.
 type saved struct {
 	length int64
 	moment uint32
@@ -57,7 +57,7 @@ type saved struct {
 type head struct {
 	seed  int64
 	saves [2]saved
-	save  uint32 // which of them is valid, so that both of its numbers change in one step
+	save  uint32 // the index of the valid one: a change of the index changes both of its numbers in one step
 	size
 	tickets, there, done, begun uint32
 	at, isStopping, isBusy      uint32
@@ -100,7 +100,7 @@ func (a *area) lines() (lines, underWay string) {
 	for i := range a.slots[:a.threads*a.rows()] {
 		s := &a.slots[i]
 		end, begin := atomic.LoadUint32(&s.end), atomic.LoadUint32(&s.begin)
-		if end > now || end < begin { // (a call that has begun can have the end of a saved call)
+		if end > now || end < begin { // (a pending call's slot still has the end of an earlier call)
 			end = 0
 		}
 		if begin > since && begin <= now {
@@ -280,7 +280,7 @@ func (a *area) lead(on *stage) {
 			lines, areKnown := a.linesOfKeys("key", on.set, round)
 			left, isEndKnown = left+lines, isEndKnown && areKnown
 		}
-		if atomic.LoadUint32(&a.isStopping) != 0 { // (the run was cut short meanwhile)
+		if atomic.LoadUint32(&a.isStopping) != 0 { // (the run was cut short)
 			return
 		}
 		lines, _ := a.lines()
@@ -291,7 +291,7 @@ func (a *area) lead(on *stage) {
 	} else {
 		left += "end\n"
 	}
-	a.write(file, left) // (not saved: what follows can still cut the run short)
+	a.write(file, left) // (not marked as saved: the run can still be cut short)
 }
 
 func (a *area) write(file *os.File, lines string) {
@@ -300,12 +300,13 @@ func (a *area) write(file *os.File, lines string) {
 	}
 }
 
-// saveLines writes lines that have all calls up to this moment. Goroutines make no calls meanwhile.
+// saveLines appends lines to the file and marks all calls up to this moment as saved. No goroutine makes a call during
+// this.
 func (a *area) saveLines(file *os.File, lines string) {
 	a.write(file, lines)
 	other := 1 - atomic.LoadUint32(&a.save)
 	a.saves[other] = saved{a.saved().length + int64(len(lines)), atomic.LoadUint32(&a.tickets)}
-	atomic.StoreUint32(&a.save, other) // (until this step, a process that ends leaves the calls in memory)
+	atomic.StoreUint32(&a.save, other) // (a process that ends before this step has its last calls in memory alone)
 }
 
 func (a *area) saveOpening(file *os.File, set Set, round int) bool {

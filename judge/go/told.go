@@ -152,7 +152,7 @@ func findJudge() (*judgeFound, error) {
 	if strings.HasSuffix(name, ".js") {
 		command = []string{"node", name}
 	}
-	status, version := ran(append(command, "--version", "--long"), os.Stderr) // (the user sees what a judge prints while it is built)
+	status, version := ran(append(command, "--version", "--long"), os.Stderr) // (stderr is not captured: ./listset first builds the judge and prints its progress there)
 	if status == 127 {
 		return nil, fmt.Errorf(sayNoJudge, name)
 	}

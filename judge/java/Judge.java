@@ -540,7 +540,7 @@ public final class Judge {
 
         private int saved() { return SAVES + get(SAVE) * SAVED; }
 
-        /** Writes lines behind the saved ones. Returns the length of the file. */
+        /** Writes lines after the saved ones. Returns the length of the file. */
         long write(String lines) throws IOException {
             try (FileChannel file = FileChannel.open(Path.of(text(FILE)), StandardOpenOption.WRITE)) {
                 long length = memory.getLong(saved());
@@ -551,11 +551,11 @@ public final class Judge {
             }
         }
 
-        /** Writes lines that have all calls up to this moment, and saves them. Threads make no calls meanwhile. */
+        /** Appends lines to the file and marks all calls up to this moment as saved. No thread makes a call during this. */
         void save(String lines) throws IOException {
             int other = 1 - get(SAVE);
             memory.putLong(SAVES + other * SAVED, write(lines)).putInt(SAVES + other * SAVED + MOMENT, get(TICKETS));
-            set(SAVE, other); // (until this step, a JVM that ends leaves the calls in memory)
+            set(SAVE, other); // (a JVM that ends before this step has its last calls in memory alone)
         }
 
         /**
@@ -566,7 +566,7 @@ public final class Judge {
             List<Row> found = new ArrayList<>();
             int now = get(TICKETS), since = get(saved() + MOMENT), behind = SLOTS + shape().threads * shape().rows() * SLOT;
             for (int at = SLOTS; at < behind; at += SLOT) {
-                int ended = get(at + END), begin = get(at + BEGIN); // (a call that has begun can have the end of a saved call)
+                int ended = get(at + END), begin = get(at + BEGIN); // (a pending call's slot still has the end of an earlier call)
                 int end = ended > now || ended < begin ? 0 : ended, reply = end > 0 ? get(at + REPLY) : Calls.NO;
                 if (begin > since && begin <= now) found.add(new Row(get(at + THREAD), get(at + CALL), get(at + KEY), begin, end, reply));
             }
@@ -667,10 +667,10 @@ public final class Judge {
                 area.set(Area.BEGUN, round + 1);
                 if (!waits(LONGEST, () -> area.get(Area.DONE) == (round + 1) * of.threads)) return;
                 if ((round + 1) % of.parts() == 0) left.add(linesOfKeys("key ", round));
-                if (area.get(Area.STOPPING) > 0) return; // (the run was cut short meanwhile)
+                if (area.get(Area.STOPPING) > 0) return; // (the run was cut short)
                 area.save(area.lines());
             }
-            area.write(left.contains(null) ? "cut\n" : String.join("", left) + "end\n"); // (not saved: what follows can still cut the run short)
+            area.write(left.contains(null) ? "cut\n" : String.join("", left) + "end\n"); // (not marked as saved: the run can still be cut short)
         }
 
         private String opening(int round) {
@@ -858,7 +858,7 @@ public final class Judge {
             try {
                 while (System.in.read() >= 0) continue;
             } catch (IOException closed) {
-                // (the same as when its input ends)
+                // (treated as the end of the input)
             }
             Runtime.getRuntime().halt(1);
         }
@@ -937,7 +937,7 @@ public final class Judge {
             List<String> all = new ArrayList<>(command);
             all.addAll(List.of(words));
             ProcessBuilder made = new ProcessBuilder(all);
-            if (words[0].equals("--version")) made.redirectError(ProcessBuilder.Redirect.INHERIT); // (the user sees what a judge prints while it is built)
+            if (words[0].equals("--version")) made.redirectError(ProcessBuilder.Redirect.INHERIT); // (stderr is not captured: ./listset first builds the judge and prints its progress there)
             try {
                 Process process = made.start();
                 process.getOutputStream().close();

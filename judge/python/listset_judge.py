@@ -509,7 +509,7 @@ class Run:
                     if self.there.broken:  # (the run was cut short)
                         return
                     self.save(file, map(line_of, rows), rows[-1].begin)
-                # (not saved: what follows can still cut the run short)
+                # (not marked as saved: the run can still be cut short)
                 file.write("".join([*left, "end\n"] if None not in left else ["cut\n"]).encode())
         except threading.BrokenBarrierError:
             pass
@@ -517,10 +517,10 @@ class Run:
             self.there.abort()
 
     def save(self, file, lines, last):
-        """Writes all calls up to the one that begins at `last`, or lines before them."""
+        """Appends lines to the file and marks the calls up to the one that begins at `last` as saved."""
         text = "".join(lines).encode()
         file.write(text)
-        # (until this step, a process that ends leaves the calls in memory)
+        # (a process that ends before this step has its last calls in memory alone)
         self.SAVED.pack_into(self.slots, self.at_saved, self.saved[0] + len(text), last)
 
     def opening(self, one):
@@ -648,7 +648,7 @@ class Judge:
             self.name = os.environ.get("LISTSET") or "listset"
             words = ["node", self.name] if self.name.endswith(".js") else [self.name]
             self.words, self.answer = words, lambda file: said([*words, "judge", file], subprocess.PIPE)
-            version, status = said([*words, "--version", "--long"])  # (the user sees what a judge prints while it is built)
+            version, status = said([*words, "--version", "--long"])  # (stderr is not captured: ./listset first builds the judge and prints its progress there)
             if status == 127:
                 raise NoVerdict((IS_FOLDER if os.path.isdir(self.name) else NO_JUDGE) % self.name) from None
         self.proof = next((it for it in version.splitlines() if it.startswith("proof ")), "proof unknown")

@@ -23,8 +23,8 @@ const OVER: u32 = 2;
 const FAILED: u32 = 3;
 const UNMADE: u32 = 4;
 
-/// The positions of a run's numbers in memory, such as the counter of moments, the progress, and which numbers say what
-/// is saved in the file.
+/// The positions of a run's numbers in memory: the counter of moments, the progress, the index of the valid saved part,
+/// and others.
 #[derive(Clone, Copy)]
 enum At {
     Tickets,
@@ -132,7 +132,7 @@ impl Area {
 
     // ---- its file
 
-    /// Writes lines behind the saved ones. Returns the length of the file.
+    /// Writes lines after the saved ones. Returns the length of the file.
     pub fn write(&self, lines: &str) -> io::Result<u64> {
         let [low, high, _] = self.saved();
         let length = u64::from(high) << 32 | u64::from(low);
@@ -143,13 +143,13 @@ impl Area {
         Ok(length + lines.len() as u64)
     }
 
-    /// Writes lines and saves them. They have all calls up to this moment. Threads make no calls meanwhile.
+    /// Appends lines to the file and marks all calls up to this moment as saved. No thread makes a call during this.
     fn save(&self, lines: &str) {
         let length = self.write(lines).expect(WRITABLE);
         let other = 1 - self.get(At::Save);
         let numbers = [length as u32, (length >> 32) as u32, self.get(At::Tickets)];
         self.memory[SAVES + 3 * other as usize..].iter().zip(numbers).for_each(|(to, it)| to.store(it, SeqCst));
-        self.set(At::Save, other); // (until this step, a process that ends leaves the calls in memory)
+        self.set(At::Save, other); // (a process that ends before this step has its last calls in memory alone)
     }
 
     fn saved(&self) -> [u32; 3] {
@@ -279,7 +279,7 @@ impl Area {
             }
         }
         let end = left.map_or_else(|| "cut\n".to_string(), |keys| keys + "end\n");
-        self.tried(|| _ = self.write(&end).expect(WRITABLE)); // (not saved: what follows can still cut the run short)
+        self.tried(|| _ = self.write(&end).expect(WRITABLE)); // (not marked as saved: the run can still be cut short)
         let _ = self.at(At::Phase).compare_exchange(GOING, OVER, SeqCst, SeqCst);
     }
 
@@ -369,7 +369,7 @@ impl<S: Sync> Play<'_, S> {
                 left = self.lines_of_keys("key");
             }
             if area.get(At::IsStopping) == 1 {
-                break; // (the run was cut short meanwhile)
+                break; // (the run was cut short)
             }
             area.save(&area.lines().0);
         }

@@ -42,7 +42,7 @@ impl Judge {
             return no_verdict(say(IS_FOLDER, &[&name]));
         }
         let command = if name.ends_with(".js") { vec!["node".to_string(), name.clone()] } else { vec![name.clone()] };
-        // (so that the user sees what a judge prints while it is built)
+        // (stderr is not captured: ./listset first builds the judge and prints its progress there)
         match ran(Command::new(&command[0]).args(&command[1..]).args(["--version", "--long"]).stderr(Stdio::inherit())) {
             Ok((Some(127), _)) | Err(_) => no_verdict(say(NO_JUDGE, &[&name])),
             Ok((_, version)) => Ok(Judge { name, proof: proof_in(&version), command }),
