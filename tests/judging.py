@@ -232,7 +232,7 @@ def test_the_verdict_and_its_lines_are_right(program, few, seed):
         printed, _, more = done.stdout.partition("\n\n")
         assert more == MORE * is_refused, text
         said, shown = printed.splitlines()[:len(due)], printed.splitlines()[len(due):]
-        later = [f"  this contradiction ends after moment {judged.moment}; the judge found none up to there"]
+        later = [f"  it ends after moment {judged.moment}: the calls up to there have no order either, but the judge found no two that show it"]
         is_later = bool(judged.moment and shown) and ends_after(shown[1], judged.moment)
         assert shown[3:] == (later if is_later else []), text
         shown = shown[:3]

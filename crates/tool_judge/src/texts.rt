@@ -127,7 +127,7 @@ fn end_of(clash: Option<Clash>) -> Option<u64> {
 fn later_note(alloc: Global, refusal: Refusal, clash: Option<Clash>) -> Result<String, AllocError> {
     match (refusal.moment, end_of(clash)) {
         (Some(moment), Some(end)) if moment < end => format!(in alloc;
-            "  this contradiction ends after moment {moment}; the judge found none up to there\n"
+            "  it ends after moment {moment}: the calls up to there have no order either, but the judge found no two that show it\n"
         ),
         _ => Ok(String::new(alloc)),
     }
