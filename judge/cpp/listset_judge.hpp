@@ -149,7 +149,7 @@ struct range {
 // made of words.json by judge/make_words: `longest` in looks at the counter, `part` and `meet` in calls, `patience` in seconds, `soon` in nanoseconds
 constexpr shape PRESETS[] = {{"few keys", 4, 1, 5000, 4, 1}, {"fresh sets", 4, 40, 10, 4, 1}, {"multiples of 64", 4, 1, 5000, 8, 64}, {"one key", 3, 1, 5000, 1, 1}, {"sets that grow", 4, 20, 125, 64, 1}, {"many keys", 4, 1, 2500, 1000, 1}, {"multiples of 1,000", 8, 1, 2500, 8, 1000}};
 constexpr range RANGES[] = {{"threads", 1, 64}, {"threads times calls", 1, 1000000000}, {"keys", 1, 1048576}, {"pauses", 0, 100}, {"runs", 1, 1000000}, {"seconds", 1, 3600}, {"within", 1, 604800}, {"at_least", 0, 100}, {"the sum of shares", 1, 1000000}};
-constexpr unsigned PART = 20000, LONGEST = 100, HOT = 4, ENOUGH = 5, HARDER = 2, PATIENCE = 10, MEET = 250, AWAKE = 300000, WITHIN = 60, STOPS = 200, PATIENT = 40, MANY = 40, IDLE = 8, SOON = 4000;
+constexpr unsigned PART = 20000, LONGEST = 100, HOT = 4, ENOUGH = 5, HARDER = 2, PATIENCE = 10, MEET = 250, AWAKE = 300000, WITHIN = 60, STOPS = 200, PATIENT = 40, MANY = 40, IDLE = 16, SOON = 4000;
 constexpr const char *OK = "ok: %s calls, and %s of them overlapped a change of their key";
 constexpr const char *FEW = "few calls overlapped, so ok means little: %s calls, and %s of them overlapped a change of their key";
 constexpr const char *TOO_FEW = "too few calls overlapped: %s of %s calls overlapped a change of their key, and at_least requires %s of 100. Use fewer keys, more threads, or a less busy machine";
@@ -280,7 +280,7 @@ struct area {
     saved saves[2];
     std::atomic<unsigned> save{0};  // the index of the valid one: a change of the index changes both of its numbers in one step
     std::atomic<phase> at{GOING};
-    std::atomic<bool> is_stopping{false}, is_busy{false}, is_end_known{true};
+    std::atomic<bool> is_stopping{false}, is_busy{false}, is_interrupted{false}, is_end_known{true};
     char why[240] = "";
 
     area(const shape &it, uint64_t of_seed)
@@ -369,28 +369,31 @@ inline std::pair<std::string, std::string> lines_of(const area &from) {
 
 // Interrupts its thread during some of its calls, wherever the call is, by SIGURG from a timer. The thread then sleeps for a
 // moment. On a busy machine it sleeps until other threads have begun and ended MANY calls, at most PATIENT times, and at
-// most IDLE times if no other thread begins or ends a call. A signal has no effect between two calls. Works on Linux only.
+// most IDLE times if no other thread begins or ends a call. A signal has no effect between two calls, and while another
+// thread of the run is interrupted. Works on Linux only.
 struct stops {
 #ifdef __linux__
     int timer = -1;
     std::mt19937 draw;
 
     // Returns the run of the call that this thread is making. It is null between calls.
-    static std::atomic<const area *> &run_of_call() {
-        thread_local std::atomic<const area *> run{nullptr};
+    static std::atomic<area *> &run_of_call() {
+        thread_local std::atomic<area *> run{nullptr};
         return run;
     }
 
     static void stop(int) {
         const int before = errno;
-        if (const area *run = run_of_call()) sleep_in_call(*run);
+        if (area *run = run_of_call()) sleep_in_call(*run);
         errno = before;
     }
 
-    static void sleep_in_call(const area &run) {
+    static void sleep_in_call(area &run) {
+        if (run.is_interrupted.exchange(true)) return;
         const timespec some = {0, 1000};
         const unsigned most = run.interrupts_longer() ? PATIENT : 1, seen = run.tickets;
         for (unsigned looks = 0; looks < most && run.tickets - seen < MANY && (looks < IDLE || run.tickets != seen); looks++) nanosleep(&some, nullptr);
+        run.is_interrupted = false;
     }
 
     // Must be called before each of `calls` calls. Starts the timer before a few of them.
@@ -402,7 +405,7 @@ struct stops {
     }
 
     // Makes a call, during which its thread can be interrupted.
-    template <class Call> reply interrupted(const area &run, Call call) {
+    template <class Call> reply interrupted(area &run, Call call) {
         run_of_call() = &run;
         const reply given = call();
         run_of_call() = nullptr;
@@ -432,7 +435,7 @@ struct stops {
 #else
     stops(bool, uint64_t) {}
     void before_call(uint64_t) {}
-    template <class Call> reply interrupted(const area &, Call call) { return call(); }
+    template <class Call> reply interrupted(area &, Call call) { return call(); }
 #endif
 };
 

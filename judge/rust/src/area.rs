@@ -34,6 +34,7 @@ enum At {
     Phase,
     IsStopping,
     IsBusy,
+    IsInterrupted,
     IsHere,
     Numbers,
     Seed,
@@ -192,6 +193,15 @@ impl Area {
     /// Returns the current moment.
     pub fn moment(&self) -> u32 {
         self.get(At::Tickets)
+    }
+
+    /// Marks a thread of this run as interrupted. Returns `false` if another thread is.
+    pub fn begin_interrupt(&self) -> bool {
+        self.at(At::IsInterrupted).swap(1, SeqCst) == 0
+    }
+
+    pub fn end_interrupt(&self) {
+        self.set(At::IsInterrupted, 0);
     }
 
     /// Returns whether threads are to be interrupted for longer. On a busy machine, a thread seldom loses its processor

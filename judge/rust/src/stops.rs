@@ -2,7 +2,7 @@
 //!
 //! The thread then sleeps for a moment. On a busy machine, it sleeps until other threads have begun and ended `MANY`
 //! calls, at most `PATIENT` times, and at most `IDLE` times if no other thread begins or ends a call. A signal has no effect
-//! between two calls.
+//! between two calls, and while another thread of the run is interrupted.
 
 #[cfg(all(target_os = "linux", any(target_arch = "x86_64", target_arch = "aarch64")))]
 mod timer {
@@ -85,9 +85,12 @@ mod timer {
 
     extern "C" fn stop(_: i32) {
         // SAFETY: the area outlives the call, or the `Stops` of its thread if the call panics; and a signal handler may
-        // read atomic numbers.
+        // read and change atomic numbers.
         if let Some(area) = unsafe { RUN.with(Cell::get).as_ref() } {
-            sleep(area);
+            if area.begin_interrupt() {
+                sleep(area);
+                area.end_interrupt();
+            }
         }
     }
 
