@@ -76,9 +76,8 @@ struct options {
     /// The number of keys: 1 to 1,048,576. 0 selects the preset's number. With more than eight keys, half of the calls
     /// use the first four.
     unsigned keys = 0;
-    /// The percentage of calls that are delayed until another thread begins or ends a call, for at most a few
-    /// microseconds: 0 to 100. Unless it is 0, threads in the set's own process are also interrupted during calls by the
-    /// signal SIGURG.
+    /// The percentage of calls before which a thread pauses, for at most a few microseconds: 0 to 100. Unless it is 0,
+    /// threads in the set's own process are also interrupted during calls by the signal SIGURG.
     unsigned pauses = 20;
     /// The number of runs: 1 to 1,000,000. A run calls one set, or several new sets one after another.
     unsigned runs = 20;
@@ -149,7 +148,7 @@ struct range {
 // made of words.json by judge/make_words: `longest` in looks at the counter, `part` and `meet` in calls, `patience` in seconds, `soon` in nanoseconds
 constexpr shape PRESETS[] = {{"few keys", 4, 1, 5000, 4, 1}, {"fresh sets", 4, 40, 10, 4, 1}, {"multiples of 64", 4, 1, 5000, 8, 64}, {"one key", 3, 1, 5000, 1, 1}, {"sets that grow", 4, 20, 125, 64, 1}, {"many keys", 4, 1, 2500, 1000, 1}, {"multiples of 1,000", 8, 1, 2500, 8, 1000}};
 constexpr range RANGES[] = {{"threads", 1, 64}, {"threads times calls", 1, 1000000000}, {"keys", 1, 1048576}, {"pauses", 0, 100}, {"runs", 1, 1000000}, {"seconds", 1, 3600}, {"within", 1, 604800}, {"at_least", 0, 100}, {"the sum of shares", 1, 1000000}};
-constexpr unsigned PART = 20000, LONGEST = 100, HOT = 4, ENOUGH = 5, HARDER = 2, PATIENCE = 10, MEET = 250, AWAKE = 300000, WITHIN = 60, STOPS = 200, PATIENT = 40, MANY = 40, IDLE = 8, SOON = 4000;
+constexpr unsigned PART = 20000, LONGEST = 100, HOT = 4, ENOUGH = 5, HARDER = 2, PATIENCE = 10, MEET = 250, AWAKE = 300000, WITHIN = 60, STOPS = 32, PATIENT = 40, MANY = 40, SOON = 4000;
 constexpr const char *OK = "ok: %s calls, and %s of them overlapped a change of their key";
 constexpr const char *FEW = "few calls overlapped, so ok means little: %s calls, and %s of them overlapped a change of their key";
 constexpr const char *TOO_FEW = "too few calls overlapped: %s of %s calls overlapped a change of their key, and at_least requires %s of 100. Use fewer keys, more threads, or a less busy machine";
@@ -280,7 +279,7 @@ struct area {
     saved saves[2];
     std::atomic<unsigned> save{0};  // the index of the valid one: a change of the index changes both of its numbers in one step
     std::atomic<phase> at{GOING};
-    std::atomic<bool> is_stopping{false}, is_busy{false}, is_interrupted{false}, is_end_known{true};
+    std::atomic<bool> is_stopping{false}, is_busy{false}, is_end_known{true};
     char why[240] = "";
 
     area(const shape &it, uint64_t of_seed)
@@ -331,12 +330,6 @@ struct area {
         if (looks > awake + LONGEST) is_busy = true;
     }
 
-    // Waits until another thread begins or ends a call, for at most this many looks. Threads that run at the same time then
-    // make their next steps at the same time.
-    void wait_for_call(unsigned looks) const {
-        for (const unsigned seen = tickets; looks > 0 && tickets == seen; looks--) continue;
-    }
-
     // Whether threads are to be interrupted for longer. On a busy machine, a thread seldom loses its processor in the middle
     // of a call, since it makes all its calls before it does.
     bool interrupts_longer() const { return is_busy || of.meets_once; }
@@ -367,33 +360,28 @@ inline std::pair<std::string, std::string> lines_of(const area &from) {
     return {lines, under_way};
 }
 
-// Interrupts its thread during some of its calls, wherever the call is, by SIGURG from a timer. The thread then sleeps for a
-// moment. On a busy machine it sleeps until other threads have begun and ended MANY calls, at most PATIENT times, and at
-// most IDLE times if no other thread begins or ends a call. A signal has no effect between two calls, and while another
-// thread of the run is interrupted. Works on Linux only.
+// Interrupts its thread a few microseconds after some of its calls have begun, whatever it is doing then, by SIGURG
+// from a timer. On a busy machine the thread then sleeps until other threads have made calls, up to PATIENT times. Works
+// on Linux only.
 struct stops {
 #ifdef __linux__
     int timer = -1;
     std::mt19937 draw;
 
-    // Returns the run of the call that this thread is making. It is null between calls.
-    static std::atomic<area *> &run_of_call() {
-        thread_local std::atomic<area *> run{nullptr};
+    static const area *&run_of_thread() {
+        thread_local const area *run = nullptr;
         return run;
     }
 
     static void stop(int) {
         const int before = errno;
-        if (area *run = run_of_call()) sleep_in_call(*run);
-        errno = before;
-    }
-
-    static void sleep_in_call(area &run) {
-        if (run.is_interrupted.exchange(true)) return;
         const timespec some = {0, 1000};
-        const unsigned most = run.interrupts_longer() ? PATIENT : 1, seen = run.tickets;
-        for (unsigned looks = 0; looks < most && run.tickets - seen < MANY && (looks < IDLE || run.tickets != seen); looks++) nanosleep(&some, nullptr);
-        run.is_interrupted = false;
+        const area *run = run_of_thread();
+        const unsigned seen = run ? run->tickets.load() : 0;
+        unsigned looks = run && run->interrupts_longer() ? PATIENT : 1;
+        do nanosleep(&some, nullptr);
+        while (--looks > 0 && run->tickets - seen < MANY);
+        errno = before;
     }
 
     // Must be called before each of `calls` calls. Starts the timer before a few of them.
@@ -404,15 +392,8 @@ struct stops {
         syscall(SYS_timer_settime, timer, 0, &in, nullptr);
     }
 
-    // Makes a call, during which its thread can be interrupted.
-    template <class Call> reply interrupted(area &run, Call call) {
-        run_of_call() = &run;
-        const reply given = call();
-        run_of_call() = nullptr;
-        return given;
-    }
-
-    stops(bool is_asked, uint64_t seed) : draw(uint32_t(seed)) {
+    stops(bool is_asked, const area &run, uint64_t seed) : draw(uint32_t(seed)) {
+        run_of_thread() = &run;
         struct sigaction rests = {};
         rests.sa_handler = stop;
         rests.sa_flags = SA_RESTART;
@@ -429,13 +410,12 @@ struct stops {
         if (syscall(SYS_timer_create, CLOCK_MONOTONIC, &event, &timer) != 0) timer = -1;
     }
     ~stops() {
-        run_of_call() = nullptr;  // (a call can have thrown)
         if (timer >= 0) syscall(SYS_timer_delete, timer);
+        run_of_thread() = nullptr;
     }
 #else
-    stops(bool, uint64_t) {}
+    stops(bool, const area &, uint64_t) {}
     void before_call(uint64_t) {}
-    template <class Call> reply interrupted(area &, Call call) { return call(); }
 #endif
 };
 
@@ -484,13 +464,10 @@ template <class Make, class K> struct maker {
             at->thread = number;
             at->call = drawn(draw);
             at->key = round / run.parts * run.of.keys + key;
-            const unsigned looks = draw() % 100 < how.pauses ? unsigned(draw()) % LONGEST : 0;
-            const bool is_begun = draw() % 2;
-            if (!is_begun) run.wait_for_call(looks);
+            for (unsigned pause = draw() % 100 < how.pauses ? unsigned(draw()) % LONGEST : 0; pause > 0; pause--) run.tickets.load();
             own.before_call(uint64_t(run.of.sets) * run.of.calls);
             at->begin.store(++run.tickets, std::memory_order_release);
-            if (is_begun) run.wait_for_call(looks);
-            const reply given = own.interrupted(run, [&] { return call(at->call, its, keys[key]); });
+            const reply given = call(at->call, its, keys[key]);
             at->answer = given;
             at->end.store(++run.tickets, std::memory_order_release);
             if (given == reply::unknown) number += run.of.threads;
@@ -499,7 +476,7 @@ template <class Make, class K> struct maker {
 
     void call_in_rounds(area &run, unsigned thread, bool is_stopped) {
         std::mt19937 draw(uint32_t(run.seed * 64 + thread));
-        stops own(is_stopped, run.seed * 64 + thread);
+        stops own(is_stopped, run, run.seed * 64 + thread);
         unsigned number = thread;
         if (how.begins) how.begins();
         for (unsigned round = 0; round < run.rounds && run.waits([&] { return run.begun > round; }); round++) {

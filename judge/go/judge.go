@@ -45,7 +45,7 @@ type Options struct {
 	Threads       int    // the number of goroutines that call a set at the same time: 1 to 64; 0 selects the preset's number
 	Calls         int    // the number of calls of each goroutine: at least 1, and at most 1,000,000,000 for all together; 0 selects the preset's number; after every 20,000 calls, these are written to the file while the goroutines wait
 	Keys          int    // the number of keys: 1 to 1,048,576; 0 selects the preset's number; with more than eight keys, half of the calls use the first four
-	Pauses        int    // the percentage of calls that are delayed until another goroutine begins or ends a call, for at most a few microseconds: 0 to 100; unless it is 0, goroutines in the set's own process are also stopped during calls
+	Pauses        int    // the percentage of calls before which a goroutine pauses, for at most a few microseconds: 0 to 100; unless it is 0, goroutines in the set's own process are also stopped during calls
 	Runs          int    // the number of runs: 1 to 1,000,000; a run calls one set, or several new sets one after another
 	Seed          int64  // the random seed for the calls, keys and pauses of the first run; each later run uses the next seed
 	Seconds       int    // if no call begins or ends for this many seconds, a run is considered hung and is cut short: 1 to 3,600

@@ -382,28 +382,16 @@ func (a *area) call(set Set, s *slot, ofSet int, number *uint32, draw *rand.Rand
 	} else if at < o.Adds+o.Removes {
 		s.call = 1
 	}
-	looks, isBegun := 0, draw.Intn(2) == 0
 	if draw.Intn(100) < o.Pauses {
-		looks = draw.Intn(manyLongest)
-	}
-	if !isBegun {
-		a.waitForCall(looks)
+		for looks := draw.Intn(manyLongest); looks > 0; looks-- {
+			atomic.LoadUint32(&a.tickets)
+		}
 	}
 	atomic.StoreUint32(&s.begin, atomic.AddUint32(&a.tickets, 1))
-	if isBegun {
-		a.waitForCall(looks)
-	}
 	s.reply = reply(set, s.call, a.number(key))
 	atomic.StoreUint32(&s.end, atomic.AddUint32(&a.tickets, 1))
 	if s.reply == unknown {
 		*number += uint32(a.threads)
-	}
-}
-
-// waitForCall waits until another goroutine begins or ends a call, for at most this many looks. Goroutines that run at
-// the same time then make their next steps at the same time.
-func (a *area) waitForCall(looks int) {
-	for seen := atomic.LoadUint32(&a.tickets); looks > 0 && atomic.LoadUint32(&a.tickets) == seen; looks-- {
 	}
 }
 

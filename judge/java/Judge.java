@@ -138,8 +138,8 @@ public final class Judge {
         public Options withKeys(int it) { return with(made -> made.keys = it); }
 
         /**
-         * Sets the percentage of calls that are delayed until another thread begins or ends a call, for at most a few
-         * microseconds: 0 to 100. Unless it is 0, threads in the set's own JVM are also interrupted during calls.
+         * Sets the percentage of calls before which a thread pauses, for at most a few microseconds: 0 to 100. Unless
+         * it is 0, threads in the set's own JVM are also interrupted during calls.
          */
         public Options withPauses(int it) { return with(made -> made.pauses = it); }
 
@@ -489,14 +489,6 @@ public final class Judge {
 
         int next(int at) { return (int) INT.getAndAdd(memory, at, 1) + 1; }
 
-        /**
-         * Waits until another thread begins or ends a call, for at most this many looks. Threads that run at the same
-         * time then make their next steps at the same time.
-         */
-        void waitForCall(int looks) {
-            for (int seen = get(TICKETS), left = looks; left > 0 && get(TICKETS) == seen; left--) continue;
-        }
-
         Shape shape() {
             return new Shape("", get(SHAPE), get(SHAPE + 4), get(SHAPE + 8), get(SHAPE + 12), get(SHAPE + 16), get(SHAPE + 20) == 1);
         }
@@ -718,12 +710,9 @@ public final class Judge {
             int drawn = draw.nextInt(how.adds + how.removes + how.finds), call = drawn < how.adds ? 0 : drawn < how.adds + how.removes ? 1 : 2;
             int key = draw.nextInt(of.keys > 2 * HOT && draw.nextBoolean() ? HOT : of.keys);
             area.memory.putInt(at + Area.THREAD, number).putInt(at + Area.CALL, call).putInt(at + Area.KEY, ofSet + key);
-            int looks = draw.nextInt(100) < how.pauses ? draw.nextInt(LONGEST) : 0;
-            boolean isBegun = draw.nextBoolean();
+            for (int pause = draw.nextInt(100) < how.pauses ? draw.nextInt(LONGEST) : 0; pause > 0; pause--) area.get(Area.TICKETS);
             K given = calls.key(key, of.times);
-            if (!isBegun) area.waitForCall(looks);
             Area.INT.setRelease(area.memory, at + Area.BEGIN, area.next(Area.TICKETS));
-            if (isBegun) area.waitForCall(looks);
             int reply = calls.reply(its, call, given);
             area.memory.putInt(at + Area.REPLY, reply);
             Area.INT.setRelease(area.memory, at + Area.END, area.next(Area.TICKETS));

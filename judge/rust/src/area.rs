@@ -9,7 +9,7 @@ use std::sync::atomic::Ordering::{Relaxed, Release, SeqCst};
 use std::time::{Duration, Instant};
 
 use crate::memory::Memory;
-use crate::stops::{interrupted, Stops};
+use crate::stops::Stops;
 use crate::words::*;
 use crate::{no_verdict, Failure, Options, Replies, Shape, Source};
 
@@ -34,7 +34,6 @@ enum At {
     Phase,
     IsStopping,
     IsBusy,
-    IsInterrupted,
     IsHere,
     Numbers,
     Seed,
@@ -195,15 +194,6 @@ impl Area {
         self.get(At::Tickets)
     }
 
-    /// Marks a thread of this run as interrupted. Returns `false` if another thread is.
-    pub fn begin_interrupt(&self) -> bool {
-        self.at(At::IsInterrupted).swap(1, SeqCst) == 0
-    }
-
-    pub fn end_interrupt(&self) {
-        self.set(At::IsInterrupted, 0);
-    }
-
     /// Returns whether threads are to be interrupted for longer. On a busy machine, a thread seldom loses its processor
     /// in the middle of a call, since it makes all its calls before it does.
     pub fn interrupts_longer(&self) -> bool {
@@ -299,17 +289,6 @@ impl Area {
         }
     }
 
-    /// Waits until another thread begins or ends a call, for at most this many looks. Threads that run at the same time
-    /// then make their next steps at the same time.
-    fn wait_for_call(&self, looks: u32) {
-        let seen = self.moment();
-        for _ in 0..looks {
-            if self.moment() != seen {
-                break;
-            }
-        }
-    }
-
     /// Waits until `is_done`: polls `awake` times, then sleeps between polls. Returns `false` if the run was stopped.
     fn waits(&self, awake: u32, is_done: impl Fn() -> bool) -> bool {
         for looks in 0_u32.. {
@@ -390,7 +369,7 @@ impl<S: Sync> Play<'_, S> {
     /// Makes the calls of one thread, part by part.
     fn call_in_parts(&self, thread: u32, is_stopped: bool) {
         let (area, of, rows) = (self.area, self.of, self.of.rows());
-        let stops = if is_stopped { Stops::of_this_thread() } else { None };
+        let stops = if is_stopped { Stops::of_this_thread(area) } else { None };
         let mut draws = Draws((u64::from(area.get(At::Seed)) << 20) + u64::from(self.one << 6) + u64::from(thread));
         let (mut stopping, mut number) = (Draws(!draws.0), self.one * of.threads + thread);
         for part in 0..of.parts() {
@@ -442,17 +421,11 @@ impl<S: Sync> Play<'_, S> {
         };
         let is_hot = keys > 2 * HOT && draws.below(2) == 0;
         let key = draws.below(if is_hot { HOT } else { keys });
-        let looks = if draws.below(100) < area.options.pauses { draws.below(LONGEST) } else { 0 };
-        let is_begun = draws.below(2) == 0;
+        let pause = if draws.below(100) < area.options.pauses { draws.below(LONGEST) } else { 0 };
         [*number, word, self.one * keys + key].into_iter().zip(&slot[2..]).for_each(|(it, to)| to.store(it, Relaxed));
-        if !is_begun {
-            area.wait_for_call(looks);
-        }
+        (0..pause).for_each(|_| _ = area.get(At::Tickets));
         slot[1].store(area.next(At::Tickets), Release);
-        if is_begun {
-            area.wait_for_call(looks);
-        }
-        let reply = interrupted(area, || (self.reply)(self.set, word as u8, key * self.of.times)).map_or(UNKNOWN, u32::from);
+        let reply = (self.reply)(self.set, word as u8, key * self.of.times).map_or(UNKNOWN, u32::from);
         slot[5].store(reply, Relaxed);
         slot[0].store(area.next(At::Tickets), Release);
         if reply == UNKNOWN {

@@ -50,9 +50,8 @@ pub struct Options {
     /// The number of keys: 1 to 1,048,576. 0 selects the preset's number. With more than eight keys, half of the calls
     /// use the first four.
     pub keys: u32,
-    /// The percentage of calls that are delayed until another thread begins or ends a call, for at most a few
-    /// microseconds: 0 to 100. Unless it is 0, threads in the set's own process are also interrupted during calls by the
-    /// signal SIGURG.
+    /// The percentage of calls before which a thread pauses, for at most a few microseconds: 0 to 100. Unless it is 0,
+    /// threads in the set's own process are also interrupted during calls by the signal SIGURG.
     pub pauses: u32,
     /// The number of runs: 1 to 1,000,000. A run uses one set, or several new sets one after another. Run `i` uses the
     /// seed `seed + i`.

@@ -1,8 +1,5 @@
-//! Interrupts a thread during some of its calls, wherever the call is, with a timer that sends SIGURG to the thread.
-//!
-//! The thread then sleeps for a moment. On a busy machine, it sleeps until other threads have begun and ended `MANY`
-//! calls, at most `PATIENT` times, and at most `IDLE` times if no other thread begins or ends a call. A signal has no effect
-//! between two calls, and while another thread of the run is interrupted.
+//! Interrupts a thread during its calls for at least a microsecond, with a timer that sends SIGURG to the thread. On a busy
+//! machine, the thread then sleeps until other threads have made calls, up to `PATIENT` times.
 
 #[cfg(all(target_os = "linux", any(target_arch = "x86_64", target_arch = "aarch64")))]
 mod timer {
@@ -10,7 +7,7 @@ mod timer {
     use std::ptr::null;
 
     use crate::area::Area;
-    use crate::words::{IDLE, MANY, PATIENT};
+    use crate::words::{MANY, PATIENT};
 
     const URGENT: i32 = 23; // SIGURG
     const MONOTONIC: usize = 1;
@@ -38,14 +35,15 @@ mod timer {
     }
 
     thread_local! {
-        /// The run of the call that this thread is making. It is null between calls.
+        /// The run for which this thread makes calls.
         static RUN: Cell<*const Area> = const { Cell::new(null()) };
     }
 
     pub struct Stops(i32);
 
     impl Stops {
-        pub fn of_this_thread() -> Option<Stops> {
+        pub fn of_this_thread(area: &Area) -> Option<Stops> {
+            RUN.with(|run| run.set(area));
             let mut timer = -1i32;
             // SAFETY: the numbers are those of Linux, the event outlives the call, and the handler only sleeps.
             unsafe {
@@ -75,33 +73,15 @@ mod timer {
         }
     }
 
-    /// Makes a call, during which this thread can be interrupted.
-    pub fn interrupted<R>(area: &Area, call: impl FnOnce() -> R) -> R {
-        RUN.with(|run| run.set(area));
-        let reply = call();
-        RUN.with(|run| run.set(null()));
-        reply
-    }
-
     extern "C" fn stop(_: i32) {
-        // SAFETY: the area outlives the call, or the `Stops` of its thread if the call panics; and a signal handler may
-        // read and change atomic numbers.
-        if let Some(area) = unsafe { RUN.with(Cell::get).as_ref() } {
-            if area.begin_interrupt() {
-                sleep(area);
-                area.end_interrupt();
-            }
-        }
-    }
-
-    fn sleep(area: &Area) {
-        let seen = area.moment();
-        let most = if area.interrupts_longer() { PATIENT } else { 1 };
-        for looks in 1..=most {
+        // SAFETY: the area outlives the `Stops` of its threads, and a signal handler may read atomic numbers.
+        let area = unsafe { RUN.with(Cell::get).as_ref() };
+        let seen = area.map_or(0, Area::moment);
+        let looks = if area.map_or(false, Area::interrupts_longer) { PATIENT } else { 1 };
+        for _ in 0..looks {
             // SAFETY: a signal handler may call `usleep`.
             unsafe { usleep(1) };
-            let moments = area.moment().wrapping_sub(seen);
-            if moments >= MANY || moments == 0 && looks >= IDLE {
+            if area.map_or(true, |it| it.moment().wrapping_sub(seen) >= MANY) {
                 break;
             }
         }
@@ -113,16 +93,12 @@ mod timer {
     pub struct Stops;
 
     impl Stops {
-        pub fn of_this_thread() -> Option<Stops> {
+        pub fn of_this_thread(_: &crate::area::Area) -> Option<Stops> {
             None
         }
 
         pub fn after(&self, _: u32) {}
     }
-
-    pub fn interrupted<R>(_: &crate::area::Area, call: impl FnOnce() -> R) -> R {
-        call()
-    }
 }
 
-pub use timer::{interrupted, Stops};
+pub use timer::Stops;
