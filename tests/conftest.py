@@ -83,7 +83,7 @@ def print_missing(items):
     wanted = [it for item in items for it in {word for mark in item.iter_markers("needs") for word in mark.args}]
     for it, many in collections.Counter(wanted).items():
         if why := not_installed(it):
-            print(f"missing: {why}; {many} tests are skipped")
+            print(f"missing: {why}; {many} {'test is' if many == 1 else 'tests are'} skipped")
 
 
 @pytest.fixture(scope="session")
