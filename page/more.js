@@ -20,8 +20,9 @@ fn walk<P: Pause, N: Rounds>(caller: &Caller<CoarseList, P>, place: &mut TableSe
         curr = Node::behind(link);
     }
     None
-}`},{name:"act",first:35,steps:[{line:46,rows:[5,6,7]},{line:50,rows:[8]},{line:51,rows:[9]}],calls:[],text:`
-/// Adds the key, removes it, or only replies, at the place where the walk has stopped.
+}`},{name:"act",first:35,steps:[{line:47,rows:[5,6,7]},{line:51,rows:[8]},{line:52,rows:[9]}],calls:[],text:`
+/// Adds or removes the key between the two nodes at which the walk has stopped, or only replies. The list's lock must
+/// be held.
 fn act<P: Pause>(
     caller: &Caller<CoarseList, P>,
     place: &mut TableSeat,
@@ -42,9 +43,11 @@ fn act<P: Pause>(
         }
         Decision::Answer(reply) => (caller.slots, reply),
     }
-}`},{name:"coarse_within",first:58,steps:[{line:71,rows:[1]},{line:74,rows:[10]}],calls:[[72,"walk"],[73,"act"]],text:`
-/// Makes a whole call: takes the lock, walks to the key, acts there, and releases the lock. (Herlihy and Shavit's coarse-grained
-/// list.) Returns \`None\` if one of its loops has made \`N::MOST\` rounds.
+}`},{name:"coarse_within",first:59,steps:[{line:74,rows:[1]},{line:77,rows:[10]}],calls:[[75,"walk"],[76,"act"]],text:`
+/// Makes a whole call on a CoarseList: takes the list's lock, walks to the key, acts there, and releases the lock. This
+/// is Herlihy and Shavit's coarse-grained list.
+///
+/// Returns \`None\` if a loop of the call has made \`N::MOST\` rounds. The call is then still pending.
 pub fn coarse_within<P: Pause, N: Rounds>(
     table: &Words<CoarseList>,
     place: &mut TableSeat,
@@ -61,8 +64,9 @@ pub fn coarse_within<P: Pause, N: Rounds>(
     let answer = act(&caller, place, found);
     caller.release_last(place, LOCK); // row 10
     Some(answer)
-}`}],"crates/lset_loops/src/fine.rt":[{name:"walk",first:16,steps:[{line:23,rows:[2]},{line:25,rows:[3]},{line:26,rows:[4]},{line:30,rows:[5]},{line:31,rows:[6]}],calls:[],text:`
-/// Walks hand over hand from the locked head to the first key that is not smaller than the call's.
+}`}],"crates/lset_loops/src/fine.rt":[{name:"walk",first:16,steps:[{line:24,rows:[2]},{line:26,rows:[3]},{line:27,rows:[4]},{line:31,rows:[5]},{line:32,rows:[6]}],calls:[],text:`
+/// Walks from the locked head to the first key that is not smaller than the call's. Locks each node before it releases
+/// the previous one, and returns with both nodes locked.
 fn walk<P: Pause, N: Rounds>(caller: &Caller<FineList, P>, place: &mut TableSeat) -> Option<Found>
     requires { AtHead caller.now.origin caller.now.slots place.old }
     ensures { IfSome result (λ f. StopsAt caller.now.origin caller.now.slots f place.new) }
@@ -82,8 +86,8 @@ fn walk<P: Pause, N: Rounds>(caller: &Caller<FineList, P>, place: &mut TableSeat
         curr = Node::behind(link);
     }
     None
-}`},{name:"act",first:38,steps:[{line:49,rows:[7,8,9]},{line:53,rows:[10]},{line:54,rows:[11]}],calls:[],text:`
-/// Adds the key, removes it, or only replies, between the two locked nodes at which the walk has stopped.
+}`},{name:"act",first:39,steps:[{line:50,rows:[7,8,9]},{line:54,rows:[10]},{line:55,rows:[11]}],calls:[],text:`
+/// Adds or removes the key between the two locked nodes at which the walk has stopped, or only replies.
 fn act<P: Pause>(
     caller: &Caller<FineList, P>,
     place: &mut TableSeat,
@@ -104,10 +108,11 @@ fn act<P: Pause>(
         }
         Decision::Answer(reply) => (caller.slots, reply),
     }
-}`},{name:"fine_within",first:61,steps:[{line:75,rows:[1]},{line:78,rows:[12]},{line:79,rows:[13]}],calls:[[76,"walk"],[77,"act"]],text:`
-/// Makes a whole call: walks to the key, locking each node before it releases the previous one, acts there, and
-/// releases both locks. (Herlihy and Shavit's fine-grained list.) Returns \`None\` if one of its loops has made \`N::MOST\`
-/// rounds.
+}`},{name:"fine_within",first:62,steps:[{line:77,rows:[1]},{line:80,rows:[12]},{line:81,rows:[13]}],calls:[[78,"walk"],[79,"act"]],text:`
+/// Makes a whole call on a FineList: walks to the key, locking each node before it releases the previous one, acts
+/// there, and releases both locks. This is Herlihy and Shavit's fine-grained list.
+///
+/// Returns \`None\` if a loop of the call has made \`N::MOST\` rounds. The call is then still pending.
 pub fn fine_within<P: Pause, N: Rounds>(
     table: &Words<FineList>,
     place: &mut TableSeat,
@@ -125,8 +130,9 @@ pub fn fine_within<P: Pause, N: Rounds>(
     caller.unlock(place, found.curr); // row 12
     caller.unlock_last(place, found.pred); // row 13
     Some(answer)
-}`}],"crates/lset_loops/src/optimistic.rt":[{name:"walk",first:22,steps:[{line:37,rows:[2]},{line:42,rows:[3]}],calls:[],text:`
-/// Walks from the head, whose link led to \`first\`, to the first key that is not smaller than the call's.
+}`}],"crates/lset_loops/src/optimistic.rt":[{name:"walk",first:22,steps:[{line:38,rows:[2]},{line:43,rows:[3]}],calls:[],text:`
+/// Walks from the head to the first key that is not smaller than the call's. \`first\` is the node to which the head's
+/// link led.
 #[inline(always)]
 fn walk<P: Pause, N: Rounds>(
     caller: &Caller<OptimisticList, P>,
@@ -152,8 +158,8 @@ fn walk<P: Pause, N: Rounds>(
         curr = Node::behind(link);
     }
     None
-}`},{name:"reaches",first:50,steps:[{line:68,rows:[6]},{line:70,rows:[7]}],calls:[],text:`
-/// Walks a second time from the head, up to \`pred\`. Returns whether the walk reached \`pred\`. It fails if it sees a key
+}`},{name:"reaches",first:51,steps:[{line:69,rows:[6]},{line:71,rows:[7]}],calls:[],text:`
+/// Walks a second time from the head, and returns whether this walk reaches \`pred\`. The walk fails if it sees a key
 /// greater than that of \`pred\`.
 #[inline(always)]
 fn reaches<P: Pause, N: Rounds>(
@@ -182,8 +188,8 @@ fn reaches<P: Pause, N: Rounds>(
         }
     }
     None
-}`},{name:"validate",first:81,steps:[{line:94,rows:[8]}],calls:[[91,"reaches"]],text:`
-/// Checks that \`pred\` is still in the list and leads to \`curr\`. Both must be locked.
+}`},{name:"validate",first:82,steps:[{line:95,rows:[8]}],calls:[[92,"reaches"]],text:`
+/// Returns whether \`pred\` is still in the list and leads to \`curr\`. Both must be locked.
 fn validate<P: Pause, N: Rounds>(
     caller: &Caller<OptimisticList, P>,
     place: &mut TableSeat,
@@ -201,8 +207,8 @@ fn validate<P: Pause, N: Rounds>(
         return Some(false);
     }
     Some(true)
-}`},{name:"act",first:101,steps:[{line:112,rows:[9,10,11]},{line:116,rows:[12]},{line:117,rows:[13]}],calls:[],text:`
-/// Adds the key, removes it, or only replies, between the two locked nodes at which the walk has stopped.
+}`},{name:"act",first:102,steps:[{line:113,rows:[9,10,11]},{line:117,rows:[12]},{line:118,rows:[13]}],calls:[],text:`
+/// Adds or removes the key between the two locked nodes at which the walk has stopped, or only replies.
 fn act<P: Pause>(
     caller: &Caller<OptimisticList, P>,
     place: &mut TableSeat,
@@ -223,10 +229,12 @@ fn act<P: Pause>(
         }
         Decision::Answer(reply) => (caller.slots, reply),
     }
-}`},{name:"optimistic_within",first:124,steps:[{line:138,rows:[1],begins:!0,answers:!1},{line:142,rows:[4]},{line:143,rows:[5]},{line:146,rows:[14],begins:!1,answers:!0},{line:147,rows:[15],begins:!1,answers:!0},{line:150,rows:[14],begins:!1,answers:!1},{line:151,rows:[15],begins:!1,answers:!1},{line:152,rows:[1],begins:!1,answers:!1}],calls:[[140,"walk"],[144,"validate"],[145,"act"]],text:`
-/// Makes a whole call: walks to the key without a lock, locks the two nodes there, and checks with a second walk that
-/// they are still neighbours in the list. If they are, acts and releases them; otherwise releases them and starts over.
-/// (Herlihy and Shavit's optimistic list.) Returns \`None\` if one of its loops has made \`N::MOST\` rounds.
+}`},{name:"optimistic_within",first:125,steps:[{line:141,rows:[1],begins:!0,answers:!1},{line:145,rows:[4]},{line:146,rows:[5]},{line:149,rows:[14],begins:!1,answers:!0},{line:150,rows:[15],begins:!1,answers:!0},{line:153,rows:[14],begins:!1,answers:!1},{line:154,rows:[15],begins:!1,answers:!1},{line:155,rows:[1],begins:!1,answers:!1}],calls:[[143,"walk"],[147,"validate"],[148,"act"]],text:`
+/// Makes a whole call on an OptimisticList. Walks to the key without locks, locks the two nodes there, and checks with
+/// a second walk that they are still neighbours in the list. If they are, acts and releases them; otherwise releases
+/// them and starts over. This is Herlihy and Shavit's optimistic list.
+///
+/// Returns \`None\` if a loop of the call has made \`N::MOST\` rounds. The call is then still pending.
 pub fn optimistic_within<P: Pause, N: Rounds>(
     table: &Words<OptimisticList>,
     place: &mut TableSeat,
@@ -255,8 +263,9 @@ pub fn optimistic_within<P: Pause, N: Rounds>(
         link = caller.load_link(place, Node::head()); // row 1
     }
     None
-}`}],"crates/lset_loops/src/lazy.rt":[{name:"walk",first:17,steps:[{line:31,rows:[2]},{line:35,rows:[3]}],calls:[],text:`
-/// Walks from the head, whose link led to \`first\`, to the first key that is not smaller than the call's.
+}`}],"crates/lset_loops/src/lazy.rt":[{name:"walk",first:17,steps:[{line:32,rows:[2]},{line:36,rows:[3]}],calls:[],text:`
+/// Walks from the head to the first key that is not smaller than the call's. \`first\` is the node to which the head's
+/// link led.
 #[inline(always)]
 fn walk<P: Pause, N: Rounds>(
     caller: &Caller<LazyList, P>,
@@ -279,9 +288,9 @@ fn walk<P: Pause, N: Rounds>(
         curr = Node::behind(link);
     }
     None
-}`},{name:"validate",first:42,steps:[{line:52,rows:[6]},{line:56,rows:[7]}],calls:[],text:`
-/// Checks that \`pred\` leads to \`curr\` and that neither is marked. Returns the node after \`curr\`, or \`None\` if the check
-/// fails.
+}`},{name:"validate",first:43,steps:[{line:53,rows:[6]},{line:57,rows:[7]}],calls:[],text:`
+/// Returns the node after \`curr\` if \`pred\` leads to \`curr\` and neither is marked, otherwise \`None\`. Both must be
+/// locked.
 fn validate<P: Pause>(
     caller: &Caller<LazyList, P>,
     place: &mut TableSeat,
@@ -299,8 +308,8 @@ fn validate<P: Pause>(
         return None;
     }
     Some(Node::behind(after))
-}`},{name:"act",first:63,steps:[{line:75,rows:[8,9,10]},{line:79,rows:[11]},{line:80,rows:[12]}],calls:[],text:`
-/// Adds the key, removes it, or only replies, between the two locked nodes at which the walk has stopped.
+}`},{name:"act",first:64,steps:[{line:76,rows:[8,9,10]},{line:80,rows:[11]},{line:81,rows:[12]}],calls:[],text:`
+/// Adds or removes the key between the two locked nodes at which the walk has stopped, or only replies.
 fn act<P: Pause>(
     caller: &Caller<LazyList, P>,
     place: &mut TableSeat,
@@ -322,11 +331,12 @@ fn act<P: Pause>(
         }
         Decision::Answer(reply) => (caller.slots, reply),
     }
-}`},{name:"lazy_change_within",first:87,steps:[{line:103,rows:[1],begins:!0,answers:!1},{line:106,rows:[4]},{line:107,rows:[5]},{line:111,rows:[13],begins:!1,answers:!0},{line:112,rows:[14],begins:!1,answers:!0},{line:116,rows:[13],begins:!1,answers:!1},{line:117,rows:[14],begins:!1,answers:!1},{line:118,rows:[1],begins:!1,answers:!1}],calls:[[105,"walk"],[108,"validate"],[110,"act"]],text:`
-/// Makes a whole \`add\` or \`remove\` on a LazyList: walks to the key without a lock, locks the two nodes there, and
-/// checks that they are still neighbours in the list. If they are, acts and releases them; otherwise releases them and
-/// starts over. (Herlihy and Shavit's lazy list, after Heller and others.) Returns \`None\` if one of its loops has made
-/// \`N::MOST\` rounds.
+}`},{name:"lazy_change_within",first:88,steps:[{line:105,rows:[1],begins:!0,answers:!1},{line:108,rows:[4]},{line:109,rows:[5]},{line:113,rows:[13],begins:!1,answers:!0},{line:114,rows:[14],begins:!1,answers:!0},{line:118,rows:[13],begins:!1,answers:!1},{line:119,rows:[14],begins:!1,answers:!1},{line:120,rows:[1],begins:!1,answers:!1}],calls:[[107,"walk"],[110,"validate"],[112,"act"]],text:`
+/// Makes a whole \`add\` or \`remove\` on a LazyList. Walks to the key without locks, locks the two nodes there, and checks
+/// that they are still neighbours in the list. If they are, acts and releases them; otherwise releases them and starts
+/// over. This is Herlihy and Shavit's lazy list, after Heller and others.
+///
+/// Returns \`None\` if a loop of the call has made \`N::MOST\` rounds. The call is then still pending.
 pub fn lazy_change_within<P: Pause, N: Rounds>(
     table: &Words<LazyList>,
     place: &mut TableSeat,
@@ -359,12 +369,13 @@ pub fn lazy_change_within<P: Pause, N: Rounds>(
         }
     }
     None
-}`}],"crates/lset_loops/src/reads.rt":[{name:"contains_on",first:43,steps:[{line:60,rows:[20],begins:!0,answers:!1},{line:62,rows:[21]},{line:68,rows:[22]},{line:71,rows:[20],begins:!1,answers:!1}],calls:[],text:`
-/// Makes a whole \`contains\` of \`key\`: walks to the first key that is not smaller than its own, and checks the mark of
-/// the node that has it. (Herlihy and Shavit's wait-free \`contains\`.)
+}`}],"crates/lset_loops/src/reads.rt":[{name:"contains_on",first:43,steps:[{line:61,rows:[20],begins:!0,answers:!1},{line:63,rows:[21]},{line:69,rows:[22]},{line:72,rows:[20],begins:!1,answers:!1}],calls:[],text:`
+/// Makes a whole \`contains\` of \`key\`: walks to the first key that is not smaller than \`key\`, and replies according to
+/// the mark of its node. This is Herlihy and Shavit's wait-free \`contains\`.
 ///
-/// \`place\` is an idle seat of these words, and \`slots\` are its thread's slots. Returns the slots and the reply. \`pause\`
-/// is called after each step that does not end the call. Does not block, and always returns.
+/// \`place\` is an idle seat (the right to call as one thread) on the words \`table\`, and \`slots\` are the slots of its
+/// thread (nodes for keys that it adds). Returns the slots and the reply. \`pause\` is called after each step that does
+/// not end the call. Does not block, and always returns.
 pub fn contains_on<M: ReadsByRows, P: Pause>(
     table: &Words<M>,
     place: &mut TableSeat,
@@ -392,9 +403,9 @@ pub fn contains_on<M: ReadsByRows, P: Pause>(
         caller.goes_on();
         curr = Node::behind(link);
     }
-}`}],"crates/lset_loops/src/lock_free.rt":[{name:"find",first:16,steps:[{line:30,rows:[2]},{line:33,rows:[3]},{line:39,rows:[1],begins:!1,answers:!1},{line:42,rows:[4]}],calls:[],text:`
-/// Walks from the head, whose link led to \`first\`, to the first key that is not smaller than the call's, and unlinks
-/// marked nodes on the way (Herlihy and Shavit's \`find\`).
+}`}],"crates/lset_loops/src/lock_free.rt":[{name:"find",first:17,steps:[{line:31,rows:[2]},{line:34,rows:[3]},{line:40,rows:[1],begins:!1,answers:!1},{line:43,rows:[4]}],calls:[],text:`
+/// Walks from the head to the first key that is not smaller than the call's, and unlinks marked nodes on the way:
+/// Herlihy and Shavit's \`find\`. \`first\` is the node to which the head's link led.
 fn find<P: Pause, N: Rounds>(
     caller: &Caller<LockFreeList, P>,
     place: &mut TableSeat,
@@ -428,9 +439,9 @@ fn find<P: Pause, N: Rounds>(
         curr = succ;
     }
     None
-}`},{name:"attempt",first:53,steps:[{line:66,rows:[5,6]},{line:67,rows:[7]},{line:74,rows:[8]},{line:75,rows:[9]},{line:79,rows:[10]}],calls:[],text:`
-/// Adds the key, removes it, or only replies, at the place where the walk has stopped. Returns \`None\` if a link has
-/// changed since.
+}`},{name:"attempt",first:54,steps:[{line:67,rows:[5,6]},{line:68,rows:[7]},{line:75,rows:[8]},{line:76,rows:[9]},{line:80,rows:[10]}],calls:[],text:`
+/// Adds or removes the key between the two nodes at which the walk has stopped, or only replies. Returns \`None\` if a
+/// link has changed since the walk.
 fn attempt<P: Pause>(
     caller: &Caller<LockFreeList, P>,
     place: &mut TableSeat,
@@ -460,10 +471,12 @@ fn attempt<P: Pause>(
         }
         Decision::Answer(reply) => Some((caller.slots, reply)),
     }
-}`},{name:"lock_free_change_within",first:86,steps:[{line:101,rows:[1],begins:!0,answers:!1},{line:106,rows:[1],begins:!1,answers:!1}],calls:[[103,"find"],[104,"attempt"]],text:`
-/// Makes a whole \`add\` or \`remove\` on a LockFreeList. Walks to the key, then links in its next slot, or marks the node
-/// and attempts once to unlink it. Starts over if a link has changed since the walk. (Herlihy and Shavit's lock-free
-/// list.) Returns \`None\` if one of its loops has made \`N::MOST\` rounds.
+}`},{name:"lock_free_change_within",first:87,steps:[{line:104,rows:[1],begins:!0,answers:!1},{line:109,rows:[1],begins:!1,answers:!1}],calls:[[106,"find"],[107,"attempt"]],text:`
+/// Makes a whole \`add\` or \`remove\` on a LockFreeList. Walks to the key. Then an \`add\` links in the thread's next slot
+/// (an unused node), and a \`remove\` marks the node and attempts once to unlink it. Starts over if a link has changed
+/// since the walk. This is Herlihy and Shavit's lock-free list.
+///
+/// Returns \`None\` if a loop of the call has made \`N::MOST\` rounds. The call is then still pending.
 pub fn lock_free_change_within<P: Pause, N: Rounds>(
     table: &Words<LockFreeList>,
     place: &mut TableSeat,
