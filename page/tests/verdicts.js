@@ -272,7 +272,8 @@ function callOfLine(it, words) {
 function checkWhy(ask, it) {
   const lines = ask("listset_why_record", it.text).text.split("\n").filter((line) => line !== "").map((line) => line.split(" "));
   const told = lines.map((words) => (["call", "also"].includes(words[0]) ? { call: callOfLine(it, words.slice(1)), says: [words[0], ...words.slice(7)].join(" "), mark: words.slice(7).join(" ") } : { says: words.join(" ") }));
-  const why = { shown: told.filter(({ says }) => says.startsWith("call ")), because: told.filter(({ says }) => says.startsWith("because ")), told: null };
+  const why = { shown: told.filter(({ says }) => says.startsWith("call ")), because: told.filter(({ says }) => says.startsWith("because ")), told: null,
+    isOfEnd: told.some(({ says }) => / at the end$/.test(says) && says.startsWith("headline ")) };
   for (const { call } of told.filter(({ says }) => /^(call|also)/.test(says))) if (call === undefined) return result.failed.push(`no such call on\n${it.text}`);
   for (const line of told) checkSentence(OF_WHY, it, line.says, why, line);
   return checkText(ask, it, told);
@@ -572,7 +573,8 @@ const OF_WHY = [
     return told.isAll && next.filter((isWrong) => !isWrong).length === Number(right) && next.filter((isWrong) => isWrong).length === Number(wrong);
   }],
   [/^fact headline and picture are of a contradiction that ends later than the first one \(key (\d+), moment (\d+)\)$/, (it, [key, moment], why) => {
-    const isLater = why.shown.some(({ call }) => (call.ended ?? LAST) > Number(moment));
+    // (a contradiction with the final state ends with the recording)
+    const isLater = why.isOfEnd || why.shown.some(({ call }) => (call.ended ?? LAST) > Number(moment));
     const isFirst = keysOf(it).every((one) => hasOrder(knownBy(ofKey(it, one), Number(moment) - 1), one, opens(it, one)));
     return isLater && isFirst && !hasOrder(knownBy(ofKey(it, Number(key)), Number(moment)), Number(key), opens(it, Number(key)));
   }],

@@ -54,7 +54,7 @@ export function drawBar(stage, number, words = number === SCREENS.length ? "And 
   show.className = isLecture() && stage === "playing" ? "primary" : "quiet";
   on.hidden = !isDone && isNarrow();
   show.textContent = (isLecture() && { guess: "Reveal", playing: "Next step →" }[stage]) || SHOW[stage];
-  drawOn(isDone, words);
+  drawOn(isDone, isLecture() ? "Next slide →" : words); // (a slide leaves out screens of the path)
 }
 
 // Turns the stretches of the row "set" into buttons.
