@@ -464,6 +464,7 @@ const isMissed = (it, isOfKind) => it.calls.some((call) => call.operation !== "a
 const isFoundAgain = (it) => it.calls.some((call) => call.ended !== null && !isChange(call) && needsKey(call)
   && ofKey(it, call.key).some((first) => first.operation === "remove" && first.reply === "true" && first.ended < call.begun && isNoneBetween(it, call.key, "add", first.begun, call.ended)));
 
+const IN_LIST = { "two adds true": "added twice", "two removes true": "removed twice" }; // the words of a short list
 const TALLIED = ["lost", "came back", "two adds true", "two removes true", "one wrong answer", "none of these"];
 // Returns the next completed call of an operation on the key of an answer, if no change of the key ran between the two.
 function nextCall(it, answer, operation) {
@@ -535,8 +536,9 @@ const OF_WHY = [
     const isSilent = Number(silent) === 0 || it.calls.some((one) => one.operation !== "contains" && one.reply === "false" && !hasOrderOf(it, one.key));
     return Number(beside) <= Number(timed) && Number(timed) <= Number(gone) && Number(silent) <= Number(gone) && isBeside && isSilent;
   }],
-  [/^fact (at least )?(\d+) contradictions?: (.*)$/, (it, [atLeast, count, listed]) => {
+  [/^fact (at least )?(\d+) contradictions?: (.*)$/, (it, [atLeast, count, listed], why) => {
     const told = listed.split("; ");
+    why.tally = Object.fromEntries(TALLIED.map((kind) => [kind, told.filter((one) => one.includes(` ${IN_LIST[kind] ?? kind} `)).length]));
     const isOfEach = keysOf(it).every((key) => hasOrderOf(it, key) || told.some((one) => one.startsWith(`key ${key} `)));
     return told.length === Number(count) && told.every((one) => isListed(it, one)) && (atLeast !== undefined || isOfEach);
   }],
