@@ -521,6 +521,8 @@ print_as_called() {
   [ "$called" = listset ] || for it in replay judge check show trace draft example gen run serve faults explain help --help --version; do
     text=${text//"listset $it"/"$called $it"}
   done
+  # (a command must not write to the file NEW that it reads)
+  [[ ! $text =~ [^\>]\ NEW[\ \;\)] ]] || text=$(sed -E 's/([^>])> NEW/\1> NEWER/g' <<<"$text")
   [ -z "$text" ] || printf '%s\n' "$text"
 }
 

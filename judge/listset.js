@@ -782,7 +782,8 @@ function ofThisFile(engine, { texts, values: [file = "-"] }, value) {
 function asCalled(hint) {
   const [from, whole] = [path.relative("", process.argv[1]), process.argv[1]];
   const called = `node ${quoted(from.length < whole.length ? from : whole)}`;
-  return hint.replace(/\blistset (?=((replay|judge|check|show|trace|draft|example|gen|run|serve|faults|explain|help)\b|--version|--help))/g, `${called} `);
+  const safe = /[^>] NEW[ ;)]/.test(hint) ? hint.replace(/([^>])> NEW/g, "$1> NEWER") : hint;
+  return safe.replace(/\blistset (?=((replay|judge|check|show|trace|draft|example|gen|run|serve|faults|explain|help)\b|--version|--help))/g, `${called} `);
 }
 function wordsHint(given, said) {
   const [name = ""] = given;

@@ -604,7 +604,9 @@ function ofThisFile(engine, { texts, values: [file = "-"] }, value) {
 function asCalled(hint) {
   const [from, whole] = [path.relative("", process.argv[1]), process.argv[1]];
   const called = `node ${quoted(from.length < whole.length ? from : whole)}`;
-  return hint.replace(/\blistset (?=((replay|judge|check|show|trace|draft|example|gen|run|serve|faults|explain|help)\b|--version|--help))/g, `${called} `);
+  // (a command must not write to the file NEW that it reads)
+  const safe = /[^>] NEW[ ;)]/.test(hint) ? hint.replace(/([^>])> NEW/g, "$1> NEWER") : hint;
+  return safe.replace(/\blistset (?=((replay|judge|check|show|trace|draft|example|gen|run|serve|faults|explain|help)\b|--version|--help))/g, `${called} `);
 }
 
 // Returns a hint for wrong arguments and the program's error; an empty text if there is none.
