@@ -1,4 +1,5 @@
--- Proof: in the history of a run, the calls of a thread are its completed calls, followed by its pending call.
+-- Proof: in the history of a run, the calls of a thread are its completed calls, followed by its pending call if it has
+-- one.
 use Rattle.std.proofs.Common.{◌≡◌, ◌≢◌, ⊎_elim, ℕ, zero, suc, ◌<◌, ◌≤◌, ◌==◌, Bool, true, false, cond, List, [], ◌∷◌, ◌++◌, map}
 use Rattle.std.proofs.Common.{Option, Some, None, refl, sym, ap, ◌∙◌, arith, append-nil, if◌then◌else◌}
 use Rattle.std.specs.Prelude.{filter, ◌&&◌, is_none}
@@ -24,7 +25,7 @@ abbrev pub open_records : ℕ → Option PendingCall → List CallRecord
 open_records u None = []
 open_records u (Some o) = record { thread = u; call = o.call; begun = o.begun; ended = None } ∷ []
 
--- Returns the completed calls and the pending call of thread u in the form that a history uses.
+-- Returns the completed calls and the pending call of thread u as the call records of a history.
 abbrev pub thread_records : ℕ → List OwnCall → Option PendingCall → List CallRecord
 thread_records u done under_way = map (ended_record u) done ++ open_records u under_way
 
@@ -88,7 +89,8 @@ module _ (m : ℕ) (ch : Option Change) (a : Option Reply) where
   ends_done u [] = refl
   ends_done u (c ∷ cs) = ap (λ l. ended_record u c ∷ l) (ends_done u cs)
 
--- A step of thread u changes its calls in the history in the same way as its lists of completed and pending calls.
+-- A step of thread u changes the thread's calls in the history just as it changes the thread's completed calls and
+-- pending call.
 open_step : (m u : ℕ) (ch : Option Change) (a : Option Reply) (done : List OwnCall) (o : Option PendingCall)
     → map (ends m ch a) (thread_records u done o) ≡ thread_records u (done ++ ending a o m) (under_after a o)
 open_step m u ch a done o = map-append (ends m ch a) (map (ended_record u) done) (open_records u o)
@@ -102,7 +104,7 @@ open_step m u ch a done o = map-append (ends m ch a) (map (ended_record u) done)
     last None (Some x) = ap (λ l. map (ended_record u) l ++ open_records u (Some x)) (sym (append-nil done))
     last None None = ap (λ l. map (ended_record u) l ++ []) (sym (append-nil done))
 
--- States that thread u has no pending call if entry e of a log starts a call of this thread.
+-- States that thread u has no pending call if the log entry e is the start of a call of thread u.
 abbrev pub MayBegin : Entry → ℕ → Option PendingCall → Type 0
 MayBegin (began t c) u o = t ≡ u → o ≡ None
 MayBegin (stepped t ch a) u o = Unit {0}

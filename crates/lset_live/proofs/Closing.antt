@@ -1,5 +1,5 @@
--- Proof: the final keys that `close` returns follow from the events that the closing seat has seen, since this seat
--- holds all seats.
+-- Proof about `close`: the seat passed to `close` holds all seats of the set, and therefore has seen all events that
+-- determine the final keys.
 use Rattle.std.proofs.Common.{◌≡◌, inl, ℕ, zero, suc, ◌+◌, ◌/◌, ◌<◌, false, List, [], ◌∷◌, map, length, None, refl, sym, ap, ◌∙◌}
 use Rattle.std.proofs.Common.{subst, arith}
 use mathlib.Core.Option.{some, some-injective, some-ne-none}
@@ -35,7 +35,8 @@ use Rattle.lset_live.proofs.OrderKeepsRecord.{calls_by_is}
 use Rattle.lset_live.proofs.PastCalls.{none_in}
 use Rattle.lset_live.proofs.SeenExplained.{own, order, explains, turns, kept}
 
--- The nodes that can be reached from the head, and their keys, do not depend on how many slots are used.
+-- The nodes that can be reached from the head, and the keys of these nodes, do not depend on how many slots (nodes for
+-- keys to add) the threads have used.
 module _ (sz : Sizes) (ws : List ℕ) (used other : ℕ → ℕ) where
   same_segment : (i : ℕ) (ns : List ℕ) (j : ℕ) → Segment (view sz ws used) i ns j → Segment (view sz ws other) i ns j
   same_segment i [] j s = s
@@ -59,7 +60,7 @@ one_segment v i (n ∷ ns) (m ∷ ms) s t = λ j. (s.0 ∙ sym t.0) j ∷ one_se
 pub one_content : (v : ChainView) (keys others : List ℕ) → IsContent v keys → IsContent v others → keys ≡ others
 one_content v keys others c d = c.0.2 ∙ (ap (keys_in v) (one_segment v 0 c.0.0 d.0.0 c.0.1 d.0.1) ∙ sym d.0.2)
 
--- ---- The seat that has all threads of the set knows the whole run
+-- ---- A seat that holds the seats of all threads has seen the whole run
 module _ (T : Table) (law : Lawful T) (v : View) (st : Stands T v) (idle : v.under ≡ None) (linear : RunsAreLinearizable T)
     (full : length v.others + 1 ≡ v.shape.threads) where
   abbrev k : Opening
@@ -108,8 +109,7 @@ module _ (T : Table) (law : Lawful T) (v : View) (st : Stands T v) (idle : v.und
     is = refl;
   }
 
--- When the set is closed, its words are those after the events that the closing seat has seen. The lemmas below are
--- about these words.
+-- If a seat closes the set, the words ws of the closed set are the words after all events that this seat has seen.
 module _ (T : Table) (law : Lawful T) (v : View) (st : Stands T v) (sp : v.spent ≡ false) (idle : v.under ≡ None) (k : Opening)
     (shape : v.shape ≡ k)
     (full : length v.others + 1 ≡ k.threads) (id : ℕ) (ws : List ℕ) (xs : List (Unit {0})) (final : Final (Seen (Holds T k) id v) ws xs) where

@@ -1,4 +1,4 @@
--- Lemmas about a record into which the records in a list were merged (gathered).
+-- Lemmas about the record that results from merging (gathering) a list of records.
 use Rattle.std.proofs.Common.{◌≡◌, ℕ, inl, inr, ⊎_elim, List, [], ◌∷◌, ◌++◌, Option, Some, None, IfSome, All, refl, subst, sym}
 use Rattle.std.proofs.lemmas.List.Elements.{All-head, All-cons, All-nil}
 use Rattle.lset_words.specs.SequentialSet.{Answered}
@@ -30,7 +30,7 @@ unnamed u o [] h n = h
 unnamed u None (q ∷ qs) h n = unnamed u (Some q) qs (λ x. n (inl x)) (λ x. n (inr x))
 unnamed u (Some p) (q ∷ qs) h n = unnamed u (Some (gathered p q)) qs (λ x. ⊎_elim h (λ y. n (inl y)) x) (λ x. n (inr x))
 
--- A legal order for the merged record is also one for the list of records.
+-- A legal order for the merged record is also a legal order for the list of records.
 pub gathered_explains : (k : Opening) (r : Record) (rs : List Record) (keys : List ℕ) → Some r ≡ gather_onto None rs →
     IsOneLegalOrder k (r ∷ []) keys → IsOneLegalOrder k rs keys
 gathered_explains k r rs keys e x = record {

@@ -15,7 +15,7 @@ use Rattle.lset_steps.proofs.WalkedTo.{WalkedTo, unmarked_key, walk_starts, walk
 use Rattle.lset_live.specs.Closes.{LastWords, HasLaws, HasKeys, most_keys}
 use Rattle.lset_live.proofs.Closing.{same_content}
 
--- The walk has reached node `curr`. It has collected the keys of the unmarked nodes before this node.
+-- The walk over the nodes has reached node `curr`, and `items` has the keys of the unmarked nodes before `curr`.
 pub record Walks (c : LastWords) (items : List ℕ) (curr : ℕ) : Type 0 where
   pub laws : HasLaws c
   pub walked : WalkedTo (view c.sizes c.words laws.used) items curr
@@ -57,7 +57,7 @@ pub ends : (c : LastWords) (items : List ℕ) (curr : ℕ) → curr ≡ 1 → Wa
 ends c items curr e w = same_content c.sizes c.words w.laws.used (λ t. 0) items
     (walk_ends (view c.sizes c.words w.laws.used) w.laws.ordered items curr e w.walked)
 
--- ---- The walk ends early enough, because no node occurs twice on the way from the head to the tail
+-- ---- The walk ends within its bound, because no node occurs twice on the way from the head to the tail
 module _ (v : View) (ord : IsOrdered v) where
   abbrev Between : ℕ → ℕ → ℕ → Type 0
   Between low high q = v.published q × (low ≤ v.key q) × (v.key q < high)
@@ -123,7 +123,8 @@ module _ (v : View) (ord : IsOrdered v) where
   unfolding IsDistinct
   one_more a ns out d = (out, d)
 
-  -- The nodes before the current one, the current one and the tail are different nodes of the set.
+  -- The nodes ns before the current node, the current node itself and the tail are different nodes. The set therefore
+  -- has at least two nodes more than ns.
   few_nodes : (n : ℕ) → ((i : ℕ) → v.published i → i < n) → (ns : List ℕ) (curr : ℕ) → v.published curr → curr ≢ 1
       → Segment v 0 ns curr → length ns + 2 ≤ n
   few_nodes n inside ns curr p c s =

@@ -1,5 +1,5 @@
--- Proof: an order that linearizes a history has the calls of each thread without a pending call in the order in which
--- the thread made them. Each call comes after all calls that ended before it started.
+-- Proof: in a linearization of a history, the calls of a thread without a pending call are in the thread's own order,
+-- and each call comes after all calls that ended before it started.
 use Rattle.std.proofs.Common.{◌≡◌, ◌≢◌, ◌⊎◌, inl, inr, ⊎_elim, ℕ, zero, suc, ◌+◌, ◌<◌, ◌≤◌, ◌==◌, Bool, true, false, cond, List}
 use Rattle.std.proofs.Common.{[], ◌∷◌, ◌++◌, map, length, get_or, Option, Some, None, refl, sym, ap, ◌∙◌, subst, arith}
 use Rattle.std.proofs.Common.{append-nil, append_assoc}
@@ -51,7 +51,7 @@ numbers_increase u n m (x ∷ xs) l = by_test (x.thread == u) (numbers_increase 
     by_test true h k = (l, h)
     by_test false h k = k
 
--- Each number in `numbers_of` is the number of a call that thread u made.
+-- Each number in the list `numbers_of` belongs to a call of thread u in the history.
 numbers_in : (u n j : ℕ) (xs : List CallRecord) → Contains (numbers_of u n xs) j → (k : ℕ) × (j ≡ n + k) × (k < length xs)
     × ((get_or xs k no_call).thread ≡ u)
 numbers_in u n j [] c = absurd (contains-nil j c)
@@ -85,7 +85,7 @@ in_numbers u n (suc k) (x ∷ xs) l h =
     by_test true c = contains-tail n (n + suc k) (numbers_of u (suc n) xs) c
     by_test false c = c
 
--- The calls whose numbers are in `numbers_of` are the calls of thread u, in order.
+-- The numbers in the list `numbers_of` belong to the calls of thread u, in order.
 numbers_map : {Y : Type 0} (g : CallRecord → Y) (u n : ℕ) (xs : List CallRecord) (f : ℕ → CallRecord) →
     ((k : ℕ) → k < length xs → f (n + k) ≡ get_or xs k no_call)
     → map (λ j. g (f j)) (numbers_of u n xs) ≡ map g (of_thread u xs)
@@ -205,7 +205,7 @@ all_passing : (Q : Placed → Type 0) (b : Placed → Bool) (P : List Placed) �
     AllByRecursion (λ p. Q p × (b p ≡ true)) (filter b P)
 all_passing Q b P a = all_both Q (λ p. b p ≡ true) (filter b P) (all_filter Q b P a) (all_left b P)
 
--- P is a linearization of the history H. The calls of each thread do not overlap.
+-- Assumptions of the lemmas below: P is a linearization of the history H, and the calls of each thread do not overlap.
 module _ (q : ℕ) (s : SetState) (H : List CallRecord) (P : List Placed) (L : Linearizes q s H P)
     (turns : (i j : ℕ) → i < j → j < length H → (call_numbered H i).thread ≡ (call_numbered H j).thread → Precedes (call_numbered H i) (call_numbered H j)) where
   abbrev rec_of : Placed → CallRecord
@@ -221,7 +221,7 @@ module _ (q : ℕ) (s : SetState) (H : List CallRecord) (P : List Placed) (L : L
       ∙ (sym same ∙ ap (λ (p : Placed). p.call) (sym (get_or_default P i b a l ∙ e))))))
       ne) (cases_order i j)
 
-  -- What is known about each entry of the order: its call is in the history, and the entry is in the order.
+  -- States that p is an entry of the order P, and that its call is in the history H.
   abbrev There : Placed → Type 0
   There p = (p.call < length H) × Contains P p
 
@@ -246,7 +246,7 @@ module _ (q : ℕ) (s : SetState) (H : List CallRecord) (P : List Placed) (L : L
     ended_at : (j : ℕ) → j < length H → (call_numbered H j).thread ≡ u → IsEnded (call_numbered H j)
     ended_at j l h = at_thread IsEnded u j H ended_all l h
 
-    -- In the order, a call has the reply that it returned in the history.
+    -- If p is a call of thread u in the order, p has the reply of this call in the history.
     pub right_reply : (p : Placed) → There p → of_placed H u p ≡ true → answered H p ≡ said (rec_of p)
     right_reply p there t =
         let e = ended_at p.call there.0 (same_number (rec_of p).thread u t) in
@@ -294,7 +294,7 @@ module _ (q : ℕ) (s : SetState) (H : List CallRecord) (P : List Placed) (L : L
     same_list [] = refl
     same_list (x ∷ l) = ap (λ z. x ∷ z) (same_list l)
 
-    -- The calls of thread u in the order are exactly its calls, in the order in which it made them.
+    -- In the order, the calls of thread u are exactly the calls D that the thread made, in the thread's own order.
     pub records : map rec_of F ≡ map (ended_record u) D
     records = map_calls F ∙ (ap (map (λ j. call_numbered H j)) numbers
         ∙ (numbers_map (λ (x : CallRecord). x) u 0 H (λ j. call_numbered H j) (λ k l. ap (λ j. call_numbered H j) (from_zero k))

@@ -66,7 +66,7 @@ module _ (T : Table) (law : Lawful T) (v : View) (st : Stands T v) (idle : v.und
       (ap (λ (x : Here). x.under) st.own ∙ idle, ap (λ (x : Here). x.done) st.own))
       (λ x. aside_idle (at_end T v.shape v.seen) v.thread v.past v.others st.others u x) h
 
-  -- In the history of the events that a seat has seen, each of its threads has made exactly its calls in the seat's
+  -- In the history of the events that a seat has seen, each thread of the seat has made exactly the calls in the seat's
   -- record.
   pub own : (u : ℕ) → HasThread v u → of_thread u (history_of T v.shape v.seen) ≡ map (ended_record u) (calls_of u v.past)
   own u h = let a = at_rest u h in calls_of_thread T law v.shape v.seen st.ran u (st.in_range u h)
@@ -155,7 +155,7 @@ module _ (T : Table) (law : Lawful T) (c : Call) (v : View) (r : Reply) (w : Vie
     })) m.before.1;
   }
 
--- ---- The contract of a call follows from how the call changes what its seat knows (its view)
+-- ---- The change that a call makes to its seat's view (the knowledge of the seat) implies the contract of the call
 abbrev pub seat_at : TableSeat → SeatValue
 seat_at s = record {
   set = record { table = s.table_id; shape = s.me.0.shape };

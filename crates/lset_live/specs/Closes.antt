@@ -9,12 +9,13 @@ use Rattle.lset_steps.specs.Steps.{Table}
 use Rattle.lset_steps.specs.Laws.{Lawful}
 use Rattle.lset_rule.specs.Runs.{end_of, IsRunOf}
 
--- The words as the threads of a set left them, and the sizes of the set.
+-- The words of a closed set, as its threads have left them, and the sizes of the set (threads, quota, number of opening
+-- keys).
 pub record LastWords : Type 0 where
   pub sizes : Sizes
   pub words : List ℕ
 
--- States that these words are what some run of some list ends with.
+-- Some run of some list ends with these words.
 pub record IsLast (c : LastWords) : Type 0 where
   pub opening : Opening
   pub of_sizes : sizes opening ≡ c.sizes
@@ -33,7 +34,7 @@ HasKeys c keys = IsContent (view c.sizes c.words (λ t. 0)) keys
 abbrev pub most_keys : Sizes → ℕ
 most_keys s = s.threads * s.quota + s.opening
 
--- What a walk along the nodes of a closed set can assume.
+-- Facts about the words of a closed set that a walk along its nodes uses.
 pub record HasLaws (c : LastWords) : Type 0 where
   pub few : length c.words ≤ MOST_WORDS
   pub count : length c.words ≡ word_count c.sizes

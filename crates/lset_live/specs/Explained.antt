@@ -1,4 +1,4 @@
--- What the contracts of a running set state about its calls, and about closing it.
+-- Conditions in the contracts of running sets: about the calls of a set, and about closing a set.
 use Rattle.std.specs.Prelude.{◌≡◌, ℕ, ◌+◌, ◌<◌, ◌≤◌, ◌⊎◌, List, [], ◌∷◌, ◌++◌, All, Some, length, map}
 use mathlib.Core.Option.{some}
 use lib.ListN.{get_elem?}
@@ -17,7 +17,7 @@ use Rattle.lset_live.specs.Seats.{SeatValue, SetValue}
 use Rattle.lset_words.specs.Words.{Opening}
 
 -- Call c of thread t has ended with reply r. The thread had seen the events `before` when the call started. It has now
--- seen the events `after`, which end with the call's last step.
+-- seen the events `after`, and the last of them is the last step of the call.
 pub record IsAnswered (T : Table) (k : Opening) (t : ℕ) (c : Call) (r : Reply) (before after : List Event) : Type 0 where
   pub others : List Event
   pub since : List Event
@@ -30,8 +30,8 @@ pub record IsAnswered (T : Table) (k : Opening) (t : ℕ) (c : Call) (r : Reply)
     ended = Some (length after, r);
   })
 
--- The events that a seat has seen are a run of the list. Some order of the run's calls linearizes their history from
--- the opening keys, and agrees with the seat's record r. Calls of seats that were not merged into this seat can be
+-- The events that a seat has seen are a run of the list. Some order of the run's calls linearizes the run's history
+-- from the opening keys, and agrees with the seat's record r. Calls of seats that were not merged into this seat can be
 -- missing from the run.
 pub record SeenIsLinearizable (T : Table) (k : Opening) (events : List Event) (r : Record) : Type 0 where
   pub run : IsRunOf T k events
@@ -40,9 +40,9 @@ pub record SeenIsLinearizable (T : Table) (k : Opening) (events : List Event) (r
   pub keeps : Keeps (map (answered (history_of T k events)) order) r
 
 -- Call c was made from the seat `old`, returned r, and changed the seat to `new`. The new seat belongs to the same set
--- and holds as many seats as before. Exactly this call has been added to its record. The call started after everything
--- that the old seat had seen. The events that the new seat has seen are a run whose calls have a linearization that
--- agrees with its record.
+-- and holds as many seats as before. The record of the new seat is the old record followed by exactly this call. The
+-- call started after all events that the old seat had seen. The events that the new seat has seen are a run, and the
+-- calls of this run have a linearization that agrees with the new record.
 pub record HasAnswered (T : Table) (set : SetValue) (old : SeatValue) (c : Call) (r : Reply) (new : SeatValue) : Type 0 where
   pub of_set : new.set ≡ set
   pub held : new.held ≡ old.held
@@ -55,14 +55,14 @@ pub record HasAnswered (T : Table) (set : SetValue) (old : SeatValue) (c : Call)
 abbrev pub HasMadeAtMost : ℕ → ℕ → List Event → Type 0
 HasMadeAtMost most t events = steps_since (event_at events) t (length events) ≤ most
 
--- States that thread u has one of these records, or one that was merged into them.
+-- States that thread u has one of these records, or a record that was merged into one of them.
 abbrev pub NamedIn : ℕ → List Record → Type 0
 NamedIn u [] = ⊥
 NamedIn u (r ∷ rs) = Names u r ⊎ NamedIn u rs
 
 -- A legal order of exactly the calls in the records, which leaves these keys. The order agrees with each record: with
--- the order of the seat's calls, and with when other seats were merged into it. It need not keep real-time order
--- between seats. In short: the calls are sequentially consistent.
+-- the sequence of the seat's calls, and with the moments when other seats were merged into the seat. The order need not
+-- keep real-time order between seats. In short: the calls are sequentially consistent.
 pub record IsOneLegalOrder (k : Opening) (records : List Record) (keys : List ℕ) : Type 0 where
   pub order : List Answered
   pub legal : IsLegal k.quota (opening_set k) order
@@ -71,10 +71,10 @@ pub record IsOneLegalOrder (k : Opening) (records : List Record) (keys : List �
   pub no_other : (u : ℕ) → u < k.threads → ¬ (NamedIn u records) → calls_by u order ≡ []
   pub leaves : (set_left (opening_set k) order).keys ≡ keys
 
--- A legal order of exactly the calls in the records that also linearizes the history of these events: if a call ended
--- before another one started, it comes first. In the contracts, the events start with all events that the seats had
--- seen. A seat that takes a receipt has then seen all events that the issuer had seen. Therefore the order respects
--- receipts in the same way as the merging of seats.
+-- A legal order of exactly the calls in the records that also linearizes the history of these events: a call that ended
+-- before another call started precedes it. In the contracts, the events begin with all events that the seats had seen.
+-- A seat that has received a receipt has seen all events of the seat that issued the receipt. Therefore the order
+-- respects receipts just as it respects the merging of seats.
 pub record IsOneOrderInTime (T : Table) (k : Opening) (events : List Event) (records : List Record) (keys : List ℕ) : Type 0 where
   pub run : IsRunOf T k events
   pub placed : List Placed
@@ -82,16 +82,16 @@ pub record IsOneOrderInTime (T : Table) (k : Opening) (events : List Event) (rec
   pub one : IsOneLegalOrder k records keys
   pub is : one.order ≡ map (answered (history_of T k events)) placed
 
--- In this order, call a comes before call b.
+-- In this order, call a precedes call b.
 pub record StandsBefore (order : List Answered) (a b : Answered) : Type 0 where
   pub first : List Answered
   pub between : List Answered
   pub last : List Answered
   pub is : order ≡ first ++ a ∷ (between ++ b ∷ last)
 
--- The law of receipts. Call c had ended in the events `given` that a receipt contains. The seat of thread u takes the
--- receipt and then makes call d. Then c comes before d in each order that linearizes the events up to the end of d or a
--- longer list of events.
+-- The law of receipts. A receipt contains the events `given`, which end with the end of call c. The seat of thread u
+-- receives the receipt and later makes call d. In each order that linearizes the events up to the end of d, or a longer
+-- list of events, c precedes d.
 abbrev pub ReceiptsKeepOrder : Type 0
 ReceiptsKeepOrder = (T : Table) (k : Opening) (t u : ℕ) (c d : Call) (r a : Reply) (old given taken after events : List Event)
     → IsAnswered T k t c r old given → StartsWith taken given → IsAnswered T k u d a taken after → StartsWith events after

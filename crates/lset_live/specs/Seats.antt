@@ -1,4 +1,4 @@
--- Running sets, their seats and receipts, as contracts see them.
+-- The values of running sets, seats and receipts in contracts.
 use Rattle.std.specs.Prelude.{◌≡◌, ◌<◌, ◌≤◌, ◌⊎◌, length, ℕ, Bool, true, false, List, [], ◌∷◌, Option, Some, None, map}
 use Rattle.std.specs.List.{range_with_len}
 use Rattle.std.specs.List.Sorted.{IsStrictlyIncreasing}
@@ -19,8 +19,8 @@ pub record SetValue : Type 0 where
   pub table : TableId
   pub shape : Opening
 
--- A seat in contracts: its set, its record, the number of seats that it holds (itself included), and the events that it
--- has seen. At run time, only the number is stored.
+-- A seat in contracts: its set, its record, the number of seats that it holds (itself and those merged into it), and
+-- the events that it has seen.
 pub record SeatValue : Type 0 where
   pub set : SetValue
   pub past : Record
@@ -36,12 +36,13 @@ pub record ReceiptValue : Type 0 where
 abbrev pub new_seat : SetValue → ℕ → SeatValue
 new_seat set t = record { set = set; past = fresh t; held = 1; events = [] }
 
--- States that the set was just opened with these sizes and keys, and that `seats` are its new seats, ordered by thread.
+-- States that the set was just opened with this opening (threads, quota and opening keys), and that `seats` are its new
+-- seats, ordered by thread.
 abbrev pub IsOpened : SetValue → Opening → List SeatValue → Type 0
 IsOpened set opening seats = (set.shape ≡ opening) × (seats ≡ map (new_seat set) (range_with_len 0 opening.threads))
 
--- States that `open` returns this error for the sizes s: the first size that is out of range, or Memory if all are in
--- range.
+-- States that `open` returns this error for the sizes s: the first size that is out of range, or Memory if no size is
+-- out of range.
 abbrev pub RefusesSeats : Sizes → OpenFault → Type 0
 RefusesSeats s fault.Seats = RefusesSizes s layout.Threads
 RefusesSeats s fault.Quota = RefusesSizes s layout.Quota
@@ -57,19 +58,19 @@ RefusesOpening o fault.Memory = Opens o
 RefusesOpening o fault.Opening = ((0 < o.threads) × (o.threads ≤ MOST_THREADS) × (o.quota ≤ MOST_QUOTA))
     × ((IsStrictlyIncreasing o.keys → ⊥) ⊎ (MOST_OPENING < length o.keys))
 
--- Converts the Boolean result of a call to the reply that the seat's record stores.
+-- Converts the Boolean result of a call to the reply in the seat's record.
 abbrev pub reply_of : Bool → Reply
 reply_of true = True
 reply_of false = False
 
--- Returns the record after the records in the list are merged into the given record, one after another. If no record is
--- given, the first one in the list takes its place.
+-- Returns the record that results from merging the records in the list, one after another, into the record r. If r is
+-- None, starts with the first record in the list.
 abbrev pub gather_onto : Option Record → List Record → Option Record
 gather_onto r [] = r
 gather_onto None (g ∷ gs) = gather_onto (Some g) gs
 gather_onto (Some r) (g ∷ gs) = gather_onto (Some (gathered r g)) gs
 
--- Returns the number of seats that a seat holds, or 0 for `None`.
+-- Returns the number of seats that this seat holds (itself and those merged into it), or 0 for `None`.
 abbrev pub held_in : Option SeatValue → ℕ
 held_in None = 0
 held_in (Some s) = s.held

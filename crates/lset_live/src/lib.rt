@@ -1,4 +1,4 @@
-//! Running sets: lists whose words threads share. Each thread calls from its own seat (the right to call as one
+//! Running sets: lists in memory that threads share. Each thread calls from its own seat (the right to call as one
 //! thread).
 #![tactic(auto)]
 

@@ -1,4 +1,4 @@
-//! Receipts. A receipt is a token that one thread sends to another. It records which events a seat has seen.
+//! Receipts. A receipt is a token that one thread sends to another. It contains the events that a seat had seen.
 ghost use Rattle.std.specs.Prelude.{◌≡◌};
 ghost use Rattle.lset_live.specs.Explained.{ReceiptsKeepOrder};
 ghost use Rattle.lset_rule.specs.Runs.{StartsWith};
@@ -12,8 +12,8 @@ use std::marker::{Model, PhantomData};
 /// A receipt from a running set: the events that a seat had seen when it issued the receipt. A receipt makes no calls.
 ///
 /// A thread sends a receipt to another thread by any channel. Once the receiver has passed the receipt to
-/// `LiveSet::after`, its calls come after all events in the receipt. A receipt is zero-sized, can be sent to any
-/// thread, and can be dropped. In contracts, a receipt is its set and its events.
+/// `LiveSet::after`, the receiver's later calls start after all events in the receipt. A receipt is zero-sized, can be
+/// sent to any thread, and can be dropped. In contracts, the value of a receipt is its set and its events.
 #[derive(Drop)]
 pub struct Receipt<M: Machine> {
     pub(crate) place: TableSeat,
@@ -35,8 +35,9 @@ impl<M: Machine> Model for Receipt<M> {
 }
 
 impl<M: Machine> LiveSet<M> {
-    /// Returns a receipt for the events that `seat` has seen, including the events seen by the seats merged into it and
-    /// by the receipts that it took. `seat` must belong to this set, and does not change. Does not block or allocate.
+    /// Returns a receipt for the events that `seat` has seen. These include the events of the seats merged into `seat`
+    /// and of the receipts passed to it. `seat` must belong to this set, and does not change. Does not block or
+    /// allocate.
     pub fn receipt(&self, seat: &mut Seat<M>) -> Receipt<M>
         requires { seat.old.set ≡ self.now }
         ensures seat { seat.new ≡ seat.old }
@@ -67,8 +68,8 @@ impl<M: Machine> LiveSet<M> {
 
     /// Adds the events in `receipt` to the events that `seat` has seen. Both must belong to this set. The seat's later
     /// calls start after all events in the receipt. In each order that explains these calls, the calls that had ended
-    /// in the receipt's events come first (`receipts_keep_order`). The seat's record and the seats that it holds do not
-    /// change. Does not block or allocate.
+    /// in the receipt's events precede them (`receipts_keep_order`). The seat's record and the seats that it holds do
+    /// not change. Does not block or allocate.
     pub fn after(&self, seat: &mut Seat<M>, receipt: Receipt<M>)
         requires seat { seat.old.set ≡ self.now }
         requires receipt { receipt.set ≡ self.now }
@@ -83,9 +84,9 @@ impl<M: Machine> LiveSet<M> {
     }
 }
 
-/// The law of receipts, stated as the contract of an empty function. If a call has ended in the events of a receipt,
-/// and a seat takes this receipt, the call comes before each later call of the seat. This is true in each order that
-/// linearizes the events up to the end of the later call or any longer list of events.
+/// States the law of receipts, as the contract of an empty function. If a call has ended in the events of a receipt,
+/// and a seat receives this receipt, the call precedes each later call of the seat. This is true in each order that
+/// linearizes the events up to the end of the later call, or any longer list of events.
 pub fn receipts_keep_order()
     ensures { ReceiptsKeepOrder }
 {}

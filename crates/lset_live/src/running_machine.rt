@@ -13,7 +13,7 @@ use lset_steps::OpenReads;
 use lset_words::{Call, Key, Reply};
 use std::sync::Wait;
 
-/// A list whose calls run on shared words and can block.
+/// A list with calls on shared words that can block.
 ///
 /// A list that is `Bounded` implements this trait without a body: `impl Running for MyList {}`.
 pub trait Running: Bounded {
@@ -46,7 +46,7 @@ impl Running for LazyList {}
 
 impl Running for LockFreeList {}
 
-/// A list whose `contains` does not block on shared words.
+/// A list with a `contains` on shared words that does not block.
 ///
 /// A list with bounded reads (`OpenReads`) implements this trait without a body. It then uses the interpreter
 /// (`lset_rule::interpret_read`).
@@ -87,7 +87,7 @@ impl OpenContains for LockFreeList {
     }
 }
 
-/// A list whose calls run on shared words and can block, except its `contains`, which never blocks.
+/// A list with calls on shared words that can block, except its `contains`, which never blocks.
 pub trait RunningReads: Running + OpenReads + OpenContains {}
 
 impl RunningReads for LazyList {}

@@ -1,4 +1,4 @@
-//! A running set: a list whose words threads share, and its calls.
+//! A running set: a list in memory that threads share, and its calls.
 ghost use Rattle.std.specs.Prelude.{◌≡◌, ◌≢◌, ◌+◌, ◌<◌, ◌≤◌, ℕ, List, [], ◌∷◌, length, vec_capacity, IfOk, IfErr, IfSome};
 ghost use Rattle.lset_words.specs.Words.{word_count, sizes};
 ghost use Rattle.lset_words.specs.declared.Call.TheVariants.{Add, Remove, Contains, Ceiling};
@@ -55,8 +55,8 @@ impl<M: Machine> Model for LiveSet<M> {
     ghost view = { λ s. record { table = s.table.shared.table_id; shape = s.table.shared.key } };
 }
 
-/// The error of `LiveSet::close` if the seat does not hold all seats of the set. Contains the set and the seat, both
-/// unchanged.
+/// The error of `LiveSet::close` if the seat does not hold all seats of the set. Contains the unchanged set and the
+/// unchanged seat.
 #[derive(Drop, Error)]
 #[error("the seat does not hold all seats of the set")]
 pub struct SeatsOut<M: Machine> {
@@ -102,10 +102,10 @@ impl<M: Running> LiveSet<M> {
     /// Makes the call from `seat`, which must belong to this set. Calls `pause` after each step of the call except the
     /// last. Returns the reply.
     ///
-    /// Appends the call with its reply to the seat's record. The call starts after everything that the seat had seen,
-    /// and its last step is the last event that the seat has then seen. The calls in the events that the seat has seen
-    /// have a linearization (Herlihy and Wing) that agrees with the record. Can block while another thread holds a lock
-    /// that the call needs. Does not allocate.
+    /// Appends the call with its reply to the seat's record. The call starts after all events that the seat had seen.
+    /// Afterwards, the last event that the seat has seen is the last step of the call. The calls in the events that the
+    /// seat has seen have a linearization (Herlihy and Wing) that agrees with the record. Can block while another
+    /// thread holds a lock that the call needs. Does not allocate.
     pub fn call<R: Wait, P: Pause>(
         &self,
         rt: &R,
@@ -210,8 +210,8 @@ impl<M: Bounded> LiveSet<M> {
 
 impl<M: Machine> LiveSet<M> {
     /// Merges the seat `from` into the seat `into`, with its record, the seats that it holds, and the events that it
-    /// has seen. Both must belong to this set. In each order that agrees with the record of `into`, the calls of `from`
-    /// come before the later calls of `into`.
+    /// has seen. Both seats must belong to this set. In each order that agrees with the record of `into`, the calls of
+    /// `from` precede the later calls of `into`.
     pub fn gather(&self, into: &mut Seat<M>, from: Seat<M>)
         requires into { into.old.set ≡ self.now }
         requires from { from.set ≡ self.now }
@@ -233,7 +233,8 @@ impl<M: Machine> LiveSet<M> {
         into.held += held;
     }
 
-    /// Closes the set if `seat` holds all seats of the set. Otherwise returns both unchanged in `SeatsOut`.
+    /// Closes the set if `seat` holds all seats of the set. Otherwise returns the set and `seat` unchanged in
+    /// `SeatsOut`.
     ///
     /// Some legal order consists of exactly the calls in the seat's record, agrees with the record, and leaves the
     /// final keys. This order also linearizes the history of the events that the seat has seen.
@@ -272,8 +273,8 @@ impl<M: Machine> LiveSet<M> {
         })
     }
 
-    /// Closes the set and returns its final keys, in increasing order. `seat` must hold all seats. Fails only if an
-    /// allocation fails.
+    /// Closes the set and returns its final keys, in increasing order. `seat` must hold all seats of the set. Fails
+    /// only if an allocation fails.
     pub fn keys_left(self, seat: Seat<M>) -> Result<Vec<u32>, AllocError>
         requires seat { seat.set ≡ self }
         requires all { seat.held ≡ self.shape.threads }
@@ -287,8 +288,8 @@ impl<M: Machine> LiveSet<M> {
     }
 
     /// Closes the set and writes its final keys, in increasing order, into the vector `room`, which must be empty with
-    /// a capacity of at least `most_keys`. Returns the vector. `seat` must hold all seats. Does not allocate and does
-    /// not fail.
+    /// a capacity of at least `most_keys`. Returns the vector. `seat` must hold all seats of the set. Does not allocate
+    /// and does not fail.
     pub fn keys_left_in(self, seat: Seat<M>, room: Vec<u32>) -> Vec<u32>
         requires seat { seat.set ≡ self }
         requires all { seat.held ≡ self.shape.threads }

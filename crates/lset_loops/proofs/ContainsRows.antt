@@ -1,4 +1,4 @@
--- Rows 20 to 25 of a step table: a `contains` that only reads.
+-- Lemmas about rows 20 to 22 of a step table, which make a `contains` that only reads.
 use Rattle.std.proofs.Common.{◌≡◌, ℕ, ◌+◌, ◌-◌, ◌/◌, ◌%◌, ◌<◌, ◌==◌, Bool, true, false, if◌then◌else◌, None, refl, sym, ap}
 use Rattle.std.proofs.Common.{◌∙◌, subst, arith}
 use Rattle.lset_words.specs.declared.Key.{Key}
@@ -24,7 +24,8 @@ use Rattle.lset_loops.specs.Begun.{Begun}
 use Rattle.lset_loops.specs.Calling.{Holds, first, row}
 use Rattle.lset_loops.proofs.StepsOfCall.{no_rest}
 
--- Returns the registers of a `contains` at row pc, with x as its current node.
+-- Returns the registers of a thread that makes a `contains`, at row pc of the step table and with x as the current
+-- node.
 abbrev pub reading : Begun → OwnSlots → ℕ → ℕ → Local
 reading b own pc x = row own b.call pc None 0 x no_rest
 

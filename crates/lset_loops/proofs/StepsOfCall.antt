@@ -1,4 +1,4 @@
--- Lemmas that follow a pending call from one step to the next.
+-- Lemmas about one step of a pending call: a condition before the step implies a condition after the step.
 use Rattle.std.proofs.Common.{◌≡◌, ◌≢◌, ℕ, ◌+◌, ◌<◌, ◌≤◌, List, ◌∷◌, Option, None, refl, sym, ap, ◌∙◌, subst, arith}
 use Rattle.atomic_table.specs.Seated.{TableId}
 use Rattle.lset_words.specs.declared.Call.{Call}
@@ -46,8 +46,7 @@ module _ (m : Table) (b : Begun) where
         local = come.0;
       }
 
-  -- A step that does not end the call leads to the row that follows in the step table. Nothing must be known about the
-  -- thread's registers.
+  -- If a step does not end the call, the call is then at the row of the step table that follows.
   pub leads : (a : Action) (s : TableSeat) (n : ℕ) (s' : TableSeat) → MayStep m b a s → IsSeat s s' → Goes m s.me.0 n s'.me.0 →
       HasStepped m b s n s'
   leads a s n s' h seat g = record {
@@ -56,7 +55,7 @@ module _ (m : Table) (b : Begun) where
         onward l s n s' seat g (subst (λ x. (m.feed x n).answer ≡ None) same (h.goes_on n)) holds;
   }
 
-  -- The word that a step accesses is a word of the set.
+  -- The next step of a pending call accesses a word with an index below MOST_WORDS.
   pub few_held : Lawful m → (l : Local) (a : Action) (s : TableSeat) → Holds m b l s → a ≡ m.next l → word_named a < MOST_WORDS
   few_held law l a s h acts =
       let o = open_now l s h in
@@ -77,7 +76,7 @@ module _ (m : Table) (b : Begun) where
   pub few_asks : Lawful m → (a : Action) (s : TableSeat) → MayAnswer m b a s → word_named a < MOST_WORDS
   few_asks law a s h = few_held law h.held a s h.holds h.acts
 
-  -- The thread has the registers that the view of its seat (what the seat knows) stores.
+  -- If a call is pending from seat s, the thread has the registers stored in the view of s (the knowledge of the seat).
   pub itself : (l : Local) (s : TableSeat) → Holds m b l s → Holds m b s.me.0.local s
   itself l s h = record { words = h.words; used = h.used; seat = h.seat; mid = h.mid; stands = h.stands; local = refl }
 
@@ -171,8 +170,8 @@ begins_holding m law b own s n s' c same may seat starts none =
       local = come.0;
     } in subst (λ x. Holds m x f.local s') (sym may.now) here
 
--- The first step of a call can be a failed attempt to take a lock. The thread then still has the registers from the
--- start of the call.
+-- If the first step of a call is a failed attempt to take a lock, the thread still has the registers from the start of
+-- the call.
 pub first_tried : (m : Table) → Lawful m → (b : Begun) (own : OwnSlots) (s : TableSeat) (n : ℕ) (s' : TableSeat) (c : Call) → b.call ≡ c →
     MayBegin m b own s
     → IsSeat s s' → Starts m c s.me.0 n s'.me.0 → ((i : ℕ) → i ≢ 0 → m.feed (first m b own) i ≡ continued (first m b own)) → n ≢ 0
@@ -183,13 +182,14 @@ first_tried m law b own s n s' c same may seat starts again ne =
 
 -- Replaces the registers l of a thread by equal registers l'.
 --
--- The proof of a loop has three parts. `leads` states the registers after a step, as the step table computes them. The
--- test of a branch selects the case (if_same, if_other, deed). `moved` writes the registers in the form `row`.
+-- A proof about a loop uses this lemma last: `leads` states the registers after a step as the step table computes them,
+-- the test of a branch selects the case (`if_same`, `if_other`, `deed`), and `moved` writes the registers in the form
+-- `row`.
 pub moved : {m : Table} {b : Begun} {l l' : Local} {s : TableSeat} → Holds m b l s → l ≡ l' → Holds m b l' s
 moved h same = record { words = h.words; used = h.used; seat = h.seat; mid = h.mid; stands = h.stands; local = h.local ∙ same }
 
--- In the registers, replaces the number of the current node (in `to_pred`: of the previous node) by an equal number
--- that the loop has in a variable.
+-- Replaces the number x of the current node in the registers by an equal number x'. `to_pred` does this for the
+-- previous node.
 pub to_curr : {m : Table} {b : Begun} {d : Call} {own : OwnSlots} {pc p x x' : ℕ} {r : Option Reply} {j : Rest} {s : TableSeat}
     → x' ≡ x → Holds m b (row own d pc r p x j) s → Holds m b (row own d pc r p x' j) s
 to_curr {d = d} {own = own} {pc = pc} {p = p} {r = r} {j = j} is h = moved h (ap (λ i. row own d pc r p i j) (sym is))
@@ -222,7 +222,7 @@ stores {m = m} {b = b} {s = s} {word = word} {more = more} h is all =
 abbrev pub no_rest : Rest
 no_rest = record { succ = 0; node = 0; pkey = 0; ckey = 0 }
 
--- ---- Lemmas about a whole call that started from seat s
+-- ---- Lemmas about a whole call c that was started from seat s
 module _ (c : Call) (b : Begun) (s : TableSeat) (began : b ≡ begun_at c s) where
   pub may_begin : {m : Table} {z : TableId} {k : Opening} {own : OwnSlots} → MayCall m z k own s → MayBegin m b own s
   may_begin may = rw began record {

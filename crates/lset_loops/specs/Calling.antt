@@ -1,4 +1,5 @@
--- What a loop knows about its pending call between two steps.
+-- Conditions between two steps of a pending call: the registers of the thread, and the next step according to the step
+-- table.
 use Rattle.std.specs.Prelude.{◌≡◌, ◌≢◌, ℕ, ◌+◌, ◌*◌, List, [], ◌∷◌, Bool, true, false, Option, Some, None, MatchOption}
 use Rattle.lset_words.specs.declared.Call.{Call}
 use Rattle.lset_words.specs.declared.Reply.{Reply}
@@ -20,8 +21,8 @@ use Rattle.lset_rule.specs.Views.{Stands}
 use Rattle.lset_rule.specs.Calls.{IsMid, Makes}
 use Rattle.lset_loops.specs.Begun.{Begun, begun_at}
 
--- Call b on list m is pending. Its thread has the registers `l`, and its seat (the right to call as one thread) is now
--- s.
+-- Call b is pending on list m. The calling thread has the registers `l`, and the seat of the call (the right to call as
+-- one thread) is now s.
 pub record Holds (m : Table) (b : Begun) (l : Local) (s : TableSeat) : Type 0 where
   pub words : b.table_id.words ≡ word_count (sizes b.me.0.shape)
   pub used : b.me.0.spent ≡ false
@@ -30,19 +31,20 @@ pub record Holds (m : Table) (b : Begun) (l : Local) (s : TableSeat) : Type 0 wh
   pub stands : Stands m s.me.0
   pub local : s.me.0.local ≡ l
 
--- Action a is the next step of call b according to the step table. The step does not end the call.
+-- According to the step table, action a is the next step of call b, and this step does not end the call.
 pub record MayStep (m : Table) (b : Begun) (a : Action) (s : TableSeat) : Type 0 where
   pub held : Local
   pub holds : Holds m b held s
   pub acts : a ≡ m.next held
   pub goes_on : (n : ℕ) → (m.feed held n).answer ≡ None
 
--- States that the step from seat s to s' saw the value n, and that the call is now at the row that follows in the step
--- table.
+-- States that the step from seat s to s' saw the value n in its word, and that call b is now at the row of the step
+-- table that follows for this value.
 pub record HasStepped (m : Table) (b : Begun) (s : TableSeat) (n : ℕ) (s' : TableSeat) : Type 0 where
   pub leads : (l : Local) → Holds m b l s → Holds m b (m.feed l n).local s'
 
--- According to the step table, call b now retries the lock at `word` until it gets the lock.
+-- According to the step table, call b now attempts to acquire the lock at index `word`, and repeats the attempt until
+-- it succeeds.
 pub record MayLock (m : Table) (b : Begun) (word thread : ℕ) (s : TableSeat) : Type 0 where
   pub held : Local
   pub holds : Holds m b held s
@@ -50,7 +52,7 @@ pub record MayLock (m : Table) (b : Begun) (word thread : ℕ) (s : TableSeat) :
   pub again : (n : ℕ) → n ≢ 0 → m.feed held n ≡ continued held
   pub goes_on : (m.feed held 0).answer ≡ None
 
--- Returns the node that the thread's next successful add links in (its next slot).
+-- Returns the thread's next slot: the node that the thread's next successful `add` links in.
 abbrev pub slot : OwnSlots → ℕ
 slot own = slot_node own.quota own.thread own.used
 
@@ -60,7 +62,7 @@ feeds m l [] = l
 feeds m l ((word, value) ∷ more) = feeds m (m.feed l value).local more
 
 -- States that these stores, given as (word, value) pairs, are the next steps according to the step table if the thread
--- has the registers `l`. None of them ends the call.
+-- has the registers `l`, and that no store ends the call.
 abbrev pub Stores : Table → Local → List (ℕ × ℕ) → Type 0
 Stores m l [] = Unit {0}
 Stores m l ((word, value) ∷ more) = (Store word value ≡ m.next l) × ((n : ℕ) → (m.feed l n).answer ≡ None)
@@ -83,8 +85,8 @@ slot_stores own word x = (key_index (slot own), word) ∷ (link_index (slot own)
 abbrev pub put_stores : OwnSlots → ℕ → ℕ → ℕ → List (ℕ × ℕ)
 put_stores own word p x = (key_index (slot own), word) ∷ (link_index (slot own), 2 * x) ∷ (link_index p, 2 * slot own) ∷ []
 
--- Call b has not started yet. Its seat s has no pending call, and the seat's thread has the slots `own` (nodes for keys
--- that it adds).
+-- Call b has not started yet. No call is pending from seat s (the right to call as one thread), and the thread of the
+-- seat has the slots `own` (nodes for the keys that this thread adds).
 pub record MayBegin (m : Table) (b : Begun) (own : OwnSlots) (s : TableSeat) : Type 0 where
   pub now : b ≡ begun_at b.call s
   pub may : MayCall m b.table_id b.me.0.shape own s
@@ -93,30 +95,29 @@ pub record MayBegin (m : Table) (b : Begun) (own : OwnSlots) (s : TableSeat) : T
 abbrev pub first : Table → Begun → OwnSlots → Local
 first m b own = m.begin b.call (resting own)
 
--- Call b has ended with reply r. Its thread has the registers `l`, and its seat is now s.
+-- Call b has ended with reply r. The calling thread has the registers `l`, and the seat of the call is now s.
 pub record Answered (m : Table) (b : Begun) (r : Reply) (l : Local) (s : TableSeat) : Type 0 where
   pub seat : (s.table_id ≡ b.table_id) × (s.id ≡ b.id) × (s.me.1 ≡ b.me.1)
   pub makes : Makes m b.call b.me.0 r s.me.0
   pub local : s.me.0.local ≡ l
 
--- Action a is the next step of call b according to the step table. The step can end the call.
+-- According to the step table, action a is the next step of call b. This step can end the call.
 pub record MayAnswer (m : Table) (b : Begun) (a : Action) (s : TableSeat) : Type 0 where
   pub held : Local
   pub holds : Holds m b held s
   pub acts : a ≡ m.next held
 
--- States that call b has ended if its last step returned a reply, and is still pending otherwise. f is the result of
--- that step.
+-- States that call b has ended if f, the result of its last step, contains a reply. Otherwise call b is still pending.
 abbrev pub StandsAfter : Table → Begun → Fed → TableSeat → Type 0
 StandsAfter m b f s = MatchOption f.answer (Holds m b f.local s) (λ r. Answered m b r f.local s)
 
--- States that the step from seat s to s' saw the value n, and that the call has then ended or continues as the step
--- table says.
+-- States that the step from seat s to s' saw the value n in its word, and that call b has then ended or continues, as
+-- the step table demands for this value.
 abbrev pub HasTold : Table → Begun → TableSeat → ℕ → TableSeat → Type 0
 HasTold m b s n s' = (l : Local) → Holds m b l s → (f : Fed) → m.feed l n ≡ f → StandsAfter m b f s'
 
--- States that the exchange from seat s to s' found `old` if it succeeded and another value if it failed, and that the
--- call has then ended or continues as the step table says.
+-- States that the compare-and-exchange from seat s to s' saw `old` if it succeeded, or another value if it failed. Call
+-- b has then ended or continues, as the step table demands for the value seen.
 abbrev pub HasExchanged : Table → Begun → ℕ → TableSeat → Bool → TableSeat → Type 0
 HasExchanged m b old s true s' = HasTold m b s old s'
 HasExchanged m b old s false s' = (n : ℕ) × (n ≢ old) × HasTold m b s n s'
@@ -146,23 +147,23 @@ row own c pc r p x j = record {
   ckey = j.ckey;
 }
 
--- Returns the registers after decision d. Their next row is the one that adds the key, the one that removes it, or the
--- one that ends the call with a reply.
+-- Returns the registers after decision d. The next row of the step table then adds the key, removes the key, or ends
+-- the call with a reply.
 abbrev pub done : Targets → Decision → Local → Local
 done t PutIn l = goes_to t.adds None l
 done t TakeOut l = goes_to t.removes None l
 done t (Answer r) l = goes_to t.leaves (Some r) l
 
--- States that the step table makes the same decision d for call c if the walk has stopped at the key `word`.
+-- States that the step table makes decision d for call c if the walk has stopped at the key `word`.
 abbrev pub Decides : Call → OwnSlots → ℕ → Decision → Type 0
 Decides c own word d = (t : Targets) (l : Local) → l.call ≡ c → l.used ≡ own.used → l.quota ≡ own.quota →
     decided_on t word l ≡ done t d l
 
--- Returns the slots of a thread (nodes for keys that it adds) after it has used one more.
+-- Returns the slots of a thread (nodes for the keys that it adds) after the thread has used one of them.
 abbrev pub one_more : OwnSlots → OwnSlots
 one_more own = record own { used = own.used + 1 }
 
--- States that call b has ended. `answer` has the thread's slots (nodes for keys that it adds) after the call, and the
--- reply.
+-- States that call b has ended. `answer` contains the slots of the thread after the call (nodes for the keys that it
+-- adds), and the reply.
 abbrev pub HasAnswered : Table → Begun → OwnSlots × Reply → TableSeat → Type 0
 HasAnswered m b answer s = (l : Local) × Answered m b answer.1 l s × (answer.0 ≡ slots_of l)

@@ -1,4 +1,5 @@
--- The states between two parts of a CoarseList loop: the row of the step table, and the nodes in the registers.
+-- Conditions between the parts of a call on a CoarseList (take the lock, walk, act): the next row of the step table,
+-- and the nodes in the registers.
 use Rattle.std.specs.Prelude.{ℕ, Some, None}
 use Rattle.lset_words.specs.declared.Reply.{Reply}
 use Rattle.lset_steps.specs.Rows.{decided_on}
@@ -17,12 +18,13 @@ AtHead b own s = (j : Rest) × Holds coarse b (row own b.call 2 None 0 0 j) s
 abbrev pub AtKey : Begun → OwnSlots → ℕ → ℕ → TableSeat → Type 0
 AtKey b own p x s = (j : Rest) × Holds coarse b (row own b.call 3 None p x j) s
 
--- States that the walk has stopped at the nodes f, and that the call continues at the row for its decision.
+-- States that the walk has stopped at the two nodes in f, and that the call continues at the row of the step table for
+-- its decision (add, remove or reply).
 abbrev pub StopsAt : Begun → OwnSlots → Found → TableSeat → Type 0
 StopsAt b own f s = (j : Rest) × Holds coarse b (decided_on targets f.word (row own b.call 3 None f.pred.number f.curr.number j))
     s
 
--- States that the call is about to release the list's lock and then to end. `answer` has the thread's slots (nodes for
--- keys that it adds) after the call, and the reply.
+-- States that the call is about to release the list's lock and then to end. `answer` contains the slots of the thread
+-- after the call (nodes for the keys that it adds), and the reply.
 abbrev pub Leaves : Begun → OwnSlots × Reply → TableSeat → Type 0
 Leaves b answer s = (p : ℕ) × (x : ℕ) × (j : Rest) × Holds coarse b (row answer.0 b.call 10 (Some answer.1) p x j) s

@@ -1,5 +1,5 @@
--- The states between two parts of a LazyList loop for `add` and `remove`: the row of the step table, and the nodes in
--- the registers.
+-- Conditions between the parts of an `add` or `remove` on a LazyList (walk, lock, validate, act): the next row of the
+-- step table, and the nodes in the registers.
 use Rattle.std.specs.Prelude.{ℕ, Option, Some, None}
 use Rattle.lset_words.specs.declared.Reply.{Reply}
 use Rattle.lset_steps.specs.Rows.{decided_on}
@@ -15,31 +15,31 @@ use Rattle.lset_loops.specs.Calling.{Holds, Rest, row}
 abbrev pub AtKey : Begun → OwnSlots → ℕ → ℕ → TableSeat → Type 0
 AtKey b own p x s = (j : Rest) × Holds lazy b (row own b.call 2 None p x j) s
 
--- States that the walk has stopped at the nodes f, and that the call is about to lock the first of them.
+-- States that the walk has stopped at the two nodes in f, and that the call is about to lock `f.pred`.
 abbrev pub StopsAt : Begun → OwnSlots → Found → TableSeat → Type 0
 StopsAt b own f s = (j : Rest) × Holds lazy b (row own b.call 4 None f.pred.number f.curr.number (record j { ckey = f.word })) s
 
--- States that the call has locked the nodes f, and is about to load the link of the first.
+-- States that the call has locked the two nodes in f, and is about to load the link of `f.pred`.
 abbrev pub HasLocked : Begun → OwnSlots → Found → TableSeat → Type 0
 HasLocked b own f s = (j : Rest) × Holds lazy b (row own b.call 6 None f.pred.number f.curr.number (record j { ckey = f.word })) s
 
--- States that the nodes f are locked neighbours, that the link of the second leads to n, and that the call continues at
--- the row for its decision.
+-- States that the two nodes in f are locked neighbours, that the link of `f.curr` leads to n, and that the call
+-- continues at the row of the step table for its decision (add, remove or reply).
 abbrev pub AreNeighbours : Begun → OwnSlots → Found → Node → TableSeat → Type 0
 AreNeighbours b own f n s = (j : Rest)
     × Holds lazy b (decided_on targets f.word
     (row own b.call 7 None f.pred.number f.curr.number (record j { ckey = f.word; succ = n.number }))) s
 
--- States that the call is about to release the locks of the nodes f. It then ends with reply r, or starts over if r is
--- None.
+-- States that the call is about to release the locks of the two nodes in f. The call then ends with reply r, or starts
+-- over if r is None.
 abbrev pub GivesBack : Begun → Found → OwnSlots → Option Reply → TableSeat → Type 0
 GivesBack b f own r s = (j : Rest) × Holds lazy b (row own b.call 13 r f.pred.number f.curr.number j) s
 
 abbrev pub Leaves : Begun → Found → OwnSlots × Reply → TableSeat → Type 0
 Leaves b f answer s = GivesBack b f answer.0 (Some answer.1) s
 
--- States the result of checking the nodes f. If a node was returned, they are neighbours. Otherwise, the call is about
--- to release them and start over.
+-- States the result of validating the two nodes in f. If the validation returned a node, the two nodes are neighbours.
+-- If it returned None, the call is about to release their locks and start over.
 abbrev pub HasValidated : Begun → OwnSlots → Found → Option Node → TableSeat → Type 0
 HasValidated b own f (Some n) s = AreNeighbours b own f n s
 HasValidated b own f None s = GivesBack b f own None s

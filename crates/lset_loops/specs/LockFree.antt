@@ -1,5 +1,5 @@
--- The states between two parts of a LockFreeList loop for `add` and `remove`: the row of the step table, and the nodes
--- in the registers.
+-- Conditions between the parts of an `add` or `remove` on a LockFreeList (find, attempt): the next row of the step
+-- table, and the nodes in the registers.
 use Rattle.std.specs.Prelude.{◌≡◌, ℕ, Option, Some, None}
 use Rattle.lset_words.specs.declared.Reply.{Reply}
 use Rattle.lset_steps.specs.declared.Fed.{Fed}
@@ -15,7 +15,8 @@ use Rattle.lset_loops.specs.Calling.{Holds, Rest, row, StandsAfter, HasAnswered}
 abbrev pub AtLink : Begun → OwnSlots → ℕ → ℕ → TableSeat → Type 0
 AtLink b own p x s = (j : Rest) × Holds lock_free b (row own b.call 2 None p x j) s
 
--- States that the walk has stopped at the nodes f. The call has then ended, or continues at the row for its decision.
+-- States that the walk has stopped at the two nodes in f. The call has then ended, or continues at the row of the step
+-- table for its decision (add or remove).
 abbrev pub StopsAt : Begun → OwnSlots → Found → TableSeat → Type 0
 StopsAt b own f s = (j : Rest)
     × ((fed : Fed) → decision_of (decided_on targets f.word (row own b.call 4 None f.pred.number f.curr.number j)) ≡ fed →
@@ -25,8 +26,8 @@ StopsAt b own f s = (j : Rest)
 abbrev pub AtHead : Begun → OwnSlots → TableSeat → Type 0
 AtHead b own s = (p : ℕ) × (x : ℕ) × (j : Rest) × Holds lock_free b (row own b.call 1 None p x j) s
 
--- States the result of an attempt to add, remove or reply: the call has ended (`answer` has the thread's slots and the
--- reply), or is about to start over if the attempt returned None.
+-- States the result of an attempt to add, remove or reply. If the attempt returned `answer` (the thread's slots and the
+-- reply), the call has ended. If it returned None, the call is about to start over.
 abbrev pub HasTried : Begun → OwnSlots → Option (OwnSlots × Reply) → TableSeat → Type 0
 HasTried b own (Some answer) s = HasAnswered lock_free b answer s
 HasTried b own None s = AtHead b own s

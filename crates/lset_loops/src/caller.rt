@@ -1,4 +1,4 @@
-//! The thread that makes a pending call, with everything that its loop needs.
+//! The pending call of a thread, with all values that the loop of the call needs.
 ghost use Rattle.std.specs.Prelude.{◌≡◌, ◌<◌};
 ghost use Rattle.std.proofs.Props.{props};
 ghost use Rattle.lset_words.specs.Words.{tail_word, target};
@@ -12,7 +12,7 @@ use lset_words::Call;
 use std::marker::Model;
 use std::snapshot::Snapshot;
 
-/// A pending call, and a copy of its seat (the right to call as one thread) from when the call started.
+/// A pending call, and a copy of its seat (the right to call as one thread) made when the call started.
 #[derive(Drop)]
 pub(crate) struct Origin {
     call: Call,
@@ -31,8 +31,8 @@ impl Model for Origin {
     ghost view = { λ o. begun_at o.call o.place.value };
 }
 
-/// The thread that makes a call: the shared words of its list, the pause between two steps, the thread's slots (nodes
-/// for keys that it adds), the call, and the call's key as a word.
+/// A call and the thread that makes it: the shared words of the list, the pause between two steps, the thread's slots
+/// (nodes for the keys that it adds), the call, and the call's key as a word.
 #[derive(Drop)]
 pub(crate) struct Caller<'a, M: Machine, P: Pause> {
     pub table: &'a Words<M>,

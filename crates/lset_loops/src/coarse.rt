@@ -12,7 +12,7 @@ use lset_coarse::CoarseList;
 use lset_rule::{OwnSlots, Pause, Rounds, TableSeat, Words};
 use lset_words::{Call, LOCK, Reply};
 
-/// Walks from the head to the first key that is not smaller than the call's.
+/// Walks from the head to the first key that is not smaller than the call's key.
 fn walk<P: Pause, N: Rounds>(caller: &Caller<CoarseList, P>, place: &mut TableSeat) -> Option<Found>
     requires { AtHead caller.now.origin caller.now.slots place.old }
     ensures { IfSome result (λ f. StopsAt caller.now.origin caller.now.slots f place.new) }
@@ -32,8 +32,7 @@ fn walk<P: Pause, N: Rounds>(caller: &Caller<CoarseList, P>, place: &mut TableSe
     None
 }
 
-/// Adds or removes the key between the two nodes at which the walk has stopped, or only replies. The list's lock must
-/// be held.
+/// Adds or removes the key between the two nodes that the walk found, or only replies. The list's lock must be held.
 fn act<P: Pause>(
     caller: &Caller<CoarseList, P>,
     place: &mut TableSeat,
@@ -56,8 +55,8 @@ fn act<P: Pause>(
     }
 }
 
-/// Makes a whole call on a CoarseList: takes the list's lock, walks to the key, acts there, and releases the lock. This
-/// is Herlihy and Shavit's coarse-grained list.
+/// Makes a whole call on a CoarseList: takes the list's lock, walks to the key, acts, and releases the lock. This is
+/// Herlihy and Shavit's coarse-grained list.
 ///
 /// Returns `None` if a loop of the call has made `N::MOST` rounds. The call is then still pending.
 pub fn coarse_within<P: Pause, N: Rounds>(

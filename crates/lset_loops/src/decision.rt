@@ -1,4 +1,4 @@
-//! How a call decides what to do after its walk has stopped.
+//! The decision of a call after its walk has stopped: add the key, remove the key, or only reply.
 ghost use Rattle.std.specs.Prelude.{◌≡◌, ◌<◌};
 ghost use Rattle.lset_loops.specs.Calling.{Decides, HasStored, MayStore, one_more, put_stores, slot, slot_stores};
 
@@ -10,7 +10,7 @@ use lset_steps::Machine;
 use lset_steps::rows::ceiling_at;
 use lset_words::{Call, Reply, slot_node};
 
-/// The two nodes at which a walk has stopped: `curr` is the first node whose key is not smaller than the call's, and
+/// The two nodes found by a walk: `curr` is the first node with a key that is not smaller than the call's key, and
 /// `pred` is the node before `curr`. `word` is the key of `curr`.
 #[derive(Clone, Copy)]
 pub(crate) struct Found {
@@ -19,7 +19,7 @@ pub(crate) struct Found {
     pub word: u64,
 }
 
-/// What a call decides to do: link in a node, unlink a node, or only reply.
+/// A decision of a call: link in a node, unlink a node, or only reply.
 #[derive(Clone, Copy)]
 pub(crate) enum Decision {
     PutIn,
@@ -27,7 +27,7 @@ pub(crate) enum Decision {
     Answer(Reply),
 }
 
-/// Returns what `call` does if `word` is the first key that is not smaller than the call's key.
+/// Returns the decision of `call` if `word` is the first key that is not smaller than the call's key.
 pub fn decide(call: Call, word: u64, slots: OwnSlots) -> Decision
     ensures deed { Decides call slots word result }
     ensures room { result ≡ Decision.PutIn → slots.used < slots.quota }
@@ -45,7 +45,7 @@ pub fn decide(call: Call, word: u64, slots: OwnSlots) -> Decision
     }
 }
 
-/// Returns the slots of a thread (nodes for keys that it adds) after it has used one more.
+/// Returns the slots of a thread (nodes for the keys that it adds) after the thread has used one of them.
 pub(crate) fn one_more(slots: OwnSlots) -> OwnSlots
     requires { slots.used < slots.quota }
     ensures { result ≡ one_more slots }

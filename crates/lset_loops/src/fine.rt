@@ -13,8 +13,8 @@ use lset_rule::{OwnSlots, Pause, Rounds, TableSeat, Words};
 use lset_steps::rows::lock_index;
 use lset_words::{Call, HEAD, Reply};
 
-/// Walks from the locked head to the first key that is not smaller than the call's. Locks each node before it releases
-/// the previous one, and returns with both nodes locked.
+/// Walks from the locked head to the first key that is not smaller than the call's key. Locks each node before it
+/// releases the previous node, and returns the last two nodes locked.
 fn walk<P: Pause, N: Rounds>(caller: &Caller<FineList, P>, place: &mut TableSeat) -> Option<Found>
     requires { AtHead caller.now.origin caller.now.slots place.old }
     ensures { IfSome result (λ f. StopsAt caller.now.origin caller.now.slots f place.new) }
@@ -36,7 +36,7 @@ fn walk<P: Pause, N: Rounds>(caller: &Caller<FineList, P>, place: &mut TableSeat
     None
 }
 
-/// Adds or removes the key between the two locked nodes at which the walk has stopped, or only replies.
+/// Adds or removes the key between the two locked nodes that the walk found, or only replies.
 fn act<P: Pause>(
     caller: &Caller<FineList, P>,
     place: &mut TableSeat,
@@ -59,8 +59,8 @@ fn act<P: Pause>(
     }
 }
 
-/// Makes a whole call on a FineList: walks to the key, locking each node before it releases the previous one, acts
-/// there, and releases both locks. This is Herlihy and Shavit's fine-grained list.
+/// Makes a whole call on a FineList: walks to the key, locking each node before it releases the previous node, then
+/// acts and releases both locks. This is Herlihy and Shavit's fine-grained list.
 ///
 /// Returns `None` if a loop of the call has made `N::MOST` rounds. The call is then still pending.
 pub fn fine_within<P: Pause, N: Rounds>(

@@ -1,5 +1,5 @@
-//! LazyList: a node is marked before it is unlinked. A call walks without locks, locks the two nodes at which it stops,
-//! and checks that they are still neighbours.
+//! LazyList: a node is marked before it is unlinked. A call walks without locks, locks the two nodes that the walk
+//! found, and checks that they are still neighbours.
 ghost use Rattle.lset_steps.specs.ReadRows.{first_row};
 ghost use Rattle.std.specs.Prelude.{◌≡◌, IfSome};
 ghost use Rattle.lset_lazy.specs.Lazy.{lazy};
@@ -14,8 +14,8 @@ use lset_lazy::LazyList;
 use lset_rule::{OwnSlots, Pause, Rounds, TableSeat, Words};
 use lset_words::{Call, Reply};
 
-/// Walks from the head to the first key that is not smaller than the call's. `first` is the node to which the head's
-/// link led.
+/// Walks from the head to the first key that is not smaller than the call's key. `first` is the node to which the
+/// head's link led.
 #[inline(always)]
 fn walk<P: Pause, N: Rounds>(
     caller: &Caller<LazyList, P>,
@@ -40,7 +40,7 @@ fn walk<P: Pause, N: Rounds>(
     None
 }
 
-/// Returns the node after `curr` if `pred` leads to `curr` and neither is marked, otherwise `None`. Both must be
+/// Returns the node after `curr` if `pred` leads to `curr` and neither is marked, otherwise `None`. Both nodes must be
 /// locked.
 fn validate<P: Pause>(
     caller: &Caller<LazyList, P>,
@@ -61,7 +61,7 @@ fn validate<P: Pause>(
     Some(Node::behind(after))
 }
 
-/// Adds or removes the key between the two locked nodes at which the walk has stopped, or only replies.
+/// Adds or removes the key between the two locked nodes that the walk found, or only replies.
 fn act<P: Pause>(
     caller: &Caller<LazyList, P>,
     place: &mut TableSeat,
@@ -85,9 +85,9 @@ fn act<P: Pause>(
     }
 }
 
-/// Makes a whole `add` or `remove` on a LazyList. Walks to the key without locks, locks the two nodes there, and checks
-/// that they are still neighbours in the list. If they are, acts and releases them; otherwise releases them and starts
-/// over. This is Herlihy and Shavit's lazy list, after Heller and others.
+/// Makes a whole `add` or `remove` on a LazyList. Walks to the key without locks, locks the two nodes around the key,
+/// and checks that they are still neighbours in the list. If they are, acts and releases them; otherwise releases them
+/// and starts over. This is Herlihy and Shavit's lazy list, after Heller and others.
 ///
 /// Returns `None` if a loop of the call has made `N::MOST` rounds. The call is then still pending.
 pub fn lazy_change_within<P: Pause, N: Rounds>(

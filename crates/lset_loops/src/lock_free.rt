@@ -14,7 +14,7 @@ use lset_lock_free::LockFreeList;
 use lset_rule::{OwnSlots, Pause, Rounds, TableSeat, Words};
 use lset_words::{Call, Reply};
 
-/// Walks from the head to the first key that is not smaller than the call's, and unlinks marked nodes on the way:
+/// Walks from the head to the first key that is not smaller than the call's key, and unlinks marked nodes on the way:
 /// Herlihy and Shavit's `find`. `first` is the node to which the head's link led.
 fn find<P: Pause, N: Rounds>(
     caller: &Caller<LockFreeList, P>,
@@ -51,8 +51,8 @@ fn find<P: Pause, N: Rounds>(
     None
 }
 
-/// Adds or removes the key between the two nodes at which the walk has stopped, or only replies. Returns `None` if a
-/// link has changed since the walk.
+/// Adds or removes the key between the two nodes that the walk found, or only replies. Returns `None` if a link has
+/// changed since the walk.
 fn attempt<P: Pause>(
     caller: &Caller<LockFreeList, P>,
     place: &mut TableSeat,

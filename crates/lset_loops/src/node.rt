@@ -1,4 +1,4 @@
-//! The nodes of a list, by their numbers.
+//! Nodes of a list, identified by their numbers.
 ghost use Rattle.std.specs.Prelude.{◌≡◌, ◌/◌, ◌<◌, ◌^◌};
 
 /// A node of a list. Its number is below 2^63, since a link word has 63 bits for the number and one for the mark.
@@ -16,7 +16,7 @@ impl Node {
         Node { number: 0 }
     }
 
-    /// Returns the node to which a link word leads, without the mark.
+    /// Returns the node to which a link word leads. Ignores the mark.
     pub fn behind(link: u64) -> Node
         ensures { result.number ≡ link / 2 }
     {

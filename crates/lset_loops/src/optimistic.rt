@@ -1,4 +1,4 @@
-//! OptimisticList: a call walks without locks, locks the two nodes at which it stops, and walks again to check them.
+//! OptimisticList: a call walks without locks, locks the two nodes that the walk found, and walks again to check them.
 ghost use Rattle.std.specs.Prelude.{IfSome};
 ghost use Rattle.lset_optimistic.specs.Optimistic.{optimistic};
 ghost use Rattle.lset_rule.specs.Seats.{HasCalled, MayCall};
@@ -12,15 +12,15 @@ use lset_optimistic::OptimisticList;
 use lset_rule::{OwnSlots, Pause, Rounds, TableSeat, Words};
 use lset_words::{Call, HEAD, Reply};
 
-/// The two nodes at which a walk has stopped, and the key of `pred` as the walk saw it (0 for the head).
+/// The two nodes found by a walk, and the key of `pred` as the walk saw it (0 for the head).
 #[derive(Clone, Copy)]
 pub(crate) struct Stopped {
     pub(crate) found: Found,
     pub(crate) before: u64,
 }
 
-/// Walks from the head to the first key that is not smaller than the call's. `first` is the node to which the head's
-/// link led.
+/// Walks from the head to the first key that is not smaller than the call's key. `first` is the node to which the
+/// head's link led.
 #[inline(always)]
 fn walk<P: Pause, N: Rounds>(
     caller: &Caller<OptimisticList, P>,
@@ -79,7 +79,7 @@ fn reaches<P: Pause, N: Rounds>(
     None
 }
 
-/// Returns whether `pred` is still in the list and leads to `curr`. Both must be locked.
+/// Returns whether `pred` is still in the list and leads to `curr`. Both nodes must be locked.
 fn validate<P: Pause, N: Rounds>(
     caller: &Caller<OptimisticList, P>,
     place: &mut TableSeat,
@@ -99,7 +99,7 @@ fn validate<P: Pause, N: Rounds>(
     Some(true)
 }
 
-/// Adds or removes the key between the two locked nodes at which the walk has stopped, or only replies.
+/// Adds or removes the key between the two locked nodes that the walk found, or only replies.
 fn act<P: Pause>(
     caller: &Caller<OptimisticList, P>,
     place: &mut TableSeat,
@@ -122,9 +122,9 @@ fn act<P: Pause>(
     }
 }
 
-/// Makes a whole call on an OptimisticList. Walks to the key without locks, locks the two nodes there, and checks with
-/// a second walk that they are still neighbours in the list. If they are, acts and releases them; otherwise releases
-/// them and starts over. This is Herlihy and Shavit's optimistic list.
+/// Makes a whole call on an OptimisticList. Walks to the key without locks, locks the two nodes around the key, and
+/// checks with a second walk that they are still neighbours in the list. If they are, acts and releases them; otherwise
+/// releases them and starts over. This is Herlihy and Shavit's optimistic list.
 ///
 /// Returns `None` if a loop of the call has made `N::MOST` rounds. The call is then still pending.
 pub fn optimistic_within<P: Pause, N: Rounds>(

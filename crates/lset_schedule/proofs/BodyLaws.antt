@@ -1,5 +1,5 @@
--- Proof: the lines after a header and the content read from them determine each other. This is true of every kind of
--- text with event lines.
+-- Proof: the lines after a header and the content read from these lines determine each other, for every kind of text
+-- with event lines (schedules and drafts).
 use Rattle.std.proofs.Common.{◌≡◌, ℕ, ◌+◌, ◌<◌, ◌≤◌, ◌^◌, inl, inr, Bool, true, false, cond, ltb, List, [], ◌∷◌, ◌++◌, map}
 use Rattle.std.proofs.Common.{length, Result, Ok, Err, refl, sym, ap, subst, ◌∙◌, arith, append_assoc, codes}
 use Rattle.std.specs.Fmt.{decimal}
@@ -32,7 +32,7 @@ use Rattle.lset_text.specs.Texts.{text_from}
 use Rattle.lset_schedule.specs.ScheduleReading.{EventLines, BodyValue, no_lines, Item, opens, event, opening_kind, kinds_after}
 use Rattle.lset_schedule.specs.ScheduleReading.{with_item, with_line, grammar, texts}
 
--- ---- Lemmas about a text with one more line
+-- ---- Lemmas about appending a line to a text
 
 room_for_key : {L : Type 0} (b c : Bool) (s t : BodyValue L)
     → cond b (cond c (Ok s) (Err Opening)) (Err TooMany) ≡ Ok t → (b ≡ true) × (c ≡ true) × (s ≡ t)
@@ -44,14 +44,15 @@ room_for_events : {L : Type 0} (b : Bool) (s t : BodyValue L) → cond b (Err To
 room_for_events true s t is = absurd cc
 room_for_events false s t is = (refl, ok_is s t is)
 
--- States that the content s can be written in version v: it is within the limits, and v has its opening keys and lines.
+-- States that the content s can be written in version v of the format: s is within the limits, and version v has the
+-- opening keys and lines of s.
 pub record HasText {L : Type 0} (text : EventLines L) (v : Version) (Good : L → Type 0) (s : BodyValue L) : Type 0 where
   pub opens : Opens (record { threads = s.header.threads; quota = s.header.quota; keys = s.keys })
   pub opening : HasOpening v s.keys
   pub lines : AllByRecursion Good s.lines
   pub few : sum_by text.count s.lines ≤ MOST_EVENTS
 
--- What the proofs require of the patterns of event lines: they match exactly the lines of good values, and no such line
+-- Assumptions about the patterns of event lines: the patterns match exactly the lines of good values, and no such line
 -- has the pattern of an opening key.
 module _ {L : Type 0} (text : EventLines L) (v : Version) (title : List ℕ) (pieces : L → List (List ℕ)) (Good : L → Type 0)
     (known : AllByRecursion (Knows v pieces Good) text.kinds) (makes : (l : L) → Good l → IsMade v pieces text.kinds l)
@@ -73,7 +74,7 @@ module _ {L : Type 0} (text : EventLines L) (v : Version) (title : List ℕ) (pi
   abbrev text_lines : BodyValue L → List (List ℕ)
   text_lines s = header_lines title s.header ++ body_lines s
 
-  -- ---- Lemmas about the patterns that the next line can have
+  -- ---- Lemmas about the possible patterns of the next line
 
   events_known : AllByRecursion (Knows v item_pieces IsItem) (map (kind_as event) text.kinds)
   events_known = knows_as event v pieces item_pieces (λ l. refl) Good IsItem (λ l good. good) text.kinds known
@@ -107,8 +108,8 @@ module _ {L : Type 0} (text : EventLines L) (v : Version) (title : List ℕ) (pi
 
   -- ---- Lemmas about a single line
 
-  -- States that reading the line x changes the content from s to t, that t can be written, and that its text is the
-  -- text of s followed by x.
+  -- States that reading the line x changes the content from s to t, that t can be written, and that the text of t is
+  -- the text of s followed by x.
   abbrev Adds : BodyValue L → List ℕ → BodyValue L → Type 0
   Adds s x t = HasText text v Good t × (text_lines t ≡ text_lines s ++ x ∷ [])
 
@@ -219,7 +220,7 @@ module _ {L : Type 0} (text : EventLines L) (v : Version) (title : List ℕ) (pi
     few = omega arith;
   }
 
-  -- If a text can be read, it is the text of the content that was read.
+  -- If reading a text returns the content t, the text is the text of t, and t is within the limits.
   pub body_found : (bytes : List ℕ) (t : BodyValue L) → text_from (texts text v title) (cut_at 10 bytes) ≡ Ok t
       → HasText text v Good t × (bytes ≡ text_of (text_lines t))
   body_found bytes t is =
@@ -227,7 +228,7 @@ module _ {L : Type 0} (text : EventLines L) (v : Version) (title : List ℕ) (pi
       (λ s u x has e. (line_adds s u x has e).0) (λ s u e. ok_is s u e) bytes t is in
       (found.2, found.0)
 
-  -- If the content of a text is within the limits, the text can be read.
+  -- If the content t is within the limits, reading the text of t returns t.
   pub body_again : (t : BodyValue L) → Lacks 10 title → HasText text v Good t
       → (cut_at 10 (text_of (text_lines t)) ≡ header_lines title t.header ++ (body_lines t ++ [] ∷ []))
       × (text_from (texts text v title) (header_lines title t.header ++ (body_lines t ++ [] ∷ [])) ≡ Ok t)

@@ -1,4 +1,4 @@
--- Lemmas for the loop that reads the lines after the header: which line a reported error names, and that the text
+-- Lemmas about the loop that reads the lines after the header: the line that a reported error names, and that the text
 -- itself never causes the error `Memory`.
 use Rattle.std.proofs.Common.{arith, ◌≡◌, ℕ, ◌+◌, inl, inr, Bool, true, false, cond, ltb, List, [], ◌∷◌, length, Option, Some}
 use Rattle.std.proofs.Common.{None, Result, Err, refl, codes}
@@ -27,8 +27,8 @@ number_told : {L : Type 0} (o : Option ℕ) → (let word : Option (Unit {0}) = 
 number_told None = refl
 number_told (Some n) = refl
 
--- In version 2, before the first event line, a line is read as an opening key if it has this pattern, else as an event
--- line.
+-- In version 2, a line before the first event line is read as an opening key if it has the pattern of an opening key,
+-- else as an event line.
 pub key_told : {L K : Type 0} (text : EventLines L) (ls : List L) (line : List ℕ) (now : K → List ℕ) (o : Option K) → ls ≡ []
     → MatchOption o (have_form Two opening_form (cut_at 32 line) ≡ false) (λ key. cut_at 32 line ≡ codes "opening" ∷ now key ∷ [])
     → MatchOption o (line_in Two Event (kinds_after text Two ls) line ≡ made event (line_in Two Event text.kinds line))
@@ -36,14 +36,15 @@ pub key_told : {L K : Type 0} (text : EventLines L) (ls : List L) (line : List �
 key_told text ls line now None none other = rw (none, other) (first_as event Two Event text.kinds (cut_at 32 line))
 key_told text ls line now (Some key) none is = rw (none, is) (number_told (number_in 0 max_number (now key)))
 
--- In version 1, and after the first event line, each line is read as an event line.
+-- In version 1, each line is read as an event line. In version 2, each line after the first event line is read as an
+-- event line.
 pub not_due : {L : Type 0} (text : EventLines L) (v : Version) (ls : List L) (line : List ℕ) → (v ≡ Two → ls ≡ [] → ⊥)
     → line_in v Event (kinds_after text v ls) line ≡ made event (line_in v Event text.kinds line)
 not_due text One ls line not = first_as event One Event text.kinds (cut_at 32 line)
 not_due text Two [] line not = absurd (not refl refl)
 not_due text Two (l ∷ ls) line not = first_as event Two Event text.kinds (cut_at 32 line)
 
--- ---- No check of a line returns `Memory`
+-- ---- The checks of a line never return `Memory`
 
 either_fails : {A : Type 0} (b : Bool) (r s : Result A Cause) → (r ≡ Err Memory → ⊥) → (s ≡ Err Memory → ⊥)
     → cond b r s ≡ Err Memory → ⊥

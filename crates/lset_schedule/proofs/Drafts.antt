@@ -1,4 +1,4 @@
--- The invariant of `generate` from turn to turn.
+-- The invariant of `generate` between two turns. A turn makes at most one event.
 use Rattle.std.proofs.Common.{◌≡◌, ℕ, zero, suc, List, [], ◌∷◌, map, slice_index_or, refl, ◌≢◌, ◌+◌, ◌^◌, ◌<◌, ◌≤◌, ◌⊎◌, inl, inr, IsTrue, ◌↔◌, false, ◌++◌, length}
 use Rattle.std.proofs.Common.{length-append, sym, ap, subst, ◌∙◌, arith}
 use Rattle.std.specs.List.{range_with_len, AllByRecursion, count_by, sum_by}
@@ -35,15 +35,15 @@ opening_rests n q t = idle_rests q t (range_with_len 0 n)
 abbrev pub Resting : State → ℕ → Type 0
 Resting s n = (t : ℕ) → t < n → (local_of s t).pc ≡ 0
 
--- The state before the first turn: no event has happened yet, and every call can still begin.
+-- The state of `generate` before its first turn: no event has happened yet, and all calls can still begin.
 pub record IsUnbegun (turns n calls left : ℕ) (lines : List Line) (s : State) : Type 0 where
   pub turn : turns ≡ 0
   pub all_left : left ≡ calls
   pub none : lines ≡ []
   pub rest : Resting s n
 
--- The invariant of `generate` after `turns` turns, if `left` calls can still begin: the lines are a run of valid events
--- that ends in this state.
+-- The invariant of `generate` after `turns` turns, if `left` calls can still begin: the events of the lines are a run
+-- that leads to the state in w.
 pub record IsDraft (T : Table) (n q calls keys turns left : ℕ) (lines : List Line) (w : WorldState) : Type 0 where
   pub sized : w.sizes ≡ sizes (empty n q)
   pub run : RunsTo T (empty n q) (events_of_lines lines) w.state
@@ -95,7 +95,7 @@ draft_opening T s calls keys h none = record {
 pub goes_on : (s : State) (events m left : ℕ) → events ≡ m → (IsTrue false ↔ IsOver s events left) → IsOver s m left → ⊥
 goes_on s events m left e test over = let f : IsTrue false = test.1 (subst (λ k. IsOver s k left) (sym e) over) in cc
 
--- If a turn makes no event and the schedule has not ended, another thread has a pending call.
+-- If a turn makes no event and the schedule has not ended, some thread has a pending call.
 idle_with_others : (s : State) (n left t m : ℕ) → length s.locals ≡ n → (IsOver s m left → ⊥) → IsIdle s t left
     → Resting s n → ⊥
 idle_with_others s n left t m len more h rest = more (inr (h.1, λ u lt. rest u (omega arith)))
@@ -183,7 +183,7 @@ draft_along T n q calls keys turns left left' lines lines' w w' e f h d =
     subst (λ l. IsDraft T n q calls keys turns l lines' w') (sym e)
     (rw f (subst (λ v. IsDraft T n q calls keys turns left lines v) (sym h) d))
 
--- ---- All lines that `generate` draws are allowed in a schedule
+-- ---- Each line that `generate` draws is allowed in a schedule
 
 lines_fit : (n keys : ℕ) (lines : List Line) → n ≤ MOST_THREADS → keys < 2 ^ 32
     → AllByRecursion (IsGeneratedLine n keys) lines → AllByRecursion (IsLine One) lines

@@ -1,4 +1,4 @@
--- Lemmas for loops that draw calls and programs one by one.
+-- Lemmas about loops that draw calls and programs one by one.
 use Rattle.std.proofs.Common.{◌≡◌, ℕ, suc, ◌+◌, ◌-◌, ◌<◌, ◌≤◌, List, [], ◌∷◌, ◌++◌, map, append_assoc, append-nil, refl, sym, ap}
 use Rattle.std.proofs.Common.{◌∙◌, arith}
 use Rattle.std.specs.List.{range_with_len}
@@ -8,8 +8,8 @@ use Rattle.rand_core.specs.Stream.{Stream}
 use Rattle.lset_words.specs.declared.Call.{Call}
 use Rattle.lset_schedule.specs.Draws.{drawn_call, drawn_calls}
 
--- Returns the calls drawn so far and the next `left` calls that the random numbers s select, with the random numbers
--- after them.
+-- Returns the calls in `drawn` and the next `left` calls that the random numbers s select, with the remaining random
+-- numbers.
 abbrev pub with_others : ℕ → ℕ → List Call → Stream → List Call × Stream
 with_others keys left drawn s = (drawn ++ (drawn_calls keys left s).0, (drawn_calls keys left s).1)
 

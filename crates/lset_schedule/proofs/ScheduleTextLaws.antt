@@ -1,4 +1,4 @@
--- Proof: each text that can be read is the text of the schedule read, and the text of each schedule can be read.
+-- Proof: a text that can be read as a schedule is the text of this schedule, and the text of each schedule can be read.
 use Rattle.std.proofs.Common.{◌≡◌, ℕ, ◌<◌, ◌^◌, inl, inr, List, [], ◌∷◌, ◌++◌, map, false, Result, Ok, Err, refl, ap, subst, ◌∙◌}
 use Rattle.std.proofs.Common.{sym, arith}
 use Rattle.std.specs.Prelude.{IfOk, MatchResult, ◌≢◌}
@@ -91,7 +91,7 @@ is_memory : (c : Cause) → (c ≢ Memory → ⊥) → c ≡ Memory
 is_memory Memory h = refl
 is_memory c h = absurd (h (λ e. cc))
 
--- If a text can be read, the reader returns its content or fails to allocate.
+-- If a text can be read as a schedule, a function that reads it returns this schedule or fails to allocate.
 pub gives_ok : {X Y : Type 0} (view : X → Y) (r : Result X LineFault) (y : Y) → Gives view r (Ok y)
     → MatchResult r (λ x. view x ≡ y) (λ e. e.cause ≡ Memory)
 gives_ok view (Ok x) y gives = sym (ok_is y (view x) gives)

@@ -1,4 +1,4 @@
--- The lines that `generate` draws, as a function of the seed: the random generator determines one turn after another.
+-- The lines that `generate` draws, as a function of the seed. The random generator determines each turn.
 use Rattle.std.specs.Prelude.{◌≡◌, ℕ, zero, suc, ◌-◌, ◌%◌, ◌<◌, ◌⊎◌, ◌==◌, if◌then◌else◌, Option, Some, None, List, [], ◌∷◌, ◌++◌, length}
 use Rattle.rand_core.specs.Stream.{Stream, next_u32}
 use Rattle.lset_schedule.specs.declared.TheConstants.{MOST_GENERATED, MOST_TURNS}
@@ -14,12 +14,13 @@ abbrev pub line_of_event : Event → Line
 line_of_event (event.Begin t call) = line.Begin t call
 line_of_event (event.Go t) = line.Go t 1
 
--- Returns how many calls can still begin after an event, if `left` could begin before it.
+-- Returns the number of calls that can still begin after this event, if `left` calls could begin before the event.
 abbrev pub left_after : ℕ → Event → ℕ
 left_after left (event.Begin t call) = left - 1
 left_after left (event.Go t) = left
 
--- States that a schedule ends here: the maximum number of events is reached, or no call is pending and none can begin.
+-- States that a schedule ends here: the maximum number of events is reached, or no call is pending and no further call
+-- can begin.
 abbrev pub IsOver : State → ℕ → ℕ → Type 0
 IsOver s events left =
     (events ≡ MOST_GENERATED) ⊎ ((left ≡ 0) × ((t : ℕ) → t < length s.locals → (local_of s t).pc ≡ 0))
@@ -32,15 +33,15 @@ pub record Progress : Type 0 where
   pub lines : List Line
   pub answers : Stream
 
--- Returns the event of a turn that has drawn thread t, and the random numbers that have not been drawn yet. A thread
--- with a pending call makes a step. Another thread begins a random call, unless no more calls can begin.
+-- Returns the event of a turn that has drawn thread t, and the random numbers that have not been drawn yet. If thread t
+-- has a pending call, the call makes a step. Otherwise thread t begins a random call, unless no more calls can begin.
 abbrev pub event_drawn : State → ℕ → ℕ → ℕ → Stream → Option Event × Stream
 event_drawn s t left keys answers =
     if (local_of s t).pc == 0
     then (if left == 0 then (None, answers) else (Some (event.Begin t (drawn_call keys answers).0), (drawn_call keys answers).1))
     else (Some (event.Go t), answers)
 
--- Returns the state after a turn with this event, or with no event.
+-- Returns the state of `generate` after a turn with this event, or after a turn without an event.
 abbrev pub progressed : Table → Progress → Option Event → Stream → Progress
 progressed T p None answers = record { state = p.state; left = p.left; lines = p.lines; answers = answers }
 progressed T p (Some e) answers = record {
@@ -50,7 +51,8 @@ progressed T p (Some e) answers = record {
   answers = answers;
 }
 
--- Returns the state after one turn: the first random number selects the thread, and the following ones its call.
+-- Returns the state of `generate` after the next turn: the first random number selects the thread, and the following
+-- random numbers select the call that this thread begins.
 abbrev pub after_turn : Table → ℕ → ℕ → Progress → Progress
 after_turn T threads keys p =
     let first = next_u32 p.answers in
@@ -60,8 +62,8 @@ after_turn T threads keys p =
 abbrev pub IsEnd : Progress → Type 0
 IsEnd p = IsOver p.state (length p.lines) p.left
 
--- States that `lines` are the lines of the schedule after at most `turns` more turns from p on. `generate` stops early
--- if the schedule ends.
+-- States that `lines` are the lines of the schedule if `generate` makes at most `turns` further turns from state p.
+-- `generate` stops early if the schedule ends.
 unfoldable pub AreDrawn : Table → ℕ → ℕ → ℕ → Progress → List Line → Type 0
 AreDrawn T threads keys zero p lines = lines ≡ p.lines
 AreDrawn T threads keys (suc turns) p lines =
@@ -75,7 +77,7 @@ before_turns threads quota calls answers = record {
   answers = answers;
 }
 
--- States that `lines` are those that `generate` draws for these arguments.
+-- States that `generate` draws these lines for these arguments.
 abbrev pub AreOfSeed : Table → ℕ → ℕ → ℕ → ℕ → ℕ → List Line → Type 0
 AreOfSeed T threads quota calls keys seed lines =
     AreDrawn T threads keys MOST_TURNS (before_turns threads quota calls (seeded seed)) lines

@@ -13,22 +13,22 @@ use Rattle.lset_words.specs.declared.Call.TheVariants.{Add, Remove, Contains}
 abbrev pub seeded : ℕ → Stream
 seeded seed = stream_of (steps_u32 pcg32) (pcg32_of_seed (pcg32_seed 16 seed))
 
--- Returns a call on this key. A random number selects its kind: add, remove or contains.
+-- Returns an add, remove or contains of this key. The random number `choice` selects one of the three.
 abbrev pub call_by : ℕ → Key → Call
 call_by choice key = if choice % 3 == 0 then Add key else (if choice % 3 == 1 then Remove key else Contains key)
 
--- Returns the call that two random numbers select. Its key is below `keys`.
+-- Returns the call that two random numbers select. The key of this call is below `keys`.
 unfoldable pub chosen : ℕ → ℕ → ℕ → Call
 chosen keys a b = call_by a (record { 0 = b % keys })
 
--- Returns the call that the next two random numbers select, and the random numbers after them.
+-- Returns the call that the next two random numbers select, and the remaining random numbers.
 unfoldable pub drawn_call : ℕ → Stream → Call × Stream
 drawn_call keys s =
     let a = next_u32 s in
     let b = next_u32 a.1 in
     (chosen keys a.0 b.0, b.1)
 
--- Returns the n calls that the next random numbers select, and the random numbers after them.
+-- Returns the n calls that the next random numbers select, and the remaining random numbers.
 unfoldable pub drawn_calls : ℕ → ℕ → Stream → List Call × Stream
 drawn_calls keys zero s = ([], s)
 drawn_calls keys (suc n) s =
@@ -36,8 +36,8 @@ drawn_calls keys (suc n) s =
     let others = drawn_calls keys n first.1 in
     (first.0 ∷ others.0, others.1)
 
--- Returns the random program of a thread. Its random generator is seeded with the wrapping sum of the seed and the
--- thread's number.
+-- Returns the random program of a thread. The random generator of the thread is seeded with the wrapping sum of the
+-- seed and the thread's number.
 unfoldable pub program_of : ℕ → ℕ → ℕ → ℕ → List Call
 program_of calls keys seed thread = (drawn_calls keys calls (seeded ((seed + thread) % 2 ^ 64))).0
 

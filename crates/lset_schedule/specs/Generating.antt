@@ -27,8 +27,8 @@ abbrev pub is_begin : Line → Bool
 is_begin (line.Begin t call) = true
 is_begin (line.Go t steps) = false
 
--- States that a line is one event of one of the threads. If a call begins, its key is below `keys`, and version 1 has
--- this call.
+-- States that a line is one event of one of the threads. If the event begins a call, the key of the call is below
+-- `keys`, and version 1 of the format has this call.
 abbrev pub IsGeneratedLine : ℕ → ℕ → Line → Type 0
 IsGeneratedLine threads keys (line.Begin t call) = (t < threads) × ((key_of call).0 < keys) × HasCall One call
 IsGeneratedLine threads keys (line.Go t steps) = (t < threads) × (steps ≡ 1)
@@ -41,11 +41,11 @@ StartsWithBegin (l ∷ ls) = is_begin l ≡ true
 abbrev pub NoneOpenAfter : Table → ℕ → ℕ → List Event → ℕ → Type 0
 NoneOpenAfter T threads quota es t = (local_of (state_at T (empty threads quota) (event_at es) (length es)) t).pc ≡ 0
 
--- The properties of the lines that `generate` draws for these arguments.
+-- The properties of each list of lines that `generate` returns for these arguments.
 pub record IsGenerated (T : Table) (threads quota calls keys : ℕ) (lines : List Line) : Type 0 where
-  -- Each line is one event.
+  -- Each line is one event of one thread.
   pub each : AllByRecursion (IsGeneratedLine threads keys) lines
-  -- The events are a run: each is enabled at its turn.
+  -- The events are a run of the list: each event is enabled when it happens.
   pub run : Run T (empty threads quota) (event_at (events_of_lines lines)) (length (events_of_lines lines))
   pub first : 0 < calls → StartsWithBegin lines
   pub few : count_by is_begin lines ≤ calls
@@ -58,8 +58,8 @@ pub record IsGenerated (T : Table) (threads quota calls keys : ℕ) (lines : Lis
 abbrev pub IsAccepted : ℕ → ℕ → ℕ → Type 0
 IsAccepted threads quota keys = IsWithin (record { threads = threads; quota = quota; opening = 0 }) × (0 < keys)
 
--- States that `generate` returns this error for these arguments: that of the first check that fails, or `Memory` if
--- none fails.
+-- States that `generate` returns this error for these arguments: the error of the first check that fails, or `Memory`
+-- if no check fails.
 abbrev pub Refuses : ℕ → ℕ → ℕ → GenFault → Type 0
 Refuses threads quota keys Threads = (threads ≡ 0) ⊎ (MOST_THREADS < threads)
 Refuses threads quota keys Quota = (0 < threads) × (threads ≤ MOST_THREADS) × (MOST_QUOTA < quota)

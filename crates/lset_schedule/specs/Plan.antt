@@ -17,7 +17,7 @@ use Rattle.lset_schedule.specs.declared.value.Line.{Line}
 use Rattle.lset_schedule.specs.declared.value.Line.TheVariants.{Begin, Go}
 use Rattle.lset_schedule.specs.declared.value.Schedule.{Schedule}
 
--- A schedule, as contracts describe it.
+-- The value of a schedule in contracts.
 pub record Plan : Type 0 where
   pub version : Version
   pub kind : Kind
@@ -43,7 +43,7 @@ view s = planned s.version (record { kind = s.kind; threads = s.threads; quota =
 abbrev pub header_in : Plan → Header
 header_in p = record { kind = p.kind; threads = p.threads; quota = p.quota }
 
--- Returns the opening of the set on which a schedule runs: its threads, quota and opening keys.
+-- Returns the opening of the set that a schedule runs on: its threads, quota and opening keys.
 abbrev pub opening_in : Plan → Opening
 opening_in p = record { threads = p.threads; quota = p.quota; keys = p.opening }
 
@@ -81,24 +81,24 @@ abbrev pub IsLine : Version → Line → Type 0
 IsLine version (Begin thread call) = (thread < 2 ^ 32) × ((key_of call).0 < 2 ^ 32) × HasCall version call
 IsLine version (Go thread steps) = (thread < 2 ^ 32) × (1 ≤ steps) × (steps ≤ MOST_STEPS)
 
--- The limits of a schedule: a text is read as a schedule only within these limits.
+-- The limits of a schedule. A text is read as a schedule only if the schedule is within these limits.
 pub record IsSchedule (p : Plan) : Type 0 where
   pub opens : Opens (opening_in p)
   pub opening : HasOpening p.version p.opening
   pub lines : AllByRecursion (IsLine p.version) p.lines
   pub few : sum_by event_count p.lines ≤ MOST_EVENTS
 
--- ---- The calls that a version of schedules has
+-- ---- The calls that a version of the format has
 
 abbrev pub HasCallOfLine : Version → Line → Type 0
 HasCallOfLine version (Begin thread call) = HasCall version call
 HasCallOfLine version (Go thread steps) = Unit {0}
 
--- States that the version of a schedule has each call that the schedule begins.
+-- States that the format version of a schedule has each call that the schedule begins.
 abbrev pub HasCallsOfVersion : Plan → Type 0
 HasCallsOfVersion p = AllByRecursion (HasCallOfLine p.version) p.lines
 
--- States that a schedule can be written in its version: the version has all calls of the schedule, and has opening keys
--- if the schedule has any. `IsSchedule` implies this (see proofs/VersionLaws.antt).
+-- States that a schedule can be written in its format version: the version has all calls of the schedule, and has
+-- opening keys if the schedule has any. `IsSchedule` implies this condition (see proofs/VersionLaws.antt).
 abbrev pub HasWordsOfVersion : Plan → Type 0
 HasWordsOfVersion p = HasOpening p.version p.opening × HasCallsOfVersion p

@@ -1,5 +1,5 @@
--- Reading a schedule: its value, or the first error. Lines are read from the first to the last. The checks of a line
--- have a fixed order.
+-- Defines the result of reading a schedule: its value, or the first error. Lines are read from the first to the last,
+-- and the checks of a line have a fixed order.
 use Rattle.std.specs.Prelude.{◌≡◌, ◌≢◌, ℕ, ◌+◌, ◌<◌, ◌≤◌, nat_lt, List, [], ◌∷◌, ◌++◌, length, map, codes, Result, Ok, Err}
 use Rattle.std.specs.Prelude.{if◌then◌else◌, ◌⊎◌}
 use Rattle.std.specs.List.{sum_by}
@@ -50,15 +50,15 @@ pub data Item (L : Type 0) : Type 0 where
 abbrev pub opening_kind : {L : Type 0} → LineKind (Item L)
 opening_kind = (opening_form, λ t. opens t.1.0)
 
--- Returns the patterns of the lines that can come after the event lines ls. An opening key can come only in version 2,
--- and before all event lines.
+-- Returns the possible patterns of the next line after the event lines ls. An opening key is possible only in version
+-- 2, and only before all event lines.
 abbrev pub kinds_after : {L : Type 0} → EventLines L → Version → List L → List (LineKind (Item L))
 kinds_after text One ls = map (kind_as event) text.kinds
 kinds_after text Two [] = opening_kind ∷ map (kind_as event) text.kinds
 kinds_after text Two (l ∷ ls) = map (kind_as event) text.kinds
 
--- Returns the content of a text after one more line, or the error of this line. Each opening key must be above the one
--- before it. The numbers of opening keys and events are limited.
+-- Returns the content of a text after the next line, or the error of this line. Each opening key must be greater than
+-- the previous opening key. The numbers of opening keys and events are limited.
 abbrev pub with_item : {L : Type 0} → EventLines L → BodyValue L → Item L → Result (BodyValue L) Cause
 with_item text s (opens k) =
     if nat_lt (length s.keys) MOST_OPENING then (if is_above s.keys k then Ok (record s { keys = s.keys ++ k ∷ [] }) else Err Opening)
@@ -73,7 +73,7 @@ with_line text version s line = line_in version Event (kinds_after text version 
 abbrev pub grammar : {L : Type 0} → EventLines L → Version → Grammar (BodyValue L)
 grammar text version = record { step = with_line text version; ends = Ok }
 
--- Returns the grammar of texts of this version with this first line.
+-- Returns the grammar of texts of this version that begin with the line `title`.
 abbrev pub texts : {L : Type 0} → EventLines L → Version → List ℕ → TextGrammar (BodyValue L)
 texts text version title = record { title = title; start = no_lines; lines = grammar text version }
 
@@ -95,9 +95,9 @@ schedules version = texts events version (title version)
 abbrev pub plan_in : Version → List (List ℕ) → Result Plan LineFault
 plan_in version parts = text_from (schedules version) parts >>= λ told. Ok (planned version told.header told.keys told.lines)
 
--- Returns the version of a schedule, which depends only on the first line of its text: version 2 if the line is the
--- title of version 2, else version 1. If this title has no newline, the version is 2, and the line is rejected as in
--- version 1.
+-- Returns the format version of a schedule, which depends only on the first line of its text: version 2 if this line is
+-- the title of version 2, else version 1. If the title of version 2 has no newline, the version is 2, and the line is
+-- rejected just as in version 1.
 abbrev pub version_told : List (List ℕ) → Version
 version_told parts = version_in (title Two) parts
 
@@ -107,20 +107,20 @@ plan_of parts = plan_in (version_told parts) parts
 abbrev pub reading : List ℕ → Result Plan LineFault
 reading bytes = plan_of (cut_at 10 bytes)
 
--- States that each text that can be read is the text of the schedule read, and that the text of each schedule can be
--- read.
+-- States that each text that can be read as a schedule is the text of this schedule, and that the text of each schedule
+-- can be read.
 abbrev pub SchedulesReadBack : Type 0
 SchedulesReadBack = (p : Plan) (bytes : List ℕ)
     → (IsSchedule p → reading (schedule_text p) ≡ Ok p)
     × (reading bytes ≡ Ok p → IsSchedule p × (bytes ≡ schedule_text p))
 
--- States that a function returned the result `read`, or failed to allocate. `view` maps a value of the function to the
--- value in `read`.
+-- States that a function returned the result `read`, or failed to allocate. `view` maps the value that the function
+-- returned to the value in `read`.
 abbrev pub Gives : {X Y : Type 0} → (X → Y) → Result X LineFault → Result Y LineFault → Type 0
 Gives view (Ok x) read = read ≡ Ok (view x)
 Gives view (Err e) read = e.cause ≢ Memory → read ≡ Err e
 
--- States that `line` is a complete line after the header, and that neither this line nor a line above it has an error.
+-- States that `line` is a complete line after the header, and that this line and all lines before it have no error.
 abbrev pub IsGoodAfterHeader : {X : Type 0} → List ℕ → Result X LineFault → ℕ → Type 0
 IsGoodAfterHeader bytes read line = (last_of_header < line) × lines.IsGoodLine 1 (cut_at 10 bytes) read line
 
@@ -132,12 +132,12 @@ IsGoodLine bytes line = IsGoodAfterHeader bytes (reading bytes) line
 abbrev pub told : {L : Type 0} → TextBody L → BodyValue L
 told t = record { header = t.header; keys = t.opening.items; lines = t.lines.items }
 
--- States that a reader's count of events is right and within the limit.
+-- States that the reader's count of events is correct and within the limit.
 abbrev pub Counts : {L : Type 0} → EventLines L → TextBody L → Type 0
 Counts text t = (t.total ≡ sum_by text.count t.lines.items) × (t.total ≤ MOST_EVENTS)
 
--- States that a reader has processed a line as the grammar demands: it has changed its content, or returned the error
--- of the line. It can also fail to allocate at a line without errors.
+-- States that a reader has processed a line as the grammar demands: the reader has extended its content, or returned
+-- the error of the line, or failed to allocate at a line without errors.
 abbrev pub Takes : {L X : Type 0} → Result (BodyValue L) Cause → BodyValue L → Result X Cause → Type 0
 Takes next now (Ok x) = next ≡ Ok now
 Takes {L = L} next now (Err cause) = (next ≡ Err cause) ⊎ ((cause ≡ Memory) × (s : BodyValue L) × (next ≡ Ok s))

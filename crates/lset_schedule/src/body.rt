@@ -29,14 +29,14 @@ use lset_text::{Cause, Header, LineFault, Version, cut, is_above, number, read_h
 use lset_words::MOST_OPENING;
 use std::alloc::Global;
 
-/// An event line of a schedule or a draft. Both are texts with opening keys and then event lines, and each has its own
-/// type of event lines.
+/// An event line of a schedule or a draft. Schedules and drafts are texts with opening keys followed by event lines.
+/// Each kind of text has its own type of event lines.
 pub trait EventLine: Copy {
     /// The patterns of event lines, and the number of events that a line counts as.
     ghost lines: { EventLines Self };
 
-    /// Reads an event line of a text of this version, given without its newline. Returns `Event` if the line matches no
-    /// pattern, and `Number` if a field that must be a number is not one, or is out of range.
+    /// Reads an event line of a text of this version, passed without its newline. Returns `Event` if the line matches
+    /// no pattern, and `Number` if a field that must be a number is not a number, or is out of range.
     fn read(version: Version, line: &[u8]) -> Result<Self, Cause>
         ensures { result ≡ line_in version Cause.Event lines.kinds line.now };
 

@@ -91,7 +91,7 @@ pub(crate) fn layout_to_draw(threads: u32, quota: u32, keys: u32) -> Result<Layo
 
 /// Draws a random program of `calls` calls for each of `threads` threads, 1 to 64. The same arguments always return the
 /// same programs. Each thread has its own random generator, seeded with the wrapping sum of `seed` and the thread's
-/// number. Two random numbers select a call: one its kind, one its key below `keys`. Allocates.
+/// number. Two random numbers select a call: one number its kind, the other its key below `keys`. Allocates.
 ///
 /// # Errors
 ///

@@ -26,7 +26,7 @@ fn line_of(event: Event) -> Line
     }
 }
 
-/// Returns how many calls can still begin after an event, if `left` could begin before it.
+/// Returns the number of calls that can still begin after this event, if `left` calls could begin before the event.
 fn left_by(left: u32, event: Event) -> u32
     ensures { result ≡ left_after left event }
 {
@@ -50,7 +50,7 @@ fn has_open_call<M: Machine>(world: &World<M>, threads: u32) -> bool
 }
 
 /// Returns whether the generator is finished after `events` events: the maximum is reached, or no call is pending and
-/// none can begin.
+/// no further call can begin.
 fn is_over<M: Machine>(world: &World<M>, threads: u32, events: usize, left: u32) -> bool
     requires threads { world.now.sizes.threads ≡ threads }
     requires locals { length world.now.state.locals ≡ threads }
@@ -62,9 +62,9 @@ fn is_over<M: Machine>(world: &World<M>, threads: u32, events: usize, left: u32)
     left == 0 && !has_open_call(world, threads)
 }
 
-/// Returns the event of the generator's turn if the turn has drawn `thread`: a step if the thread has a pending call,
-/// else the start of a random call. Returns `None` if the thread has no pending call and `left`, the number of calls
-/// that can still begin, is 0.
+/// Returns the event of a turn that has drawn `thread`: a step if the thread has a pending call, else the start of a
+/// random call. Returns `None` if the thread has no pending call and `left`, the number of calls that can still begin,
+/// is 0.
 fn next_event<M: Machine, R: Rng>(
     world: &World<M>,
     thread: u32,

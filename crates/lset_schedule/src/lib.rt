@@ -1,5 +1,5 @@
-//! Schedules. A schedule is a list of events: which thread begins which call, and which thread makes a step. This crate
-//! reads and writes the text of schedules, and draws random schedules.
+//! Schedules. A schedule is a list of events. An event is the begin of a call, or a step of a thread's pending call.
+//! This crate reads and writes the text of schedules, and draws random schedules.
 #![tactic(auto)]
 
 mod body;

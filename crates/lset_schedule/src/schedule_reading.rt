@@ -77,7 +77,7 @@ impl EventLine for Line {
     }
 }
 
-/// Returns the version of a schedule, which its first line determines.
+/// Returns the format version of a schedule, which depends only on the first line.
 fn told_version(bytes: &[u8]) -> Version
     ensures { result ≡ version_told (cut_at 10 bytes.now) }
 {
@@ -116,16 +116,16 @@ pub fn read_schedule(alloc: Global, bytes: &[u8]) -> Result<Schedule, ScheduleFa
     // The text of every schedule within the limits is read as this schedule, unless an allocation fails.
     ensures only { (p : Plan) → IsSchedule p → bytes.now ≡ schedule_text p
         → MatchResult result (λ s. view s ≡ p) (λ e. e.cause ≡ Cause.Memory) }
-    // The result is the one that `reading` defines, unless an allocation fails.
+    // The result is the result that `reading` defines, unless an allocation fails.
     ensures exact { Gives view result (reading bytes.now) }
-    // The error `Memory` names a line after the header. Neither this line nor a line above it has another error.
+    // The error `Memory` names a line after the header. This line and all lines before it have no other error.
     ensures memory { IfErr result (λ e. e.cause ≡ Cause.Memory → IsGoodLine bytes.now e.line) }
 {
     schedule(alloc, bytes)
 }
 
-/// Lemma: reading inverts writing for schedules. A text that can be read is the text of the schedule read, and the text
-/// of every schedule can be read.
+/// States a lemma: reading inverts writing. A text that can be read as a schedule is the text of this schedule, and the
+/// text of every schedule can be read.
 pub fn schedules_read_back()
     ensures { SchedulesReadBack }
 {}

@@ -7,14 +7,14 @@ use Rattle.lset_server.specs.declared.channel.Tally.{Tally}
 use Rattle.lset_server.specs.Tallies.{ReceivedOnce}
 use Rattle.lset_words.specs.Words.{Opening}
 
--- Returns the records of the seats, each followed by the calls that were then made on the seat.
+-- Returns the records of the seats, each followed by the calls that were made on the seat afterwards.
 abbrev pub followed : List Record → List (List CallMade) → List Record
 followed [] more = []
 followed (r ∷ rs) [] = r ∷ rs
 followed (r ∷ rs) (cs ∷ more) = with_calls r cs ∷ followed rs more
 
--- Some legal order has exactly the calls in these records and `calls` more. It keeps the order of each record, and
--- leaves these keys. The calls that follow a record were made by the record's own thread.
+-- Some legal order has exactly the calls in these records and `calls` further calls. The order agrees with each record,
+-- and leaves these keys. The calls that follow a record were made by the thread of this record.
 pub record IsServed (k : Opening) (records : List Record) (calls : ℕ) (keys : List ℕ) : Type 0 where
   pub added : List (List CallMade)
   pub each : length added ≡ length records

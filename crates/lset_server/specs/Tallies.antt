@@ -22,12 +22,12 @@ number_of message.Close = []
 abbrev pub numbers : {S : Type 0} → List (Message S) → List ℕ
 numbers = flat_map number_of
 
--- Returns the sum of the weights of the numbers. `h` maps each number to its weight.
+-- Returns the sum of the weights of these numbers. `h` maps each number to its weight.
 abbrev pub weigh : (ℕ → ℕ) → List ℕ → ℕ
 weigh h [] = 0
 weigh h (x ∷ xs) = h x + weigh h xs
 
--- Returns 1 for the number n, and 0 for any other.
+-- Returns 1 for the number n, and 0 for any other number.
 abbrev pub one_at : ℕ → ℕ → ℕ
 one_at n m = if m == n then 1 else 0
 
@@ -35,31 +35,31 @@ one_at n m = if m == n then 1 else 0
 abbrev pub times : ℕ → List ℕ → ℕ
 times n = weigh (one_at n)
 
--- Returns the sum of f over the tallies of all passes.
+-- Returns the sum of f over the tallies of all passes (rights to use the channel).
 abbrev pub total : (Tally → ℕ) → List Tally → ℕ
 total f [] = 0
 total f (v ∷ vs) = f v + total f vs
 
--- States that a pass without parts has sent and received nothing.
+-- States that a pass (a right to use the channel) without parts has sent and received nothing.
 abbrev pub IdleIsEmpty : List Tally → Type 0
 IdleIsEmpty views = (port : ℕ) (v : Tally) → get_elem? views port ≡ some v → v.parts ≡ 0 → (v.sent ≡ []) × (v.received ≡ [])
 
--- States that the channel has lost and duplicated nothing: with any weights h, the numbers sent weigh as much as the
--- numbers received and those in the queue. The passes together have all parts, and a pass without parts has sent and
--- received nothing.
+-- States that the channel has lost and duplicated nothing: for any weights h, the weights of the numbers sent have the
+-- same sum as the weights of the numbers received and of the numbers in the queue. The passes (rights to use the
+-- channel) together have all parts, and a pass without parts has sent and received nothing.
 abbrev pub IsBalanced : List ℕ → List Tally → Type 0
 IsBalanced queue views =
     (total (λ v. v.parts) views ≡ PARTS)
     × ((h : ℕ → ℕ) → total (λ v. weigh h v.sent) views ≡ total (λ v. weigh h v.received) views + weigh h queue)
     × IdleIsEmpty views
 
--- Returns the numbers 0 to n - 1, which are those of the first n connections.
+-- Returns the numbers 0 to n - 1: the numbers of the first n connections.
 abbrev pub numbers_below : ℕ → List ℕ
 numbers_below zero = []
 numbers_below (suc n) = numbers_below n ++ n ∷ []
 
--- All passes of a channel were joined into one with tally v. The numbers 0 to n - 1 were sent, in order. Each of them
--- was received exactly once, and no other number was received.
+-- All passes of a channel (rights to use it) were joined into one pass with tally v. The numbers 0 to n - 1 were sent,
+-- in order. Each of these numbers was received exactly once, and no other number was received.
 pub record ReceivedOnce (n : ℕ) (v : Tally) : Type 0 where
   pub parts : v.parts ≡ PARTS
   pub sent : v.sent ≡ numbers_below n

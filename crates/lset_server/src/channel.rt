@@ -11,9 +11,9 @@ use std::alloc::Global;
 use std::collections::LinkedList;
 use std::sync::Wait;
 
-/// The number of parts that the passes of a channel have together: one for each worker and one for the sender. A pass
-/// (a right to use the channel) with all parts knows the whole channel. A server has at most as many workers as a set
-/// has threads.
+/// The number of parts that all passes of a channel (rights to use it) have together: one for each worker and one for
+/// the sender. The tally of a pass with all parts lists all connections that were sent and received. A server has at
+/// most as many workers as a set has threads.
 pub(crate) const PARTS: u64 = MOST_THREADS as u64 + 1;
 
 /// An accepted connection with its number. Connections are numbered from 0, in order of acceptance.
@@ -23,15 +23,16 @@ pub(crate) struct Connection<S> {
     pub stream: S,
 }
 
-/// A message to a worker: a connection, or the notice that no more connections will come.
+/// A message to a worker: a connection, or the notice that no more connections will arrive.
 #[derive(Drop)]
 pub(crate) enum Message<S> {
     Connection(Connection<S>),
     Close,
 }
 
-/// The tally of one pass (a right to use the channel): the connections that were sent and received with the pass, and
-/// the number of its parts. A pass with all parts knows the whole channel. Exists in contracts only.
+/// The tally of a pass (a right to use the channel): the connections that were sent and received with the pass, and the
+/// number of its parts. The tally of a pass with all parts lists all connections that were sent and received. Exists in
+/// contracts only.
 pub(crate) struct Tally {
     pub parts: u64,
     pub sent: LinkedList<u64>,
@@ -51,8 +52,8 @@ impl<S> Protocol<Message<S>, Tally> for NothingLost {
     ghost first = { tally PARTS [] [] };
 }
 
-/// How the tallies change when a part of a pass is split off as a new pass, and when two passes are joined. A pass is a
-/// right to use the channel.
+/// The change of the tallies when a part of a pass (a right to use the channel) is split off as a new pass, and when
+/// two passes are joined.
 pub(crate) struct Parting;
 
 impl Split<Tally> for Parting {
@@ -73,7 +74,7 @@ impl Join<Tally> for Parting {
     ghost spent = { tally 0 [] [] };
 }
 
-/// How the sender's tally changes when the sender sends a message.
+/// The change of the sender's tally when the sender sends a message.
 pub(crate) struct Sending;
 
 impl<S> Outcome<Message<S>, Tally> for Sending {
@@ -84,7 +85,7 @@ impl<S> Lesson<Message<S>, Tally> for Sending {
     ghost fact = { λ v items. ⊤ };
 }
 
-/// How the receiver's tally changes when the receiver gets a message.
+/// The change of the receiver's tally when the receiver receives a message.
 pub(crate) struct Receiving;
 
 impl<S> Outcome<Message<S>, Tally> for Receiving {
@@ -95,7 +96,8 @@ impl<S> Lesson<Message<S>, Tally> for Receiving {
     ghost fact = { λ v items. ⊤ };
 }
 
-/// The lemma about a pass that has all parts: the connections sent are those received and those in the queue.
+/// Lemma: if a pass (a right to use the channel) has all parts, the connections sent are exactly the connections
+/// received and the connections in the queue.
 pub(crate) struct Balanced;
 
 impl<S> Lesson<Message<S>, Tally> for Balanced {
@@ -145,7 +147,7 @@ pub fn receive<S: Drop, R: Wait>(
     from.recv_as::<Receiving, R>(rt, pass)
 }
 
-/// Splits a pass for a receiver off the sender's `pass`.
+/// Splits a new pass (a right to use the channel) for a receiver off the sender's `pass`.
 pub(crate) fn cut_part<S: Drop>(to: &Sender<S>, pass: &mut Token<S>) -> Token<S>
     requires channel { IsSeatAt (sends_on to.now) pass.old }
     requires parts { 1 < (view pass.old).parts }
@@ -156,7 +158,7 @@ pub(crate) fn cut_part<S: Drop>(to: &Sender<S>, pass: &mut Token<S>) -> Token<S>
     to.another::<Parting>(pass)
 }
 
-/// Joins a receiver's pass `other` to the sender's `pass`.
+/// Joins `other`, a receiver's pass (a right to use the channel), to the sender's `pass`.
 pub(crate) fn take_back<S: Drop>(to: &Sender<S>, pass: &mut Token<S>, other: Token<S>)
     requires channel { IsSeatAt (sends_on to.now) pass.old × IsSeatAt (sends_on to.now) other }
     requires part { 0 < (view pass.old).parts }
@@ -167,8 +169,8 @@ pub(crate) fn take_back<S: Drop>(to: &Sender<S>, pass: &mut Token<S>, other: Tok
     to.absorb::<Parting>(pass, other)
 }
 
-/// Lemma: if `pass` has all parts, the connections sent are those received and those in the queue. Does nothing at run
-/// time.
+/// States a lemma: if `pass` has all parts, the connections sent are exactly the connections received and the
+/// connections in the queue. Does nothing at run time.
 pub(crate) fn balance<S: Drop>(to: &Sender<S>, pass: &mut Token<S>)
     requires channel { IsSeatAt (sends_on to.now) pass.old }
     requires all { (view pass.old).parts ≡ PARTS }

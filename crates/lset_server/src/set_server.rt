@@ -26,7 +26,8 @@ use thiserror::Error;
 /// The cause of a `ServeFault`.
 #[derive(Clone, Copy, Debug, PartialEq, Eq, Error)]
 pub enum ServeCause {
-    /// The given seats, with the seats merged into them, are not all seats of the set. No connection was accepted.
+    /// The seats passed to `serve`, with the seats merged into them, are not all seats of the set. No connection was
+    /// accepted.
     #[error("the seats do not hold all seats of the set")]
     Seats,
     /// The system did not accept a connection.
@@ -101,7 +102,7 @@ fn accept_all<R: Wait>(
     Ok(())
 }
 
-/// Sends each worker the notice that no more connections will come.
+/// Sends each worker the notice that no more connections will arrive.
 fn close_all<R: Wait>(
     rt: &R,
     to: &Sender<TcpStream>,
@@ -121,7 +122,7 @@ fn close_all<R: Wait>(
 }
 
 /// Accepts `sessions` connections and sends them to the workers. Then sends each worker the notice that no more will
-/// come.
+/// arrive.
 fn send_all<R: Wait>(
     rt: &R,
     listener: &TcpListener,
@@ -247,7 +248,7 @@ pub fn serve<R: Threads + Wait + Clock + Sync, M: Running + Send + Sync>(
     requires { All (λ s. s.set ≡ set) seats.items }
     // [Received once]: each connection was received by a worker exactly once.
     ensures received { IfOk result (λ s. (s.sessions ≡ sessions) × ReceivedOnce sessions (tally_of s)) }
-    // [Served]: some legal order of the seats' earlier calls and of `calls` more calls leaves the final keys.
+    // [Served]: some legal order of the seats' earlier calls and of `calls` further calls leaves the final keys.
     ensures served { IfOk result (λ s. IsServed set.shape (map (λ t. t.past) seats.items) s.calls s.keys.items) }
     ensures all { IsOk result → sum_by (λ s. s.held) seats.items ≡ set.shape.threads }
     ensures refused { IfErr result (λ f. f.cause ≡ ServeCause.Seats ↔ (sum_by (λ s. s.held) seats.items ≢ set.shape.threads)) }

@@ -53,7 +53,7 @@ impl<M: Running> Promise<WorkerResult<M>> for WorkerPromise<M> {
 /// A started worker thread.
 pub(crate) type Worker<M> = PromisedHandle<WorkerResult<M>, WorkerPromise<M>>;
 
-/// Blocks until the next connection arrives. Returns `None` if no more connections come.
+/// Waits for the next connection. Returns `None` if no more connections arrive.
 fn next<R: Wait>(
     rt: &R,
     from: &Receiver<TcpStream>,
@@ -91,7 +91,7 @@ fn hold<R: Wait + Clock, M: Running>(
     ended.calls
 }
 
-/// Serves connections on the seat, until no more come or `most` have been received.
+/// Serves connections on `seat`, until no more connections arrive or `most` connections have been received.
 fn work<R: Wait + Clock, M: Running>(
     rt: &R,
     from: &Receiver<TcpStream>,
@@ -124,7 +124,7 @@ fn work<R: Wait + Clock, M: Running>(
     }
 }
 
-/// The sum of all workers' sessions and calls, and the seat into which their seats were merged.
+/// The sums of all workers' sessions and calls, and the seat that results from merging their seats.
 #[derive(Drop)]
 pub(crate) struct Gathered<M: Running> {
     pub seat: Option<Seat<M>>,

@@ -28,7 +28,7 @@ use Rattle.lset_session.specs.declared.sessions.Talk.{Talk}
 
 -- ---- Lemmas about a text to which bytes are appended
 
--- Prepending bytes without a newline to a text prepends them to its first line.
+-- If bytes without a newline are prepended to a text, they are prepended to the first line of the text.
 cut_more : (q x : List ℕ) (xs : List (List ℕ)) (more : List ℕ) → cut_at 10 more ≡ x ∷ xs → Lacks 10 q
     → cut_at 10 (q ++ more) ≡ (q ++ x) ∷ xs
 cut_more [] x xs more e lacks = e
@@ -63,14 +63,14 @@ turns_line left p more lacks short = by_parts (cut_at 10 more) refl (some_part 1
         let few = le-ltb LONGEST_LINE (length p) short in
         rw (first, e, few) refl
 
--- Bytes after the last newline cause no turn (no answered line), unless they are too long for a line.
+-- The bytes after the last newline cause no turn (answered line), if they are not too long for a line.
 pub turns_rest : (left : ℕ) (p : List ℕ) → Lacks 10 p → length p ≤ LONGEST_LINE → turns_at left (cut_at 10 (p ++ [])) ≡ []
 turns_rest left p lacks short =
     let few = le-ltb LONGEST_LINE (length p) short in
     let one = slice_split_none (λ b. eqb b 10) p lacks in
     rw (append-nil p, one, few) refl
 
--- ---- Lemmas about the turn of a line: the line's request, or the reason why the session ends
+-- ---- Lemmas about the turn that a line causes: its request, or the reason why the session ends
 
 pub turns_quit : (left : ℕ) (e : Exchange) (q : Request) (later : List Turn) → turn_of e ≡ line q → q ≡ request.Quit
     → turns_after left q later ≡ turn_of e ∷ []
@@ -103,7 +103,8 @@ counted_is e q h = refl
 
 -- ---- Lemmas about the bytes that the session has processed
 
--- At the end of a session, the last line was written, or the reason is WriteFault.
+-- If a session ends after it has written its last line, the reason is `why`. If it could not write the whole line, the
+-- reason is WriteFault.
 told_last : (left left' : ℕ) (bytes p' : List ℕ) (talk : List Exchange) (why : EndReason) (whole : Bool) → IsLast why
     → ((more : List ℕ) → turns_at left (cut_at 10 (bytes ++ more)) ≡ turns_in talk ++ []) → end_of (turns_in talk) ≡ why
     → Told left bytes (ending whole why) left' p' talk
@@ -136,7 +137,7 @@ heard_long left left' q p' r w w' n whole lacks many wrote = record {
   count = omega arith;
 }
 
--- A session in state t has read a newline and answers the line, whose request is q.
+-- Assumptions of the lemmas below: a session in state t has read a newline, and answers the line with the request q.
 module _ (t : Talk) (talk : IsTalk t) (left' : ℕ) (p' : List ℕ) (r r' : Record) (w w' : Option (List ℕ)) (n' : ℕ)
     (e : Exchange) (q : Request) (asked : q ≡ request_of (pending_of t)) (is : turn_of e ≡ line q)
     (recorded : r' ≡ with_calls r (call_of e)) (count : n' ≡ t.calls + counted q) where
@@ -279,7 +280,8 @@ heard_then l l' l'' p p' p'' cs o r r' r'' w w' w'' n n' n'' h k = record {
 
 -- ---- Lemmas about processing the bytes of a single read
 
--- The session has processed i bytes of a read, and processes one more.
+-- If a session has processed i bytes of a read and then processes the next byte, it has processed i + 1 bytes of this
+-- read.
 pub heard_byte : (l l' l'' : ℕ) (p p' p'' xs : List ℕ) (i : ℕ) (o : Option EndReason) (r r' r'' : Record) (w w' w'' : Option (List ℕ))
     (n n' n'' : ℕ)
     → i < length xs → Heard l (p ++ take i xs) None l' p' r r' w w' n n' →
@@ -292,7 +294,7 @@ heard_byte l l' l'' p p' p'' xs i o r r' r'' w w' w'' n n' n'' lt h k =
     subst (λ t. Heard l t o l'' p'' r r'' w w'' n n'') regrouped
     (heard_then l l' l'' (p ++ take i xs) p' p'' (get_or xs i 0 ∷ []) o r r' r'' w w' w'' n n' n'' h k)
 
--- If the session ends within a read, its state is the same for the whole read.
+-- If a session ends before it has processed all bytes of a read, the remaining bytes do not change its state.
 pub heard_rest : (l l' : ℕ) (p p' xs : List ℕ) (i : ℕ) (end : EndReason) (r r' : Record) (w w' : Option (List ℕ)) (n n' : ℕ)
     → Heard l (p ++ take i xs) (Some end) l' p' r r' w w' n n' → Heard l (p ++ xs) (Some end) l' p' r r' w w' n n'
 heard_rest l l' p p' xs i end r r' w w' n n' h = record {
@@ -314,7 +316,7 @@ heard_rest l l' p p' xs i end r r' w w' n n' h = record {
 
 -- ---- Lemmas about the end of the input
 
--- If the input ends and no line has ended the session, its last bytes cause no turn.
+-- If the input ends and no line has ended the session, the bytes after the last newline cause no turn (answered line).
 pub spoken_rest : (end : EndReason) (bytes : List ℕ) (t : Talk) (r r' : Record) (s s' w w' : Option (List ℕ)) → IsTalk t
     → ((talk : List Exchange) → Appends w w' (answers_in talk) → Wrote end w w' talk) → why.End ≡ text_end end
     → (end ≡ why.End → IsAtEnd s') → Consumes s s' bytes →

@@ -1,4 +1,5 @@
--- A session that has processed a prefix of its input: the contracts of the functions that `session` calls.
+-- Conditions for a session that has processed a prefix of its input, in the contracts of the functions that `session`
+-- calls.
 use Rattle.std.specs.Prelude.{◌≡◌, ◌≢◌, ℕ, ◌+◌, ◌*◌, ◌<◌, ◌≤◌, List, [], ◌++◌, take, length, Option, Some, None, Bool, true}
 use Rattle.std.specs.Prelude.{false, if◌then◌else◌}
 use Rattle.std.specs.Io.KnownBytes.{Appends}
@@ -13,19 +14,19 @@ use Rattle.lset_session.specs.declared.requests.Request.TheVariants as request
 use Rattle.lset_session.specs.SessionText.{Turn, turns_at, end_of, Exchange, turns_in, answers_in, calls_in}
 use Rattle.lset_session.specs.Sessions.{Wrote}
 
--- States which answers a session has written if it continues (`None`) or has ended for a reason.
+-- States which answers a session has written if it continues (`None`), or if it has ended for this reason.
 abbrev pub WroteSoFar : Option EndReason → Option (List ℕ) → Option (List ℕ) → List Exchange → Type 0
 WroteSoFar None w w' talk = Appends w w' (answers_in talk)
 WroteSoFar (Some end) w w' talk = Wrote end w w' talk
 
--- States that a session can end for this reason after a line or a failed write (and not only when its input ends).
+-- States that a session can end for this reason while it processes bytes: for any reason except `End` and `ReadFault`.
 abbrev pub IsLast : EndReason → Type 0
 IsLast why.End = ⊥
 IsLast why.ReadFault = ⊥
 IsLast end = Unit {0}
 
 -- States that `talk` has the first turns (answered lines) of the input. If the session has not ended, the remaining
--- turns are those of the incomplete line `pending` and of all later bytes.
+-- turns of the input are the turns of the incomplete line `pending` followed by all later bytes.
 abbrev pub Told : ℕ → List ℕ → Option EndReason → ℕ → List ℕ → List Exchange → Type 0
 Told left bytes None left' pending talk =
     (end_of (turns_in talk) ≡ why.End)
@@ -36,7 +37,8 @@ Told left bytes (Some w) left' pending talk =
     × (w ≢ why.WriteFault → (later ≡ []) × (end_of (turns_in talk) ≡ w)))
 
 -- The state of a session after it has processed these bytes: o is None if the session continues, otherwise the reason
--- why it ended. It could answer `left` lines before and `left'` lines afterwards. `talk` has its calls and answers.
+-- why it ended. The session could answer `left` lines before and `left'` lines afterwards. `talk` has its calls and
+-- answers.
 pub record Heard (left : ℕ) (bytes : List ℕ) (o : Option EndReason) (left' : ℕ) (pending : List ℕ) (r r' : Record)
     (w w' : Option (List ℕ)) (calls calls' : ℕ) : Type 0 where
   pub talk : List Exchange
@@ -49,8 +51,8 @@ pub record Heard (left : ℕ) (bytes : List ℕ) (o : Option EndReason) (left' :
 abbrev pub pending_of : Talk → List ℕ
 pending_of t = take t.len t.line
 
--- The invariant of a session that has not ended: its current line is short and has no newline, and it can answer
--- another line.
+-- The invariant of a session that has not ended: the current line is short and has no newline, and the session can
+-- answer at least one line.
 pub record IsTalk (t : Talk) : Type 0 where
   pub room : length t.line ≡ LONGEST_LINE
   pub short : t.len ≤ LONGEST_LINE
@@ -58,13 +60,13 @@ pub record IsTalk (t : Talk) : Type 0 where
   pub more : 0 < t.left
   pub few : t.calls + t.left ≤ MOST_LINES
 
--- States that the session has advanced by at least n bytes from state t to u. The number of bytes that a session can
--- still process is bounded by (LONGEST_LINE + 1) * left - len.
+-- States that from state t to state u the session has processed at least n bytes: (LONGEST_LINE + 1) * left - len, a
+-- bound on the bytes that it can still process, has decreased by at least n.
 abbrev pub Nearer : Talk → Talk → ℕ → Type 0
 Nearer t u n = (LONGEST_LINE + 1) * u.left + t.len + n ≤ (LONGEST_LINE + 1) * t.left + u.len
 
--- States that the session has processed these bytes, which changed its state from t to u, the record of its seat (the
--- calls with replies) from r to r', and the written bytes from w to w'.
+-- States that the session has processed these bytes, and that this changed the session from state t to u, the record of
+-- its seat (the calls with replies) from r to r', and the written bytes from w to w'.
 abbrev pub Hears : List ℕ → Option EndReason → Talk → Talk → Record → Record → Option (List ℕ) → Option (List ℕ) → Type 0
 Hears bytes o t u r r' w w' = Heard t.left (pending_of t ++ bytes) o u.left (pending_of u) r r' w w' t.calls u.calls
 

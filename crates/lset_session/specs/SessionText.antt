@@ -1,5 +1,5 @@
--- [Session text]: the requests in the lines of a session, and the answers to them. The definitions look at all bytes of
--- the input at once, cut at the newlines.
+-- [Session text]: the requests in the lines of a session, and the answers to them. The definitions cut all bytes of the
+-- input into lines at once.
 use Rattle.std.specs.Prelude.{ℕ, ◌-◌, ◌==◌, nat_lt, List, [], ◌∷◌, ◌++◌, map, length, codes, if◌then◌else◌}
 use Rattle.std.specs.Fmt.{decimal}
 use Rattle.std.specs.List.{flat_map}
@@ -36,27 +36,28 @@ request_lines =
 abbrev pub request_of_pieces : List (List ℕ) → Request
 request_of_pieces pieces = result_unwrap_or (first_of Two Line request_lines pieces) request.Bad
 
--- Returns the request in a line, given without its newline.
+-- Returns the request in a line, passed without its newline.
 unfoldable pub request_of : List ℕ → Request
 request_of line = request_of_pieces (cut_at 32 line)
 
 -- ---- The requests in the bytes of a session
 
--- A turn of a session: a line with its request, a line that is too long, or the limit of answered lines.
+-- A turn of a session: a line with its request, a line that is too long, or the notice that the limit of answered lines
+-- is reached.
 pub data Turn : Type 0 where
   line : Request → Turn
   long : Turn
   limit : Turn
 
--- Returns the turns (answered lines) of a session, starting at the line with request q. `later` contains the turns of
--- the following lines. QUIT is the last turn of a session. If the session can answer only one more line, the turn of q
--- is followed by the turn that reports the limit.
+-- Returns the turns (answered lines) of a session from the line with request q on. `later` contains the turns of the
+-- following lines. QUIT is the last turn of a session. If the session can answer only this line (`left` is 1), the turn
+-- for the limit follows.
 abbrev pub turns_after : ℕ → Request → List Turn → List Turn
 turns_after left request.Quit later = line request.Quit ∷ []
 turns_after left other later = line other ∷ (if left == 1 then limit ∷ [] else later)
 
--- Returns the turns of the lines of an input if the session can answer `left` lines. The last part of the input has no
--- newline: it causes a turn only if it is too long.
+-- Returns the turns (answered lines) of an input, cut into lines, if the session can answer `left` lines. The last part
+-- of the input has no newline, and causes a turn only if it is too long.
 abbrev pub turns_at : ℕ → List (List ℕ) → List Turn
 turns_at left [] = []
 turns_at left (rest ∷ []) = if nat_lt LONGEST_LINE (length rest) then long ∷ [] else []
@@ -67,8 +68,7 @@ turns_at left (first ∷ next ∷ more) =
 unfoldable pub turns_of : List ℕ → List Turn
 turns_of bytes = turns_at MOST_LINES (cut_at 10 bytes)
 
--- Returns the reason why a session ends after a turn (an answered line), or `otherwise` if the session does not end
--- with this turn.
+-- Returns the reason why a session ends with this turn (answered line), or `otherwise` if it does not end.
 abbrev pub end_after : Turn → EndReason → EndReason
 end_after (line request.Quit) otherwise = why.Quit
 end_after (line other) otherwise = otherwise
@@ -103,7 +103,7 @@ reply_word reply.Full = codes "FULL"
 reply_word (reply.At k) = codes "AT " ++ decimal k.0
 reply_word reply.Nothing = codes "NONE"
 
--- Returns the answer of a turn as it is written, with its newline.
+-- Returns the answer in a turn of a session as it is written, with its newline.
 abbrev pub answer_of : Exchange → List ℕ
 answer_of (made c) = ended (reply_word c.reply)
 answer_of bad = ended (codes "BAD")

@@ -6,7 +6,8 @@ use Rattle.lset_session.specs.declared.sessions.EndReason.{EndReason}
 use Rattle.lset_session.specs.declared.sessions.EndReason.TheVariants as why
 use Rattle.lset_session.specs.SessionText.{Turn, turns_of, end_of, Exchange, turns_in, answers_in, calls_in, answer_of}
 
--- States that all answers except the last were written completely, and only a prefix of the last.
+-- States that all answers except the last were written completely, and that only a proper prefix of the last answer was
+-- written.
 abbrev pub CutAnswers : Option (List ℕ) → Option (List ℕ) → List Exchange → Type 0
 CutAnswers w w' talk =
     (said : List Exchange) × (last : Exchange) × (front : List ℕ) × (b : ℕ) × (cut : List ℕ)
@@ -17,26 +18,27 @@ abbrev pub Wrote : EndReason → Option (List ℕ) → Option (List ℕ) → Lis
 Wrote why.WriteFault w w' talk = CutAnswers w w' talk
 Wrote end w w' talk = Appends w w' (answers_in talk)
 
--- Returns the reason why the text that was read ends a session. This is the session's reason `end`, except after a
--- failed read: then no line has ended the session, and the result is `End`.
+-- Returns the reason why the bytes read so far end a session that has ended for the reason `end`. After a failed read,
+-- no line has ended the session, and the result is `End`. Otherwise, the result is `end`.
 abbrev pub text_end : EndReason → EndReason
 text_end why.ReadFault = why.End
 text_end end = end
 
--- A session that has ended for the reason `end` after this number of calls. s and s' are the remaining input before and
--- after the session, r and r' the records of its seat (the calls with replies), and w and w' the bytes written to its
--- client.
+-- A session that has ended for the reason `end` after this number of calls. The session changed the remaining input
+-- from s to s', the record of its seat (the calls with replies) from r to r', and the bytes written to its client from
+-- w to w'.
 pub record IsSession (end : EndReason) (calls : ℕ) (s s' : Option (List ℕ)) (r r' : Record) (w w' : Option (List ℕ)) : Type 0 where
-  -- The bytes that the session has read, and its turns with their answers.
+  -- The bytes that the session has read. `talk` has the turns (answered lines) with their answers.
   pub bytes : List ℕ
   pub talk : List Exchange
   pub read : Consumes s s' bytes
-  -- The turns are the first turns of these bytes. Unless a write has failed, they are all turns of these bytes.
+  -- The turns in `talk` (answered lines) are the first turns of the bytes that were read. Unless a write has failed,
+  -- they are all turns of these bytes.
   pub turns : (later : List Turn) × (turns_of bytes ≡ turns_in talk ++ later) × (end ≢ why.WriteFault → later ≡ [])
   pub recorded : r' ≡ with_calls r (calls_in talk)
   pub count : calls ≡ length (calls_in talk)
   pub wrote : Wrote end w w' talk
-  -- Unless a write has failed, the bytes end the session for the reason `end`. After a failed read, they end it for the
-  -- reason `End`.
+  -- Unless a write has failed, the bytes that were read end the session for the reason `end`, or for the reason `End`
+  -- if a read has failed.
   pub ends : end ≢ why.WriteFault → end_of (turns_of bytes) ≡ text_end end
   pub drained : end ≡ why.End → IsAtEnd s'

@@ -1,8 +1,8 @@
 //! Sessions that buffer their answers.
 //!
 //! `session` writes each answer before it makes the next call. A buffered session collects answers in a buffer of 4,096
-//! bytes. It writes them together: before it reads again, when the buffer is full, and when it ends. A client that
-//! sends many lines at once causes only a few writes. Its answers are written before the session waits for its next
+//! bytes. It writes the buffer when the buffer is full, before each read, and at the end. If a client sends many lines
+//! at once, the server therefore writes only a few times. All answers are written before the session waits for the next
 //! line.
 ghost use Rattle.std.specs.Prelude.{◌≡◌, ◌≢◌, ◌<◌, ◌≤◌, IfSome, IsTrue, None, false, length, Option, List, ℕ};
 ghost use Rattle.lset_session.specs.Sessions.{IsSession};
@@ -18,7 +18,7 @@ use std::sync::Wait;
 /// The size of the answer buffer in bytes.
 const ROOM: usize = 4096;
 
-/// A buffer of answers that have not been written yet, their writer, and whether a write has failed.
+/// A buffer of answers that have not been written yet, the writer, and whether a write has failed.
 #[derive(Drop)]
 struct Buffer<O: Sink> {
     bytes: [u8; ROOM],
@@ -42,8 +42,8 @@ impl<O: Sink> Buffer<O> {
         }
     }
 
-    /// Writes the answers in the buffer, and returns whether all were written. After a failed write, writes nothing and
-    /// returns false.
+    /// Writes the answers in the buffer, and returns whether all of them were written. After a failed write, writes
+    /// nothing and returns false.
     fn flush(&mut self) -> bool
         ensures { IsTrue result → self.new.len ≡ 0 }
     {
@@ -69,7 +69,7 @@ impl<O: Sink> Buffer<O> {
     }
 
     /// Copies as much of `text` into the buffer as fits, and returns the number of bytes copied. If the buffer is full,
-    /// writes its answers first. Returns `None` if that write fails.
+    /// first writes the answers in it. Returns `None` if this write fails.
     fn write(&mut self, text: &[u8]) -> Option<usize>
         ensures { IfSome result (λ n. (n ≤ length text.now) × (0 < length text.now → 0 < n)) }
     {
@@ -80,7 +80,7 @@ impl<O: Sink> Buffer<O> {
     }
 }
 
-/// Writes the answers in the shared buffer, and returns whether all were written.
+/// Writes the answers in the shared buffer, and returns whether all of them were written.
 fn flush<O: Sink>(buffer: &RefCell<Buffer<O>>) -> bool {
     match buffer.try_borrow_mut() {
         Ok(mut buffer) => buffer.flush(),
@@ -152,8 +152,8 @@ pub fn buffered_session<R: Wait, I: Source + Drop, O: Sink + Drop, S: SetCalls>(
 ) -> Ended
     requires seat { S.is_of set.now seat.old }
     requires works { (I.has_failed reader ≡ false) × (O.has_failed writer ≡ false) }
-    // [Session] is true of the bytes that were read and the calls that were made. Nothing is stated about the bytes
-    // that were written.
+    // [Session] is true of the bytes that were read and the calls that were made. Nothing is stated about the written
+    // bytes.
     ensures session { (end : Ending) × (left : Option (List ℕ)) × (result.why ≢ EndReason.WriteFault → result.why ≡ end)
         × IsSession end result.calls (I.remaining reader) left (S.record_of seat.old) (S.record_of seat.new) None None }
     ensures few { result.calls ≤ MOST_LINES }

@@ -1,4 +1,4 @@
-//! Reads the request in a line that a client sent.
+//! Parses the request in a line that a client sent.
 ghost use Rattle.std.specs.Prelude.{◌≡◌};
 ghost use Rattle.lset_session.specs.SessionText.{request_of};
 
@@ -16,7 +16,7 @@ pub enum Request {
     Bad,
 }
 
-/// Reads the request in a line, given without its newline: `ADD`, `REMOVE`, `CONTAINS` or `CEILING`, one space, and a
+/// Parses the request in a line, passed without its newline: `ADD`, `REMOVE`, `CONTAINS` or `CEILING`, one space, and a
 /// key from 0 to 4,294,967,295 in decimal without leading zeros; or `QUIT`. Any other line is `Bad`.
 #[tactic(auto, unfolding(crate::specs::SessionText::request_of))]
 pub fn read_request(line: &[u8]) -> Request

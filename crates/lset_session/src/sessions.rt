@@ -1,4 +1,4 @@
-//! Sessions: read lines from a reader, and write the answers to a writer.
+//! Sessions: a session reads lines from a reader and writes the answers to a writer.
 ghost use Rattle.std.specs.Prelude.{◌≡◌, ◌≤◌, ◌↔◌, ◌∷◌, [], Bool, true, false, IsTrue, if◌then◌else◌, length, None};
 ghost use Rattle.lset_words.specs.Records.{with_calls};
 ghost use Rattle.lset_session.specs.Devices.{Writes};
@@ -32,15 +32,15 @@ pub enum EndReason {
     WriteFault,
 }
 
-/// How a session ended: the reason, and the number of calls made.
+/// The end of a session: the reason, and the number of calls made.
 #[derive(Clone, Copy, Debug, PartialEq, Eq)]
 pub struct Ended {
     pub why: EndReason,
     pub calls: u64,
 }
 
-/// The state of a session: the bytes of the current line, the number of lines that it can still answer, and the number
-/// of calls that it has made.
+/// The state of a session: the bytes of the current line, the number of lines that the session can still answer, and
+/// the number of calls that it has made.
 #[derive(Drop)]
 struct Talk {
     line: [u8; LONGEST_LINE],
@@ -49,7 +49,7 @@ struct Talk {
     calls: u64,
 }
 
-/// Returns the line that answers a call with this reply. The longest line is `AT 4294967295`.
+/// Returns the answer line for a call with this reply. The longest such line is `AT 4294967295`.
 fn reply_line(reply: Reply) -> ArrayString<14>
     ensures { result.bytes ≡ ended (reply_word reply) }
 {
@@ -94,7 +94,7 @@ fn answer<R: Wait, W: Sink, S: SetCalls>(
     }
 }
 
-/// Writes `text`, the last line of a session. Returns why the session ends: `why` if the line was written, else
+/// Writes `text`, the last line of a session. Returns why the session ends: `why` if the whole line was written, else
 /// `WriteFault`.
 fn last_line<W: Sink>(writer: &mut W, text: &[u8], why: EndReason) -> EndReason
     requires works { W.has_failed writer.old ≡ false }
@@ -181,7 +181,7 @@ fn byte_in<R: Wait, W: Sink, S: SetCalls>(
     None
 }
 
-/// Processes the bytes of one read. Returns the reason if the session ends with one of them, else `None`.
+/// Processes the bytes of one read. Returns the reason if the session ends within these bytes, else `None`.
 fn bytes_in<R: Wait, W: Sink, S: SetCalls>(
     rt: &R,
     writer: &mut W,
@@ -231,7 +231,8 @@ pub fn session<R: Wait, I: Source, O: Sink, S: SetCalls>(
 ) -> Ended
     requires seat { S.is_of set.now seat.old }
     requires works { (I.has_failed reader.old ≡ false) × (O.has_failed writer.old ≡ false) }
-    // [Session]: the calls that were made and the bytes that were written are those that the input demands.
+    // [Session]: the calls that were made and the bytes that were written are exactly the calls and answers that the
+    // input demands.
     ensures session { IsSession result.why result.calls (I.remaining reader.old) (I.remaining reader.new)
         (S.record_of seat.old) (S.record_of seat.new) (O.written writer.old) (O.written writer.new) }
     // The session ends with `ReadFault` if and only if the reader has failed, and with `WriteFault` if and only if the

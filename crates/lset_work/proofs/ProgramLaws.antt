@@ -1,4 +1,4 @@
--- Lemmas about a program whose calls are made one by one, and about threads that are joined one by one.
+-- Lemmas about making the calls of a program one by one, and about joining threads one by one.
 use Rattle.std.proofs.Common.{◌≡◌, ℕ, ◌+◌, ◌<◌, Bool, true, List, [], ◌∷◌, ◌++◌, length, map, take, get_or, Option, Some, None, IfSome, All}
 use Rattle.std.proofs.Common.{refl, sym, ap, ◌∙◌, subst, append_assoc, arith, length-append, length-take-le, add-one}
 use Rattle.std.specs.Option.{option_map}
@@ -18,7 +18,7 @@ use Rattle.lset_words.proofs.RecordLaws.{with_calls-append}
 use Rattle.lset_live.proofs.Receipts.{starts_on}
 use Rattle.lset_live.proofs.GatheredRecords.{gather_more}
 
--- ---- Lemmas about one more call of a program
+-- ---- Lemmas about the next call of a program
 
 made-append : (cs : List Call) (ys : List Reply) (c : Call) (a : Reply) → length cs ≡ length ys
     → made (cs ++ c ∷ []) (ys ++ a ∷ []) ≡ made cs ys ++ record { call = c; reply = a } ∷ []
@@ -48,7 +48,7 @@ pub call_at : (r r1 r2 : Record) (cs : List Call) (ys ys' : List Reply) (i : ℕ
 call_at r r1 r2 cs ys ys' i d a lt each more before now =
     call_more r r1 r2 cs ys ys' i (get_or cs i d) a lt (get_or_default cs i d (get_or cs i d) lt) each more before now
 
--- ---- Lemmas about waiting for (joining) one more thread
+-- ---- Lemmas about waiting for (joining) the next thread
 
 worked-append : (rs : List Record) (ps : List (List Call)) (ys : List (List Reply)) (r : Record) (p : List Call) (y : List Reply)
     → length ps ≡ length rs → length ys ≡ length rs
@@ -109,7 +109,8 @@ run_more set seats programs last replies seat done now program told h made same 
           (starts_on now.events done.events seat.events from later);
     }
 
--- The invariant while threads are joined: `joined` are those whose seats were merged, `rest` are the others.
+-- The invariant while threads are joined: the threads in `joined` have ended and their seats were merged into `last`,
+-- and the threads in `rest` are still to be joined.
 pub record SoFar {H V : Type 0} (set : SetValue) (seat : H → SeatValue) (program : H → List Call) (items : V → List Reply)
     (hs rest : List H) (last : Option SeatValue)
     (vs : List V) : Type 0 where
@@ -154,7 +155,7 @@ pub run_of : (set : SetValue) (seats seats' : List SeatValue) (programs programs
 run_of set seats seats' programs programs' last replies e f h =
     subst (λ l. HaveRun set seats' l last replies) f (subst (λ l. HaveRun set l programs last replies) e h)
 
--- ---- Lemmas about the causes of an error other than `Programs`
+-- ---- Lemmas about the error causes except `Programs`
 
 pub memory_refuses : (F : Type 0) → F → (Memory ≡ Programs → ¬ F) × (¬ F → Memory ≡ Programs)
 memory_refuses F f = ((λ e. absurd cc), λ n. absurd (n f))

@@ -1,4 +1,4 @@
--- Programs of calls, and the results of the threads that run them.
+-- Programs of calls, and the results of running them in threads.
 use Rattle.std.specs.Prelude.{◌≡◌, ℕ, Bool, true, List, [], ◌∷◌, length, map, sum_by, Option, Some, None, IfSome, All}
 use Rattle.std.specs.Option.{option_map}
 use Rattle.lset_words.specs.declared.Call.{Call}
@@ -19,8 +19,8 @@ made [] replies = []
 made (c ∷ cs) [] = []
 made (c ∷ cs) (a ∷ more) = record { call = c; reply = a } ∷ made cs more
 
--- Returns the records of the seats after their programs: each seat's record has grown by its program's calls with their
--- replies.
+-- Returns the records of the seats after their programs have run: the calls of a program, with their replies, are
+-- appended to the record of its seat.
 abbrev pub worked : List Record → List (List Call) → List (List Reply) → List Record
 worked [] programs replies = []
 worked (r ∷ rs) [] replies = []
@@ -32,8 +32,8 @@ worked (r ∷ rs) (p ∷ ps) (a ∷ more) = with_calls r (made p a) ∷ worked r
 abbrev pub Fit : SetValue → List SeatValue → ℕ → Type 0
 Fit set seats programs = (programs ≡ length seats) × (sum_by (λ (s : SeatValue). s.held) seats ≡ set.shape.threads)
 
--- States which part of its input `work` returns with an error: all if no thread was started (Programs and Memory),
--- otherwise none.
+-- States whether `work` returns its input with this error: yes if no thread was started (Programs and Memory),
+-- otherwise no.
 abbrev pub GivesBack : {Given : Type 0} → Given → WorkCause → Option Given → Type 0
 GivesBack given Programs back = back ≡ Some given
 GivesBack given Spawn back = back ≡ None
@@ -42,8 +42,8 @@ GivesBack given Memory back = back ≡ Some given
 
 -- ---- The contracts of the functions that `work` calls
 
--- States that each call of the program has one reply, and that the seat's record has grown from `before` to `after` by
--- these calls.
+-- States that each call of the program has a reply, and that the seat's record `after` is the record `before` followed
+-- by these calls.
 abbrev pub IsMadeOn : Record → List Call → List Reply → Record → Type 0
 IsMadeOn before program replies after = (length replies ≡ length program) × (after ≡ with_calls before (made program replies))
 
@@ -62,17 +62,17 @@ pub record HaveRun (set : SetValue) (seats : List SeatValue) (programs : List (L
       ≡ gather_onto None (worked (map (λ (s : SeatValue). s.past) seats) programs replies)
   pub held : held_in last ≡ sum_by (λ (s : SeatValue). s.held) seats
   pub same : IfSome last (λ (s : SeatValue). s.set ≡ set)
-  -- The last seat has seen all events that each seat had seen before its program ran.
+  -- The seat `last` has seen all events that any of the seats had seen before its program ran.
   pub begins : All (HasSeenAll last) seats
 
 -- A legal order of exactly the calls in these records, which leaves these keys and also linearizes the history of some
--- run. The run begins with the events that each seat had seen.
+-- run. The run begins with all events that the seats had seen.
 pub record IsWorkInTime (T : Table) (k : Opening) (seats : List SeatValue) (records : List Record) (keys : List ℕ) : Type 0 where
   pub events : List Event
   pub begins : All (λ (s : SeatValue). StartsWith events s.events) seats
   pub order : IsOneOrderInTime T k events records keys
 
--- States that `work` can fail for this cause after it has started threads. `may_shut` says whether the gate can return
+-- States that `work` can fail for this cause after it has started threads. `may_shut` is true if the gate can return
 -- false.
 abbrev pub IsOfThreads : Bool → WorkCause → Type 0
 IsOfThreads may_shut Programs = ⊥

@@ -1,4 +1,4 @@
-//! The threads of `work`: starting them, running their programs, and joining them.
+//! The threads of `work`: functions that start them, run their programs, and join them.
 ghost use Rattle.std.specs.Prelude.{◌≡◌, ◌<◌, ◌≤◌, ◌^◌, [], IfSome, MatchBool, MatchOption, All, map, length, true, vec_capacity};
 ghost use Rattle.lset_rule.specs.Runs.{StartsWith};
 ghost use Rattle.lset_work.specs.Programs.{HaveRun, IsMadeOn};
@@ -12,7 +12,8 @@ use std::snapshot::Snapshot;
 use std::sync::Wait;
 use std::thread::{Promise, PromisedHandle, Scope, Threads};
 
-/// The result of a thread: its seat, and the replies to its program's calls, or `None` if the gate has returned false.
+/// The result of a thread: its seat, and the replies to the calls of its program, or `None` if the gate has returned
+/// false.
 #[derive(Drop)]
 pub(crate) struct Done<M: Running> {
     pub seat: Seat<M>,
@@ -38,7 +39,7 @@ impl<M: Running, G: Gate> Promise<Done<M>> for WorkerPromise<M, G> {
 /// A started thread that runs a program.
 pub(crate) type Worker<M, G> = PromisedHandle<Done<M>, WorkerPromise<M, G>>;
 
-/// Makes the calls of a program until the gate returns false, and appends their replies. Returns whether all calls were
+/// Makes the calls of a program until the gate returns false, and appends the replies. Returns whether all calls were
 /// made.
 fn make_calls<R: Wait, M: Running, G: Gate>(
     rt: &R,
@@ -94,7 +95,7 @@ fn run_program<R: Wait, M: Running, G: Gate>(
     }
 }
 
-/// What all threads share: the set, the gate, and the runtime that they use to wait.
+/// The values that all threads share: the set, the gate, and the runtime that they use to wait.
 #[derive(Drop)]
 pub(crate) struct Shared<'s, R, M: Running, G: Gate> {
     pub rt: &'s R,

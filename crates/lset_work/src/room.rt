@@ -7,7 +7,7 @@ use lset_live::Running;
 use lset_words::{Call, Reply};
 use std::alloc::Global;
 
-/// A program of calls, with space for their replies.
+/// A program of calls, with space for the replies.
 #[derive(Drop)]
 pub(crate) struct Program {
     pub calls: Vec<Call>,
@@ -17,7 +17,7 @@ pub(crate) struct Program {
     ghost short: { length calls.items < 2 ^ 32 },
 }
 
-/// All vectors that the threads fill: the programs with space for their replies, space for the handles of the threads,
+/// All vectors that the threads fill: the programs with space for the replies, space for the handles of the threads,
 /// and space for the vectors of replies.
 #[derive(Drop)]
 pub(crate) struct Room<M: Running, G: Gate> {

@@ -17,7 +17,7 @@ use std::thread::{Scope, Threads};
 /// The outcome of `work`.
 #[derive(Drop)]
 pub struct Outcome {
-    /// The replies to each program's calls, in the order of the seats.
+    /// The replies to the calls of each program, in the order of the seats.
     pub replies: Vec<Vec<Reply>>,
     /// The final keys of the set, in increasing order.
     pub keys: Vec<u32>,
@@ -80,10 +80,10 @@ fn run_all<R: Threads + Wait + Sync, M: Running + Send + Sync, G: Gate + Sync>(
 /// Makes the calls of each program on its seat. All programs run at the same time, each on its own thread.
 ///
 /// Before each call, `gate` decides whether the program continues. At the end, the seats are merged into one (gathered)
-/// and the set is closed. Some legal order (Herlihy and Wing) has exactly the calls in the seats' records and those of
-/// the programs with their replies, keeps the order of each seat's calls, and leaves the final keys. A program has at
-/// most 4,294,967,295 calls. Blocks until all threads have ended. A thread can block on the set's locks, and while the
-/// gate blocks.
+/// and the set is closed. Some legal order (Herlihy and Wing) has exactly the calls in the seats' records and the calls
+/// of the programs with their replies, keeps the order of each seat's calls, and leaves the final keys. A program has
+/// at most 4,294,967,295 calls. Blocks until all threads have ended. A thread can block on the set's locks, and while
+/// the gate blocks.
 ///
 /// # Errors
 ///
@@ -92,8 +92,8 @@ fn run_all<R: Threads + Wait + Sync, M: Running + Send + Sync, G: Gate + Sync>(
 /// - `Programs`: if and only if the number of programs differs from the number of seats, or the seats, with the seats
 ///   merged into them, are not all seats of the set. No call was made, and the set and the seats are returned.
 /// - `Spawn`: the system refused to start a thread. The threads that had been started have ended.
-/// - `Gate`: the gate returned false, and the thread that it stopped made no further call. All threads have ended.
-/// - `Memory`: an allocation failed. All memory, including that for the final keys, is allocated before the first
+/// - `Gate`: the gate returned false, and no further call of this program was made. All threads have ended.
+/// - `Memory`: an allocation failed. All memory, including the memory for the final keys, is allocated before the first
 ///   thread starts. The set and the seats are returned.
 ///
 /// No contract states when the system refuses to start a thread, or when a gate that can return false does so.
@@ -115,11 +115,12 @@ pub fn work<R: Threads + Wait + Sync, M: Running + Send + Sync, G: Gate + Sync>(
     // these events come before calls that began later, even if a seat knew of them only from a receipt of another seat.
     ensures in_time { IfOk result (λ o. IsWorkInTime M.table set.shape seats.items (worked
         (map (λ s. s.past) seats.items) (map (λ p. p.items) programs.items) (map (λ v. v.items) o.replies.items)) o.keys.items) }
-    // The cause is `Programs` if and only if the numbers of programs, seats and threads of the set do not match.
+    // If the cause is `Programs`, the numbers of programs, seats and threads of the set do not match. If they do not
+    // match, the cause is `Programs`.
     ensures fitting { IsOk result → Fit set seats.items (length programs.items) }
     ensures refused { IfErr result (λ f. f.cause ≡ WorkCause.Programs ↔ ¬ (Fit set seats.items (length programs.items))) }
     ensures back { IfErr result (λ f. GivesBack (set, seats) f.cause f.back) }
-    // If the gate never returns false, it stops no program.
+    // If the gate never returns false, no program stops early.
     ensures gate { IfErr result (λ f. f.cause ≡ WorkCause.Gate → G.may_shut gate.now ≡ true) }
 {
     if programs.len() != seats.len() || !set.is_held_by(&seats) {

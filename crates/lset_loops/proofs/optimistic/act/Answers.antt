@@ -1,5 +1,5 @@
--- `deed` states to which row the decision leads (9, 12 or 14), and `moved` that the thread is at this row. The
--- following steps are found by computation.
+-- By `deed`, the decision leads to row 9, 12 or 14 of the step table. By `moved`, the thread is at this row. The prover
+-- computes the later rows.
 use Rattle.std.proofs.Common.{◌*◌, refl, ap}
 use Rattle.lset_words.specs.Words.{link_index}
 use Rattle.lset_steps.specs.declared.Action.TheVariants.{Store}
