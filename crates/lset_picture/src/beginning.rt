@@ -1,9 +1,9 @@
-//! Finds the moment at which the picture of a rejected order starts.
+//! Finds the moment when the picture of a rejected order starts.
 use crate::picture::Picture;
 use crate::refusal::Refusal;
 use lset_words::CallRecord;
 
-/// Returns the smallest key that is in only one of the two lists, which must be in strictly increasing order.
+/// Returns the smallest key that is in only one of the two lists. Both lists must be in strictly increasing order.
 fn first_apart(keys: &[u32], others: &[u32]) -> Option<u32> {
     for (key, other) in keys.iter().zip(others.iter()) {
         if key != other {
@@ -18,7 +18,7 @@ fn first_apart(keys: &[u32], others: &[u32]) -> Option<u32> {
     rest.copied()
 }
 
-/// Returns the moment at which the first call on this key starts.
+/// Returns the moment when the first call on this key starts.
 fn first_begun(calls: &[CallRecord], key: u32) -> Option<u32> {
     for made in calls {
         if made.call.key().0 == key {
@@ -28,9 +28,10 @@ fn first_begun(calls: &[CallRecord], key: u32) -> Option<u32> {
     None
 }
 
-/// Returns the moment at which the picture of a rejected order should start: when the call that the refusal (the
-/// reason) names starts. If it names two calls, the one that had ended counts. If the final keys are wrong, the first
-/// call on the smallest differing key counts.
+/// Returns the moment when the picture of a rejected order should start. This is the start of the call that the refusal
+/// (the reason for rejecting the order) names. If the refusal names two calls, it is the start of the call that had
+/// ended before the other started. If the final keys are wrong, it is the start of the first call on the smallest
+/// differing key.
 pub(crate) fn clash_begins(picture: &Picture) -> Option<u32> {
     let calls = picture.history.calls();
     match &picture.refusal {

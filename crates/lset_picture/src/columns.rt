@@ -1,4 +1,5 @@
-//! Computes the columns of a picture. Each moment at which something happens, in the range to draw, has one column.
+//! Computes the columns of a picture. Each moment in the range to draw when a call starts, takes effect or ends has one
+//! column.
 use crate::MOST_WIDTH;
 use crate::beginning::clash_begins;
 use crate::drawn_moments::{moments_shown, next_moment};
@@ -17,7 +18,7 @@ pub(crate) enum Sign {
     End(Reply),
 }
 
-/// A sign, and the thread whose row it is on.
+/// A sign, and the thread on whose row it is drawn.
 #[derive(Clone, Copy)]
 pub(crate) struct Mark {
     pub thread: u32,
@@ -34,7 +35,8 @@ pub(crate) struct Column {
     pub width: usize,
 }
 
-/// Where something lies relative to the drawn moments: before them, at least partly among them, or after them.
+/// The position of a bar or point relative to the drawn moments: before them, at least partly among them, or after
+/// them.
 #[derive(Clone, Copy)]
 pub(crate) enum Side {
     Before,
@@ -42,9 +44,9 @@ pub(crate) enum Side {
     After,
 }
 
-/// The columns of a picture, and what was left out. `known` is true if every linearization point is known, `from` and
-/// `last` are the first and last drawn moments, and `before` and `after` are true if something happens before or after
-/// these moments.
+/// The columns of a picture, and the parts that are left out. `known` is true if every linearization point is known,
+/// `from` and `last` are the first and last drawn moments, and `before` and `after` are true if something happens
+/// before `from` or after `last`.
 #[derive(Drop)]
 pub(crate) struct Drawing {
     pub columns: Vec<Column>,
@@ -61,8 +63,9 @@ impl Drawing {
         self.before || self.after
     }
 
-    /// Returns a range of moments that starts at the call for which the order was rejected. Returns `None` if the order
-    /// is accepted or the history has no such call, if all moments were drawn, or if `window` excludes some moments.
+    /// Returns a range of moments that starts at the call that the reason for rejecting the order names. Returns `None`
+    /// if the order is accepted or the history has no such call, if all moments were drawn, or if `window` excludes
+    /// some moments.
     pub fn window_of_clash(&self, picture: &Picture, window: Window) -> Option<Window> {
         if !(self.after && window.is_whole()) {
             return None;
@@ -71,8 +74,8 @@ impl Drawing {
         Some(Window { from, ..window })
     }
 
-    /// Returns where the moments `first` to `last` lie relative to the drawn ones. If `last` is `None`, the moments
-    /// continue without end.
+    /// Returns the position of the moments `first` to `last` relative to the drawn moments. If `last` is `None`, the
+    /// range has no end.
     pub fn side_of(&self, first: u32, last: Option<u32>) -> Side {
         match last {
             _ if self.last < first => Side::After,
@@ -81,7 +84,7 @@ impl Drawing {
         }
     }
 
-    /// Returns where a call's bar lies relative to the drawn moments.
+    /// Returns the position of a call's bar relative to the drawn moments.
     pub fn side_of_bar(&self, made: CallRecord) -> Side {
         match made.ended {
             Some((end, _)) => self.side_of(made.begun, Some(end)),
@@ -101,7 +104,7 @@ fn add_begun(marks: &mut Vec<Mark>, picture: &Picture, moment: u32) -> Result<()
     Ok(())
 }
 
-/// Adds the signs of all linearization points at `moment`. Returns whether one of these calls changes the set.
+/// Adds the signs of all linearization points at `moment`. Returns whether a call with such a point changes the set.
 fn add_points(marks: &mut Vec<Mark>, picture: &Picture, moment: u32) -> Result<bool, AllocError> {
     let mut changes = false;
     for (index, point) in points_of(picture).iter().enumerate() {
@@ -172,7 +175,7 @@ pub(crate) fn put_signs(out: &mut String, marks: &[Mark], thread: u32) -> Result
     Ok(())
 }
 
-/// Returns the width of a column in characters: that of its longest entry plus one space, at most `MOST_WIDTH`.
+/// Returns the width of a column in characters: the width of its longest entry plus one space, at most `MOST_WIDTH`.
 fn width_of(alloc: Global, moment: u32, marks: &[Mark], set: &str) -> Result<usize, AllocError> {
     let mut most = format!(in alloc; "{moment} ")?.len();
     if set.len() >= most {
@@ -187,7 +190,7 @@ fn width_of(alloc: Global, moment: u32, marks: &[Mark], set: &str) -> Result<usi
 }
 
 /// Computes one column for each of these moments. If all linearization points are known, the first column and each
-/// column with a change show the set.
+/// column with a change contain the set.
 fn columns_at(
     alloc: Global,
     picture: &Picture,
@@ -238,7 +241,7 @@ pub(crate) fn drawing_in(
     Ok(drawing)
 }
 
-/// Sets `last` to the moment of the last column, and `after` to whether something happens after it.
+/// Sets `last` to the moment of the last column, and `after` to whether something happens after this moment.
 pub(crate) fn end_at_last(picture: &Picture, drawing: &mut Drawing) {
     if let Some(column) = drawing.columns.last() {
         drawing.last = column.moment;

@@ -19,9 +19,10 @@ fn clashes_in(keys: &[u32], refusal: &Refusal, number: usize, made: &CallRecord)
     }
 }
 
-/// Returns whether the call `made`, which has this number, contradicts the order and is drawn in red. This is so if the
-/// reason for rejecting the order names the call. If the final keys are wrong, it is so for all calls on the wrong
-/// keys: those that are final keys only of the order or only of the report. No call contradicts an accepted order.
+/// Returns whether the call `made` with this number contradicts the order and is drawn in red. A call contradicts the
+/// order if the reason for rejecting the order names the call. If the final keys are wrong, each call on a wrong key
+/// contradicts the order: a key that only the order or only the report has as a final key. No call contradicts an
+/// accepted order.
 pub(crate) fn is_clash(picture: &Picture, number: usize, made: &CallRecord) -> bool {
     match &picture.refusal {
         None => false,

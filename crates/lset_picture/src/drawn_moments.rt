@@ -1,11 +1,11 @@
-//! Finds the moments at which something happens in a picture.
+//! Finds the moments in a picture when a call starts, takes effect or ends.
 
 use crate::MOST_COLUMNS;
 use crate::picture::{Picture, Window, points_of};
 use std::alloc::{AllocError, Global};
 
 /// Returns whether every call in the picture starts, takes effect and ends before the moment `from`, counted from 1. A
-/// picture from `from` on would then be empty. Returns `false` for a picture without calls.
+/// picture that starts at `from` would then be empty. Returns `false` for a picture without calls.
 pub fn is_past_the_last(picture: &Picture, from: u32) -> bool {
     let is_empty = picture.history.calls().is_empty() && points_of(picture).is_empty();
     !is_empty && next_moment(picture, u64::from(from)).is_none()
@@ -20,7 +20,7 @@ fn sooner(best: Option<u32>, from: u64, moment: u32) -> Option<u32> {
     }
 }
 
-/// Returns the first moment, at or after `from`, at which a call starts, takes effect or ends.
+/// Returns the first moment, not before `from`, when a call starts, takes effect or ends.
 pub(crate) fn next_moment(picture: &Picture, from: u64) -> Option<u32> {
     let mut best = None;
     for made in picture.history.calls() {
@@ -35,7 +35,7 @@ pub(crate) fn next_moment(picture: &Picture, from: u64) -> Option<u32> {
     best
 }
 
-/// Returns the moments within `window` that get a column, at most `MOST_COLUMNS`.
+/// Returns the moments in `window` that are drawn as a column, at most `MOST_COLUMNS`.
 pub(crate) fn moments_shown(
     alloc: Global,
     picture: &Picture,

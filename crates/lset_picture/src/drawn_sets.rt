@@ -35,8 +35,8 @@ fn change_set(keys: &mut BTreeSet<u32>, call: Call) -> Result<(), AllocError> {
     Ok(())
 }
 
-/// Returns the call of an entry if it changes the set, `Some(None)` if it changes nothing, and `None` if its
-/// linearization point is after `moment` or unknown.
+/// Returns `Some(Some(call))` if the entry's call changes the set, `Some(None)` if it changes nothing, and `None` if
+/// its linearization point is after `moment` or unknown.
 fn settled(standing: Standing, moment: u32) -> Option<Option<Call>> {
     let point = standing.point?;
     if moment < point.moment {
@@ -48,7 +48,7 @@ fn settled(standing: Standing, moment: u32) -> Option<Option<Call>> {
     }
 }
 
-/// Applies all changes up to `moment` to the set.
+/// Applies the changes of all entries up to `moment` to the set.
 pub(crate) fn go_on(
     reached: &mut Reached,
     picture: &Picture,
@@ -69,8 +69,8 @@ pub(crate) fn go_on(
     Ok(())
 }
 
-/// Writes `first`, the first keys of a set with `count` keys, separated by `separator`, and then the number of other
-/// keys.
+/// Writes `first`, the first keys of a set with `count` keys, separated by `separator`, and then the number of the
+/// other keys.
 fn put_keys(
     out: &mut String,
     separator: &str,
@@ -100,7 +100,7 @@ pub(crate) fn put_set(out: &mut String, keys: &[u32]) -> Result<(), AllocError> 
     out.push_str("}")
 }
 
-/// Returns a set as text. Reads only the keys that it prints.
+/// Returns a set as text. Reads only the keys that are printed.
 pub(crate) fn set_text(alloc: Global, reached: &Reached) -> Result<String, AllocError> {
     let mut first = Vec::new(alloc);
     let mut others = reached.keys.iter();

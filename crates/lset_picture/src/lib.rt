@@ -1,7 +1,7 @@
 //! Draws histories as text or SVG.
 //!
 //! A picture has a bar for each call, a sign at its linearization point, the set over time, and the order. If the order
-//! is rejected, the picture gives the reason. If an event in a schedule is not enabled, the picture names the event.
+//! is rejected, the picture has the reason. If an event in a schedule is not enabled, the picture names the event.
 #![tactic(auto)]
 
 mod beginning;
@@ -30,8 +30,8 @@ pub use text::write_picture;
 /// The maximum number of columns in a picture.
 const MOST_COLUMNS: usize = 64;
 
-/// The maximum number of keys that are printed of a set. They are followed by the number of other keys.
+/// The maximum number of keys of a set that are printed. They are followed by the number of the other keys.
 const MOST_KEYS_SHOWN: usize = 8;
 
-/// The maximum width of a column, in characters. No entry of a linearizable history is wider.
+/// The maximum width of a column, in characters. No column of a linearizable history is wider.
 const MOST_WIDTH: usize = 255;

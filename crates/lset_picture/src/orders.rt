@@ -1,4 +1,4 @@
-//! Writes the lines above and below the threads' rows: the heading, the range of drawn moments, and the order.
+//! Writes the lines above and below the rows of the threads: the heading, the range of drawn moments, and the order.
 use crate::columns::{Drawing, Side, put_call};
 use crate::drawn_sets::put_keys_line;
 use crate::picture::{Picture, Standing, standing_at};
@@ -28,8 +28,8 @@ pub(crate) fn put_heading(out: &mut String, picture: &Picture) -> Result<(), All
     Ok(())
 }
 
-/// Appends the range of drawn moments, and the options that show the moments before and after them. Example: `moments
-/// 20 to 33 of 35; --to 19 goes before; --from 34 goes on`.
+/// Appends the range of drawn moments, and the command-line options that draw the moments before and after them.
+/// Example: `moments 20 to 33 of 35; --to 19 goes before; --from 34 goes on`.
 pub(crate) fn put_cut(
     out: &mut String,
     picture: &Picture,
@@ -81,8 +81,8 @@ fn put_place(out: &mut String, number: usize, standing: Standing) -> Result<(), 
     writeln!(out, " {reply}{no_change}{still_open}")
 }
 
-/// Returns where an entry lies relative to the drawn moments: its linearization point if this is known, otherwise its
-/// call's bar. Returns `None` if the call is not in the history.
+/// Returns the position of an entry relative to the drawn moments: the position of its linearization point if this
+/// point is known, otherwise the position of its call's bar. Returns `None` if the call is not in the history.
 fn side_of(standing: Standing, drawing: &Drawing) -> Option<Side> {
     match standing.point {
         Some(point) => Some(drawing.side_of(point.moment, Some(point.moment))),
@@ -90,8 +90,8 @@ fn side_of(standing: Standing, drawing: &Drawing) -> Option<Side> {
     }
 }
 
-/// Returns whether to print an entry whose call is not in the history: only if all moments are drawn or the order was
-/// rejected for this call.
+/// Returns whether to print the entry `place`, which has no call in the history: only if all moments are drawn, or if
+/// the order was rejected because of this entry's call.
 fn is_told(picture: &Picture, drawing: &Drawing, place: Placed) -> bool {
     match &picture.refusal {
         _ if !drawing.is_cut() => true,
@@ -100,15 +100,15 @@ fn is_told(picture: &Picture, drawing: &Drawing, place: Placed) -> bool {
     }
 }
 
-/// The numbers of entries that were not printed: those before the drawn moments, those after them, and those without a
-/// call in the history.
+/// The numbers of entries of the order that were not printed: entries before the drawn moments, entries after them, and
+/// entries without a call in the history.
 struct LeftOut {
     before: usize,
     after: usize,
     unknown: usize,
 }
 
-/// Writes the entries that are drawn, and returns how many it leaves out.
+/// Writes the entries of the order that are drawn, and returns the numbers of the other entries.
 fn put_places(
     out: &mut String,
     picture: &Picture,
@@ -137,7 +137,7 @@ fn put_places(
     })
 }
 
-/// Writes the number of entries that are left out.
+/// Writes the numbers of entries that are left out.
 fn put_left_out(out: &mut String, left: LeftOut) -> Result<(), AllocError> {
     let LeftOut {
         before,
@@ -165,8 +165,8 @@ fn put_order(out: &mut String, picture: &Picture, drawing: &Drawing) -> Result<(
     put_left_out(out, left)
 }
 
-/// Appends the lines below the rows: the order, the number of entries left out, the final keys, `legend` if the
-/// linearization points are known, and the schedule's event that is not enabled, if any.
+/// Appends the lines below the rows: the order, the numbers of entries left out, the final keys, `legend` if the
+/// linearization points are known, and the schedule's event that is not enabled, if it has such an event.
 pub(crate) fn put_lines_below(
     out: &mut String,
     picture: &Picture,

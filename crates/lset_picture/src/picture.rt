@@ -2,10 +2,10 @@ use crate::refusal::Refusal;
 use lset_history::History;
 use lset_words::{CallRecord, Kind, Placed, Point};
 
-/// What the picture of a run or a report shows: a history, an order of its calls, and the final keys.
+/// The content of a picture of a run or a report: a history, an order of its calls, and the final keys.
 ///
-/// The moments in `points` never decrease along the order. The points are drawn only if each entry of the order has one
-/// and the order is not rejected.
+/// The moments in `points` never decrease along the order. The points are drawn only if the order is not rejected and
+/// each entry of the order has a point.
 #[derive(Drop)]
 pub struct Picture {
     pub kind: Kind,
@@ -17,12 +17,12 @@ pub struct Picture {
     pub points: Vec<Point>,
     pub keys: Vec<u32>,
     pub refusal: Option<Refusal>,
-    /// The first event of a schedule that is not enabled: its line number, and the name of the cause.
+    /// The first event of a schedule that is not enabled: the number of its line, and the name of the cause.
     pub refused: Option<(u64, &'static str)>,
 }
 
-/// The range of moments to draw, counted from 1. At most 64 moments are drawn: the first 64 in the range at which
-/// something happens.
+/// The range of moments to draw, counted from 1. A moment is drawn only if a call starts, takes effect or ends at it.
+/// Only the first 64 such moments in the range are drawn.
 #[derive(Clone, Copy)]
 pub struct Window {
     pub from: u32,
@@ -41,7 +41,7 @@ pub(crate) fn are_known(picture: &Picture) -> bool {
     picture.refusal.is_none() && picture.points.len() == picture.order.len()
 }
 
-/// Returns the linearization points to draw: all of them if they are known, otherwise none.
+/// Returns the linearization points to draw: all points if they are known, otherwise none.
 pub(crate) fn points_of(picture: &Picture) -> &[Point] {
     if are_known(picture) {
         &picture.points
@@ -50,7 +50,7 @@ pub(crate) fn points_of(picture: &Picture) -> &[Point] {
     }
 }
 
-/// An entry of the order, its call if the history has this call, and its linearization point if known.
+/// An entry of the order, the entry's call if the history has this call, and the linearization point if it is known.
 #[derive(Clone, Copy)]
 pub(crate) struct Standing {
     pub placed: Placed,

@@ -5,8 +5,8 @@ use lset_report::Report;
 use lset_words::{Effect, Point};
 use std::alloc::{AllocError, Global};
 
-/// Computes a linearization point for each entry of an order that explains the history: the start of the entry's call
-/// or, if later, the previous entry's point.
+/// Computes a linearization point for each entry of an order that explains the history: the start of the entry's call,
+/// or the point of the previous entry if that is later.
 fn first_points(
     alloc: Global,
     history: &History,
@@ -26,12 +26,11 @@ fn first_points(
     Ok(points)
 }
 
-/// Returns the picture of a report. If the order explains the history and leaves exactly the final keys, each entry
-/// gets a linearization point. Otherwise the picture has no linearization points, but the error that `check_order`
-/// finds.
+/// Returns the picture of a report. If the order explains the history and leaves exactly the final keys, each entry has
+/// a linearization point. Otherwise the picture has no linearization points, but the error that `check_order` finds.
 ///
-/// Takes about as long as `check_order`. Returns `AllocError` if an allocation fails. (Such pictures of histories are
-/// due to Herlihy and Wing.)
+/// Needs about as much time as `check_order`. Returns `AllocError` if an allocation fails. (Such pictures of histories
+/// are due to Herlihy and Wing.)
 pub fn picture_of_report(alloc: Global, report: Report) -> Result<Picture, AllocError> {
     let order = report.order.as_slice();
     let refusal = why_refused(alloc, &report.history, order, &report.keys)?;

@@ -1,7 +1,7 @@
 use lset_words::Reply;
 
-/// Why an order is rejected: its first error, with the facts that prove it. Calls count from 0, the entries (places) of
-/// the order from 1.
+/// The reason why an order is rejected: its first error, with the facts that prove it. Calls are counted from 0, the
+/// entries of the order (its places) from 1.
 #[derive(Drop)]
 pub enum Refusal {
     /// The order names call number `call`, but the history has only `calls` calls.
@@ -9,7 +9,7 @@ pub enum Refusal {
         call: u32,
         calls: u32,
     },
-    /// The order contains the call twice or more. `first` and `second` are its first two places.
+    /// The order contains the call twice or more. `first` and `second` are its first two places in the order.
     Twice {
         call: u32,
         first: u64,
@@ -21,15 +21,15 @@ pub enum Refusal {
         moment: u32,
         reply: Reply,
     },
-    /// In the order, the call has the reply `says`. In the history, the call returned `ended`.
+    /// In the order, the call has the reply `says`. In the history, the call has the reply `ended`.
     HistoryReply {
         call: u32,
         place: u64,
         says: Reply,
         ended: Reply,
     },
-    /// In the order, the call has the reply `says`. The sequential set, which has the keys `keys` at this place,
-    /// replies `answer`. If the call ended, it returned `says`.
+    /// In the order, the call has the reply `says`. The sequential set, which has the keys `keys` at this place of the
+    /// order, replies `answer`. If the call has ended, its reply in the history is `says`.
     SetReply {
         call: u32,
         place: u64,
@@ -37,7 +37,8 @@ pub enum Refusal {
         keys: Vec<u32>,
         answer: Reply,
     },
-    /// The order has `call` before `other`, but `call` started at `begun`, after `other` had ended at `ended`.
+    /// The order has `call` before `other`, but `call` started at moment `begun`, after `other` had ended at moment
+    /// `ended`.
     TooEarly {
         call: u32,
         begun: u32,

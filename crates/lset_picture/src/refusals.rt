@@ -6,7 +6,7 @@ use lset_text::reply_word;
 use lset_words::Reply;
 use std::alloc::AllocError;
 
-/// Names all places of the order before `place`, such as `after places 1 and 2`.
+/// Writes the places of the order (its entries, counted from 1) before `place`, such as `after places 1 and 2`.
 fn put_places_before(out: &mut String, place: u64) -> Result<(), AllocError> {
     match place {
         0 | 1 => out.push_str("at first"),
@@ -27,7 +27,7 @@ fn put_unknown(out: &mut String, call: u32, calls: u32) -> Result<(), AllocError
     }
 }
 
-/// Writes the reply that the order states for a call.
+/// Writes the reply that a call has in the order.
 fn put_says(out: &mut String, call: u32, place: u64, says: Reply) -> Result<(), AllocError> {
     let word = reply_word(says);
     write!(out, "WrongReply {call}: place {place} says {word}, and ")

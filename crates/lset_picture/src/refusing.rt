@@ -1,4 +1,4 @@
-//! Finds the facts behind the error that `check_order` returned.
+//! Finds the facts that prove an error that `check_order` returned.
 
 ghost use Rattle.std.specs.Prelude.{◌≡◌, ◌<◌, length, IfOk, IfSome};
 
@@ -6,7 +6,7 @@ use crate::refusal::Refusal;
 use lset_history::{CallRecord, History, Oracle, OrderFault, Placed, check_order};
 use std::alloc::{AllocError, Global};
 
-/// Returns the first index, at or after `from`, at which the call is in the order.
+/// Returns the first index, not below `from`, of the call in the order.
 fn place_from(order: &[Placed], from: usize, call: u32) -> Option<usize>
     ensures { IfSome result (λ place. place < length order.now) }
 {
@@ -22,7 +22,7 @@ fn record_of(history: &History, call: u32) -> Option<CallRecord> {
     history.calls().get(call as usize).copied()
 }
 
-/// Returns the sequential set after the calls in these entries were applied in turn.
+/// Returns the sequential set after the calls of these entries were made in turn.
 fn set_after(alloc: Global, history: &History, places: &[Placed]) -> Result<Oracle, AllocError>
     ensures { IfOk result (λ o. o.threads ≡ history.now.opening.threads) }
 {
@@ -57,8 +57,8 @@ fn missing(history: &History, call: u32) -> Option<Refusal> {
     })
 }
 
-/// Finds the first entry after `call` in the order whose call had ended before `call` started. Returns it as the reason
-/// to reject the order.
+/// Finds the first call after `call` in the order that had ended before `call` started. Returns it as the reason to
+/// reject the order.
 fn too_early(history: &History, order: &[Placed], call: u32) -> Option<Refusal> {
     let begun = record_of(history, call)?.begun;
     let place = place_from(order, 0, call)?;
@@ -78,8 +78,8 @@ fn too_early(history: &History, order: &[Placed], call: u32) -> Option<Refusal> 
     None
 }
 
-/// Finds the reply that contradicts the order's reply for `call`: the reply in the history or, if that one agrees, the
-/// reply of the sequential set.
+/// Finds the reply that contradicts the reply of `call` in the order: the reply in the history or, if the history
+/// agrees with the order, the reply of the sequential set.
 fn wrong_reply(
     alloc: Global,
     history: &History,
@@ -115,7 +115,8 @@ fn wrong_reply(
 }
 
 /// Returns the reason why the order does not explain the history or does not leave these final keys. Returns `None` if
-/// it does both. Takes about as long as `check_order`. Returns `AllocError` if an allocation fails.
+/// the order explains the history and leaves the keys. Needs about as much time as `check_order`. Returns `AllocError`
+/// if an allocation fails.
 pub(crate) fn why_refused(
     alloc: Global,
     history: &History,

@@ -35,7 +35,7 @@ pub(crate) fn right_edge(columns: &[Column]) -> u64 {
     x_of(columns, 4_294_967_296)
 }
 
-/// Returns the y position of a thread's row. The set's row is directly below the last thread's.
+/// Returns the y position of a thread's row. The row of the set is directly below the row of the last thread.
 pub(crate) fn lane_y(thread: u32) -> u64 {
     40 * u64::from(thread) + 90
 }
@@ -45,7 +45,7 @@ pub(crate) fn line_y(threads: u32, number: usize) -> u64 {
     40 * u64::from(threads) + 126 + 16 * number.min(1_000_000) as u64
 }
 
-/// Appends a text element with these classes, starting at `start`.
+/// Appends a text element with these classes that starts at `start`.
 pub(crate) fn put_text(
     out: &mut String,
     class: &str,

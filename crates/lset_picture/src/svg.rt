@@ -16,10 +16,10 @@ use std::alloc::{AllocError, Global};
 const LEGEND: &str =
     "filled: changes the set    open: changes nothing, its reply fits there    dashed: still open";
 
-/// The sheet is as wide as its longest line of text, up to this number of characters.
+/// The maximum width of the sheet, in characters. The sheet is as wide as its longest line of text, up to this number.
 const MOST_CHARACTERS: usize = 255;
 
-/// The two lines above the rows: the heading, and the reason if the order is rejected (otherwise empty).
+/// The two lines above the rows: the heading, and the reason for rejecting the order (empty if the order is accepted).
 #[derive(Clone, Copy)]
 struct Above<'a> {
     heading: &'a str,
@@ -53,7 +53,7 @@ fn put_sheet(
 }
 
 /// Adds the lines above the rows: the heading, the reason if the order is rejected, and the range of drawn moments
-/// unless all are drawn.
+/// unless all moments are drawn.
 fn put_above(
     alloc: Global,
     out: &mut String,
@@ -203,7 +203,7 @@ fn dot_of(standing: Standing, drawing: &Drawing) -> Option<(Spot, u32, bool)> {
     Some((Spot { x, y }, made.thread, point.change))
 }
 
-/// Adds the linearization points: as circles if `circles` is true, otherwise as thin lines down to the set.
+/// Adds the linearization points: as circles if `circles` is true, otherwise as thin lines that lead down to the set.
 fn put_points(
     out: &mut String,
     picture: &Picture,
@@ -250,14 +250,14 @@ fn put_below(out: &mut String, threads: u32, below: &str) -> Result<(), AllocErr
     Ok(())
 }
 
-/// Draws a picture as an SVG. It shows the moments in `window`, counted from 1, but at most the first 64 at which
-/// something happens.
+/// Draws a picture as an SVG. Draws the moments in `window`, counted from 1, when a call starts, takes effect or ends,
+/// but at most the first 64 such moments.
 ///
-/// If `window` includes all moments and they do not fit, the drawing of a rejected order starts at the call for which
-/// it was rejected. A call is a line in its thread's colour: dashed if it is pending, thick if it contradicts the order
-/// (`is_clash`). A linearization point is a circle, filled if the call changes the set, with a thin line down to the
-/// set. The order is below, as text. The style sheet has a dark background for readers who prefer one. The SVG has no
-/// script and no external references. Returns `AllocError` if an allocation fails.
+/// If `window` includes all moments and they do not fit, the drawing of a rejected order starts at the call that the
+/// reason for the rejection names. A call is a line in the colour of its thread: dashed if the call is pending, thick
+/// if it contradicts the order (`is_clash`). A linearization point is a circle, filled if the call changes the set,
+/// with a thin line down to the set. The order is below, as text. The style sheet has a dark background for readers who
+/// prefer one. The SVG has no script and no external references. Returns `AllocError` if an allocation fails.
 pub fn write_svg(alloc: Global, picture: &Picture, window: Window) -> Result<Vec<u8>, AllocError> {
     let mut drawing = drawing_in(alloc, picture, window)?;
     if let Some(window) = drawing.window_of_clash(picture, window) {

@@ -16,7 +16,8 @@ const LEGEND: &str = "* changes the set    o changes nothing, its reply fits the
 const LEGEND_OF_CUT: &str =
     "* changes the set    o changes nothing, its reply fits there    > goes on    < began before";
 
-/// Returns whether a thread's bar continues after the signs in `marks`. `before` is true if a bar was drawn up to them.
+/// Returns whether a thread's bar continues after the signs in `marks`. `before` is true if a bar was drawn up to these
+/// signs.
 fn goes_on(marks: &[Mark], thread: u32, before: bool) -> bool {
     let mut drawn = before;
     for mark in marks {
@@ -154,7 +155,7 @@ fn fits(
     width: u32,
 ) -> Result<bool, AllocError> {
     let mut rows = String::new(alloc);
-    // The row of moments is nearly always the longest one and is cheap to write, so it is tested first.
+    // The row of moments is nearly always the longest row and is cheap to write. Therefore this row is tested first.
     put_moments(alloc, &mut rows, &drawing.columns)?;
     if has_longer(&rows, width) {
         return Ok(false);
@@ -196,7 +197,8 @@ fn fitted(
     Ok(drawing)
 }
 
-/// Writes the rows, after the range of drawn moments unless all are drawn. Writes nothing for a history without calls.
+/// Writes the range of drawn moments unless all moments are drawn, and then the rows. Writes nothing for a history
+/// without calls.
 fn put_drawn_rows(
     alloc: Global,
     out: &mut String,
@@ -217,10 +219,11 @@ fn put_drawn_rows(
 /// Draws a picture as text: a row for each thread with its calls and their linearization points, the set, and the
 /// order.
 ///
-/// The picture shows the moments `window.from` to `window.to`, counted from 1. It is limited to the first 64 at which
-/// something happens, and to those that fit into rows of `width` characters, but shows at least one. If `window`
-/// includes all moments and they do not fit, the drawing of a rejected order starts at the call for which it was
-/// rejected. Returns `AllocError` if an allocation fails. (Pictures with bars and points are due to Herlihy and Wing.)
+/// The picture has the moments from `window.from` to `window.to`, counted from 1, when a call starts, takes effect or
+/// ends. At most the first 64 such moments are drawn, and only moments that fit into rows of `width` characters, but at
+/// least one. If `window` includes all moments and they do not fit, the drawing of a rejected order starts at the call
+/// that the reason for the rejection names. Returns `AllocError` if an allocation fails. (Pictures with bars and points
+/// are due to Herlihy and Wing.)
 pub fn write_picture(
     alloc: Global,
     picture: &Picture,

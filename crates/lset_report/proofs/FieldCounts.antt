@@ -1,4 +1,4 @@
--- Which kinds of lines can match, by the number of fields in the line.
+-- Lemmas: the number of fields in a line limits the kinds of lines that can match it.
 use Rattle.std.proofs.Common.{◌≡◌, ℕ, ◌<◌, ◌⊎◌, inl, inr, List, [], ◌∷◌, length, Err, refl, arith}
 use Rattle.lset_text.specs.declared.words.Version.{Version}
 use Rattle.lset_text.specs.declared.words.Version.TheVariants.{One, Two}

@@ -1,5 +1,5 @@
--- The test `may_follow` decides whether a call can follow a history, and the fields of CallsSoFar suffice for this
--- test.
+-- Proof: the Boolean test `may_follow` decides whether a call can follow a history, and the fields of CallsSoFar
+-- suffice for this test.
 use Rattle.std.proofs.Common.{inl, inr, ◌≡◌, ◌≢◌, ℕ, ◌<◌, ◌&&◌, ◌||◌, not, ltb, eqb, Bool, true, false, List, [], ◌∷◌, ◌++◌, length, get_or}
 use Rattle.std.proofs.Common.{Option, Some, None, refl, sym, ap, ◌∙◌, arith, ⊎_elim, zero, suc, replicate}
 use Rattle.std.proofs.Math.ListN.{set}
@@ -33,7 +33,7 @@ not_or false b = refl
 abbrev Apart : ℕ → CallRecord → Type 0
 Apart m y = (m ≢ y.begun) × IfSome y.ended (λ (d : ℕ × Reply). m ≢ d.0)
 
--- Decides whether a call neither starts nor ends at a moment.
+-- Decides whether a call neither starts nor ends at moment m.
 apart_by : (m begun : ℕ) (o : Option (ℕ × Reply)) → Decides (not (eqb begun m || ends_at m o)) ((m ≢ begun) × IfSome o (λ d. m ≢ d.0))
 apart_by m begun None = grind (arith, nat_tests)
 apart_by m begun (Some e) = grind (arith, nat_tests)
@@ -61,7 +61,7 @@ idles : (calls : List CallRecord) (t m : ℕ)
 idles calls t m = Decides-by_and (λ y. not (eqb y.thread t) || ended_before m y.ended) _ (λ ys. is_idle ys t m)
     (λ y. idle_by t m y.thread y.ended) refl (λ _ _. refl) calls
 
--- The conditions that `may_follow` tests, as separate fields.
+-- The conditions that `may_follow` tests, one in each field.
 record May (threads : ℕ) (calls : List CallRecord) (x : CallRecord) : Type 0 where
   low : x.thread < threads
   begins : begins_later calls x.begun ≡ true
@@ -143,8 +143,8 @@ taken_pushed calls x m past =
     list_any-append (is_entry m) calls (x ∷ []) ∙ ap (λ c. is_taken calls m || c) (or-false (is_entry m x))
     ∙ ap (λ c. is_taken calls m || (c || ends_at m x.ended)) other
 
--- If a thread's entry in the list of last ends is replaced by v, the list contains the moment m if it did before or if
--- m is v. The moment m must differ from the replaced entry.
+-- `ends` has the end of each thread's last call. If the entry of thread t is replaced by v, the new list contains the
+-- moment m if `ends` contains m or if m is v. The moment m must differ from the replaced entry.
 last_end_set : (ends : List ℕ) (t m v : ℕ) → t < length ends → eqb (get_or ends t 0) m ≡ false
     → is_last_end (set ends t v) m ≡ (is_last_end ends m || eqb v m)
 last_end_set [] t m v low old = absurd (omega (arith, low))
@@ -166,7 +166,7 @@ idle_step : (calls : List CallRecord) (x : CallRecord) (t m : ℕ)
 idle_step calls x t m =
     list_all-append (idle_at t m) calls (x ∷ []) ∙ ap (λ b. is_idle calls t m && b) (and-true (idle_at t m x))
 
--- Returns whether a thread has no pending call and its last call ended before moment m.
+-- Returns whether a thread has no pending call (`busy`) and its last call ended (`end`) before moment m.
 abbrev is_over : Bool → ℕ → ℕ → Bool
 is_over busy end m = not busy && ltb end m
 

@@ -1,4 +1,4 @@
--- Each line of a report has exactly one text.
+-- Proof: each line of a report has exactly one text.
 use Rattle.std.proofs.Common.{◌≡◌, ℕ, ◌<◌, ◌^◌, inl, inr, Bool, false, List, [], ◌∷◌, Option, Some, None, refl, ap, arith, codes}
 use Rattle.std.specs.Fmt.{decimal}
 use Rattle.std.specs.List.{AllByRecursion}
@@ -43,7 +43,7 @@ pieces_of told.End = codes "end" ∷ []
 abbrev pub line_text : Line → List ℕ
 line_text l = line_of (pieces_of l)
 
--- States that the line's numbers are in range, and that this version of the format has the words that the line uses.
+-- States that the numbers in a line are in range, and that this version of the format has the words in the line.
 abbrev pub IsLine : Version → Line → Type 0
 IsLine v (told.Opening k) = (k < 2 ^ 32) × (v ≡ Two)
 IsLine v (told.Call n x) =
@@ -52,7 +52,7 @@ IsLine v (told.Place p) = IsPlace v p
 IsLine v (told.Key k) = k < 2 ^ 32
 IsLine v told.End = Unit {0}
 
--- States that the report has no lines that belong after this section.
+-- States that the report has no lines of the sections after this section.
 abbrev pub Reaches : Section → ReportValue → Type 0
 Reaches section.Opening r = (r.history.calls ≡ []) × (r.order ≡ []) × (r.keys ≡ [])
 Reaches section.Calls r = (r.order ≡ []) × (r.keys ≡ [])
@@ -60,16 +60,16 @@ Reaches section.Order r = r.keys ≡ []
 Reaches section.Keys r = Unit {0}
 Reaches section.Done r = Unit {0}
 
--- ---- Lemmas: bytes that are read as a line are the line's text
+-- ---- Lemmas: bytes that are read as a line are the text of this line
 
--- States that the line is well formed, and that the report has no lines that belong after its section.
+-- States that the line is well formed, and that the report has no lines of the sections after the section of this line.
 abbrev pub IsNext : Version → ReportValue → Line → Type 0
 IsNext v r l = IsLine v l × Reaches (section_after l) r
 
 abbrev Known : Version → ReportValue → LineKind Line → Type 0
 Known v r = Knows v pieces_of (IsNext v r)
 
--- Returns the line of a call with the given end, or without one if the call is pending.
+-- Returns the line of a call with the end `o` (moment and reply), which is None if the call is pending.
 abbrev call_with : CallWord → ℕ → ℕ → ℕ → ℕ → Option (ℕ × Reply) → Line
 call_with w n t k b o = told.Call n (record { thread = t; call = with_key w (record { 0 = k }); begun = b; ended = o })
 
@@ -80,7 +80,7 @@ called : (v : Version) (w : CallWord) (n t k b : ℕ) (o : Option (ℕ × Reply)
 called v Add n t k b o nl tl kl bs bl some ends has = (refl, (nl, tl, bs, some, (bl, kl, ends, has)))
 called v w n t k b o nl tl kl bs bl some ends has = (refl, (nl, tl, bs, some, (bl, kl, ends, has)))
 
--- A line that matches a form of call lines is the text of the call that is read from it.
+-- A line that matches a form of call lines is the text of the call read from the line.
 call_known : (v : Version) (r : ReportValue) (f : Form) (end : Told f → Option (ℕ × Reply)) → Reaches section.Calls r → ArePieces f
     → ((e : Told f) → AllFit v f e → (spell f e ≡ end_pieces (end e)) × IfSome (end e) (λ (x : ℕ × Reply). 0 < x.0) × IsEnd v (end e))
     → Known v r (call_form f, λ t. call_told t.1 (end t.1.1.1.1.1.1))
@@ -174,7 +174,7 @@ end_told_so v = inr (refl, inl ((tt, tt), refl, (tt, tt)))
 abbrev pub reached : List CallRecord → List Placed → List ℕ → Section
 reached cs ps ks = later ks (later ps (later cs section.Opening section.Calls) section.Order) section.Keys
 
--- Returns whether the line's fields match this form.
+-- Returns whether the fields of the line match this form.
 abbrev Has : Version → LineKind Line → Line → Bool
 Has v k l = have_form v k.0 (pieces_of l)
 

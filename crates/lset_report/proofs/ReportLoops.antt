@@ -1,4 +1,4 @@
--- The loop that reads a report line by line.
+-- Lemmas about the loop that reads a report line by line.
 use Rattle.std.proofs.Common.{◌≡◌, ℕ, ◌+◌, ◌<◌, ◌≤◌, ◌⊎◌, inl, inr, true, ltb, eqb, List, [], ◌∷◌, ◌++◌, length, get_or, Result}
 use Rattle.std.proofs.Common.{Ok, Err, refl, sym, ap, subst, ◌∙◌, ◌≢◌, arith}
 use Rattle.std.proofs.lemmas.Bool.{ltb-true, lt-ltb, eqb-true, eq-eqb, and_parts}
@@ -36,8 +36,8 @@ use Rattle.lset_report.specs.ReportReader.{so_far, state, IsFull}
 
 -- ---- Lemmas about the checks that each line must pass
 
--- States that the line's section is not full, that an opening key is greater than the one before it, and that a call
--- can follow the earlier calls.
+-- States that a line can follow the report r: the section of the line is not full, an opening key is greater than the
+-- previous opening key, and a call can follow the previous calls.
 abbrev pub IsGood : ReportValue → Line → Type 0
 IsGood r (Opening k) = (length r.history.opening.keys < MOST_OPENING) × (is_above r.history.opening.keys k ≡ true)
 IsGood r (Call number x) =
@@ -80,7 +80,7 @@ line_read s r x l e =
 
 -- ---- Lemmas about the lines at which an allocation can fail
 
--- The text `end` is read as the line End and as no other line.
+-- The text `end` is only read as the line End, and as no other line.
 end_is : (v : Version) (s : Section) (l : Line) → line_in v wrong.Line (kinds v s) last_line ≡ Ok l → End ≡ l
 end_is One section.Opening l e = ok_is End l e
 end_is v section.Done l e = absurd cc
@@ -112,7 +112,7 @@ stops_at all start s line rest x after e parts (inr full) stands =
 
 -- ---- Lemmas about the whole text, header included
 
--- Returns the report in a reader's state, as the result of reading.
+-- Returns the report read so far, as the result of reading a text.
 abbrev pub report_told : SoFar → Result ReportValue LineFault
 report_told s = Ok s.report
 
@@ -123,7 +123,7 @@ module _ (bytes : List ℕ) (v : Version) (version_is : v ≡ version_told (cut_
   in_version : reading bytes ≡ told_by (text_from (text v) (cut_at 10 bytes))
   in_version = ap (λ (u : Version). told_by (text_from (text u) (cut_at 10 bytes))) (sym version_is)
 
-  -- If the header has an error, this is the error of the whole text.
+  -- If the header has an error, the whole text has the same error.
   pub header_fault : (e : LineFault) → header_of (title v) (cut_at 10 bytes) ≡ Err e → reading bytes ≡ Err e
   header_fault e is = in_version ∙ ap told_by (text_refused (text v) (cut_at 10 bytes) e is)
 
@@ -131,7 +131,7 @@ module _ (bytes : List ℕ) (v : Version) (version_is : v ≡ version_told (cut_
   still_good line (Ok s) good = tt
   still_good line (Err e) good = good
 
-  -- An allocation can fail at the header's last line or a later line, as long as neither this line nor an earlier one
+  -- An allocation can fail at the last line of the header or at a later line, if neither this line nor an earlier line
   -- has an error.
   runs_out : (index : ℕ) → last_of_header ≤ 1 + index
       → IsGoodLine 1 (cut_at 10 bytes) (text_from (text v) (cut_at 10 bytes)) (1 + index)
@@ -156,7 +156,8 @@ module _ (bytes : List ℕ) (v : Version) (version_is : v ≡ version_told (cut_
         runs_out 3 (omega arith) (header_good (text v) bytes rest h head)
         (λ is_end. (let same = sym here ∙ is_end in cc))
 
-    -- After the header, the result of the whole text is the result of the loop over the remaining lines.
+    -- If the header has no error, the result of reading the whole text is the result of the loop over the lines after
+    -- the header.
     pub report_is : (s : Reader) → s.section ≡ section.Opening → so_far s ≡ no_lines v h
         → reading bytes ≡ told_by (AllOf rest (state s))
     report_is s section_is so_far_is =

@@ -1,4 +1,5 @@
--- Reading and writing agree: bytes that are read are the report's text, and the text of every report is read.
+-- Proof: reading and writing agree. Bytes that are read as a report are the text of this report, and the text of every
+-- report is read as this report.
 use Rattle.std.proofs.Common.{◌≡◌, ℕ, ◌+◌, ◌<◌, ◌≤◌, ◌^◌, inl, inr, false, cond, List, [], ◌∷◌, ◌++◌, map, length, Option, Some}
 use Rattle.std.proofs.Common.{None, Result, Ok, Err, refl, sym, ap, subst, ◌∙◌, arith, append_assoc, length-append}
 use Rattle.std.specs.Prelude.{IfOk, MatchResult}
@@ -89,7 +90,7 @@ one_call : (f : List (List ℕ)) (cs : List CallRecord) (ps : List Placed) (ks :
     ≡ f ++ call_lines 0 cs ++ map place_line ps ++ map key_line ks ++ call_line (0 + length cs) x ∷ []
 one_call f cs ps ks x p n = rw (p, n, calls_pushed 0 cs x) (simp (append-nil, append_assoc))
 
--- If a line is read, its text is appended to the text of the lines before it.
+-- After a line is read, the text of the report is the previous text followed by this line.
 more_lines : (r : ReportValue) (l : Line) → Reaches (section_after l) r → IsGood r l
     → lines_at (record { section = section_after l; report = with_line r l }) ≡ to_end r ++ line_text l ∷ []
 more_lines r (told.Opening k) next good =
@@ -208,7 +209,8 @@ none_reached section.Calls v h = (refl, refl)
 none_reached section.Order v h = refl
 none_reached s v h = tt
 
--- A line is accepted if it passes the checks and its kind is allowed at this place.
+-- Reading a line succeeds if the line passes the checks and its kind is allowed in the section that the reader has
+-- reached.
 step_again : (s : SoFar) (l : Line) → IsTold s.report.version (kinds s.report.version s.section) l → IsGood s.report l
     → step s (line_text l) ≡ Ok (with_told s l)
 step_again s l is good =
@@ -325,7 +327,7 @@ reads_text r is =
       again.1,
     )
 
--- ---- Lemmas: the two laws, as the contract of `read_report` states them
+-- ---- Lemmas: the two postconditions of `read_report` about its text
 
 pub found_in : (bytes : List ℕ) (r : Result Report LineFault) → Gives view r bytes
     → IfOk r (λ s. IsReport (view s) × (bytes ≡ report_text (view s)))
@@ -352,7 +354,7 @@ words_in One calls order are places = (
 )
 words_in Two calls order are places = tt
 
--- A report that has a text only uses words of its version.
+-- A report that can be written as text has only words of its format version.
 pub has_words : (r : ReportValue) → IsReport r → HasWordsOfVersion r
 has_words r is = record { opening = is.opening; words = words_in r.version r.history.calls r.order is.calls is.places }
 

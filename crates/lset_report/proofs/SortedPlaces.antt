@@ -1,5 +1,5 @@
--- Sorting by linearization point is stable. If the entries were sorted by call number before, the result is therefore
--- in the order that the definition [Placement] requires.
+-- Proof: sorting by linearization point is stable. If the entries are sorted by call number before, the result
+-- therefore has the order that the definition [Placement] requires.
 use Rattle.std.proofs.Common.{◌≡◌, ℕ, ◌<◌, ◌≤◌, ◌⊎◌, inl, inr, Bool, true, false, not, ◌&&◌, List, [], ◌∷◌, refl, sym, ◌∙◌, arith}
 use Rattle.std.specs.Prelude.{◌==◌, if◌then◌else◌, AllPairs}
 use Rattle.std.specs.List.{filter, AllByRecursion}
@@ -59,7 +59,7 @@ by_ranks xs ys moved increase stable = record {
   stable = ranks_stay rank_of HasSmallerNumber xs ys stable;
 }
 
--- If the entries were sorted by call number, sorting them by linearization point puts them in the order that the
+-- If the entries xs are sorted by call number, sorting them by linearization point results in the order that the
 -- definition [Placement] requires.
 pub sorted_rises : (xs ys : List Pointed) → AreByPoints xs ys → AllPairs HasSmallerNumber xs → AllPairs IsPlacedBefore ys
 sorted_rises xs ys are numbers = pairs_std IsPlacedBefore ys (in_order rank_of HasSmallerNumber ys

@@ -1,4 +1,4 @@
--- The invariant of CallsSoFar: what a report reader stores about the calls that it has read.
+-- The invariant of CallsSoFar: the facts about its calls that a report reader stores.
 use Rattle.std.specs.Prelude.{◌≡◌, ℕ, ◌<◌, ◌&&◌, ◌==◌, nat_lt, not, Bool, true, false, List, length, Option, Some, None, slice_index_or}
 use Rattle.std.specs.List.{list_any}
 use Rattle.lset_words.specs.declared.Reply.{Reply}
@@ -9,7 +9,7 @@ use Rattle.lset_report.specs.ReportReading.{begins_later, is_taken, is_idle}
 abbrev pub threads_of : CallsSoFar → ℕ
 threads_of s = s.history.opening.threads
 
--- Returns the moment at which a call ended, or 0 if the call is pending.
+-- Returns the moment when a call ended, or 0 if the call is pending.
 abbrev pub end_moment : Option (ℕ × Reply) → ℕ
 end_moment None = 0
 end_moment (Some end) = end.0
@@ -18,11 +18,12 @@ abbrev pub is_open : Option (ℕ × Reply) → Bool
 is_open None = true
 is_open (Some end) = false
 
--- Returns whether the last call of some thread ended at this moment. Moments count from 1.
+-- Returns whether the last call of some thread ended at this moment. `ends` has the end of each thread's last call.
 abbrev pub is_last_end : List ℕ → ℕ → Bool
 is_last_end ends moment = list_any (λ end. end == moment) ends
 
--- Returns whether a call is pending, or ends after its start at a moment at which no thread's last call ended.
+-- Returns whether a call that starts at `begun` is pending, or ends later, at a moment that is not the end of any
+-- thread's last call.
 abbrev pub ends_apart : List ℕ → ℕ → Option (ℕ × Reply) → Bool
 ends_apart ends begun None = true
 ends_apart ends begun (Some end) = nat_lt begun end.0 && not (is_last_end ends end.0)
@@ -30,13 +31,15 @@ ends_apart ends begun (Some end) = nat_lt begun end.0 && not (is_last_end ends e
 abbrev pub ends_well_by : List ℕ → CallRecord → Bool
 ends_well_by ends x = ends_apart ends x.begun x.ended
 
--- The fields of CallsSoFar suffice to decide which call can come next.
+-- The invariant of a report reader: the fields of CallsSoFar suffice to decide whether a call can follow the calls read
+-- so far.
 pub record Tracks (s : CallsSoFar) : Type 0 where
-  -- The field last_begun is the moment at which the last call started.
+  -- The field `last_begun` is the moment when the last call started.
   pub begins : (m : ℕ) → begins_later s.history.calls m ≡ nat_lt s.last_begun m
-  -- After last_begun, a call starts or ends at moment m if and only if some thread's last call ends at m.
+  -- If m is after `last_begun`, a call starts or ends at moment m if and only if some thread's last call ends at m.
   pub taken : (m : ℕ) → s.last_begun < m → is_taken s.history.calls m ≡ is_last_end s.last_ends.items m
-  -- A thread t can start a call at moment m if its last call is not pending (busy) and ended before m (last_ends).
+  -- `last_ends` and `busy` have an entry for each thread. A thread t can start a call at moment m if its last call is
+  -- not pending (`busy`) and ended before m (`last_ends`).
   pub ends : length s.last_ends.items ≡ threads_of s
   pub each : length s.busy.items ≡ threads_of s
   pub idle : (t m : ℕ) → t < threads_of s → 0 < m

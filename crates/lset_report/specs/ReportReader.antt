@@ -1,4 +1,4 @@
--- What a report reader has read so far, as a mathematical value.
+-- The state of a report reader in contracts: the part of the report that has been read.
 use Rattle.std.specs.Prelude.{◌≡◌, ◌≢◌, ◌⊎◌, ◌≤◌, ◌+◌, ℕ, List, [], length, slice_index_or, Result, Ok, Err}
 use Rattle.std.specs.List.Sorted.{IsStrictlyIncreasing}
 use Rattle.lset_words.specs.declared.TheConstants.{MOST_OPENING}
@@ -17,7 +17,7 @@ use Rattle.lset_report.specs.Texts.{last_line}
 use Rattle.lset_report.specs.ReportReading.{line_after, SoFar, step}
 use Rattle.lset_report.specs.ReportCalls.{Tracks}
 
--- Returns the report that the lines read so far make up.
+-- Returns the report that consists of the lines read so far.
 abbrev pub so_far : Reader → ReportValue
 so_far s = record {
   version = s.version;
@@ -40,19 +40,19 @@ pub record Holds (s : Reader) : Type 0 where
 abbrev pub state : Reader → SoFar
 state s = record { section = s.section; report = so_far s }
 
--- States that an allocation failed while the reader read a complete line other than `end`. This line and all earlier
--- lines have no error.
+-- States that an allocation failed while the reader read a complete line other than `end`, and that this line and all
+-- earlier lines have no error.
 abbrev pub IsFull : List (List ℕ) → Result SoFar LineFault → LineFault → Type 0
 IsFull parts read e = (index : ℕ) × (e ≡ fault (first_line + index) Memory)
     × IsGoodLine first_line parts read (first_line + index) × (slice_index_or parts index [] ≢ last_line)
 
--- States the result of reading the lines after the header: the reader's new state, the first error, or a failed
+-- States the result of reading the lines after the header: the new state of the reader, the first error, or a failed
 -- allocation.
 abbrev pub GoesOn : {X : Type 0} → SoFar → Result X LineFault → List (List ℕ) → Result SoFar LineFault → Type 0
 GoesOn s (Ok x) parts read = read ≡ Ok s
 GoesOn s (Err e) parts read = (read ≡ Err e) ⊎ IsFull parts read e
 
--- States the result of reading one line: the reader's new state, the line's error, or a failed allocation.
+-- States the result of reading one line: the new state of the reader, the error of the line, or a failed allocation.
 abbrev pub ReadsLine : {X : Type 0} → Reader → Reader → ℕ → List ℕ → Result X LineFault → Type 0
 ReadsLine s t number line (Ok x) = step (state s) line ≡ Ok (state t)
 ReadsLine s t number line (Err e) = ((cause : Cause) × (step (state s) line ≡ Err cause) × (e ≡ fault number cause))

@@ -1,5 +1,5 @@
--- The grammar of reports: defines which report a text is, or which error it has first. Lines are checked one by one.
--- Within a line, the checks have a fixed order.
+-- The grammar of reports: defines which report a text is, or which is the first error in the text. Lines are checked
+-- one by one. The checks of a line have a fixed order.
 use Rattle.std.specs.Prelude.{◌≡◌, ◌≢◌, ◌⊎◌, ℕ, ◌+◌, ◌<◌, ◌≤◌, ◌^◌, ◌==◌, ◌&&◌, ◌||◌, not, nat_lt, Bool, true, false, List, []}
 use Rattle.std.specs.Prelude.{◌∷◌, ◌++◌, length, codes, Option, Some, None, Result, Ok, Err, if◌then◌else◌, slice_index_or}
 use Rattle.std.specs.List.{list_any, list_all, AllByRecursion}
@@ -37,7 +37,8 @@ use Rattle.lset_report.specs.Texts.{title, last_line, report_text}
 
 -- ---- Limits on the numbers in a report
 
--- States that a call's key and its moments are at most 4294967295. (A history does not imply these limits.)
+-- States that a call is pending, or that it ended at a moment of at most 4294967295 with a reply that this version of
+-- the format has.
 abbrev pub IsEnd : Version → Option (ℕ × Reply) → Type 0
 IsEnd version None = Unit {0}
 IsEnd version (Some end) = (end.0 < 2 ^ 32) × HasReply version end.1
@@ -48,14 +49,14 @@ IsCall version x = (x.begun < 2 ^ 32) × ((key_of x.call).0 < 2 ^ 32) × IsEnd v
 abbrev pub IsPlace : Version → Placed → Type 0
 IsPlace version p = (p.call < 2 ^ 32) × HasReply version p.reply
 
--- Returns the maximum number of final keys. A set that opens with keys can reach more keys than one that opens empty.
+-- Returns the maximum number of final keys. A set that opens with keys can reach more keys than a set that opens empty.
 abbrev pub most_keys : Version → ℕ
 most_keys One = MOST_KEYS
 most_keys Two = MOST_KEYS_OPENED
 
 -- A report that can be written as text. A set can open with its thread count, quota and opening keys; its calls are a
--- history; its version of the format has words for its opening keys, calls and replies. All numbers, and the counts of
--- calls, entries and keys, are within their limits. The order and the final keys are otherwise arbitrary.
+-- history; its version of the format has words for its opening keys, calls and replies. All numbers are within their
+-- limits, and so are the counts of calls, entries and keys. The order and the final keys are otherwise arbitrary.
 pub record IsReport (r : ReportValue) : Type 0 where
   pub opens : Opens r.history.opening
   pub opening : HasOpening r.version r.history.opening.keys
@@ -72,12 +73,12 @@ pub record IsReport (r : ReportValue) : Type 0 where
 abbrev pub opening_kind : LineKind ReportLine
 opening_kind = (opening_form, λ t. told.Opening t.1.0)
 
--- Returns the line of a call, made from its number, thread, operation, key, start and end.
+-- Returns the line of a call with this number, thread, operation, key, start and end.
 abbrev pub call_told : {X : Type 0} → ℕ × (ℕ × (CallWord × (ℕ × (ℕ × X)))) → Option (ℕ × Reply) → ReportLine
 call_told t end = told.Call t.0
     (record { thread = t.1.0; call = with_key t.1.1.0 (record { 0 = t.1.1.1.0 }); begun = t.1.1.1.1.0; ended = end })
 
--- Returns the fields of a call's line. `end` are the fields after the moment at which the call starts.
+-- Returns the fields of the line of a call. `end` are the fields after the moment when the call starts.
 abbrev pub call_form : Form → Form
 call_form end = piece.word (codes "call") ∷ piece.any ∷ piece.any ∷ piece.call ∷ piece.any ∷ piece.moment ∷ end
 
@@ -102,8 +103,8 @@ key_kind = (piece.word (codes "key") ∷ piece.any ∷ [], λ t. told.Key t.1.0)
 abbrev pub end_kind : LineKind ReportLine
 end_kind = (piece.word (codes "end") ∷ [], λ t. told.End)
 
--- `from_keys` and the definitions below it return the kinds of lines from a section on. The sections come in a fixed
--- order, and any of them can be empty.
+-- Returns the kinds of lines that are allowed in the section of final keys. The definitions below do this for the
+-- sections before. The sections have a fixed order, and any section can be empty.
 abbrev pub from_keys : List (LineKind ReportLine)
 from_keys = key_kind ∷ end_kind ∷ []
 
@@ -113,7 +114,8 @@ from_order = place_kind ∷ from_keys
 abbrev pub from_calls : List (LineKind ReportLine)
 from_calls = open_kind ∷ ended_kind ∷ from_order
 
--- Only version 2 of the format has lines of opening keys.
+-- Returns the kinds of lines that are allowed in the section of opening keys. Only version 2 of the format has lines of
+-- opening keys.
 abbrev pub from_opening : Version → List (LineKind ReportLine)
 from_opening One = from_calls
 from_opening Two = opening_kind ∷ from_calls
@@ -139,7 +141,7 @@ is_entry moment y = y.begun == moment || ends_at moment y.ended
 abbrev pub is_taken : List CallRecord → ℕ → Bool
 is_taken calls moment = list_any (is_entry moment) calls
 
--- Returns whether every call started before this moment, which counts from 1.
+-- Returns whether this moment is at least 1, and every call in the list started before this moment.
 abbrev pub begins_later : List CallRecord → ℕ → Bool
 begins_later calls moment = nat_lt 0 moment && list_all (λ y. nat_lt y.begun moment) calls
 
@@ -151,13 +153,14 @@ ended_before moment (Some end) = nat_lt end.0 moment
 abbrev pub is_idle : List CallRecord → ℕ → ℕ → Bool
 is_idle calls thread moment = list_all (λ y. not (y.thread == thread) || ended_before moment y.ended) calls
 
--- Returns whether a call is pending, or ends after its start at a moment at which no other call starts or ends.
+-- Returns whether a call that starts at `begun` is pending, or ends later, at a moment when no call in the list starts
+-- or ends.
 abbrev pub ends_later : List CallRecord → ℕ → Option (ℕ × Reply) → Bool
 ends_later calls begun None = true
 ends_later calls begun (Some end) = nat_lt begun end.0 && not (is_taken calls end.0)
 
--- Returns whether the call x can be appended to a history: x starts last, its thread has no pending call, and no other
--- call starts or ends at its moments.
+-- Returns whether the call x can be appended to the calls of a history: x starts after all of them have started, the
+-- thread of x has no pending call, and no other call starts or ends when x starts or ends.
 abbrev pub may_follow : ℕ → List CallRecord → CallRecord → Bool
 may_follow threads calls x =
     nat_lt x.thread threads
@@ -166,7 +169,7 @@ may_follow threads calls x =
     && (not (is_taken calls x.begun)
     && is_idle calls x.thread x.begun)))
 
--- Returns the line if its section has fewer than `most` lines, else the error TooMany.
+-- Returns the line if its section has fewer than `most` lines so far, else the error TooMany.
 abbrev pub counted : ℕ → ℕ → ReportLine → Result ReportLine Cause
 counted most count l = if nat_lt count most then Ok l else Err wrong.TooMany
 
@@ -179,8 +182,8 @@ following r number x l = if is_next r number x then Ok l else Err wrong.History
 abbrev pub increasing : ReportValue → ℕ → ReportLine → Result ReportLine Cause
 increasing r k l = if is_above r.history.opening.keys k then Ok l else Err wrong.Opening
 
--- Returns the line if its section is not full, an opening key is greater than the one before it, and a call can follow
--- the calls so far. Otherwise returns the cause of the error.
+-- Returns the line if it can follow the report r: the section of the line is not full, an opening key is greater than
+-- the previous opening key, and a call can follow the previous calls. Otherwise returns the cause of the error.
 abbrev pub judged : ReportValue → ReportLine → Result ReportLine Cause
 judged r (told.Opening k) = counted MOST_OPENING (length r.history.opening.keys) (told.Opening k) >>= increasing r k
 judged r (told.Call number x) = counted MOST_CALLS (length r.history.calls) (told.Call number x) >>= following r number x
@@ -188,7 +191,7 @@ judged r (told.Place p) = counted MOST_PLACES (length r.order) (told.Place p)
 judged r (told.Key k) = counted (most_keys r.version) (length r.keys) (told.Key k)
 judged r told.End = Ok told.End
 
--- Parses a line and checks whether it can follow the lines before it.
+-- Parses a line and checks whether the line can follow the lines before it.
 abbrev pub line_after : Section → ReportValue → List ℕ → Result ReportLine Cause
 line_after s r line = line_in r.version wrong.Line (kinds r.version s) line >>= judged r
 
@@ -215,9 +218,9 @@ with_line r (told.Place p) = record r { order = r.order ++ p ∷ [] }
 with_line r (told.Key k) = record r { keys = r.keys ++ k ∷ [] }
 with_line r told.End = r
 
--- ---- A text as its lines: the complete lines, then the bytes after the last newline
+-- ---- A text as a list of lines: the complete lines, then the bytes after the last newline
 
--- The state of the reader after some lines: the section that it has reached, and the report so far.
+-- The state of a reader after some lines: the section that it has reached, and the report read so far.
 pub record SoFar : Type 0 where
   pub section : Section
   pub report : ReportValue
@@ -228,7 +231,7 @@ with_told s l = record { section = section_after l; report = with_line s.report 
 abbrev pub step : SoFar → List ℕ → Result SoFar Cause
 step s line = made (with_told s) (line_after s.section s.report line)
 
--- Returns whether the line `end` was read. The text is then complete.
+-- Returns whether the line `end` was read. After this line, the text is complete.
 abbrev pub is_done : Section → Bool
 is_done section.Opening = false
 is_done section.Calls = false
@@ -269,7 +272,8 @@ report_of parts = versioned_from text parts >>= λ last. Ok last.report
 abbrev pub reading : List ℕ → Result ReportValue LineFault
 reading bytes = report_of (cut_at 10 bytes)
 
--- Reading and writing agree: the text of every report is read as this report, and only texts of reports are read.
+-- States that reading and writing agree: the text of every report is read as this report, and only texts of reports are
+-- read.
 abbrev pub ReportsReadBack : Type 0
 ReportsReadBack = (r : ReportValue) (bytes : List ℕ)
     → (IsReport r → reading (report_text r) ≡ Ok r)
@@ -277,23 +281,22 @@ ReportsReadBack = (r : ReportValue) (bytes : List ℕ)
 
 -- ---- Errors from failed allocations
 
--- When reading can return the error Memory: only at a line that passed all its other checks. `parts` are the lines of
--- the text from line `first` on, and last the bytes after the final newline. `read` is the result if no allocation
--- fails.
+-- A result of reading: the error Memory, at a line that passed all other checks. `parts` are the lines of the text from
+-- line `first` on, followed by the bytes after the last newline. `read` is the result if no allocation fails.
 pub record RunsOut (first : ℕ) (parts : List (List ℕ)) (read : Result ReportValue LineFault) (e : LineFault) : Type 0 where
   pub cause : e.cause ≡ wrong.Memory
-  -- An allocation can fail at the header's last line or a later line. The lines before need no memory.
+  -- An allocation can fail at the last line of the header or at a later line. The lines before need no memory.
   pub after_header : last_of_header ≤ e.line
-  -- The line at which the allocation failed is complete: it ends with a newline.
+  -- The line that caused the failed allocation is complete: it ends with a newline.
   pub index : ℕ
   pub line_is : e.line ≡ first + index
   pub whole : index + 1 < length parts
-  -- The line at which the allocation failed is not `end`, which needs no memory.
+  -- The line that caused the failed allocation is not `end`, which needs no memory.
   pub asks : slice_index_or parts index [] ≢ last_line
-  -- Neither this line nor any line before it has another error.
+  -- Neither the line that caused the failed allocation nor any line before it has another error.
   pub good : IsFaultlessTo e.line read
 
--- States that the result is the report that the bytes spell, their first error, or Memory from a failed allocation.
+-- States that the result is the report with this text, the first error in the text, or Memory from a failed allocation.
 abbrev pub Gives : {X : Type 0} → (X → ReportValue) → Result X LineFault → List ℕ → Type 0
 Gives view (Ok x) bytes = reading bytes ≡ Ok (view x)
 Gives view (Err e) bytes = (reading bytes ≡ Err e) ⊎ RunsOut 1 (cut_at 10 bytes) (reading bytes) e

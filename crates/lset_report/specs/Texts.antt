@@ -22,7 +22,7 @@ title Two = codes "listset-report 2"
 abbrev pub header_in : ReportValue → Header
 header_in r = record { kind = r.kind; threads = r.history.opening.threads; quota = r.history.opening.quota }
 
--- Returns the text of a call's end: the moment and the reply, or `open` if the call is pending.
+-- Returns the text of the end of a call: the moment and the reply, or `open` if the call is pending.
 abbrev pub end_pieces : Option (ℕ × Reply) → List (List ℕ)
 end_pieces (Some end) = decimal end.0 ∷ reply_text end.1 ∷ []
 end_pieces None = codes "open" ∷ []
@@ -65,8 +65,8 @@ HasWordsIn One calls order = AllByRecursion (λ (x : CallRecord). HasCall One x.
     × AllByRecursion (λ (p : Placed). HasReply One p.reply) order
 HasWordsIn Two calls order = Unit {0}
 
--- The version has words for everything in the report. Version 1 lacks opening keys, `ceiling` and its replies. Version
--- 2 can express every report.
+-- The version of the format has words for everything in the report. Version 1 has no words for opening keys, for
+-- `ceiling` and for the replies of `ceiling`. Version 2 can express every report.
 pub record HasWordsOfVersion (r : ReportValue) : Type 0 where
   pub opening : HasOpening r.version r.history.opening.keys
   pub words : HasWordsIn r.version r.history.calls r.order

@@ -21,8 +21,8 @@ impl Pointed {
     }
 }
 
-/// Sorts the entries of an order by their linearization points: by moment and, at one moment, the call that changes the
-/// set first. The sort is stable. Returns `AllocError` if an allocation fails; the entries are then in an unspecified
+/// Sorts the entries of an order by their linearization points. At one moment, the call that changes the set precedes
+/// the others. The sort is stable. Returns `AllocError` if an allocation fails; the entries are then in an unspecified
 /// order.
 pub fn sort_by_points(places: &mut Vec<Pointed>) -> Result<(), AllocError>
     ensures { OnOk result (AreByPoints places.old.items places.new.items) }

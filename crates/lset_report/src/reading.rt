@@ -86,9 +86,9 @@ impl Reader {
         number as usize == self.calls.history.calls().len() && self.calls.may_follow(made)
     }
 
-    /// Returns the line if it can follow the lines read so far, otherwise the cause of the error. Its section must not
-    /// be full, an opening key must be greater than the one before it, and a call must be able to follow the earlier
-    /// calls.
+    /// Returns the line if it can follow the lines read so far, otherwise the cause of the error. The section of the
+    /// line must not be full, an opening key must be greater than the previous opening key, and a call must be able to
+    /// follow the previous calls.
     fn judged(&self, line: Line) -> Result<Line, Cause>
         requires { Holds self.now }
         ensures { result ≡ judged (so_far self.now) line }
@@ -195,7 +195,7 @@ impl Reader {
     }
 }
 
-/// Returns which version of the format the first line of a report names.
+/// Returns the version of the format that the first line of a report names.
 fn version_told(bytes: &[u8]) -> Version
     ensures { result ≡ version_told (cut_at 10 bytes.now) }
 {
@@ -219,30 +219,31 @@ fn report(alloc: Global, bytes: &[u8]) -> Result<Report, ReportFault>
 /// The first line states the version. In version 2, lines with opening keys can precede the calls, in strictly
 /// increasing order. In version 1, a line with `opening`, `ceiling`, `nothing` or a reply such as `at-5` is the error
 /// `Line`. The function does not check that the order explains the history and leaves the final keys; use `check_order`
-/// for that. Reading n bytes takes about `n log n` steps, whatever numbers they contain.
+/// for this check. Reading n bytes takes about `n log n` steps, whatever numbers they contain.
 ///
 /// # Errors
 ///
 /// Returns the first wrong line with the first check that it fails. `NotEnded` takes precedence over all other errors;
-/// the others are checked in the order of `Cause`. If the bytes end before a header line, the error is the one for that
-/// line. If an allocation fails, returns `Memory` with the last line read instead. That line is not `end`, and neither
-/// it nor an earlier line has another error.
+/// the others are checked in the order of `Cause`. If the bytes end before a header line, the error is the error for
+/// this line. If an allocation fails, returns `Memory` with the last line read instead. This line is not `end`, and
+/// neither this line nor an earlier line has another error.
 #[tactic(auto, using(crate::proofs::ReportTexts::found_in, crate::proofs::ReportTexts::only_in))]
 pub fn read_report(alloc: Global, bytes: &[u8]) -> Result<Report, ReportFault>
     // If a report is returned, its calls are a history, and `bytes` is the text of the report.
     ensures found { IfOk result (λ r. IsReport (view r) × (bytes.now ≡ report_text (view r))) }
     // `write_report` can write every report that is returned: its version has words for all its contents.
     ensures words { IfOk result (λ r. HasWordsOfVersion (view r)) }
-    // If `bytes` is the text of a report, the call returns this report or fails because an allocation failed.
+    // If `bytes` is the text of a report, the result is this report, unless an allocation fails.
     ensures only { (r : ReportValue) → IsReport r → bytes.now ≡ report_text r
         → MatchResult result (λ s. view s ≡ r) (λ e. e.cause ≡ Cause.Memory) }
-    // The error is the first one in the text, or `Memory` at a line without another error.
+    // The error is the first error in the text, or `Memory` at a line without another error.
     ensures exact { Gives view result bytes.now }
 {
     report(alloc, bytes)
 }
 
-/// Lemma: `read_report` accepts exactly the texts of reports. If it accepts bytes, they are the text of its result.
+/// States a lemma: `read_report` accepts exactly the texts of reports. If it accepts bytes, they are the text of its
+/// result.
 pub fn reports_read_back()
     ensures { ReportsReadBack }
 {}

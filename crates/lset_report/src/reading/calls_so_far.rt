@@ -8,17 +8,17 @@ use lset_history::History;
 use lset_words::CallRecord;
 use std::alloc::{AllocError, Global};
 
-/// The calls read so far, and the fields that decide whether a further call can follow them.
+/// The calls read so far, with fields that decide whether a further call can follow them.
 #[derive(Drop)]
 pub(crate) struct CallsSoFar {
     /// The calls read so far, as a history of a set that opens empty.
     pub history: History,
-    /// The moment at which the last call started, or 0 before the first call.
+    /// The moment when the last call started, or 0 before the first call.
     pub last_begun: u32,
-    /// For each thread, the moment at which its last call ended. 0 if the thread has no call yet or its last call is
+    /// For each thread, the moment when its last call ended. 0 if the thread has no call yet or its last call is
     /// pending.
     pub last_ends: Vec<u32>,
-    /// For each thread, whether its last call is pending.
+    /// For each thread, states whether its last call is pending.
     pub busy: Vec<bool>,
 }
 
@@ -41,7 +41,7 @@ fn is_open(made: CallRecord) -> bool
 }
 
 impl CallsSoFar {
-    /// Creates a reader state without calls, for `threads` threads that can each add `quota` keys. Allocates.
+    /// Creates a value without calls, for `threads` threads that can each add `quota` keys. Allocates.
     pub fn new(alloc: Global, threads: u32, quota: u32) -> Result<CallsSoFar, AllocError>
         requires { IsWithin (record { threads = threads; quota = quota; opening = 0 }) }
         ensures tracks { IfOk result (λ s. Tracks s) }
@@ -71,9 +71,9 @@ impl CallsSoFar {
         }
     }
 
-    /// Returns whether the call `made` can follow these calls. After the start of the last call, a moment is taken only
-    /// if some thread's last call ended at it. It therefore suffices to compare with these ends, and no set of moments
-    /// is stored.
+    /// Returns whether the call `made` can follow these calls. If a moment is after the start of the last call, another
+    /// call can only start or end at this moment if it is the end of some thread's last call. It therefore suffices to
+    /// compare with these ends, and no set of moments is stored.
     pub fn may_follow(&self, made: CallRecord) -> bool
         requires { Tracks self.now }
         ensures { result ≡ may_follow (threads_of self.now) self.now.history.calls made }

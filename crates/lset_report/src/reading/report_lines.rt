@@ -24,7 +24,7 @@ pub enum Section {
 }
 
 /// A line of a report after its header: an opening key, a numbered call, an entry of the order, a final key, or the
-/// end.
+/// line `end`.
 #[derive(Clone, Copy)]
 pub enum Line {
     Opening(u32),
@@ -35,7 +35,7 @@ pub enum Line {
 }
 
 impl Line {
-    /// Returns the section to which the line belongs.
+    /// Returns the section of the report that has this line.
     pub fn section(self) -> Section
         ensures { result ≡ section_after self }
     {
@@ -49,7 +49,7 @@ impl Line {
     }
 }
 
-/// The fields of a call's line up to the moment at which the call starts.
+/// The fields of the line of a call, up to the moment when the call starts.
 #[derive(Clone, Copy)]
 struct Begun<'a> {
     word: &'a [u8],
