@@ -1,4 +1,4 @@
--- The events of a schedule as one list, for the loop that makes them.
+-- Lemmas about the events of a schedule as one list, for the loop that makes them.
 use Rattle.std.proofs.Common.{rules}
 use Rattle.std.proofs.lemmas.Grind.{common_steps}
 use Rattle.std.proofs.Common.{◌≡◌, ℕ, zero, suc, drop, arith, ◌-◌, ◌+◌, ◌<◌, ◌≤◌, List, [], ◌∷◌, ◌++◌, replicate, length, get_or}
@@ -27,7 +27,7 @@ as_many es = length-map es event_in
 
 -- ---- Lemmas about the events that the loop has made and the events that remain
 
--- The first k events were made, and the events in `rest` remain.
+-- States that the first k events of the list es were made, and that the events in `rest` remain.
 pub record IsAhead (es : List LineEvent) (k : ℕ) (rest : List LineEvent) : Type 0 where
   pub within : k ≤ length es
   pub rest_is : drop k es ≡ rest
@@ -52,12 +52,12 @@ drop_more [] (suc k) next rest e = absurd (cc)
 drop_more (x ∷ es) zero next rest e = cc
 drop_more (x ∷ es) (suc k) next rest e = drop_more es k next rest e
 
--- The value that stands for a line whose index is out of range.
+-- A default value for a line whose index is out of range. No proof depends on it.
 abbrev pub no_line : Line
 no_line = line.Begin 0 (call.Add (record { 0 = 0 }))
 
--- Returns the events that remain while the loop makes line i: `times` events from line i, then all events from later
--- lines.
+-- Returns the remaining events while the loop makes the events of line i: `times` events of line i, then all events of
+-- later lines.
 abbrev pub rest_of : ℕ → List Line → ℕ → ℕ → LineEvent → List LineEvent
 rest_of n ls i times next = replicate times next ++ events_from (n + (i + 1)) (drop (i + 1) ls)
 
@@ -74,7 +74,7 @@ module _ (n : ℕ) (ls : List Line) (i k times : ℕ) (next : LineEvent) where
         let t : times ≡ times - 0 = omega arith in cc (e, f, t));
   }
 
-  -- Lemmas for the case that j events from the current line have been made.
+  -- Lemmas for the case that j events of the current line were made.
   module _ (j : ℕ) (ahead : IsAhead (events_from n ls) k (rest_of n ls i (times - j) next)) where
     is_next : j < times → drop k (events_from n ls) ≡ next ∷ rest_of n ls i (times - (j + 1)) next
     is_next inside = ahead.rest_is ∙ ap (λ z. rest_of n ls i z next) (let e : times - j ≡ suc (times - (j + 1)) = omega arith in e)

@@ -1,4 +1,4 @@
--- Every enabled event of a run can be recorded, and the recorder then still matches the run.
+-- Proof: every enabled event of a run can be recorded, and afterwards the recorder still describes the run.
 use Rattle.std.proofs.Common.{◌≡◌, ℕ, suc, ◌+◌, ◌<◌, ◌⊎◌, inl, inr, List, sym, refl, subst, ap, ◌∙◌, add-one, arith}
 use Rattle.lset_words.specs.Account.{Account, Enters}
 use Rattle.lset_words.specs.Words.{Opening, Opens, sizes}
@@ -26,7 +26,7 @@ use Rattle.lset_replay.proofs.EventLists.{IsAhead}
 use Rattle.lset_replay.proofs.FollowedRuns.{TellsKeys, holds_keys, shown}
 use Rattle.lset_replay.proofs.RecorderReady.{may_begin, may_step}
 
--- The effect of an event, as `told` returns it, is the log's entry for this event.
+-- The effect that `told` returns for an event is the effect in the log's entry for this event.
 pub told_entry : (T : Table) (s : State) (e : Event) → entry_told e (told T s e) ≡ entry_of T s e
 told_entry T s (Begin t call) = refl
 told_entry T s (Go t) = refl
@@ -44,7 +44,7 @@ run_more T op es k r e = record {
     last_or_before : (j k : ℕ) → j < suc k → (j ≡ k) ⊎ (j < k)
     last_or_before j k l = grind arith
 
--- ---- Lemmas for one more event that is made and recorded
+-- ---- Lemmas about making and recording the next event
 module _ (T : Table) (op : Opening) (events : List LineEvent) (k : ℕ) (w : WorldState)
     (r : Recorder) (h : HasFollowed T op events k w r) (next : LineEvent) (there : ComesNext events k next) where
   abbrev es : ℕ → Event
@@ -98,7 +98,7 @@ module _ (T : Table) (op : Opening) (events : List LineEvent) (k : ℕ) (w : Wor
   stopped cause.Memory w' made = tt
   stopped c w' made = made
 
-  -- The next event can be recorded. This follows from the list's account, which says which event changes which key for
+  -- The next event of a run can be recorded. The proof uses the account of the run: which event changes which key for
   -- which call.
   module _ (accounts : TellsKeys T) where
     open shown T op events use {log, contents, counts}
@@ -125,9 +125,9 @@ module _ (T : Table) (op : Opening) (events : List LineEvent) (k : ℕ) (w : Wor
             account low k (omega arith) r (ap (λ (o : Opening). o.threads) h.opening_is) h.trace t _ _ (entered (Go t) i) in
             (may.0, subst (λ (z : Told). MayChange (moments_of r.changes) (suc k) z.change) (sym says) may.1)
 
--- ---- Lemmas for the loop over the events
+-- ---- Lemmas for the loop that makes the events
 
--- All events before `rest` were made and recorded.
+-- States that all events before `rest` were made and recorded.
 pub record IsOnWay (T : Table) (op : Opening) (events rest : List LineEvent) (w : WorldState) (r : Recorder) : Type 0 where
   pub ahead : IsAhead events r.last rest
   pub followed : HasFollowed T op events r.last w r
@@ -152,7 +152,7 @@ module _ (T : Table) (accounts : TellsKeys T) (op : Opening) (events : List Line
   only_memory c memory = subst (λ z. IsStoppedBy T op events next.line z)
       (sym (memory (ready T op events r.last w r h next there accounts made.0 a made.2))) tt
 
--- Before the first event, the world (words and threads) and the recorder match the run.
+-- Before the first event, the world (the words and threads of the list) and the recorder match the run.
 pub at_first : (T : Table) (op : Opening) (events : List LineEvent) (w : WorldState) (r : Recorder) → Opens op
     → r.history.opening ≡ op → w ≡ record { sizes = sizes op; state = opening op } → trace_of r ≡ no_trace r.history.opening
     → r.last ≡ 0 → HasFollowed T r.history.opening events 0 w r

@@ -1,4 +1,4 @@
--- The report made from a recorded run, and why its order linearizes the history.
+-- Proof: the order in the report of a recorded run linearizes the history in the report.
 use Rattle.std.proofs.Common.{◌≡◌, ℕ, suc, ◌<◌, Bool, true, false, List, [], ◌∷◌, length, map, sym, refl, subst, ap, ◌∙◌, arith}
 use Rattle.std.specs.Prelude.{Option, Some, None}
 use Rattle.std.specs.List.{swap}
@@ -38,13 +38,14 @@ use Rattle.lset_replay.proofs.FollowedRuns.{TellsKeys, shown, account_then, low_
 use Rattle.lset_replay.proofs.EventLists.{as_many}
 use Rattle.lset_schedule.specs.Plan.{Plan, opening_in}
 
--- ---- Lemmas: the calls, sorted by linearization point, are in the order that the definition [Placement] requires
+-- ---- Lemmas: the calls, sorted by linearization point, have the order that the definition [Placement] requires
 
 abbrev moment_of : Option Linearized → Option ℕ
 moment_of None = None
 moment_of (Some p) = Some p.moment
 
--- Returns whether the linearization point of a call is a change: yes if the call made a change.
+-- Returns whether a call has changed the set. The argument is the moment of the change, or None if the call made no
+-- change.
 changes : Option ℕ → Bool
 changes None = false
 changes (Some m) = true
@@ -149,7 +150,7 @@ module _ (op : Opening) (last : ℕ) (log : Log) (contents : Contents) (counts :
       let f = follows op last log contents counts account low last (omega arith) in
       is_placement op.quota contents counts (calls_at log last) (trace_at op log last).places f.numbered f.placed
 
--- The keys in a world (the words and threads of a list) are unique, as a list in increasing order.
+-- If two lists both contain exactly the keys of a set in increasing order, the lists are equal.
 content_once : (v : View) (ks js : List ℕ) → IsContent v ks → IsContent v js → ks ≡ js
 content_once v ks js a b = a.0.2 ∙ ap (keys_in v) (chain_once v 0 a.0.0 b.0.0 a.0.1 b.0.1) ∙ sym b.0.2
 
@@ -191,8 +192,8 @@ replay_is T accounts p w r order keys h o c =
 module _ (T : Table) (headline : PlacementExplainsRuns T) (op : Opening) (events : List Event) (history : List CallRecord)
     (order : List Placed) (keys : List ℕ)
     (h : IsReportOf T op events history order keys) where
-  -- The order in the report is the placement, which sorts the calls by the moments at which they take effect. The
-  -- placement explains the run.
+  -- The order in the report explains the run, because it is the placement: the calls sorted by the moments when they
+  -- take effect.
   run_explained : ExplainsRun T op (event_at events) (length events) order
   run_explained =
       let found : (o : List Placed) × ExplainsRun T op (event_at events) (length events) o

@@ -1,4 +1,4 @@
--- What is known about a run whose events were recorded.
+-- Facts about a run that was recorded.
 use Rattle.std.proofs.Common.{ℕ, List, sym, subst, arith}
 use Rattle.lset_words.specs.Log.{Log}
 use Rattle.lset_words.specs.Account.{Account, Contents, Counts}
@@ -18,8 +18,8 @@ use Rattle.lset_replay.proofs.ReplayKept.{Follows}
 use Rattle.lset_replay.proofs.KeyChanges.{HoldsKeys}
 use Rattle.lset_replay.proofs.RecorderReady.{follows}
 
--- A run without its words and registers: its log, and at each moment the set's content and the number of keys that each
--- thread has added.
+-- A run without its words and registers: its log, and for each moment the content of the set and the number of keys
+-- that each thread has added.
 pub record Shown : Type 1 where
   pub log : Log
   pub contents : Contents
@@ -32,8 +32,8 @@ shown T op events = record {
   counts = counts_of (views T op (event_at (only_events events)));
 }
 
--- What a replay relies on: it is known which event of a run changes which key for which call (the account of the run),
--- and all keys are below 2^32.
+-- Assumptions of a replay about a list: each run has an account (which event changes which key for which call), and all
+-- keys in the set are below 2^32.
 pub record TellsKeys (T : Table) : Type 0 where
   pub account : HasAccount T
   pub listed : ListedContent T

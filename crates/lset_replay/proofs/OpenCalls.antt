@@ -1,4 +1,4 @@
--- How an event changes the list of calls: it appends a call, or changes its thread's pending call.
+-- Lemmas: an event appends a call to the list of calls, or changes the pending call of its thread.
 use Rattle.std.proofs.lemmas.Grind.{common_steps}
 use Rattle.std.proofs.Common.{◌≡◌, ◌≢◌, ℕ, zero, suc, ◌+◌, ◌<◌, ◌≤◌, ◌⊎◌, true, false, inl, inr, List, [], ◌∷◌, ◌++◌, length, map}
 use Rattle.std.proofs.Common.{set, sym, refl, subst, ap, ◌∙◌, arith}
@@ -23,11 +23,11 @@ pub length_stepped : (log : Log) (k t : ℕ) (change : Option Change) (reply : O
 length_stepped log k t change reply e = ap (λ z. length (calls_after (suc k) z (calls_at log k))) e
     ∙ length-map (calls_at log k) (step_of k t change reply)
 
--- States that a call is pending, and that it has this thread, operation and start.
+-- States that the call x is pending, and that it has this thread, operation and start.
 abbrev pub IsOpenAs : ℕ → Call → ℕ → TracedCall → Type 0
 IsOpenAs t call begun x = (x.thread ≡ t) × (x.ended ≡ None) × (x.call ≡ call) × (x.begun ≡ begun)
 
--- The call with this number is the thread's pending call, with this operation and start.
+-- States that call number `number` is the pending call of thread t, with this operation and start.
 pub record OpenNumber (xs : List TracedCall) (t number : ℕ) (call : Call) (begun : ℕ) : Type 0 where
   pub below : number < length xs
   pub open_call : IsOpenAs t call begun (traced_at xs number)
@@ -50,7 +50,8 @@ open_began x xs t number call begun p =
       open_call = subst (IsOpenAs t call begun) (sym (get_or_append_left xs (x ∷ []) no_traced number low)) p.open_call;
     }
 
--- A step does not change a pending call if another thread makes the step or the step ends no call.
+-- If a step of thread u does not end a call, or if u is not thread t, the pending call of thread t is the same after
+-- the step.
 pub open_stepped : (k u t : ℕ) (change : Option Change) (reply : Option Reply) (xs : List TracedCall) (number : ℕ) (call : Call)
     (begun : ℕ) → (reply ≡ None) ⊎ (u ≢ t) → OpenNumber xs t number call begun
     → OpenNumber (map (step_of k u change reply) xs) t number call begun
@@ -102,7 +103,7 @@ map_sets t (suc i) f (x ∷ xs) l u n =
     let e = map_sets t i f xs (omega arith) u (λ j m d. n (suc j) (omega arith) (λ g. d (omega arith))) in
     rw (b, e) refl
 
--- A step changes one entry of the list of calls: the pending call of its thread.
+-- A step changes exactly one entry of the list of calls: the pending call of its thread.
 pub step_sets : (op : Opening) (last : ℕ) (log : Log) (contents : Contents) (counts : Counts)
     → Account op last log contents counts
     → (k t : ℕ) (change : Option Change) (reply : Option Reply) → k ≤ last

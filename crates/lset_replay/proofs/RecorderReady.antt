@@ -1,4 +1,4 @@
--- In every run of a list, the recorder can record the next event.
+-- Proof: in every run of a list, the recorder can record the next event.
 use Rattle.std.proofs.Common.{◌≡◌, ℕ, zero, suc, ◌<◌, ◌≤◌, ◌^◌, Bool, true, false, List, [], ◌∷◌, get_or, sym, refl, subst, ap, ◌∙◌, arith, ◌&&◌, length}
 use Rattle.std.specs.Prelude.{All, if◌then◌else◌, Contains as InList, ◌==◌, Option, None, is_none, IfSome}
 use Rattle.std.proofs.lemmas.List.Elements.{All-from_get_or, All-map}
@@ -66,7 +66,7 @@ module _ (op : Opening) (contents : Contents) (opens : (k : ℕ) → (contents 0
 module _ (op : Opening) (last : ℕ) (log : Log) (contents : Contents) (counts : Counts)
     (account : Account op last log contents counts)
     (low : HoldsKeys last contents) where
-  -- Recording an event keeps the invariant `Follows`.
+  -- Recording an event preserves the invariant `Follows`: the recorder describes the run so far.
   entered : (k : ℕ) → k < last → (s : Trace) → (e : Entry) → log k ≡ e → Enters op.threads op.quota log contents counts k e
       → Follows op log contents counts k s
       → Follows op log contents counts (suc k) (trace_after (suc k) e s)

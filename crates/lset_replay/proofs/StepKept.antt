@@ -1,4 +1,4 @@
--- After one more step, the recorder still describes the run.
+-- Proof: after the next step, the recorder still describes the run.
 use Rattle.std.proofs.Common.{◌≡◌, ◌≢◌, ℕ, suc, ◌<◌, ◌≤◌, true, false, ◌||◌, inl, inr, List, length, map, set, sym, refl}
 use Rattle.std.proofs.Common.{subst, ap, ◌∙◌, arith, get_or-set_same, get_or-set_other}
 use Rattle.std.specs.Prelude.{All, ◌-◌, Option, Some, None}
@@ -90,7 +90,7 @@ module _ (op : Opening) (last : ℕ) (log : Log) (contents : Contents) (counts :
   abbrev open_now : (o : OpenCall) × (open_call_at s.under_way t ≡ Some o) × IsWatched log contents counts k t o
   open_now = f.busy t en.of_a_thread en.under_way
 
-  -- Returns the pending call that makes the step.
+  -- Returns the pending call of the thread that makes the step.
   abbrev watching : OpenCall
   watching = open_now.0
 
@@ -103,7 +103,8 @@ module _ (op : Opening) (last : ℕ) (log : Log) (contents : Contents) (counts :
   number : OpenNumber (calls_at log k) t number_here watching.call watching.begun
   number = open_now.2.here
 
-  -- `changed` returns the recorder's contents after the call's change, and `kept` those after its end.
+  -- `changed` returns the recorder's content after the change of the call, and `kept` the content after the end of the
+  -- call.
   abbrev changed : Trace
   changed = changed_on (suc k) t ch s
 

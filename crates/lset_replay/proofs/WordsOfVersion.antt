@@ -1,4 +1,4 @@
--- The schedule's version has words for all calls and replies in its report.
+-- Proof: the format version of a schedule has words for all calls and replies in the schedule's report.
 use Rattle.std.proofs.Common.{ap, ◌≡◌, ℕ, zero, suc, ◌+◌, Bool, true, false, List, [], ◌∷◌, length, map, replicate}
 use Rattle.std.proofs.Common.{refl, sym, subst, ◌∙◌}
 use Rattle.std.specs.Prelude.{Option, Some, None, ◌==◌, Contains, if◌then◌else◌}
@@ -59,7 +59,8 @@ lines_begin v n [] h = tt
 lines_begin v n (l ∷ ls) h = all-append (BeginsLineIn v) (events_of_line n l) (events_from (n + 1) ls) (line_begins v n l h.0)
     (lines_begin v (n + 1) ls h.1)
 
--- After the last event, `event_at` returns a step, which starts no call.
+-- Each event of the schedule starts a call of this version or no call. Beyond the last event, `event_at` returns a
+-- step, which starts no call.
 event_begins : (v : Version) (es : List LineEvent) (k : ℕ) → AllByRecursion (BeginsLineIn v) es
     → BeginsIn v (event_at (only_events es) k)
 event_begins v [] k h = tt
@@ -148,7 +149,7 @@ order_is_in q calls s (p ∷ ps) legal h =
       order_is_in q calls (after_call s c.thread c.call p.reply) ps legal.1 h,
     )
 
--- ---- Lemmas: the reply of a completed call is the one in the order
+-- ---- Lemmas: the reply of a completed call in the history is its reply in the order
 
 end_is_in : (order : List Placed) (number : ℕ) (end : Option (ℕ × Reply)) → AllByRecursion IsReplyIn order
     → ((m : ℕ) (r : Reply) → end ≡ Some (m, r) → Contains order (record { call = number; reply = r })) → HasEnd One end

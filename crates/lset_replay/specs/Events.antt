@@ -10,7 +10,7 @@ use Rattle.lset_schedule.specs.declared.TheConstants.{MOST_EVENTS}
 use Rattle.lset_schedule.specs.Plan.{Plan, event_count, first_event_line, opening_in}
 use Rattle.lset_replay.specs.declared.events.LineEvent.{LineEvent}
 
--- Returns the events that one line stands for: the start of a call, or some steps of one thread.
+-- Returns the events of one line: the start of a call, or some steps of one thread.
 abbrev pub events_of_line : ℕ → Line → List LineEvent
 events_of_line number (line.Begin t call) = record { line = number; event = event.Begin t call } ∷ []
 events_of_line number (line.Go t steps) = replicate steps (record { line = number; event = event.Go t })
@@ -22,8 +22,8 @@ events_from number (l ∷ ls) = events_of_line number l ++ events_from (number +
 abbrev pub events_of : Plan → List LineEvent
 events_of p = events_from (first_event_line p) p.lines
 
--- A schedule that can be replayed. Its sizes and opening keys are within the limits, and it has at most MOST_EVENTS
--- events, which are otherwise arbitrary.
+-- States that a schedule can be replayed: its sizes and opening keys are within the limits, and it has at most
+-- MOST_EVENTS events. The events are otherwise arbitrary.
 pub record IsInLimits (p : Plan) : Type 0 where
   pub opens : Opens (opening_in p)
   pub few : sum_by event_count p.lines ≤ MOST_EVENTS

@@ -1,4 +1,4 @@
--- The state of a replay: the list's words and threads (the world) and the recorder match the events made so far.
+-- The state of a replay: the words and threads of the list (the world) and the recorder match the events made so far.
 use Rattle.std.specs.Prelude.{◌≡◌, ℕ, ◌<◌, List, length, Result}
 use Rattle.lset_text.specs.declared.causes.Cause.{Cause}
 use Rattle.lset_text.specs.declared.causes.Cause.TheVariants as cause
@@ -17,14 +17,14 @@ use Rattle.lset_replay.specs.Trace.{trace_at, trace_of}
 use Rattle.lset_replay.specs.Reports.{world_after, IsFirstRefused}
 use Rattle.lset_words.specs.Words.{Opening}
 
--- Values of type W (worlds: the words and threads of a list) behave as the step table T says. `state` returns the state
--- of a world.
+-- Values of type W (worlds: the words and threads of a list) change with each event as the step table T defines.
+-- `state` returns the state of a world.
 pub record AreSteps (T : Table) (W : Type 0) (makes : W → Event → Result Told Cause → W → Type 0) (state : W → WorldState) : Type 0 where
   pub account : HasAccount T
   pub listed : ListedContent T
   pub made : (w : W) (e : Event) (r : Result Told Cause) (w' : W) → makes w e r w' → HasMade T (state w) e r (state w')
 
--- The first `k` events were made. They led to the world `w` (shared words and threads) and were recorded in `r`.
+-- The first k events were made. They led to the world w (shared words and threads) and were recorded in r.
 pub record HasFollowed (T : Table) (op : Opening) (events : List LineEvent) (k : ℕ) (w : WorldState) (r : Recorder) : Type 0 where
   pub run : Run T op (event_at (only_events events)) k
   pub world : w ≡ world_after T op (only_events events) k
@@ -38,8 +38,8 @@ pub record ComesNext (es : List LineEvent) (k : ℕ) (next : LineEvent) : Type 0
   pub event_is : event_at (only_events es) k ≡ next.event
   pub line_is : next.line ≡ line_at es k
 
--- States that a run can stop at this line for this cause: its event is the first that is not enabled, or an allocation
--- failed.
+-- States that a run can stop at this line for this cause: the line has the first event that is not enabled, or an
+-- allocation failed.
 abbrev pub IsStoppedBy : Table → Opening → List LineEvent → ℕ → Cause → Type 0
 IsStoppedBy T op events line cause.NoThread = IsFirstRefused T op events line step.NoThread
 IsStoppedBy T op events line cause.Busy = IsFirstRefused T op events line step.Busy

@@ -1,4 +1,4 @@
--- The effect of an event on a list's shared words and its threads' local states (its world).
+-- The effect of an event on the shared words of a list and on the local states of its threads (together: its world).
 use Rattle.std.specs.Prelude.{◌≡◌, Result, Ok, Err}
 use Rattle.lset_text.specs.declared.causes.Cause.{Cause}
 use Rattle.lset_text.specs.declared.causes.Cause.TheVariants as cause
@@ -8,8 +8,8 @@ use Rattle.lset_steps.specs.declared.world.StepFault.TheVariants as step
 use Rattle.lset_steps.specs.Steps.{Table, Enabled, after, told}
 use Rattle.lset_steps.specs.Worlds.{WorldState, Refused}
 
--- States that an enabled event makes its step and returns the effect, and that an event that is not enabled changes
--- nothing.
+-- States that an enabled event makes its step and returns its effect, and that any other event returns an error and
+-- changes nothing.
 abbrev pub HasMade : Table → WorldState → Event → Result Told Cause → WorldState → Type 0
 HasMade T w e (Ok answer) w' = Enabled w.state e × (w' ≡ record w { state = after T w.state e }) × (answer ≡ told T w.state e)
 HasMade T w e (Err cause.NoThread) w' = Refused w e step.NoThread × (w' ≡ w)

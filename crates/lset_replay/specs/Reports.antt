@@ -1,4 +1,4 @@
--- [Replay]: the report of a schedule or, if the schedule cannot be run, the event at which it fails.
+-- [Replay]: the report of a schedule. If the schedule cannot be run, the first event that is not enabled.
 use Rattle.std.specs.Prelude.{◌≡◌, ℕ, ◌<◌, List, length, Result, Ok, Err}
 use Rattle.std.specs.List.Sorted.{IsStrictlyIncreasing}
 use Rattle.lset_words.specs.declared.history.CallRecord.{CallRecord}
@@ -21,14 +21,14 @@ use Rattle.lset_replay.specs.declared.fault.ReplayFault.TheVariants as fault
 use Rattle.lset_report.specs.declared.report.Report.{Report}
 use Rattle.lset_replay.specs.Events.{events_of, only_events, line_at}
 
--- The history, the order and the final keys that the report of a run with these events must have.
+-- The history, the order and the final keys that the report must have if the run has these events.
 pub record IsReportOf (T : Table) (op : Opening) (events : List Event)
     (history : List CallRecord) (order : List Placed) (keys : List ℕ) : Type 0 where
   -- Each event is enabled when it is made.
   pub run : Run T op (event_at events) (length events)
   -- The history in the report is the history of the run.
   pub history_is : history ≡ history_of T op (event_at events) (length events)
-  -- The order in the report is the [Placement]: it sorts the calls by the moments at which they take effect.
+  -- The order in the report is the [Placement]: the calls sorted by the moments when they take effect.
   pub placement : IsPlacedBy T op (event_at events) (length events) order
   -- The final keys in the report are the keys of the set after the last event.
   pub content : IsContent (views T op (event_at events) (length events)) keys
@@ -37,7 +37,7 @@ pub record IsReportOf (T : Table) (op : Opening) (events : List Event)
 abbrev pub world_after : Table → Opening → List Event → ℕ → WorldState
 world_after T op events k = record { sizes = sizes op; state = state_at T op (event_at events) k }
 
--- The first event that is not enabled has this line number, and `cause` is the first cause that applies to it.
+-- The first event that is not enabled is in line `line`, and `cause` is the first cause that applies to this event.
 pub record IsFirstRefused (T : Table) (op : Opening) (events : List LineEvent)
     (line : ℕ) (cause : StepFault) : Type 0 where
   pub index : ℕ
@@ -46,22 +46,23 @@ pub record IsFirstRefused (T : Table) (op : Opening) (events : List LineEvent)
   pub before : Run T op (event_at (only_events events)) index
   pub refused : Refused (world_after T op (only_events events) index) (event_at (only_events events) index) cause
 
--- States why a replay fails: at the first event that is not enabled, with its line and cause, or at a failed
--- allocation.
+-- States why a replay fails: because of the first event that is not enabled, with its line and cause, or because an
+-- allocation failed.
 abbrev pub IsRefusal : Table → Opening → List LineEvent → ReplayFault → Type 0
 IsRefusal T op events (fault.NoThread line) = IsFirstRefused T op events line step.NoThread
 IsRefusal T op events (fault.Busy line) = IsFirstRefused T op events line step.Busy
 IsRefusal T op events (fault.Idle line) = IsFirstRefused T op events line step.Idle
 IsRefusal T op events fault.Memory = Unit {0}
 
--- The report r is the one that a replay of the schedule p on the step table T must return.
+-- States that r is the report that a replay of the schedule p on the step table T must return.
 pub record IsReplay (T : Table) (p : Plan) (r : ReportValue) : Type 0 where
   pub version_is : r.version ≡ p.version
   pub kind_is : r.kind ≡ p.kind
   pub opening_is : r.history.opening ≡ opening_in p
   pub report : IsReportOf T (opening_in p) (only_events (events_of p)) r.history.calls r.order r.keys
 
--- States the result of a replay on the step table T: the schedule's report, or the error that the schedule has.
+-- States the result of a replay on the step table T: the report of the schedule, or the error of its first event that
+-- is not enabled.
 abbrev pub Replays : Table → Plan → Result Report ReplayFault → Type 0
 Replays T p (Ok r) = IsReplay T p (view r)
 Replays T p (Err refusal) = IsRefusal T (opening_in p) (events_of p) refusal

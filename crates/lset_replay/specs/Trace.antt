@@ -1,4 +1,4 @@
--- What a recorder contains after some events, computed from the effects of these events.
+-- The content of a recorder after some events, computed from the effects of these events.
 use Rattle.std.specs.Prelude.{◌≡◌, ℕ, zero, suc, ◌-◌, ◌<◌, ◌≤◌, Bool, true, false, not, List, [], ◌∷◌, ◌++◌, length, replicate}
 use Rattle.std.specs.Prelude.{Option, Some, None, slice_index_or, slice_set, IsSomeAnd}
 use Rattle.lset_words.specs.declared.Call.{Call}
@@ -22,15 +22,15 @@ use Rattle.lset_replay.specs.declared.recorder.Recorder.{Recorder}
 
 -- ---- The reply of a pending call
 
--- A call that changed nothing returned this reply. Returns true if the reply is correct while the key is present, and
--- false if it is correct while the key is absent. Always true for a ceiling, since `shows` tests its whole reply.
+-- Returns true if the reply of a call that changed nothing is correct while the call's key is present, and false if the
+-- reply is correct while the key is absent. Always true for a `ceiling`, since `shows` tests its whole reply.
 abbrev pub needs_key : Call → Reply → Bool
 needs_key (call.Add k) reply.False = true
 needs_key (call.Contains k) reply.True = true
 needs_key (call.Ceiling k) r = true
 needs_key c r = false
 
--- Returns the key in a ceiling's reply, or None if the reply is Nothing.
+-- Returns the key in the reply of a `ceiling`, or None if the reply is Nothing.
 abbrev pub found_in : Reply → Option ℕ
 found_in (reply.At k) = Some k.0
 found_in reply.Nothing = None
@@ -38,16 +38,16 @@ found_in reply.True = None
 found_in reply.False = None
 found_in reply.Full = None
 
--- Returns whether the call's key is present at a moment. For a ceiling, returns whether its reply is correct at this
--- moment.
+-- Returns a test of moments: whether the key of the call is present at a moment or, for a `ceiling`, whether the reply
+-- is correct at this moment.
 abbrev pub shows : (ℕ → List ℕ) → Call → Reply → ℕ → Bool
 shows changes (call.Add k) r = λ m. is_present changes k.0 m
 shows changes (call.Remove k) r = λ m. is_present changes k.0 m
 shows changes (call.Contains k) r = λ m. is_present changes k.0 m
 shows changes (call.Ceiling k) r = has_ceiling changes k.0 (found_in r)
 
--- Returns the first moment, from the start of the call up to `last`, at which the reply is correct. The call must
--- change nothing.
+-- Returns the first moment, from the start of the call up to `last`, when the reply is correct. The call must change
+-- nothing.
 abbrev pub fit : (ℕ → List ℕ) → OpenCall → Reply → ℕ → Option ℕ
 fit changes o reply last = first_passing (needs_key o.call reply) (shows changes o.call reply) o.begun (last - o.begun)
 
@@ -56,20 +56,21 @@ fit changes o reply last = first_passing (needs_key o.call reply) (shows changes
 abbrev pub changed_at : ℕ → Linearized
 changed_at moment = record { moment = moment; reply = reply.True; change = true }
 
--- Returns the linearization point of a call that changes nothing: the first moment of the call at which its reply is
+-- Returns the linearization point of a call that changes nothing: the first moment during the call when its reply is
 -- correct. Each call on a list has such a moment. If a call on a broken list has none, its linearization point is its
 -- end.
 abbrev pub read_at : Option ℕ → ℕ → Reply → Linearized
 read_at None end reply = record { moment = end; reply = reply; change = false }
 read_at (Some moment) end reply = record { moment = moment; reply = reply; change = false }
 
--- Returns the linearization point of a completed call: the moment of its change or, if it made none, the moment that
--- `read_at` finds.
+-- Returns the linearization point of a completed call: the moment of its change or, if the call made no change, the
+-- point that `read_at` returns.
 abbrev pub settled : Option Linearized → Option ℕ → ℕ → Reply → Option Linearized
 settled (Some p) moment end reply = Some p
 settled None moment end reply = Some (read_at moment end reply)
 
--- ---- The recorder's contents: calls, pending calls, linearization points, and for each key the moments of its changes
+-- ---- The content of a recorder: calls, pending calls, linearization points, and for each key the moments of its
+-- changes
 
 pub record Trace : Type 0 where
   pub calls : List CallRecord
@@ -131,7 +132,7 @@ abbrev pub trace_at : Opening → Log → ℕ → Trace
 trace_at op log zero = no_trace op
 trace_at op log (suc k) = trace_after (suc k) (log k) (trace_at op log k)
 
--- ---- What must hold before an event is recorded
+-- ---- Conditions for recording an event
 
 abbrev pub number_at : List (Option OpenCall) → ℕ → ℕ
 number_at os thread = number_of (open_call_at os thread)
@@ -158,8 +159,8 @@ pub record MayStep (h : HistoryValue) (under_way : List (Option OpenCall)) (plac
   pub goes : IsSomeAnd (open_call_at under_way thread) (λ o.
       (o.number < length places) × (o.begun ≤ moment) × MayEnd h o.number moment)
 
--- States that a change can be recorded: its moment is after every recorded change, and it adds an absent key or removes
--- a present one.
+-- States that a change can be recorded: its moment is after every recorded change, and the change adds an absent key or
+-- removes a present key.
 abbrev pub MayChange : (ℕ → List ℕ) → ℕ → Option Change → Type 0
 MayChange changes moment None = Unit {0}
 MayChange changes moment (Some (k, present)) =

@@ -4,8 +4,8 @@ ghost use Rattle.lset_replay.specs.declared.fault.ReplayFault.TheVariants.{Memor
 use std::alloc::AllocError;
 use thiserror::Error;
 
-/// Why a replay fails: the first event that is not enabled, with its line number in the schedule's text (counted from
-/// 1, header included), or a failed allocation.
+/// The reason why a replay fails: the first event that is not enabled, with its line number in the schedule's text
+/// (counted from 1, header included), or a failed allocation.
 #[derive(Clone, Copy, Debug, PartialEq, Eq, Error)]
 pub enum ReplayFault {
     /// The schedule has no such thread.

@@ -1,4 +1,4 @@
-//! Finds the first moment in a call at which its reply is correct.
+//! Finds the first moment during a call when its reply is correct.
 ghost use Rattle.std.specs.Prelude.{◌≡◌, ◌≢◌, ◌≤◌};
 ghost use Rattle.lset_words.specs.declared.Key.{Key};
 ghost use Rattle.lset_words.specs.declared.Call.TheVariants.{Ceiling};
@@ -9,8 +9,8 @@ use crate::places::{OpenCall, found_in, needs_key};
 use lset_history::Changes;
 use lset_words::{Call, Reply};
 
-/// Returns the first moment, from the start of the pending call `made` up to `last`, at which `reply` is correct for a
-/// call that changes nothing. Returns `None` if the reply is correct at none of these moments.
+/// Returns the first moment, from the start of the pending call `made` up to `last`, when `reply` is correct for a call
+/// that changes nothing. Returns `None` if `reply` is correct at none of these moments.
 pub fn fit(changes: &Changes, made: OpenCall, reply: Reply, last: u32) -> Option<u32>
     requires { made.begun ≤ last }
     ensures { result ≡ fit (moments_of changes.now) made reply last }
@@ -23,7 +23,7 @@ pub fn fit(changes: &Changes, made: OpenCall, reply: Reply, last: u32) -> Option
     }
 }
 
-/// Implements `fit` for all calls except `ceiling`. The reply of such a call depends only on its own key.
+/// Implements `fit` for all calls except `ceiling`. The reply of such a call depends only on the key of the call.
 fn fit_by_key(changes: &Changes, made: OpenCall, reply: Reply, last: u32) -> Option<u32>
     requires span { made.begun ≤ last }
     requires own_key { (k : Key) → made.call ≢ Ceiling k }

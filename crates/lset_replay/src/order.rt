@@ -31,7 +31,7 @@ fn pointed_calls(alloc: Global, places: &[Option<Linearized>]) -> Result<Vec<Poi
 }
 
 /// Returns an entry for each call that has a linearization point, ordered by these points. At one moment, the call that
-/// changes the set comes first, and the others follow by number. Returns `AllocError` if an allocation fails.
+/// changes the set precedes the others, and these are ordered by number. Returns `AllocError` if an allocation fails.
 pub(crate) fn sorted_places(
     alloc: Global,
     places: &[Option<Linearized>],

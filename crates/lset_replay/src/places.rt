@@ -3,7 +3,7 @@ ghost use Rattle.lset_replay.specs.Trace.{needs_key, found_in, changed_at, read_
 
 use lset_words::{Call, Effect, Presence, Reply};
 
-/// A pending call, with its number in the history and the moment at which it started.
+/// A pending call, with its number in the history and the moment when it started.
 #[derive(Clone, Copy)]
 pub(crate) struct OpenCall {
     pub number: u32,
@@ -11,8 +11,8 @@ pub(crate) struct OpenCall {
     pub begun: u32,
 }
 
-/// Returns `true` if the reply of a call that changed nothing is correct while its key is present, and `false` if it is
-/// correct while the key is absent. Returns `true` for every `ceiling`.
+/// Returns `true` if the reply of a call that changed nothing is correct while the call's key is present, and `false`
+/// if the reply is correct while the key is absent. Returns `true` for every `ceiling`.
 pub(crate) fn needs_key(call: Call, reply: Reply) -> bool
     ensures { result ≡ needs_key call reply }
 {
@@ -20,7 +20,7 @@ pub(crate) fn needs_key(call: Call, reply: Reply) -> bool
         || matches!(call.effect(reply), Effect::Sees(Presence::Present))
 }
 
-/// Returns the key in a `ceiling`'s reply, or `None` if the reply is `Nothing`.
+/// Returns the key in the reply of a `ceiling`, or `None` if the reply is `Nothing`.
 pub(crate) fn found_in(reply: Reply) -> Option<u32>
     ensures { result ≡ found_in reply }
 {
@@ -40,7 +40,7 @@ pub(crate) struct Linearized {
 }
 
 impl Linearized {
-    /// Creates the linearization point of a call that changes the set at `moment`. Its reply is `True`.
+    /// Creates the linearization point of a call that changes the set at `moment`. The reply of such a call is `True`.
     pub fn changed(moment: u32) -> Linearized
         ensures { result ≡ changed_at moment }
     {
@@ -51,8 +51,8 @@ impl Linearized {
         }
     }
 
-    /// Creates the linearization point of a call that changes nothing. It is at `moment` or, if this is `None`, at the
-    /// moment `end` at which the call ends.
+    /// Creates the linearization point of a call that changes nothing. The point is at `moment` or, if `moment` is
+    /// `None`, at the moment `end` when the call ends.
     pub fn read(moment: Option<u32>, end: u32, reply: Reply) -> Linearized
         ensures { result ≡ read_at moment end reply }
     {

@@ -52,7 +52,8 @@ fn note_key(changes: &mut Changes, key: u32, present: bool, moment: u32) -> Resu
 }
 
 impl Recorder {
-    /// Creates a recorder for a schedule's run, before the first event. Returns `AllocError` if an allocation fails.
+    /// Creates a recorder for the run of a schedule, before the first event. Returns `AllocError` if an allocation
+    /// fails.
     pub fn new(alloc: Global, schedule: &Schedule) -> Result<Recorder, AllocError>
         requires { Opens (opening_in (view schedule.now)) }
         ensures trace { IfOk result (λ r. trace_of r ≡ no_trace r.history.opening) }
@@ -70,13 +71,13 @@ impl Recorder {
         })
     }
 
-    /// Returns the number of a thread's pending call, or `None` if the thread has none.
+    /// Returns the number of the pending call of a thread, or `None` if the thread has no pending call.
     pub fn open_number(&self, thread: u32) -> Option<u32> {
         let open = (*self.under_way.get(thread as usize)?)?;
         Some(open.number)
     }
 
-    /// Returns the moment of a call's linearization point, or `None` if it is not known yet.
+    /// Returns the moment of a call's linearization point, or `None` if this point is not known yet.
     pub fn moment_of(&self, call: u32) -> Option<u32> {
         let place = (*self.places.get(call as usize)?)?;
         Some(place.moment)

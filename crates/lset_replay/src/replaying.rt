@@ -26,7 +26,7 @@ use lset_steps::laws::{has_account, listed_content};
 use lset_text::{Cause, LineFault};
 use std::alloc::Global;
 
-/// Converts the error at which a replay stopped. A run of a list never reaches the last arm.
+/// Converts the error that stopped a replay. A run of a list never reaches the last arm.
 fn refusal(stopped: LineFault) -> ReplayFault
     ensures { (T : Table) (op : Opening) (events : List LineEvent) → IsStopped T op events stopped → IsRefusal T op events result }
 {
@@ -71,7 +71,7 @@ pub(crate) fn follow<W: Steps>(
     Ok(())
 }
 
-/// Replays a schedule on the list whose step table is `M`.
+/// Replays a schedule on the list with the step table `M`.
 fn replay_on<M: Machine>(alloc: Global, schedule: &Schedule) -> Result<Report, ReplayFault>
     requires { IsInLimits (view schedule.now) }
     ensures replays { Replays M.table (view schedule.now) result }
@@ -123,12 +123,12 @@ impl Task for Replaying<'_> {
 /// Executes a schedule and returns a report with the history of the run, a linearization of it, and the final keys.
 ///
 /// `schedule` must be within the limits: 1 to 64 threads, a quota of 0 to 16,384, at most 1,048,576 opening keys in
-/// strictly increasing order, and at most 1,000,000 events. Every schedule from `read_schedule` is within them. The
-/// report has the schedule's version. `write_report` accepts the report if that version has words for the schedule's
-/// calls and opening keys.
+/// strictly increasing order, and at most 1,000,000 events. Every schedule from `read_schedule` is within these limits.
+/// The report has the version of the schedule. `write_report` accepts the report if this version has words for the
+/// schedule's calls and opening keys.
 ///
 /// A call that changed the set takes effect at the event of its change, even if the call is pending. Any other
-/// completed call takes effect at the first moment between its start and its end at which its reply is correct.
+/// completed call takes effect at the first moment between its start and its end when its reply is correct.
 /// (Linearizability is due to Herlihy and Wing.)
 ///
 /// Example, from `crates/first_program`:

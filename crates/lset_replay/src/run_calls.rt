@@ -17,7 +17,7 @@ use std::alloc::{AllocError, Global};
 #[derive(Drop)]
 pub struct RunCalls {
     pub history: History,
-    /// The calls that take effect, with their replies, ordered by when they take effect.
+    /// The calls that take effect, with their replies, in the order of their linearization points.
     pub order: Vec<Placed>,
     /// The linearization point of each entry of `order` (Herlihy and Wing).
     pub points: Vec<Point>,
@@ -29,14 +29,13 @@ pub struct RunCalls {
     pub refused: Option<LineFault>,
 }
 
-/// Makes the events of a schedule until one is not enabled, and returns the calls of the run. No event may have been
-/// made in `world` before.
+/// Makes the events of a schedule until an event is not enabled, and returns the calls of the run. No event may have
+/// been made in `world` before.
 ///
 /// A call that changed the set takes effect at the event that made the change, even if the call is still pending. Any
-/// other completed call takes effect at the first moment between its start and its end at which its reply is correct.
-/// On a broken list, a call without such a moment takes effect at its end. `replay` uses the same code for lists.
-/// `schedule` must be within the limits, as every schedule from `read_schedule` is. Returns `AllocError` if an
-/// allocation fails.
+/// other completed call takes effect at the first moment between its start and its end when its reply is correct. On a
+/// broken list, a call without such a moment takes effect at its end. `replay` uses the same code for lists. `schedule`
+/// must be within the limits, as every schedule from `read_schedule` is. Returns `AllocError` if an allocation fails.
 pub fn calls_of<W: Steps + Drop>(
     alloc: Global,
     schedule: &Schedule,

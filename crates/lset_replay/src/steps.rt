@@ -9,18 +9,18 @@ use lset_steps::{Action, ChainKey, Event, Local, Machine, StepFault, Told, World
 use lset_text::Cause;
 use std::alloc::AllocError;
 
-/// A list or a broken list during a run (its world): its shared words and its threads' local states. Events can be made
-/// in it.
+/// A list or a broken list during a run (its world): its shared words and the local states of its threads. A run makes
+/// events in this world.
 pub trait Steps {
-    /// Specifies what an event does to a list or a broken list. By default, as for a broken list, an event can do
-    /// anything.
+    /// Specifies the effect of an event on a list or a broken list. By default, as for a broken list, an event can have
+    /// any effect.
     ghost makes: { Self → Event → Result Told Cause → Self → Type 0 } = { λ world event made after. Unit {0} };
 
     /// Returns the local state of thread `t`, or `None` if there is no such thread.
     fn held(&self, t: u32) -> Option<Local>;
 
     /// Returns the next access of thread `t` to a shared word, with the value that the access will find. Returns `None`
-    /// if the thread's next step accesses no word.
+    /// if the next step of the thread accesses no word.
     fn ahead(&self, t: u32) -> Option<(Action, u64)>;
 
     /// Makes an event and returns its effect. If the event is not enabled, nothing changes, and the error is

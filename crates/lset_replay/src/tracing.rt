@@ -44,8 +44,8 @@ pub struct TracedRun<W: Steps + Drop> {
 impl<W: Steps + Drop> TracedRun<W> {
     /// Creates the run of a schedule. No event may have been made in `world` before. If `chains` is true, each event
     /// that changes which nodes are in the list, or their marks, is reported with the new list of nodes. This costs a
-    /// walk along the nodes at each event that writes a node's key or link. Returns `AllocError` if an allocation
-    /// fails.
+    /// walk along the nodes at each event that writes the key or the link of a node. Returns `AllocError` if an
+    /// allocation fails.
     pub fn opened(
         alloc: Global,
         schedule: &Schedule,
@@ -101,7 +101,7 @@ impl<W: Steps + Drop> TracedRun<W> {
         Ok(told)
     }
 
-    /// Returns the local state of the event's thread before the event, and what the event is about to do. Returns
+    /// Returns the local state of the event's thread before the event, and the action that the event will take. Returns
     /// `None` if the thread does not exist or cannot make a step.
     fn look(&self, event: Event) -> Option<(Local, Deed)> {
         let deed = match event {
@@ -114,7 +114,7 @@ impl<W: Steps + Drop> TracedRun<W> {
         Some((self.world.held(thread_of(event))?, deed))
     }
 
-    /// Returns the reply and the moment of a call, if the last event ended it.
+    /// Returns the reply of a call and the moment when it takes effect, if the last event ended the call.
     fn end_of(&self, call: u32, told: Told) -> Option<CallEnd> {
         Some(CallEnd {
             reply: told.answer?,
@@ -122,8 +122,8 @@ impl<W: Steps + Drop> TracedRun<W> {
         })
     }
 
-    /// Returns the list's nodes from head to tail after an event, if they were requested and have changed since they
-    /// were last returned.
+    /// Returns the nodes of the list from head to tail after an event, if they were requested and have changed since
+    /// they were last returned.
     fn changed_chain(&mut self, deed: Deed) -> Result<Option<Vec<ChainKey>>, AllocError> {
         let Some(told) = &mut self.chain else {
             return Ok(None);

@@ -14,7 +14,7 @@ other_bool true false d = refl
 other_bool false true d = refl
 other_bool a b d = absurd cc
 
--- If the test finds that a change must be recorded, it adds an absent key or removes a present one.
+-- If the test finds that a change must be recorded, the change adds an absent key or removes a present key.
 turn_of : (changes : ℕ → List ℕ) (key moment : ℕ) (there present : Bool) → ((j : ℕ) → All (λ m. m < moment) (changes j))
     → there ≡ is_present changes key moment → not (beq there present) ≡ true → present ≡ not (is_present_now changes key)
 turn_of changes key moment there present later is other =
@@ -35,7 +35,7 @@ no_turn : (b : Bool) → b ≡ not b → ⊥
 no_turn true e = absurd cc
 no_turn false e = absurd cc
 
--- If the key already is present or absent as noted, no list made this change.
+-- If the key already was present or absent as the change would leave it, the change is not a change of a list.
 not_turned : (changes : ℕ → List ℕ) (key moment : ℕ) (there present : Bool) → ((j : ℕ) → All (λ m. m < moment) (changes j))
     → there ≡ is_present changes key moment → not (beq there present) ≡ false → present ≡ not (is_present_now changes key) → ⊥
 not_turned changes key moment there present later is same turn =
