@@ -1,5 +1,5 @@
-//! Implements the steps of two broken FineLists: in one, `remove` locks only one node; in the other, traversals release
-//! a lock before they take the next one.
+//! Implements the steps of two broken FineLists. In the first list, `remove` locks only one node. In the second list,
+//! traversals release the lock of a node before they take the lock of the next node.
 ghost use Rattle.lset_steps.specs.Rows.{IsSmall};
 
 use lset_fine::fed_by;
@@ -27,8 +27,8 @@ fn with_one_lock(call: Call, local: Local) -> Local {
     }
 }
 
-/// Returns a thread's state after a step of a FineList whose `remove` locks `pred` but not `curr`. `seen` is the value
-/// that the step read or wrote.
+/// Returns a thread's state after a step of the FineList with a `remove` that locks `pred` but not `curr`. `seen` is
+/// the value that the step read or wrote.
 pub(crate) fn fed_with_one_lock(local: &Local, seen: u64) -> Fed
     requires { IsSmall local.now }
 {
@@ -47,8 +47,8 @@ fn through_row_14(local: Local) -> Local {
     }
 }
 
-/// Returns a thread's state after a step of a FineList that releases the lock of `pred` before it takes the lock of
-/// `curr`. Row 14 of its step table releases `pred`.
+/// Returns a thread's state after a step of the FineList that releases the lock of `pred` before it takes the lock of
+/// `curr`. Row 14 of this list's step table releases `pred`. `seen` is the value that the step read or wrote.
 pub(crate) fn fed_pred_first(local: &Local, seen: u64) -> Fed
     requires { IsSmall local.now }
 {

@@ -1,5 +1,5 @@
-//! Implements the steps of two broken LockFreeLists: in one, `add` also replaces a marked link; in the other, `remove`
-//! never marks a node.
+//! Implements the steps of two broken LockFreeLists. In the first list, `add` also replaces a marked link. In the
+//! second list, `remove` never marks a node.
 ghost use Rattle.lset_steps.specs.Rows.{IsSmall};
 
 use lset_lock_free::{effect_of, fed_by, next_action};
@@ -8,12 +8,13 @@ use lset_steps::rows::{link_index, own_slot};
 use lset_steps::{Action, Fed, Local};
 use lset_words::{Key, Reply};
 
-/// Returns a link word that points to `node` and keeps the mark that the thread read before and stored in `pkey`.
+/// Returns a link word that leads to `node`, with the mark that the thread has read before and stored in `pkey`.
 fn marked_as_seen(node: u64, local: &Local) -> u64 {
     node.wrapping_mul(2).wrapping_add(local.pkey)
 }
 
-/// Returns the next access of the list whose `add` replaces `pred`'s link even if the link is marked.
+/// Returns the next access of a thread on the list with an `add` that replaces the link of `pred` even if this link is
+/// marked.
 pub(crate) fn next_whatever_mark(local: &Local) -> Action
     requires { IsSmall local.now }
 {
@@ -61,7 +62,7 @@ pub(crate) fn effect_whatever_mark(local: &Local, seen: u64) -> Option<(Key, boo
     }
 }
 
-/// Returns a thread's state after a step of the list whose `remove` unlinks a node without marking it first.
+/// Returns a thread's state after a step of the list with a `remove` that unlinks a node without marking it first.
 pub(crate) fn fed_without_mark(local: &Local, seen: u64) -> Fed
     requires { IsSmall local.now }
 {

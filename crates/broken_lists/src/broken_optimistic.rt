@@ -1,4 +1,4 @@
-//! Implements the steps of two broken OptimisticLists whose check of the two locked nodes (validation) is too weak.
+//! Implements the steps of two broken OptimisticLists. Their check of the two locked nodes (validation) is too weak.
 ghost use Rattle.lset_steps.specs.Rows.{IsSmall};
 
 use lset_optimistic::fed_by;
@@ -12,8 +12,8 @@ fn past_the_walk(local: Local) -> Local {
     }
 }
 
-/// Returns a thread's state after a step of the list that does not traverse the list a second time. Its validation only
-/// checks that `pred` links to `curr`.
+/// Returns a thread's state after a step of the list without a second traversal. Its validation only checks that `pred`
+/// links to `curr`.
 pub(crate) fn fed_without_walk(local: &Local, seen: u64) -> Fed
     requires { IsSmall local.now }
 {
@@ -24,8 +24,8 @@ pub(crate) fn fed_without_walk(local: &Local, seen: u64) -> Fed
     }
 }
 
-/// Returns a thread's state after its second traversal loaded a key, for the list that compares keys instead of nodes.
-/// The traversal ends at the first key that is not below `pred`'s key.
+/// Returns a thread's state after its second traversal has loaded a key, on the list that compares keys instead of
+/// nodes. This traversal ends at the first key that is not below the key of `pred`.
 pub(crate) fn arrived_by_key(seen: u64, local: &Local) -> Local {
     if local.pkey < seen {
         Local {

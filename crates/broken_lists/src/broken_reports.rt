@@ -12,7 +12,7 @@ use lset_schedule::{Schedule, Version, read_schedule};
 use lset_text::{Cause, LineFault};
 use std::alloc::{AllocError, Global};
 
-/// The number of the line that names the kind of list. Lines count from 1.
+/// The number of the line that names the kind of list. Lines are counted from 1.
 const KIND_LINE: u64 = 2;
 
 /// Reads a schedule for a broken list. Allocates.
@@ -42,9 +42,9 @@ fn run_calls(alloc: Global, broken: BrokenList, schedule: &Schedule) -> Result<R
     calls_of(alloc, schedule, world)
 }
 
-/// Reads a schedule for a broken list, runs it, and returns a report of version 2. The report's order lists the calls
-/// by linearization point, as `lset_replay::calls_of` computes them. This order does not always explain the calls.
-/// Allocates.
+/// Reads a schedule for a broken list, runs it, and returns a report of version 2. The order in the report has the
+/// calls sorted by linearization point, as `lset_replay::calls_of` computes them. This order does not always explain
+/// the calls. Allocates.
 ///
 /// # Errors
 ///

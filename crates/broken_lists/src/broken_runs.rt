@@ -8,7 +8,7 @@ use lset_schedule::Schedule;
 use lset_words::layout_opening;
 use std::alloc::{AllocError, Global};
 
-/// Creates a broken list for a schedule, before the first event. Ignores which list the schedule names.
+/// Creates a broken list for a schedule, before the first event. Ignores the kind of list that the schedule names.
 ///
 /// `lset_replay::calls_of` collects the calls of the run and an order of them. If `check_order` rejects this order,
 /// another order can still explain the calls. `schedule` must be within the limits, as every schedule from

@@ -19,7 +19,7 @@ pub struct BrokenWorld {
     locals: Vec<Local>,
 }
 
-/// Returns whether all numbers in a thread's local state are within their limits, so that computing with them cannot
+/// Returns whether all numbers in a thread's local state are within their limits. Computing with such numbers cannot
 /// overflow.
 fn is_small(local: &Local) -> bool
     ensures { IsTrue result → IsSmall local.now }
@@ -44,7 +44,7 @@ fn sight(words: &[u64], action: Action) -> Option<u64> {
     }
 }
 
-/// Performs the write of `action`, if any: a store, or a compare-and-exchange that found the value it expected.
+/// Performs the write of `action`, if it writes: a store, or a compare-and-exchange that found the expected value.
 fn write(words: &mut Vec<u64>, action: Action, seen: u64) {
     let (word, value) = match action {
         Action::Store(word, value) => (word, value),

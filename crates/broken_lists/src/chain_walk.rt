@@ -1,4 +1,4 @@
-//! Walks along the links of a broken list from the head. The words can have any values, since a broken list can lose
+//! Walks along the links of a broken list from the head. The words can have any values, because a broken list can lose
 //! its nodes.
 
 ghost use Rattle.std.specs.Prelude.{◌<◌, ◌^◌, IsTrue};
@@ -8,10 +8,10 @@ use lset_words::{key_index, link_index};
 use std::alloc::{AllocError, Global};
 use std::collections::BTreeSet;
 
-/// An invalid node number. No list has this many nodes, so a walk stops here.
+/// An invalid node number. No list has this many nodes. Therefore a walk stops at this number.
 const NO_NODE: u64 = 1 << 32;
 
-/// A node that a walk reached: its key, its mark, and the number of the next node.
+/// A node that a walk has reached: its key, its mark, and the number of the next node.
 #[derive(Clone, Copy)]
 struct Met {
     place: ChainKey,

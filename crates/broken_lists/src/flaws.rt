@@ -1,8 +1,8 @@
 //! Implements the steps of the broken lists. In each `match`, the flaw is in the arm that does not call the function of
 //! the intact list.
 //!
-//! Steps are defined for every thread state with small numbers (`IsSmall`), even if no run leads to that state. `seen`
-//! is the value that a load read or a store wrote, or the value that a compare-and-exchange found.
+//! Steps are defined for every thread state with small numbers (`IsSmall`), even if no run leads to this state. `seen`
+//! is the value that a load read, a store wrote, or a compare-and-exchange found.
 ghost use Rattle.lset_steps.specs.Rows.{IsSmall};
 
 use crate::lists::BrokenList;

@@ -68,7 +68,7 @@ impl BrokenList {
         }
     }
 
-    /// Returns the kind of list from which the check was removed.
+    /// Returns the kind of the intact list, before the check was removed.
     pub fn kind(self) -> Kind {
         match self {
             BrokenList::Lock => Kind::Coarse,
@@ -86,7 +86,7 @@ impl BrokenList {
     }
 }
 
-/// Returns the broken list with this name, or `None` if there is none.
+/// Returns the broken list with this name, or `None` if no broken list has this name.
 pub fn named(name: &[u8]) -> Option<BrokenList> {
     for broken in &ALL {
         if broken.name().as_bytes() == name {

@@ -1,5 +1,5 @@
-//! Tests of calls whose loops run a bounded number of rounds. Each loop needs the expected number of rounds, and a call
-//! gives up at a lock that is never released.
+//! Tests of calls with a bounded number of rounds in each loop. Each loop must need the expected number of rounds, and
+//! a call must give up at a lock that is never released.
 
 use crate::opened::two_seats_on;
 use crate::pauses::Count;
@@ -13,11 +13,11 @@ impl<const N: u64> Rounds for UpTo<N> {
     const MOST: u64 = N;
 }
 
-/// The opening keys. To reach a key, a call compares one key per round: all smaller keys and the first that is not
+/// The opening keys. To reach a key, a call compares one key per round: all smaller keys and the first key that is not
 /// smaller.
 const KEYS: [u32; 5] = [10, 20, 30, 40, 50];
 
-/// Opens a set and makes a call whose loops run at most `N` rounds. Returns the reply; `None` if more rounds are
+/// Opens a set and makes a call with at most `N` rounds in each loop. Returns the reply, or `None` if more rounds are
 /// needed.
 fn reply_of<M: Bounded, R: Abort, N: Rounds>(rt: &R, alloc: Global, call: Call) -> Option<Reply> {
     let (set, zero, _one) = two_seats_on::<M, R>(rt, alloc, &KEYS);

@@ -1,4 +1,4 @@
-//! Tests of sessions whose answers are buffered. All lines that were read must be answered before the next read.
+//! Tests of sessions with buffered answers. All lines that were read must be answered before the next read.
 use crate::prelude::*;
 use crate::session_lines::{end, held, held_buffered, one_seat, was_held};
 use std::cell::Cell;
@@ -10,7 +10,7 @@ struct Seen {
     in_time: Cell<bool>,
 }
 
-/// A text to be read at once, and the total length of the answers to the lines that end in it.
+/// A text that the session reads at once, and the total length of the answers to the lines that end in this text.
 type Turn<'a> = (&'a [u8], u64);
 
 /// An input that returns one text per read. Each read checks that all lines of the earlier texts were answered.
@@ -59,7 +59,7 @@ impl Sink for Counting<'_> {
     }
 }
 
-/// Asserts that a session answers all lines of a text before it reads the next one, and that it makes `calls` calls.
+/// Asserts that a session answers all lines of a text before it reads the next text, and that it makes `calls` calls.
 fn are_answered_in_time<R: Host>(
     rt: &R,
     alloc: Global,
@@ -105,7 +105,7 @@ fn answers_are_written_before_each_read(rt: HostRuntime) {
     }
 }
 
-/// Lines for which every kind of answer occurs on a set that can add 4 keys, and the lengths of the answers.
+/// Texts and the lengths of the answers to them. On a set that can add 4 keys, every kind of answer occurs.
 const OF_EACH_ANSWER: [Turn<'static>; 9] = [
     (b"CEILING 0\n", 5),
     (b"ADD 4294967295\n", 5),
@@ -118,13 +118,14 @@ const OF_EACH_ANSWER: [Turn<'static>; 9] = [
     (b"MOVE 7\n", 4),
 ];
 
-/// A client that waits for each answer must receive it, whatever kind of answer it is.
+/// A client that waits for each answer must receive every kind of answer before it sends the next line.
 #[test]
 fn each_kind_of_answer_is_written_before_the_next_read(rt: HostRuntime) {
     are_answered_in_both(&rt, rt.alloc(), &OF_EACH_ANSWER, 10);
 }
 
-/// Asserts that a buffered session writes the same answers and has the same end as an unbuffered session.
+/// Asserts that a buffered session writes the same answers as an unbuffered session, and ends for the same reason after
+/// as many calls.
 fn is_answered_alike<R: Host>(rt: &R, alloc: Global, text: &[u8]) {
     let (plain, ended) = held(rt, alloc, &mut Device::new(text));
     let session = held_buffered(rt, alloc, Device::new(text));

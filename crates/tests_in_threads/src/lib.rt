@@ -1,4 +1,4 @@
-//! The tests that use threads or sessions: sets in threads, programs in threads, sessions over readers and writers, and
+//! Tests that use threads or sessions: sets in threads, programs in threads, sessions over readers and writers, and
 //! servers on the loopback interface.
 #![tactic(auto)]
 

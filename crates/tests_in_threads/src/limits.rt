@@ -38,7 +38,7 @@ impl Source for Lines {
 }
 
 /// Asserts that a session answers `BAD` to each of `empty` empty lines, and `answers` to the bytes `last`. A buffered
-/// session must do the same.
+/// session must write the same answers.
 fn is_answered_after<R: Host>(
     rt: &R,
     alloc: Global,

@@ -40,8 +40,8 @@ pub fn calls<M: Running, R: Clock + Wait, P: Pause>(
     reply
 }
 
-/// A meeting of up to 64 threads. When a thread arrives for the first time, it waits for all others. `took` is true if
-/// a thread had to wait for a lock and then took it.
+/// A meeting of up to 64 threads. When a thread arrives for the first time, it waits for all other threads. `took` is
+/// true if a thread had to wait for a lock and then acquired this lock.
 #[derive(Drop)]
 pub struct Meeting<'a, R> {
     rt: &'a R,
@@ -65,8 +65,8 @@ impl<'a, R: Clock> Meeting<'a, R> {
         }
     }
 
-    /// Registers that a thread has arrived, and waits for all others. Returns `true` if they arrive, or if this thread
-    /// arrived before.
+    /// Registers that a thread has arrived, and waits for all other threads. Returns `true` if they arrive, or if this
+    /// thread has arrived before.
     pub fn come(&self, thread: u32) -> bool {
         if self.came[(thread % 64) as usize].swap(true, Ordering::SeqCst) {
             return true;
@@ -79,25 +79,25 @@ impl<'a, R: Clock> Meeting<'a, R> {
         has_met
     }
 
-    /// Returns `true` if all threads arrived and none gave up waiting.
+    /// Returns `true` if all threads arrived and no thread gave up waiting.
     pub fn was_held(&self) -> bool {
         self.count.load(Ordering::SeqCst) == self.threads && !self.missed.load(Ordering::SeqCst)
     }
 
-    /// Returns `true` if a thread had to wait for a lock and then took it.
+    /// Returns `true` if a thread had to wait for a lock and then acquired this lock.
     pub fn has_waited(&self) -> bool {
         self.took.load(Ordering::SeqCst)
     }
 }
 
-/// Makes each seat wait before its second call until all have arrived.
+/// Makes each seat wait before its second call until all seats have arrived.
 impl<'a, R: Clock> Gate for Meeting<'a, R> {
     fn pass(&self, seat: u32, call: u32) -> bool {
         call != 1 || self.come(seat)
     }
 }
 
-/// Makes each thread wait after its first step until all have made one.
+/// Makes each thread wait after its first step until all threads have made a step.
 impl<'a, R: Clock> Pause for Meeting<'a, R> {
     fn moved(&self, thread: u32) {
         let _has_met = self.come(thread);

@@ -5,8 +5,8 @@ use crate::opened::two_seats;
 use crate::prelude::*;
 use std::cell::Cell;
 
-/// Counts the reported steps, and the wrong ones among them: steps of another thread, failed steps, and locks taken
-/// after a wait.
+/// Counts the reported steps and, among them, the wrong steps: steps of another thread, failed steps, and locks
+/// acquired after a wait.
 #[derive(Drop)]
 pub struct Count {
     thread: u32,
@@ -31,7 +31,7 @@ impl Count {
         }
     }
 
-    /// Returns the number of steps reported so far, and how many of these were wrong.
+    /// Returns the number of steps reported so far, and the number of wrong steps among them.
     pub fn so_far(&self) -> (u64, u64) {
         (self.steps.get(), self.wrong.get())
     }

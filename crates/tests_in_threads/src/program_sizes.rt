@@ -1,8 +1,8 @@
 //! Runs programs of many sizes in threads and compares their replies with a model. The sizes are random up to each
 //! limit, and each order of magnitude is equally likely.
 //!
-//! Thread `t` of `n` uses only keys that are `t` modulo `n`. A sequential set of these keys is its model. Therefore the
-//! thread's replies do not depend on the other threads.
+//! Thread `t` of `n` uses only the keys with the remainder `t` modulo `n`. The model of a thread is a sequential set of
+//! its keys. The thread's replies therefore do not depend on the other threads.
 
 use crate::opened::{increasing_keys, keys_left, last_of, make_calls};
 use crate::prelude::*;
@@ -223,8 +223,8 @@ impl Model {
     }
 }
 
-/// Runs programs in threads on a set that opens with these keys. Asserts that the replies and the final keys are those
-/// of the models. Returns the final keys.
+/// Runs programs in threads on a set that opens with these keys. Asserts that the replies and the final keys are equal
+/// to those of the models. Returns the final keys.
 pub fn runs_beside_models<M: Running + Send + Sync, R: Host>(
     rt: &R,
     alloc: Global,
@@ -247,7 +247,7 @@ pub fn runs_beside_models<M: Running + Send + Sync, R: Host>(
     outcome.keys
 }
 
-/// Sizes at each limit. In two of them, one thread and three threads make more than 65,536 calls.
+/// Sizes at each limit. In two of these cases, with one thread and with three threads, more than 65,536 calls are made.
 fn at_the_limits() -> [Sizes; 4] {
     [
         Sizes::new(MOST_THREADS, MOST_QUOTA, MOST_OPENING, 64, u32::MAX),
@@ -307,7 +307,7 @@ fn lock_free_calls_succeed_at_all_sizes(rt: HostRuntime) {
     calls_succeed::<LockFreeList, HostRuntime>(&rt, rt.alloc(), 5);
 }
 
-/// Adds `count` keys from `first` on, in decreasing order. Each new node then comes directly after the head.
+/// Adds `count` keys from `first` on, in decreasing order. Each new node therefore directly follows the head.
 fn fill<M: Running, R: Wait>(rt: &R, set: &LiveSet<M>, seat: &mut Seat<M>, first: u32, count: u32) {
     for number in (0..count).rev() {
         let _reply = set.add(rt, seat, Key(first.saturating_add(number)));
@@ -346,7 +346,7 @@ const PAST_ALL: [(Call, Reply); 5] = [
     (Call::Ceiling(LAST), Reply::Nothing),
 ];
 
-/// Asserts that calls can traverse a set of the maximum size in which every node has a key.
+/// Asserts that calls can traverse a set of the maximum size. Every node of this set has a key.
 fn is_filled<M: Running, R: Host>(rt: &R, alloc: Global) {
     let mut opening = Vec::new(alloc);
     for number in 0..MOST_OPENING {

@@ -160,7 +160,7 @@ impl Shut {
         }
     }
 
-    /// Returns `true` if the gate was asked as often as expected.
+    /// Returns `true` if the gate was asked as often as `wanted` states.
     fn was_asked(&self, wanted: &[u32]) -> bool {
         self.counts
             .iter()
@@ -202,7 +202,7 @@ fn a_gate_that_refuses_a_call_ends_only_its_program(rt: HostRuntime) {
     }
 }
 
-/// Opens a set with three seats. Returns seat 2, into which seat 1 was merged, and then seat 0.
+/// Opens a set with three seats. Returns seat 2, after seat 1 was merged into it, and then seat 0.
 fn two_before_zero<M: Running, R: Abort>(rt: &R, alloc: Global) -> (LiveSet<M>, Vec<Seat<M>>) {
     let (set, mut seats) = in_a_row::<M, R>(rt, alloc, 3);
     let mut two = last_of(rt, &set, &mut seats);
@@ -243,7 +243,8 @@ fn two_adds_each<R: Abort>(rt: &R, alloc: Global, seats: u32) -> Vec<Vec<Call>> 
     programs
 }
 
-/// Asserts that all programs run at the same time: each waits before its second call until all have arrived there.
+/// Asserts that all programs run at the same time: each program waits before its second call until all programs have
+/// arrived.
 fn meet<M: Running + Send + Sync, R: Host>(rt: &R, alloc: Global, seats: u32) {
     let (set, row) = in_a_row::<M, R>(rt, alloc, seats);
     let meeting = Meeting::new(rt, u64::from(seats));

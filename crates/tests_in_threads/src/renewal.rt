@@ -12,7 +12,8 @@ const CALLS_ON_A_KEY: [(Call, Reply); 3] = [
     (Call::Remove(Key(9)), Reply::True),
 ];
 
-/// Opens a set with three seats and the key 9 that cannot add keys. The opening key is removed like any other key.
+/// Opens a set with three seats and the key 9. The set cannot add keys. Asserts that the opening key can be removed
+/// like any other key.
 fn opens_with_a_key<M: Running, R: Host>(rt: &R, alloc: Global) {
     let (set, mut seats) = open_with::<M>(alloc, 3, 0, &[9]).expect(rt, "not opened");
     let mut last = last_of(rt, &set, &mut seats);
@@ -111,7 +112,7 @@ fn each_list_opens_with_the_final_keys_of_each_list(rt: HostRuntime) {
     assert!(rt; left > 0);
 }
 
-/// Calls on a set that can add one key and opens with the maximum number of keys, which are all even.
+/// Calls on a set that can add one key and opens with the maximum number of keys. All opening keys are even.
 const CALLS_ON_A_MILLION: [(Call, Reply); 3] = [
     (Call::Contains(Key(2_097_150)), Reply::True),
     (Call::Add(Key(1)), Reply::True),

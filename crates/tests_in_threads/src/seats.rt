@@ -8,14 +8,14 @@ use lset_live::Receipt;
 use lset_rule::TableSeat;
 use std::mem::size_of;
 
-/// One seat's calls on key 9, and their replies.
+/// The calls of one seat on key 9, and their replies.
 pub const ADDS: [(Call, Reply); 1] = [(Call::Add(Key(9)), Reply::True)];
 
 pub const FINDS: [(Call, Reply); 1] = [(Call::Contains(Key(9)), Reply::True)];
 
 const FINDS_NOTHING: [(Call, Reply); 1] = [(Call::Contains(Key(9)), Reply::False)];
 
-/// A number of seats, a quota, and the error that `open` returns for them (`None` if it opens a set).
+/// A number of seats, a quota, and the error that `open` returns for them (`None` if `open` returns a set).
 const LIMITS: [(u32, u32, Option<OpenFault>); 5] = [
     (0, 4, Some(OpenFault::Seats)),
     (65, 4, Some(OpenFault::Seats)),
@@ -90,8 +90,8 @@ fn close_with_a_missing_seat_returns_set_and_seat(rt: HostRuntime) {
     at_each_list!(comes_back, rt);
 }
 
-/// Copies a receipt (a record of what a seat has seen) three times. Of the four receipts, one is dropped, one is
-/// accepted by the other seat, one by the seat that issued it, and one still exists when the set is closed.
+/// Copies a receipt (the events that a seat has seen) three times. The first of the four receipts is dropped, another
+/// is passed to the other seat, another to the seat that issued it, and the last still exists when the set is closed.
 fn are_passed_on<M: Running, R: Host>(rt: &R, alloc: Global) {
     let (set, mut zero, mut one) = two_seats::<M, R>(rt, alloc);
     make_calls(rt, &set, &mut one, &ADDS);
@@ -111,8 +111,8 @@ fn receipts_can_be_copied_dropped_and_taken(rt: HostRuntime) {
     at_each_list!(are_passed_on, rt);
 }
 
-/// Asserts that accepting an old receipt has no effect. A receipt records only what its seat had seen when the receipt
-/// was made.
+/// Asserts that passing an old receipt to a seat has no effect. A receipt contains only the events that its seat had
+/// seen when it issued the receipt.
 fn may_be_old<M: Running, R: Host>(rt: &R, alloc: Global) {
     let (set, mut zero, mut one) = two_seats::<M, R>(rt, alloc);
     let early = set.receipt(&mut zero);
@@ -162,8 +162,8 @@ fn at_once<M: Running + Send + Sync, R: Host, P: Pause + Sync>(
     )
 }
 
-/// Makes two calls, each of which waits after its first step for the other one. Returns `true` if one of them had to
-/// wait for a lock and then took it.
+/// Makes two calls at the same time. Each call waits after its first step for the other call. Returns `true` if one of
+/// them had to wait for a lock and then acquired this lock.
 fn calls_meet<M: Running + Send + Sync, R: Host>(
     rt: &R,
     alloc: Global,

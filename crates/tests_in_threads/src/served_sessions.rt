@@ -9,7 +9,7 @@ use lset_server::{ServeCause, Served, serve};
 /// The kind of set that the servers in these tests serve.
 type Set = LiveSet<LazyList>;
 
-/// Opens an empty set for `seats` threads. Returns the set and a seat for each thread, which can add 4 keys each.
+/// Opens an empty set for `seats` threads. Returns the set and a seat for each thread. Each seat can add 4 keys.
 fn opened<R: Abort>(rt: &R, alloc: Global, seats: u32) -> (Set, Vec<Seat<LazyList>>) {
     open::<LazyList>(alloc, seats, 4).expect(rt, "not opened")
 }
@@ -75,7 +75,7 @@ fn serve_with_a_missing_seat_returns_set_and_seats(rt: HostRuntime) {
     assert!(rt; fault.cause == ServeCause::Seats && fault.back.is_some());
 }
 
-/// Runs two clients. Neither of them disconnects before both have received their answers.
+/// Runs two clients. Neither client disconnects before both have received their answers.
 fn both_meet<R: Host + Net<Listener = TcpListener, Stream = TcpStream>>(rt: &R, port: u16) -> bool {
     let met = AtomicU64::new(0);
     let both = join(
@@ -92,7 +92,7 @@ fn two_sessions_are_served_at_once(rt: HostRuntime) {
     made(&rt, &served, 2, 2, &[1, 2]);
 }
 
-/// Asserts that a server serves one session per seat at the same time, and the remaining sessions after them.
+/// Asserts that a server serves one session for each seat at the same time, and then the remaining sessions.
 fn meets_on_each_seat<R: Host + Net<Listener = TcpListener, Stream = TcpStream>>(
     rt: &R,
     alloc: Global,
@@ -107,7 +107,7 @@ fn meets_on_each_seat<R: Host + Net<Listener = TcpListener, Stream = TcpStream>>
     made(rt, &served, u64::from(sessions), u64::from(sessions), &[]);
 }
 
-/// Serves fewer sessions than seats, equally many, and more.
+/// Serves fewer sessions than seats, as many sessions as seats, and more sessions than seats.
 #[test]
 fn as_many_sessions_as_seats_are_served_at_once(rt: HostRuntime) {
     for (seats, sessions) in [(2, 1), (3, 3), (5, 7), (64, 65)] {

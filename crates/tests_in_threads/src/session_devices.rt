@@ -1,4 +1,5 @@
-//! Readers and writers for tests of sessions. Some fail at one call; others transfer as many bytes as they can.
+//! Readers and writers for tests of sessions. Some of them fail at one call; the others transfer as many bytes as they
+//! can.
 
 use crate::prelude::*;
 use std::io::ErrorKind;
@@ -7,7 +8,7 @@ use std::io::ErrorKind;
 #[derive(Drop)]
 pub struct FailingReader<'a> {
     text: &'a [u8],
-    /// The number of reads so far, including the failed one.
+    /// The number of reads so far, including a failed read.
     pub reads: u64,
     fails_at: u64,
 }
@@ -43,7 +44,7 @@ impl Read for FailingReader<'_> {
 pub struct FailingWriter {
     /// The bytes written so far.
     pub text: Vec<u8>,
-    /// The number of writes so far, including the failed one.
+    /// The number of writes so far, including a failed write.
     pub writes: u64,
     fails_at: u64,
 }
@@ -58,7 +59,8 @@ impl FailingWriter {
         }
     }
 
-    /// Asserts that no write followed the failing one, and that all bytes of the answers before it were written.
+    /// Asserts that no write followed the failed write, and that all bytes of the answers before the failed write were
+    /// written.
     pub fn has_stopped<R: Abort>(&self, rt: &R, answers: &[u8]) {
         let at = self.fails_at;
         assert_eq!(rt; self.text.len() as u64 + 1, at);

@@ -1,11 +1,11 @@
-//! Tests of sessions in which a read or a write fails.
+//! Tests of sessions with a failing read or write.
 use crate::prelude::*;
 use crate::session_devices::{FailingReader, FailingWriter};
 use crate::session_lines::{
     ANSWERS, CEILINGS, LINES, end, held, held_buffered, one_seat, was_held,
 };
 
-/// Asserts that a session ends at write number `at`, which fails, and that the session made `calls` calls before.
+/// Asserts that a session ends when write number `at` fails, and that it has made `calls` calls before.
 fn write_fails<R: Host>(rt: &R, alloc: Global, lines: &[u8], answers: &[u8], at: u64, calls: u64) {
     let (set, mut seat) = one_seat(rt, alloc);
     let mut writer = FailingWriter::new(alloc, at);
@@ -56,7 +56,7 @@ fn read_fails<R: Host>(rt: &R, alloc: Global, lines: &[u8], at: u64, answers: &[
 }
 
 /// Asserts that a session ends when any of its reads fails. Each entry of `rows` has the first and the last number of
-/// some reads, the answers written before them, and the number of calls.
+/// some reads, the answers written before these reads, and the number of calls made before them.
 fn reads_fail<R: Host>(rt: &R, alloc: Global, lines: &[u8], rows: &[(u64, u64, &[u8], u64)]) {
     for &(from, to, answers, calls) in rows {
         for at in from..=to {
@@ -95,7 +95,7 @@ const OF_EACH_END: [Lines; 3] = [
     (b"\nQUIT\n", b"BAD\nBYE\n", 0),
 ];
 
-/// Asserts that a buffered session makes all calls if all lines come in one read, even if write number `at` fails.
+/// Asserts that a buffered session makes all calls if all lines arrive in one read, even if write number `at` fails.
 fn waiting_write_fails<R: Host>(rt: &R, alloc: Global, lines: Lines, at: u64) {
     let (text, answers, calls) = lines;
     let (set, mut seat) = one_seat(rt, alloc);
@@ -115,8 +115,8 @@ fn a_failed_write_of_buffered_answers_ends_the_session(rt: HostRuntime) {
     }
 }
 
-/// All lines come in one read, and their answers do not fit into the buffer at once. The session must make no further
-/// call after the first write has failed.
+/// All lines arrive in one read, and their answers do not fit into the buffer at once. After the first write has
+/// failed, the session must make no further call.
 #[test]
 fn no_call_is_made_after_a_failed_write(rt: HostRuntime) {
     let mut text = Vec::from_slice(rt.alloc(), b"ADD 4294967295\n").expect(&rt, "room");

@@ -1,4 +1,4 @@
-//! Tests of sessions: lines, and the answers to them.
+//! Tests of sessions: request lines, and the answers to them.
 
 use crate::opened::{last_of, two_seats};
 use crate::prelude::*;
@@ -14,14 +14,14 @@ pub const CEILINGS: &[u8] = b"CEILING 7\nADD 9\nCEILING 7\nQUIT\n";
 
 pub const FOUND: &[u8] = b"NONE\nTRUE\nAT 9\nBYE\n";
 
-/// Opens an empty set with one seat, which can add 4 keys.
+/// Opens an empty set with one seat. The seat can add 4 keys.
 pub fn one_seat<R: Abort>(rt: &R, alloc: Global) -> (LiveSet<LazyList>, Seat<LazyList>) {
     let (set, mut seats) = open::<LazyList>(alloc, 1, 4).expect(rt, "not opened");
     let seat = last_of(rt, &set, &mut seats);
     (set, seat)
 }
 
-/// Runs a session on a new set. Returns the answers and how the session ended.
+/// Runs a session on a new set. Returns the answers and the end of the session.
 pub fn held<R: Host, I: Source>(rt: &R, alloc: Global, reader: &mut I) -> (Vec<u8>, Ended) {
     let (set, mut seat) = one_seat(rt, alloc);
     let mut written = Vec::new(alloc);
@@ -29,7 +29,7 @@ pub fn held<R: Host, I: Source>(rt: &R, alloc: Global, reader: &mut I) -> (Vec<u
     (written, ended)
 }
 
-/// Runs a session with buffered answers on a new set. Returns the answers and how the session ended.
+/// Runs a session with buffered answers on a new set. Returns the answers and the end of the session.
 pub fn held_buffered<R: Host, I: Source + Drop>(
     rt: &R,
     alloc: Global,
@@ -46,7 +46,7 @@ pub fn end(why: EndReason, calls: u64) -> Ended {
     Ended { why, calls }
 }
 
-/// Asserts the answers of a session and how it ended.
+/// Asserts the answers of a session and its end (the reason, and the number of calls).
 pub fn was_held<R: Abort>(rt: &R, session: &(Vec<u8>, Ended), answers: &[u8], ended: Ended) {
     assert!(rt; session.0.as_slice() == answers);
     assert_eq!(rt; session.1, ended);
@@ -189,7 +189,7 @@ fn a_session_calls_from_a_gathered_seat(rt: HostRuntime) {
     );
 }
 
-/// The number of lines `CONTAINS 7`, each of which is answered with `FALSE`.
+/// The number of lines `CONTAINS 7`. The answer to each line is `FALSE`.
 const MANY: u64 = 6_000;
 
 /// Asserts that a session makes at most one write for each answer, and that a session with buffered answers makes only

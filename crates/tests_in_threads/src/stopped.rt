@@ -1,5 +1,5 @@
-//! Tests of two calls at the same time. One call stops between two of its steps until the other one has ended or waits.
-//! Each case runs twice: with the loops of the list, and with the interpreter of its step table.
+//! Tests of two calls at the same time. One call stops between two of its steps until the other call has ended or
+//! waits. Each case runs twice: with the loops of the list, and with the interpreter of its step table.
 
 use crate::meeting::{calls, comes};
 use crate::opened::two_seats_on;
@@ -8,8 +8,8 @@ use crate::prelude::*;
 /// A step number that is never reached.
 const NEVER: u64 = u64::MAX;
 
-/// A thread of a test: the step after which it stops (counted from 0), what its call has reported to the `Pause`, and
-/// whether it has stopped and has ended.
+/// A thread of a test: the step after which it stops (counted from 0), the steps that its call has reported to the
+/// `Pause`, and whether the thread has stopped and whether its call has ended.
 #[derive(Drop)]
 struct Told {
     stops_at: u64,
@@ -46,8 +46,8 @@ impl Told {
         self.failed.load(Ordering::SeqCst) >= 3
     }
 
-    /// Returns the number of reported steps, and how many of them failed. The step that determines the reply is not
-    /// reported.
+    /// Returns the number of reported steps, and the number of failed steps among them. The step that determines the
+    /// reply is not reported.
     fn counts(&self) -> (u64, u64) {
         let steps = self.steps.load(Ordering::SeqCst);
         (steps, self.failed.load(Ordering::SeqCst))
@@ -99,7 +99,7 @@ impl<'a, R: Clock> Stopping<'a, R> {
         }
     }
 
-    /// Returns `true` if each thread stopped as required and none gave up waiting.
+    /// Returns `true` if each thread stopped as required and no thread gave up waiting.
     fn was_held(&self) -> bool {
         let zero = self.zero.stops_at == NEVER || self.zero.has_stopped.load(Ordering::SeqCst);
         zero && self.one.has_stopped.load(Ordering::SeqCst) && !self.missed.load(Ordering::SeqCst)
@@ -116,8 +116,8 @@ impl<'a, R: Clock> Pause for Stopping<'a, R> {
     }
 }
 
-/// Makes a call from each of two seats, in two threads. The thread that is to stop first starts first. The other thread
-/// starts when the first one has stopped.
+/// Makes a call from each of two seats, in two threads. The thread that must stop first starts first. The other thread
+/// starts when this thread has stopped.
 fn both_call<M: Running + Send + Sync, R: Host>(
     rt: &R,
     set: &LiveSet<M>,
@@ -257,8 +257,8 @@ fn a_ceiling_misses_a_key_added_before_its_position(rt: HostRuntime) {
     both_are::<LockFreeList, HostRuntime>(&rt, rt.alloc(), &[9], both);
 }
 
-/// Asserts that seat 0 attempts at least three times to take a lock that seat 1 holds. Seat 1 takes this lock (the lock
-/// of the list or of its head) in step number `locks_at`.
+/// Asserts that seat 0 attempts at least three times to acquire a lock that seat 1 holds. Seat 1 acquires this lock
+/// (the lock of the list or of its head) in step number `locks_at`.
 fn waits_at_a_lock<M: Running + Send + Sync, R: Host>(rt: &R, alloc: Global, locks_at: u64) {
     let (set, zero, one) = two_seats_on::<M, R>(rt, alloc, &[]);
     let stopping = Stopping::new(rt, NEVER, locks_at);
@@ -292,8 +292,8 @@ fn reads<M: RunningReads, R: Clock + Wait>(
     (looked, asked, sought)
 }
 
-/// Seat 1 removes the key 10. This call stops after step `stops_at` until seat 0 has looked for 10. The set also
-/// contains 20.
+/// Lets seat 1 remove the key 10, and stops this call after step `stops_at` until seat 0 has looked for 10. The set
+/// also contains 20. Returns the replies.
 fn reads_beside<M: RunningReads + Send + Sync, R: Host>(
     rt: &R,
     alloc: Global,
@@ -313,7 +313,8 @@ fn reads_beside<M: RunningReads + Send + Sync, R: Host>(
     found
 }
 
-/// Asserts that seat 0 finds the key 10 if seat 1 stopped before it marked the node, and does not find it otherwise.
+/// Asserts that seat 0 finds the key 10 if seat 1 stopped before it marked the node, and does not find the key
+/// otherwise.
 fn answers_beside<M: RunningReads + Send + Sync, R: Host>(
     rt: &R,
     alloc: Global,

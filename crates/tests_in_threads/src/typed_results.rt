@@ -23,8 +23,8 @@ fn makes<M: Running, R: Host>(rt: &R, set: &LiveSet<M>, seat: &mut Seat<M>, made
     }
 }
 
-/// Asserts that `full` and "already present" differ. A seat that can add 4 keys is refused its fifth new key, but not a
-/// key that is present. The other seat can still add its keys.
+/// Asserts that "quota used up" and "already present" are different results. A seat that can add 4 keys cannot add a
+/// fifth new key, but finds that a present key is present. The other seat can still add its keys.
 fn tells_full_from_already<M: Running, R: Host>(rt: &R, alloc: Global) {
     let (set, mut zero, mut one) = two_seats::<M, R>(rt, alloc);
     makes(rt, &set, &mut zero, Adds(7, Added::New));
