@@ -16,8 +16,8 @@ use Rattle.lset_words.specs.Records.{Record, Names, Keeps, called, calls_by, thr
 use Rattle.lset_live.specs.Seats.{SeatValue, SetValue}
 use Rattle.lset_words.specs.Words.{Opening}
 
--- Call c of thread t has ended with reply r. The thread had seen the events `before` when the call started. It has now
--- seen the events `after`, and the last of them is the last step of the call.
+-- Call c of thread t has ended with reply r. The thread had seen the events `before` when the call started. Now the
+-- thread has seen the events `after`, and the last of them is the last step of the call.
 pub record IsAnswered (T : Table) (k : Opening) (t : ℕ) (c : Call) (r : Reply) (before after : List Event) : Type 0 where
   pub others : List Event
   pub since : List Event

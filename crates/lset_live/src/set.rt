@@ -90,7 +90,8 @@ impl<M: Machine> LiveSet<M> {
         self.quota
     }
 
-    /// Returns the maximum number of keys that the set can have: the opening keys plus those that its threads can add.
+    /// Returns the maximum number of keys that the set can have: the opening keys plus the keys that its threads can
+    /// add.
     pub fn most_keys(&self) -> usize
         ensures { result ≡ most_keys (sizes self.now.shape) }
     {

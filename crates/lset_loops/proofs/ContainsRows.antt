@@ -24,7 +24,7 @@ use Rattle.lset_loops.specs.Begun.{Begun}
 use Rattle.lset_loops.specs.Calling.{Holds, first, row}
 use Rattle.lset_loops.proofs.StepsOfCall.{no_rest}
 
--- Returns the registers of a thread that makes a `contains`, at row pc of the step table and with x as the current
+-- Returns the private state of a thread that makes a `contains`, at row pc of the step table and with x as the current
 -- node.
 abbrev pub reading : Begun → OwnSlots → ℕ → ℕ → Local
 reading b own pc x = row own b.call pc None 0 x no_rest

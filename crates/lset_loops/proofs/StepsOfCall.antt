@@ -76,7 +76,8 @@ module _ (m : Table) (b : Begun) where
   pub few_asks : Lawful m → (a : Action) (s : TableSeat) → MayAnswer m b a s → word_named a < MOST_WORDS
   few_asks law a s h = few_held law h.held a s h.holds h.acts
 
-  -- If a call is pending from seat s, the thread has the registers stored in the view of s (the knowledge of the seat).
+  -- If a call is pending from seat s, the thread has the private state stored in the view of s (the knowledge of the
+  -- seat).
   pub itself : (l : Local) (s : TableSeat) → Holds m b l s → Holds m b s.me.0.local s
   itself l s h = record { words = h.words; used = h.used; seat = h.seat; mid = h.mid; stands = h.stands; local = refl }
 
@@ -93,7 +94,7 @@ module _ (m : Table) (b : Begun) where
     local = h.local ∙ same;
   }
 
-  -- A failed attempt to take a lock does not change the thread's registers.
+  -- A failed attempt to take a lock does not change the thread's private state.
   pub tried : (word thread : ℕ) (s0 s : TableSeat) (n : ℕ) (s' : TableSeat) → MayLock m b word thread s0 → n ≢ 0 →
       Holds m b s0.me.0.local s
       → IsSeat s s' → Goes m s.me.0 n s'.me.0 → Holds m b s0.me.0.local s'
@@ -170,8 +171,8 @@ begins_holding m law b own s n s' c same may seat starts none =
       local = come.0;
     } in subst (λ x. Holds m x f.local s') (sym may.now) here
 
--- If the first step of a call is a failed attempt to take a lock, the thread still has the registers from the start of
--- the call.
+-- If the first step of a call is a failed attempt to take a lock, the thread still has the private state from the start
+-- of the call.
 pub first_tried : (m : Table) → Lawful m → (b : Begun) (own : OwnSlots) (s : TableSeat) (n : ℕ) (s' : TableSeat) (c : Call) → b.call ≡ c →
     MayBegin m b own s
     → IsSeat s s' → Starts m c s.me.0 n s'.me.0 → ((i : ℕ) → i ≢ 0 → m.feed (first m b own) i ≡ continued (first m b own)) → n ≢ 0
@@ -180,11 +181,11 @@ first_tried m law b own s n s' c same may seat starts again ne =
     now_holds m b (m.feed (first m b own) n).local (first m b own) s' (ap (λ (f : Fed). f.local) (again n ne))
     (begins_holding m law b own s n s' c same may seat starts (ap (λ (f : Fed). f.answer) (again n ne)))
 
--- Replaces the registers l of a thread by equal registers l'.
+-- Replaces the private state l of a thread by an equal private state l'.
 --
--- A proof about a loop uses this lemma last: `leads` states the registers after a step as the step table computes them,
--- the test of a branch selects the case (`if_same`, `if_other`, `deed`), and `moved` writes the registers in the form
--- `row`.
+-- A proof about a loop uses this lemma last: `leads` states the private state after a step as the step table computes
+-- them, the test of a branch selects the case (`if_same`, `if_other`, `deed`), and `moved` writes the private state in
+-- the form `row`.
 pub moved : {m : Table} {b : Begun} {l l' : Local} {s : TableSeat} → Holds m b l s → l ≡ l' → Holds m b l' s
 moved h same = record { words = h.words; used = h.used; seat = h.seat; mid = h.mid; stands = h.stands; local = h.local ∙ same }
 

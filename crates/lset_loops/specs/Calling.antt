@@ -1,5 +1,5 @@
--- Conditions between two steps of a pending call: the registers of the thread, and the next step according to the step
--- table.
+-- Conditions between two steps of a pending call: the private state of the thread, and the next step according to the
+-- step table.
 use Rattle.std.specs.Prelude.{◌≡◌, ◌≢◌, ℕ, ◌+◌, ◌*◌, List, [], ◌∷◌, Bool, true, false, Option, Some, None, MatchOption}
 use Rattle.lset_words.specs.declared.Call.{Call}
 use Rattle.lset_words.specs.declared.Reply.{Reply}
@@ -21,8 +21,8 @@ use Rattle.lset_rule.specs.Views.{Stands}
 use Rattle.lset_rule.specs.Calls.{IsMid, Makes}
 use Rattle.lset_loops.specs.Begun.{Begun, begun_at}
 
--- Call b is pending on list m. The calling thread has the registers `l`, and the seat of the call (the right to call as
--- one thread) is now s.
+-- Call b is pending on list m. The calling thread has the private state `l`, and the seat of the call (the right to
+-- call as one thread) is now s.
 pub record Holds (m : Table) (b : Begun) (l : Local) (s : TableSeat) : Type 0 where
   pub words : b.table_id.words ≡ word_count (sizes b.me.0.shape)
   pub used : b.me.0.spent ≡ false
@@ -56,13 +56,14 @@ pub record MayLock (m : Table) (b : Begun) (word thread : ℕ) (s : TableSeat) :
 abbrev pub slot : OwnSlots → ℕ
 slot own = slot_node own.quota own.thread own.used
 
--- Returns the registers of a thread after it has stored these (word, value) pairs, if it had the registers `l` before.
+-- Returns the private state of a thread after it has stored these (word, value) pairs, if it had the private state `l`
+-- before.
 abbrev pub feeds : Table → Local → List (ℕ × ℕ) → Local
 feeds m l [] = l
 feeds m l ((word, value) ∷ more) = feeds m (m.feed l value).local more
 
 -- States that these stores, given as (word, value) pairs, are the next steps according to the step table if the thread
--- has the registers `l`, and that no store ends the call.
+-- has the private state `l`, and that no store ends the call.
 abbrev pub Stores : Table → Local → List (ℕ × ℕ) → Type 0
 Stores m l [] = Unit {0}
 Stores m l ((word, value) ∷ more) = (Store word value ≡ m.next l) × ((n : ℕ) → (m.feed l n).answer ≡ None)
@@ -91,11 +92,11 @@ pub record MayBegin (m : Table) (b : Begun) (own : OwnSlots) (s : TableSeat) : T
   pub now : b ≡ begun_at b.call s
   pub may : MayCall m b.table_id b.me.0.shape own s
 
--- Returns the registers of the thread after call b has started.
+-- Returns the private state of the thread after call b has started.
 abbrev pub first : Table → Begun → OwnSlots → Local
 first m b own = m.begin b.call (resting own)
 
--- Call b has ended with reply r. The calling thread has the registers `l`, and the seat of the call is now s.
+-- Call b has ended with reply r. The calling thread has the private state `l`, and the seat of the call is now s.
 pub record Answered (m : Table) (b : Begun) (r : Reply) (l : Local) (s : TableSeat) : Type 0 where
   pub seat : (s.table_id ≡ b.table_id) × (s.id ≡ b.id) × (s.me.1 ≡ b.me.1)
   pub makes : Makes m b.call b.me.0 r s.me.0
@@ -122,15 +123,15 @@ abbrev pub HasExchanged : Table → Begun → ℕ → TableSeat → Bool → Tab
 HasExchanged m b old s true s' = HasTold m b s old s'
 HasExchanged m b old s false s' = (n : ℕ) × (n ≢ old) × HasTold m b s n s'
 
--- The registers whose values do not matter to the loops.
+-- The registers of a thread that the loops do not depend on.
 pub record Rest : Type 0 where
   pub succ : ℕ
   pub node : ℕ
   pub pkey : ℕ
   pub ckey : ℕ
 
--- Returns the registers of a thread at row pc of the step table: p is the previous node, x the current node, and j has
--- the registers that do not matter to the loops.
+-- Returns the private state of a thread at row pc of the step table: p is the previous node, x the current node, and j
+-- has the registers that the loops do not depend on.
 abbrev pub row : OwnSlots → Call → ℕ → Option Reply → ℕ → ℕ → Rest → Local
 row own c pc r p x j = record {
   thread = own.thread;
@@ -147,8 +148,8 @@ row own c pc r p x j = record {
   ckey = j.ckey;
 }
 
--- Returns the registers after decision d. The next row of the step table then adds the key, removes the key, or ends
--- the call with a reply.
+-- Returns a thread's private state after decision d. The next row of the step table then adds the key, removes the key,
+-- or ends the call with a reply.
 abbrev pub done : Targets → Decision → Local → Local
 done t PutIn l = goes_to t.adds None l
 done t TakeOut l = goes_to t.removes None l

@@ -86,8 +86,9 @@ fn act<P: Pause>(
 }
 
 /// Makes a whole `add` or `remove` on a LazyList. Walks to the key without locks, locks the two nodes around the key,
-/// and checks that they are still neighbours in the list. If they are, acts and releases them; otherwise releases them
-/// and starts over. This is Herlihy and Shavit's lazy list, after Heller and others.
+/// and checks that they are still neighbours in the list. If they are, adds or removes the key if needed and releases
+/// both locks; otherwise releases both locks and starts over. This is Herlihy and Shavit's lazy list, after Heller and
+/// others.
 ///
 /// Returns `None` if a loop of the call has made `N::MOST` rounds. The call is then still pending.
 pub fn lazy_change_within<P: Pause, N: Rounds>(

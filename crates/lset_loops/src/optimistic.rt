@@ -49,7 +49,7 @@ fn walk<P: Pause, N: Rounds>(
 }
 
 /// Walks a second time from the head, and returns whether this walk reaches `pred`. The walk fails if it sees a key
-/// greater than that of `pred`.
+/// greater than the key of `pred`.
 #[inline(always)]
 fn reaches<P: Pause, N: Rounds>(
     caller: &Caller<OptimisticList, P>,
@@ -123,8 +123,9 @@ fn act<P: Pause>(
 }
 
 /// Makes a whole call on an OptimisticList. Walks to the key without locks, locks the two nodes around the key, and
-/// checks with a second walk that they are still neighbours in the list. If they are, acts and releases them; otherwise
-/// releases them and starts over. This is Herlihy and Shavit's optimistic list.
+/// checks with a second walk that they are still neighbours in the list. If they are, adds or removes the key if needed
+/// and releases both locks; otherwise releases both locks and starts over. This is Herlihy and Shavit's optimistic
+/// list.
 ///
 /// Returns `None` if a loop of the call has made `N::MOST` rounds. The call is then still pending.
 pub fn optimistic_within<P: Pause, N: Rounds>(

@@ -1,4 +1,4 @@
-//! A `contains` that only reads, as Herlihy and Shavit write it.
+//! A `contains` that only reads, as in Herlihy and Shavit.
 ghost use Rattle.std.specs.Prelude.{◌≡◌, ◌%◌, ◌==◌, if◌then◌else◌};
 ghost use Rattle.lset_words.specs.declared.Call.TheVariants.{Contains};
 ghost use Rattle.lset_words.specs.declared.Reply.TheVariants.{True, False};

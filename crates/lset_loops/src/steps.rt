@@ -159,7 +159,7 @@ impl<'a, M: Machine, P: Pause> Caller<'a, M, P> {
         None
     }
 
-    /// Takes the lock at index `word`. Returns `None` after one failed attempt and `N::MOST` more.
+    /// Takes the lock at index `word`. Returns `None` after `N::MOST` + 1 failed attempts.
     #[inline(always)]
     fn take<N: Rounds>(&self, place: &mut TableSeat, word: u64) -> Option<()>
         requires { MayLock M.table self.now.origin word self.now.slots.thread place.old }
@@ -176,7 +176,7 @@ impl<'a, M: Machine, P: Pause> Caller<'a, M, P> {
         Some(())
     }
 
-    /// Takes the lock of a node. Returns `None` after one failed attempt and `N::MOST` more.
+    /// Takes the lock of a node. Returns `None` after `N::MOST` + 1 failed attempts.
     #[inline(always)]
     pub fn lock<N: Rounds>(&self, place: &mut TableSeat, node: Node) -> Option<()>
         requires { MayLock M.table self.now.origin (lock_index node.number) self.now.slots.thread place.old }
@@ -185,7 +185,7 @@ impl<'a, M: Machine, P: Pause> Caller<'a, M, P> {
         self.take::<N>(place, Part::Lock(node).index())
     }
 
-    /// Starts the call by taking the lock at index `word`. Returns `None` after one failed attempt and `N::MOST` more.
+    /// Starts the call by taking the lock at index `word`. Returns `None` after `N::MOST` + 1 failed attempts.
     pub fn begin_locked<N: Rounds>(&self, place: &mut TableSeat, word: u64) -> Option<()>
         requires begins { MayBegin M.table self.now.origin self.now.slots place.old }
         requires acts { Exchange word 0 (self.now.slots.thread + 1) ≡ M.table.next (first M.table self.now.origin self.now.slots) }

@@ -18,7 +18,7 @@ pub(crate) enum Sign {
     End(Reply),
 }
 
-/// A sign, and the thread on whose row it is drawn.
+/// A sign on a thread's row, and this thread.
 #[derive(Clone, Copy)]
 pub(crate) struct Mark {
     pub thread: u32,

@@ -110,7 +110,7 @@ fn put_reason(out: &mut String, refusal: &Refusal, told: &[u32]) -> Result<(), A
     }
 }
 
-/// If the order of a picture is rejected, appends a line with the reason.
+/// Appends a line with the reason if the order of a picture is rejected.
 pub(crate) fn put_refusal(out: &mut String, picture: &Picture) -> Result<(), AllocError> {
     if let Some(refusal) = &picture.refusal {
         out.push_str("refused ")?;

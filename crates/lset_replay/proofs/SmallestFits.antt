@@ -16,7 +16,7 @@ use Rattle.lset_words.specs.declared.Key.{Key}
 use Rattle.lset_replay.specs.Trace.{needs_key, shows}
 use Rattle.lset_replay.proofs.KeyChanges.{Tells, told_yes, told_no}
 
--- States that `moment` is the first moment from `first` to `last` for which F holds.
+-- States that `moment` is the first moment from `first` to `last` that satisfies F.
 pub record SmallestAt (F : ℕ → Type 0) (first last moment : ℕ) : Type 0 where
   pub from : first ≤ moment
   pub upto : moment ≤ last

@@ -32,7 +32,7 @@ fn writes_node(deed: Deed) -> bool {
     }
 }
 
-/// A run whose events are reported one by one.
+/// A run of a schedule that reports its events one by one.
 #[derive(Drop)]
 pub struct TracedRun<W: Steps + Drop> {
     alloc: Global,
@@ -101,8 +101,8 @@ impl<W: Steps + Drop> TracedRun<W> {
         Ok(told)
     }
 
-    /// Returns the local state of the event's thread before the event, and the action that the event will take. Returns
-    /// `None` if the thread does not exist or cannot make a step.
+    /// Returns the local state of the event's thread before the event, and the action of the event. Returns `None` if
+    /// the thread does not exist or cannot make a step.
     fn look(&self, event: Event) -> Option<(Local, Deed)> {
         let deed = match event {
             Event::Begin(_, call) => Deed::Begin(call),

@@ -78,7 +78,7 @@ line_read s r x l e =
     let good = judged_ok r told.0 l told.2 in
     subst (λ (k : Line). (line_in r.version wrong.Line (kinds r.version s) x ≡ Ok k) × IsGood r k) good.0 (told.1, good.1)
 
--- ---- Lemmas about the lines at which an allocation can fail
+-- ---- Lemmas about lines that can cause a failed allocation
 
 -- The text `end` is only read as the line End, and as no other line.
 end_is : (v : Version) (s : Section) (l : Line) → line_in v wrong.Line (kinds v s) last_line ≡ Ok l → End ≡ l

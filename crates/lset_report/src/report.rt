@@ -8,7 +8,7 @@ pub const MOST_CALLS: usize = 1_000_000;
 /// The maximum number of entries of the order in a report that can be written as text.
 pub const MOST_PLACES: usize = 1_000_000;
 
-/// The maximum number of final keys in a report of version 1, whose set opens empty.
+/// The maximum number of final keys in a report of version 1. In version 1, every set opens empty.
 pub const MOST_KEYS: usize = 1_048_576;
 
 /// The maximum number of final keys in a report of version 2. (In version 2, a set can open with up to 1,048,576 keys.)

@@ -37,5 +37,5 @@ pub const MOST_STEPS: u32 = 10_000;
 /// The maximum number of events in a schedule that `generate` draws.
 pub const MOST_GENERATED: u32 = 10_000;
 
-/// The maximum number of turns in which `generate` draws a schedule. A turn makes at most one event.
+/// The maximum number of turns that `generate` uses to draw a schedule. A turn makes at most one event.
 pub const MOST_TURNS: u32 = 100_000;

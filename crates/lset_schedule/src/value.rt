@@ -71,7 +71,7 @@ impl Schedule {
     }
 
     /// Returns the number of the line with the first event in the schedule's text. Lines are numbered from 1. If the
-    /// schedule has no events, returns the number of the line where a first event would be.
+    /// schedule has no events, returns the number that the line of a first event would have.
     pub fn first_event_line(&self) -> u64
         ensures { result ≡ first_event_line (view self.now) }
     {

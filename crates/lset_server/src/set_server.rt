@@ -141,7 +141,7 @@ fn send_all<R: Wait>(
 }
 
 /// Starts the workers, sends them `sessions` connections, and waits for them to end. Returns the pass (the right to use
-/// the channel), which has all parts again, and the seat into which all seats were merged.
+/// the channel), which has all parts again, and the seat that results from merging all seats.
 fn serve_in<'s, E, R: Threads + Wait + Clock + Sync, M: Running + Send + Sync>(
     alloc: Global,
     scope: &Scope<'s, E>,

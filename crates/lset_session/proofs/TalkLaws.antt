@@ -26,7 +26,7 @@ use Rattle.lset_session.specs.Sessions.{Wrote, text_end, IsSession}
 use Rattle.lset_session.specs.SessionSoFar.{WroteSoFar, IsLast, Told, Heard, IsTalk, pending_of, counted, ending}
 use Rattle.lset_session.specs.declared.sessions.Talk.{Talk}
 
--- ---- Lemmas about a text to which bytes are appended
+-- ---- Lemmas about appending bytes to a text
 
 -- If bytes without a newline are prepended to a text, they are prepended to the first line of the text.
 cut_more : (q x : List ℕ) (xs : List (List ℕ)) (more : List ℕ) → cut_at 10 more ≡ x ∷ xs → Lacks 10 q
@@ -70,7 +70,7 @@ turns_rest left p lacks short =
     let one = slice_split_none (λ b. eqb b 10) p lacks in
     rw (append-nil p, one, few) refl
 
--- ---- Lemmas about the turn that a line causes: its request, or the reason why the session ends
+-- ---- Lemmas about a turn of a session: an answered line, or the reason why the session ends
 
 pub turns_quit : (left : ℕ) (e : Exchange) (q : Request) (later : List Turn) → turn_of e ≡ line q → q ≡ request.Quit
     → turns_after left q later ≡ turn_of e ∷ []

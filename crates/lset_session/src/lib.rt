@@ -1,5 +1,5 @@
-//! Sessions: a client sends one request per line, and gets an answer to each. A session reads from any `Source`, writes
-//! to any `Sink`, and calls any set that implements `SetCalls`.
+//! Sessions: a client sends one request per line, and the session answers each request. A session reads from any
+//! `Source`, writes to any `Sink`, and calls any set that implements `SetCalls`.
 #![tactic(auto)]
 
 mod buffered;

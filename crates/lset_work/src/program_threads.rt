@@ -12,15 +12,16 @@ use std::snapshot::Snapshot;
 use std::sync::Wait;
 use std::thread::{Promise, PromisedHandle, Scope, Threads};
 
-/// The result of a thread: its seat, and the replies to the calls of its program, or `None` if the gate has returned
-/// false.
+/// The result of a thread: its seat, and the replies to the calls of its program, or `None` if the gate has stopped the
+/// program.
 #[derive(Drop)]
 pub(crate) struct Done<M: Running> {
     pub seat: Seat<M>,
     pub replies: Option<Vec<Reply>>,
 }
 
-/// The promise of a thread, in contracts: it makes the calls of its program on its seat, unless the gate returns false.
+/// The promise of a thread, in contracts: it makes the calls of its program on its seat, unless the gate stops the
+/// program.
 #[derive(Drop)]
 pub(crate) struct WorkerPromise<M: Running, G: Gate> {
     pub set: Snapshot<LiveSet<M>>,
@@ -39,8 +40,8 @@ impl<M: Running, G: Gate> Promise<Done<M>> for WorkerPromise<M, G> {
 /// A started thread that runs a program.
 pub(crate) type Worker<M, G> = PromisedHandle<Done<M>, WorkerPromise<M, G>>;
 
-/// Makes the calls of a program until the gate returns false, and appends the replies. Returns whether all calls were
-/// made.
+/// Makes the calls of a program until the gate stops the program, and appends the replies. Returns whether all calls
+/// were made.
 fn make_calls<R: Wait, M: Running, G: Gate>(
     rt: &R,
     set: &LiveSet<M>,
@@ -160,14 +161,14 @@ impl<'s, R: Wait + Sync, M: Running + Send + Sync, G: Gate + Sync> Shared<'s, R,
     }
 }
 
-/// The replies of all programs, and the seat into which all seats were merged.
+/// The replies of all programs, and the seat that results from merging all seats.
 #[derive(Drop)]
 pub(crate) struct Gathered<M: Running> {
     pub seat: Option<Seat<M>>,
     pub replies: Vec<Vec<Reply>>,
 }
 
-/// Waits for the threads to end and merges their seats into one. Returns `None` if the gate has returned false.
+/// Waits for the threads to end and merges their seats into one. Returns `None` if the gate has stopped a program.
 pub(crate) fn join_all<R: Threads, M: Running, G: Gate>(
     rt: &R,
     set: &LiveSet<M>,

@@ -112,7 +112,7 @@ pub fn work<R: Threads + Wait + Sync, M: Running + Send + Sync, G: Gate + Sync>(
     ensures outcome { IfOk result (λ o. IsOneLegalOrder set.shape (worked
         (map (λ s. s.past) seats.items) (map (λ p. p.items) programs.items) (map (λ v. v.items) o.replies.items)) o.keys.items) }
     // The order also linearizes a history that begins with the events that the seats had seen. Calls that had ended in
-    // these events come before calls that began later, even if a seat knew of them only from a receipt of another seat.
+    // these events precede calls that began later, even if a seat knew of them only from a receipt of another seat.
     ensures in_time { IfOk result (λ o. IsWorkInTime M.table set.shape seats.items (worked
         (map (λ s. s.past) seats.items) (map (λ p. p.items) programs.items) (map (λ v. v.items) o.replies.items)) o.keys.items) }
     // If the cause is `Programs`, the numbers of programs, seats and threads of the set do not match. If they do not

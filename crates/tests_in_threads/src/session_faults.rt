@@ -88,7 +88,7 @@ fn a_failed_read_ends_the_session(rt: HostRuntime) {
 /// Lines, the answers to them, and the number of calls.
 type Lines = (&'static [u8], &'static [u8], u64);
 
-/// Lines for each way in which a session ends: calls and `QUIT`; a line that is too long; lines without a call.
+/// Lines for each way to end a session: calls and `QUIT`; a line that is too long; lines without a call.
 const OF_EACH_END: [Lines; 3] = [
     (LINES, ANSWERS, 4),
     (&[b'A'; 65], b"LONG\n", 0),
