@@ -80,7 +80,7 @@ line_read s r x l e =
 
 -- ---- Lemmas about lines that can cause a failed allocation
 
--- The text `end` is only read as the line End, and as no other line.
+-- The text `end` is read as the line End and as no other line.
 end_is : (v : Version) (s : Section) (l : Line) → line_in v wrong.Line (kinds v s) last_line ≡ Ok l → End ≡ l
 end_is One section.Opening l e = ok_is End l e
 end_is v section.Done l e = absurd cc

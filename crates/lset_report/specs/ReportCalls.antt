@@ -1,4 +1,4 @@
--- The invariant of CallsSoFar: the facts about its calls that a report reader stores.
+-- The invariant of CallsSoFar, the calls that a report reader has read so far.
 use Rattle.std.specs.Prelude.{◌≡◌, ℕ, ◌<◌, ◌&&◌, ◌==◌, nat_lt, not, Bool, true, false, List, length, Option, Some, None, slice_index_or}
 use Rattle.std.specs.List.{list_any}
 use Rattle.lset_words.specs.declared.Reply.{Reply}

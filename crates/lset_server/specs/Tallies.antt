@@ -40,7 +40,8 @@ abbrev pub total : (Tally → ℕ) → List Tally → ℕ
 total f [] = 0
 total f (v ∷ vs) = f v + total f vs
 
--- States that a pass (a right to use the channel) without parts has sent and received nothing.
+-- States that a pass (a right to use the channel) with 0 parts has sent and received nothing. A pass has 0 parts after
+-- it was joined to another pass.
 abbrev pub IdleIsEmpty : List Tally → Type 0
 IdleIsEmpty views = (port : ℕ) (v : Tally) → get_elem? views port ≡ some v → v.parts ≡ 0 → (v.sent ≡ []) × (v.received ≡ [])
 

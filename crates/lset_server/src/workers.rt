@@ -172,8 +172,8 @@ impl<'s, R: Threads + Wait + Clock + Sync, M: Running + Send + Sync> Pool<'s, R,
             .ok()
     }
 
-    /// Starts a worker thread on each seat. Each worker gets a pass (a right to use the channel) that is split off the
-    /// sender's `pass`. Allocates the memory for all thread handles before it starts the first.
+    /// Starts a worker thread on each seat. Each worker has its own pass (a right to use the channel), which is split
+    /// off the sender's `pass`. Allocates the memory for all thread handles before it starts the first thread.
     pub fn start_all<E>(
         &self,
         alloc: Global,
