@@ -4,7 +4,7 @@
 export const CODE = {
   "crates/lset_loops/src/coarse.rt": [
     { name: "walk", first: 15, steps: [{"line": 22, "rows": [2]}, {"line": 24, "rows": [3]}, {"line": 28, "rows": [4]}], calls: [], text: `
-/// Walks from the head to the first key that is not smaller than the call's.
+/// Walks from the head to the first key that is not smaller than the call's key.
 fn walk<P: Pause, N: Rounds>(caller: &Caller<CoarseList, P>, place: &mut TableSeat) -> Option<Found>
     requires { AtHead caller.now.origin caller.now.slots place.old }
     ensures { IfSome result (λ f. StopsAt caller.now.origin caller.now.slots f place.new) }
@@ -23,9 +23,8 @@ fn walk<P: Pause, N: Rounds>(caller: &Caller<CoarseList, P>, place: &mut TableSe
     }
     None
 }` },
-    { name: "act", first: 35, steps: [{"line": 47, "rows": [5, 6, 7]}, {"line": 51, "rows": [8]}, {"line": 52, "rows": [9]}], calls: [], text: `
-/// Adds or removes the key between the two nodes at which the walk has stopped, or only replies. The list's lock must
-/// be held.
+    { name: "act", first: 35, steps: [{"line": 46, "rows": [5, 6, 7]}, {"line": 50, "rows": [8]}, {"line": 51, "rows": [9]}], calls: [], text: `
+/// Adds or removes the key between the two nodes that the walk found, or only replies. The list's lock must be held.
 fn act<P: Pause>(
     caller: &Caller<CoarseList, P>,
     place: &mut TableSeat,
@@ -47,9 +46,9 @@ fn act<P: Pause>(
         Decision::Answer(reply) => (caller.slots, reply),
     }
 }` },
-    { name: "coarse_within", first: 59, steps: [{"line": 74, "rows": [1]}, {"line": 77, "rows": [10]}], calls: [[75, "walk"], [76, "act"]], text: `
-/// Makes a whole call on a CoarseList: takes the list's lock, walks to the key, acts there, and releases the lock. This
-/// is Herlihy and Shavit's coarse-grained list.
+    { name: "coarse_within", first: 58, steps: [{"line": 73, "rows": [1]}, {"line": 76, "rows": [10]}], calls: [[74, "walk"], [75, "act"]], text: `
+/// Makes a whole call on a CoarseList: takes the list's lock, walks to the key, adds or removes the key if needed, and
+/// releases the lock. This is Herlihy and Shavit's coarse-grained list.
 ///
 /// Returns \`None\` if a loop of the call has made \`N::MOST\` rounds. The call is then still pending.
 pub fn coarse_within<P: Pause, N: Rounds>(
@@ -72,8 +71,8 @@ pub fn coarse_within<P: Pause, N: Rounds>(
   ],
   "crates/lset_loops/src/fine.rt": [
     { name: "walk", first: 16, steps: [{"line": 24, "rows": [2]}, {"line": 26, "rows": [3]}, {"line": 27, "rows": [4]}, {"line": 31, "rows": [5]}, {"line": 32, "rows": [6]}], calls: [], text: `
-/// Walks from the locked head to the first key that is not smaller than the call's. Locks each node before it releases
-/// the previous one, and returns with both nodes locked.
+/// Walks from the locked head to the first key that is not smaller than the call's key. Locks each node before it
+/// releases the previous node, and returns the last two nodes locked.
 fn walk<P: Pause, N: Rounds>(caller: &Caller<FineList, P>, place: &mut TableSeat) -> Option<Found>
     requires { AtHead caller.now.origin caller.now.slots place.old }
     ensures { IfSome result (λ f. StopsAt caller.now.origin caller.now.slots f place.new) }
@@ -95,7 +94,7 @@ fn walk<P: Pause, N: Rounds>(caller: &Caller<FineList, P>, place: &mut TableSeat
     None
 }` },
     { name: "act", first: 39, steps: [{"line": 50, "rows": [7, 8, 9]}, {"line": 54, "rows": [10]}, {"line": 55, "rows": [11]}], calls: [], text: `
-/// Adds or removes the key between the two locked nodes at which the walk has stopped, or only replies.
+/// Adds or removes the key between the two locked nodes that the walk found, or only replies.
 fn act<P: Pause>(
     caller: &Caller<FineList, P>,
     place: &mut TableSeat,
@@ -118,8 +117,8 @@ fn act<P: Pause>(
     }
 }` },
     { name: "fine_within", first: 62, steps: [{"line": 77, "rows": [1]}, {"line": 80, "rows": [12]}, {"line": 81, "rows": [13]}], calls: [[78, "walk"], [79, "act"]], text: `
-/// Makes a whole call on a FineList: walks to the key, locking each node before it releases the previous one, acts
-/// there, and releases both locks. This is Herlihy and Shavit's fine-grained list.
+/// Makes a whole call on a FineList: walks to the key, locking each node before it releases the previous node, adds or
+/// removes the key if needed, and releases both locks. This is Herlihy and Shavit's fine-grained list.
 ///
 /// Returns \`None\` if a loop of the call has made \`N::MOST\` rounds. The call is then still pending.
 pub fn fine_within<P: Pause, N: Rounds>(
@@ -143,8 +142,8 @@ pub fn fine_within<P: Pause, N: Rounds>(
   ],
   "crates/lset_loops/src/optimistic.rt": [
     { name: "walk", first: 22, steps: [{"line": 38, "rows": [2]}, {"line": 43, "rows": [3]}], calls: [], text: `
-/// Walks from the head to the first key that is not smaller than the call's. \`first\` is the node to which the head's
-/// link led.
+/// Walks from the head to the first key that is not smaller than the call's key. \`first\` is the node to which the
+/// head's link led.
 #[inline(always)]
 fn walk<P: Pause, N: Rounds>(
     caller: &Caller<OptimisticList, P>,
@@ -173,7 +172,7 @@ fn walk<P: Pause, N: Rounds>(
 }` },
     { name: "reaches", first: 51, steps: [{"line": 69, "rows": [6]}, {"line": 71, "rows": [7]}], calls: [], text: `
 /// Walks a second time from the head, and returns whether this walk reaches \`pred\`. The walk fails if it sees a key
-/// greater than that of \`pred\`.
+/// greater than the key of \`pred\`.
 #[inline(always)]
 fn reaches<P: Pause, N: Rounds>(
     caller: &Caller<OptimisticList, P>,
@@ -203,7 +202,7 @@ fn reaches<P: Pause, N: Rounds>(
     None
 }` },
     { name: "validate", first: 82, steps: [{"line": 95, "rows": [8]}], calls: [[92, "reaches"]], text: `
-/// Returns whether \`pred\` is still in the list and leads to \`curr\`. Both must be locked.
+/// Returns whether \`pred\` is still in the list and leads to \`curr\`. Both nodes must be locked.
 fn validate<P: Pause, N: Rounds>(
     caller: &Caller<OptimisticList, P>,
     place: &mut TableSeat,
@@ -223,7 +222,7 @@ fn validate<P: Pause, N: Rounds>(
     Some(true)
 }` },
     { name: "act", first: 102, steps: [{"line": 113, "rows": [9, 10, 11]}, {"line": 117, "rows": [12]}, {"line": 118, "rows": [13]}], calls: [], text: `
-/// Adds or removes the key between the two locked nodes at which the walk has stopped, or only replies.
+/// Adds or removes the key between the two locked nodes that the walk found, or only replies.
 fn act<P: Pause>(
     caller: &Caller<OptimisticList, P>,
     place: &mut TableSeat,
@@ -245,10 +244,11 @@ fn act<P: Pause>(
         Decision::Answer(reply) => (caller.slots, reply),
     }
 }` },
-    { name: "optimistic_within", first: 125, steps: [{"line": 141, "rows": [1], "begins": true, "answers": false}, {"line": 145, "rows": [4]}, {"line": 146, "rows": [5]}, {"line": 149, "rows": [14], "begins": false, "answers": true}, {"line": 150, "rows": [15], "begins": false, "answers": true}, {"line": 153, "rows": [14], "begins": false, "answers": false}, {"line": 154, "rows": [15], "begins": false, "answers": false}, {"line": 155, "rows": [1], "begins": false, "answers": false}], calls: [[143, "walk"], [147, "validate"], [148, "act"]], text: `
-/// Makes a whole call on an OptimisticList. Walks to the key without locks, locks the two nodes there, and checks with
-/// a second walk that they are still neighbours in the list. If they are, acts and releases them; otherwise releases
-/// them and starts over. This is Herlihy and Shavit's optimistic list.
+    { name: "optimistic_within", first: 125, steps: [{"line": 142, "rows": [1], "begins": true, "answers": false}, {"line": 146, "rows": [4]}, {"line": 147, "rows": [5]}, {"line": 150, "rows": [14], "begins": false, "answers": true}, {"line": 151, "rows": [15], "begins": false, "answers": true}, {"line": 154, "rows": [14], "begins": false, "answers": false}, {"line": 155, "rows": [15], "begins": false, "answers": false}, {"line": 156, "rows": [1], "begins": false, "answers": false}], calls: [[144, "walk"], [148, "validate"], [149, "act"]], text: `
+/// Makes a whole call on an OptimisticList. Walks to the key without locks, locks the two nodes around the key, and
+/// checks with a second walk that they are still neighbours in the list. If they are, adds or removes the key if needed
+/// and releases both locks; otherwise releases both locks and starts over. This is Herlihy and Shavit's optimistic
+/// list.
 ///
 /// Returns \`None\` if a loop of the call has made \`N::MOST\` rounds. The call is then still pending.
 pub fn optimistic_within<P: Pause, N: Rounds>(
@@ -283,8 +283,8 @@ pub fn optimistic_within<P: Pause, N: Rounds>(
   ],
   "crates/lset_loops/src/lazy.rt": [
     { name: "walk", first: 17, steps: [{"line": 32, "rows": [2]}, {"line": 36, "rows": [3]}], calls: [], text: `
-/// Walks from the head to the first key that is not smaller than the call's. \`first\` is the node to which the head's
-/// link led.
+/// Walks from the head to the first key that is not smaller than the call's key. \`first\` is the node to which the
+/// head's link led.
 #[inline(always)]
 fn walk<P: Pause, N: Rounds>(
     caller: &Caller<LazyList, P>,
@@ -309,7 +309,7 @@ fn walk<P: Pause, N: Rounds>(
     None
 }` },
     { name: "validate", first: 43, steps: [{"line": 53, "rows": [6]}, {"line": 57, "rows": [7]}], calls: [], text: `
-/// Returns the node after \`curr\` if \`pred\` leads to \`curr\` and neither is marked, otherwise \`None\`. Both must be
+/// Returns the node after \`curr\` if \`pred\` leads to \`curr\` and neither is marked, otherwise \`None\`. Both nodes must be
 /// locked.
 fn validate<P: Pause>(
     caller: &Caller<LazyList, P>,
@@ -330,7 +330,7 @@ fn validate<P: Pause>(
     Some(Node::behind(after))
 }` },
     { name: "act", first: 64, steps: [{"line": 76, "rows": [8, 9, 10]}, {"line": 80, "rows": [11]}, {"line": 81, "rows": [12]}], calls: [], text: `
-/// Adds or removes the key between the two locked nodes at which the walk has stopped, or only replies.
+/// Adds or removes the key between the two locked nodes that the walk found, or only replies.
 fn act<P: Pause>(
     caller: &Caller<LazyList, P>,
     place: &mut TableSeat,
@@ -353,10 +353,11 @@ fn act<P: Pause>(
         Decision::Answer(reply) => (caller.slots, reply),
     }
 }` },
-    { name: "lazy_change_within", first: 88, steps: [{"line": 105, "rows": [1], "begins": true, "answers": false}, {"line": 108, "rows": [4]}, {"line": 109, "rows": [5]}, {"line": 113, "rows": [13], "begins": false, "answers": true}, {"line": 114, "rows": [14], "begins": false, "answers": true}, {"line": 118, "rows": [13], "begins": false, "answers": false}, {"line": 119, "rows": [14], "begins": false, "answers": false}, {"line": 120, "rows": [1], "begins": false, "answers": false}], calls: [[107, "walk"], [110, "validate"], [112, "act"]], text: `
-/// Makes a whole \`add\` or \`remove\` on a LazyList. Walks to the key without locks, locks the two nodes there, and checks
-/// that they are still neighbours in the list. If they are, acts and releases them; otherwise releases them and starts
-/// over. This is Herlihy and Shavit's lazy list, after Heller and others.
+    { name: "lazy_change_within", first: 88, steps: [{"line": 106, "rows": [1], "begins": true, "answers": false}, {"line": 109, "rows": [4]}, {"line": 110, "rows": [5]}, {"line": 114, "rows": [13], "begins": false, "answers": true}, {"line": 115, "rows": [14], "begins": false, "answers": true}, {"line": 119, "rows": [13], "begins": false, "answers": false}, {"line": 120, "rows": [14], "begins": false, "answers": false}, {"line": 121, "rows": [1], "begins": false, "answers": false}], calls: [[108, "walk"], [111, "validate"], [113, "act"]], text: `
+/// Makes a whole \`add\` or \`remove\` on a LazyList. Walks to the key without locks, locks the two nodes around the key,
+/// and checks that they are still neighbours in the list. If they are, adds or removes the key if needed and releases
+/// both locks; otherwise releases both locks and starts over. This is Herlihy and Shavit's lazy list, after Heller and
+/// others.
 ///
 /// Returns \`None\` if a loop of the call has made \`N::MOST\` rounds. The call is then still pending.
 pub fn lazy_change_within<P: Pause, N: Rounds>(
@@ -432,7 +433,7 @@ pub fn contains_on<M: ReadsByRows, P: Pause>(
   ],
   "crates/lset_loops/src/lock_free.rt": [
     { name: "find", first: 17, steps: [{"line": 31, "rows": [2]}, {"line": 34, "rows": [3]}, {"line": 40, "rows": [1], "begins": false, "answers": false}, {"line": 43, "rows": [4]}], calls: [], text: `
-/// Walks from the head to the first key that is not smaller than the call's, and unlinks marked nodes on the way:
+/// Walks from the head to the first key that is not smaller than the call's key, and unlinks marked nodes on the way:
 /// Herlihy and Shavit's \`find\`. \`first\` is the node to which the head's link led.
 fn find<P: Pause, N: Rounds>(
     caller: &Caller<LockFreeList, P>,
@@ -469,8 +470,8 @@ fn find<P: Pause, N: Rounds>(
     None
 }` },
     { name: "attempt", first: 54, steps: [{"line": 67, "rows": [5, 6]}, {"line": 68, "rows": [7]}, {"line": 75, "rows": [8]}, {"line": 76, "rows": [9]}, {"line": 80, "rows": [10]}], calls: [], text: `
-/// Adds or removes the key between the two nodes at which the walk has stopped, or only replies. Returns \`None\` if a
-/// link has changed since the walk.
+/// Adds or removes the key between the two nodes that the walk found, or only replies. Returns \`None\` if a link has
+/// changed since the walk.
 fn attempt<P: Pause>(
     caller: &Caller<LockFreeList, P>,
     place: &mut TableSeat,
