@@ -33,5 +33,5 @@ const MOST_COLUMNS: usize = 64;
 /// The maximum number of keys of a set that are printed. They are followed by the number of the other keys.
 const MOST_KEYS_SHOWN: usize = 8;
 
-/// The maximum width of a column, in characters. No column of a linearizable history is wider.
+/// The maximum width of a column, in characters. In a linearizable history, no entry of a column is wider.
 const MOST_WIDTH: usize = 255;

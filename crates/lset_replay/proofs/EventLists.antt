@@ -52,7 +52,7 @@ drop_more [] (suc k) next rest e = absurd (cc)
 drop_more (x ∷ es) zero next rest e = cc
 drop_more (x ∷ es) (suc k) next rest e = drop_more es k next rest e
 
--- A default value for a line whose index is out of range. No proof depends on it.
+-- A default line, used if the index of a line is out of range.
 abbrev pub no_line : Line
 no_line = line.Begin 0 (call.Add (record { 0 = 0 }))
 

@@ -15,7 +15,7 @@ use Rattle.lset_replay.specs.Trace.{MayChange}
 abbrev pub HoldsKeys : ℕ → Contents → Type 0
 HoldsKeys last contents = (k j : ℕ) → k ≤ last → contents k j → j < 2 ^ 32
 
--- States that b is true if C holds, and false otherwise.
+-- States that C holds if b is true, and does not hold if b is false.
 abbrev pub Tells : Bool → Type 0 → Type 0
 Tells b C = (b ≡ true → C) × (b ≡ false → C → ⊥)
 

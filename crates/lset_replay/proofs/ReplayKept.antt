@@ -31,8 +31,9 @@ pub record IsWatched (log : Log) (contents : Contents) (counts : Counts) (k t : 
   -- As long as the pending call has not changed the set, its thread has added no key since the call started.
   pub steady : has_changed log t k ≡ false → (m : ℕ) → o.begun ≤ m → m ≤ k → counts m t ≡ counts k t
 
--- States that p is the linearization point of a call. This is the moment of the call's change. For a completed call
--- without a change, it is the first moment during the call when the call's reply is correct.
+-- States that p is the linearization point of a call: the moment of its change or, for a completed call without a
+-- change, the first moment during the call when its reply is correct. A pending call without a change has no
+-- linearization point.
 abbrev pub PlaceBy : ℕ → Contents → Counts → TracedCall → Option ℕ → Option (ℕ × Reply) → Option Linearized → Type 0
 PlaceBy q contents counts x (Some m) ended p = p ≡ Some (changed_at m)
 PlaceBy q contents counts x None None p = p ≡ None

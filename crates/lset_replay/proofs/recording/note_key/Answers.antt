@@ -35,7 +35,8 @@ no_turn : (b : Bool) → b ≡ not b → ⊥
 no_turn true e = absurd cc
 no_turn false e = absurd cc
 
--- If the key already was present or absent as the change would leave it, the change is not a change of a list.
+-- If the key already is present, or absent, as it would be after the change, the change neither adds an absent key nor
+-- removes a present key.
 not_turned : (changes : ℕ → List ℕ) (key moment : ℕ) (there present : Bool) → ((j : ℕ) → All (λ m. m < moment) (changes j))
     → there ≡ is_present changes key moment → not (beq there present) ≡ false → present ≡ not (is_present_now changes key) → ⊥
 not_turned changes key moment there present later is same turn =
