@@ -9,7 +9,7 @@ use crate::prelude::*;
 const NEVER: u64 = u64::MAX;
 
 /// A thread of a test: the step after which it stops (counted from 0), the steps that its call has reported to the
-/// `Pause`, and whether the thread has stopped and whether its call has ended.
+/// `Pause`, whether the thread has stopped, and whether its call has ended.
 #[derive(Drop)]
 struct Told {
     stops_at: u64,
