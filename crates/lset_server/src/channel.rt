@@ -74,7 +74,7 @@ impl Join<Tally> for Parting {
     ghost spent = { tally 0 [] [] };
 }
 
-/// The change of the sender's tally when the sender sends a message.
+/// The change of the sender's tally (the numbers of the connections sent) when the sender sends a message.
 pub(crate) struct Sending;
 
 impl<S> Outcome<Message<S>, Tally> for Sending {
@@ -85,7 +85,7 @@ impl<S> Lesson<Message<S>, Tally> for Sending {
     ghost fact = { λ v items. ⊤ };
 }
 
-/// The change of the receiver's tally when the receiver receives a message.
+/// The change of the receiver's tally (the numbers of the connections received) when the receiver receives a message.
 pub(crate) struct Receiving;
 
 impl<S> Outcome<Message<S>, Tally> for Receiving {
@@ -114,7 +114,7 @@ pub(crate) type Receiver<S> = RuledReceiver<Message<S>, Tally, NothingLost>;
 /// A pass: the right to send and receive on the channel. Zero-sized.
 pub(crate) type Token<S> = Pass<Message<S>, Tally>;
 
-/// Sends a message. Blocks while the channel is full. `pass` must belong to this channel.
+/// Sends a message. Blocks while the channel is full. `pass` must be a right to use this channel.
 pub fn send<S: Drop, R: Wait>(
     rt: &R,
     to: &Sender<S>,
@@ -131,7 +131,7 @@ pub fn send<S: Drop, R: Wait>(
     to.send_as::<Sending, R>(rt, pass, message)
 }
 
-/// Receives a message. Blocks until a message arrives. `pass` must belong to this channel.
+/// Receives a message. Blocks until a message arrives. `pass` must be a right to use this channel.
 pub fn receive<S: Drop, R: Wait>(
     rt: &R,
     from: &Receiver<S>,

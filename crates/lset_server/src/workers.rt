@@ -206,8 +206,8 @@ impl<'s, R: Threads + Wait + Clock + Sync, M: Running + Send + Sync> Pool<'s, R,
         Ok(workers)
     }
 
-    /// Waits for the worker threads to end, joins their passes of the channel to `pass`, and merges their seats into
-    /// one.
+    /// Waits for the worker threads to end, joins their passes (rights to use the channel) to `pass`, and merges their
+    /// seats into one.
     pub fn join_all(&self, pass: &mut Token<TcpStream>, workers: Vec<Worker<M>>) -> Gathered<M>
         requires pass { IsSeatAt (sends_on self.now.to) pass.old × (0 < (view pass.old).parts) }
         requires owed { All (λ h. (receives_on h.promise.from.value ≡ sends_on self.now.to)
