@@ -1,5 +1,5 @@
-//! Computes the columns of a picture. Each moment in the range to draw when a call starts, takes effect or ends has one
-//! column.
+//! Computes the columns of a picture: one for each moment in the range to draw when a call starts, takes effect or
+//! ends.
 use crate::MOST_WIDTH;
 use crate::beginning::clash_begins;
 use crate::drawn_moments::{moments_shown, next_moment};
