@@ -1,4 +1,4 @@
--- How the arguments of the command `gen` are read.
+-- The definitions of how the command `gen` reads its arguments.
 use Rattle.std.specs.Prelude.{ℕ, ◌-◌, ◌^◌, List, Option, option_and_then, slice_get, Result, Ok}
 use Rattle.lset_words.specs.declared.Kind.{Kind}
 use Rattle.lset_words.specs.declared.TheConstants.{MOST_THREADS, MOST_QUOTA}

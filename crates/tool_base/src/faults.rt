@@ -161,8 +161,8 @@ fn from_name(line: &[u8]) -> &[u8] {
     line.strip_prefix(b"line 1: ").unwrap_or(line)
 }
 
-/// If a line of `FAULTS` starts with `name`, ignoring case, returns the name as this line spells it. Otherwise returns
-/// `None`.
+/// Returns `name` as a line of `FAULTS` spells it, if the line (without its prefix) starts with `name` in either case.
+/// Otherwise returns `None`.
 fn name_of_line<'a>(line: &'a [u8], name: &[u8]) -> Option<&'a [u8]> {
     let line = from_name(line);
     let (first, rest) = (line.get(..name.len())?, line.get(name.len()..)?);

@@ -20,7 +20,8 @@ pub enum ValueName {
     Port,
     Sessions,
     Name,
-    /// The name of an example that has no report of a broken list.
+    /// The argument NAME of `example --broken`: this example has no report of a broken list (a list without one of its
+    /// checks).
     Unbroken,
     Lacks,
     From,
@@ -30,12 +31,12 @@ pub enum ValueName {
     Cause,
 }
 
-/// Why the programs of `run` or the sessions of `serve` did not run to completion. A failed allocation is
+/// Why the programs of `run` or the sessions of `serve` could not all be completed. A failed allocation is
 /// `Trouble::Memory` instead.
 #[derive(Clone, Copy)]
 pub enum SystemCause {
-    /// The number of programs differs from the number of seats, or some seats of the set are missing. (A seat is the
-    /// right to call the set as one thread.)
+    /// The number of programs (the calls of one thread each) differs from the number of seats, or some seats of the set are
+    /// missing. (A seat is the right to call the set as one thread.)
     Programs,
     /// The gate, which decides before each call whether the call is made, refused a call.
     Gate,
@@ -70,9 +71,9 @@ pub enum Trouble {
     Bad(ValueName),
     /// The system refused a listening socket.
     CannotListen,
-    /// Not all programs of `run` ran to completion.
+    /// Not all programs of `run` were completed. A program is the sequence of calls of one thread.
     Work(SystemCause),
-    /// Not all sessions of `serve` were served to completion.
+    /// Not all sessions of `serve` were completed. A session is the connection of one client.
     Serve(SystemCause),
 }
 
