@@ -19,7 +19,7 @@ pub record IsRequested (T : Table) (request : RandomRequest) (p : Plan) : Type 0
   pub threads_are : p.threads ≡ request.threads
   pub quota_is : p.quota ≡ request.quota
   pub schedule : IsSchedule p
-  -- All events are enabled, and the numbers of calls and keys are at most the requested ones.
+  -- Each event can happen when it is due (it is enabled), and the numbers of calls and keys are at most the requested ones.
   pub generated : IsGenerated T request.threads request.quota request.calls request.keys p.lines
   -- The lines of the schedule are those that the random seed determines.
   pub drawn : AreOfSeed T request.threads request.quota request.calls request.keys request.seed p.lines

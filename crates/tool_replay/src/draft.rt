@@ -19,7 +19,7 @@ pub enum DraftLine {
 }
 
 impl DraftLine {
-    /// Returns the minimum number of events to which the line expands.
+    /// Returns the minimum number of events that the line can expand to.
     pub(crate) fn smallest_count(self) -> u32 {
         match self {
             DraftLine::Plain(line) => line.event_count(),

@@ -30,7 +30,7 @@ pub fn read_example_request(
     Ok(ExampleRequest::Text(report))
 }
 
-/// Returns one line for each example: its name, its list, and what happens in it.
+/// Returns one line for each example: its name, its list, and a summary of the run.
 fn write_names(alloc: Global) -> Result<Vec<u8>, AllocError> {
     let mut out = String::new(alloc);
     for example in &ALL {

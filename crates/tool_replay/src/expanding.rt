@@ -13,7 +13,7 @@ use lset_words::layout_opening;
 use std::alloc::{AllocError, Global};
 use tool_base::Trouble;
 
-/// Makes the events of one line of a schedule. Returns the error `TooMany` if there are more than `left` events.
+/// Makes the events of one line of a schedule in `world`. Returns the error `TooMany` if there are more than `left` events.
 fn make_plain<M: Machine>(world: &mut World<M>, line: Line, left: u32) -> Result<(), Cause> {
     if line.event_count() > left {
         return Err(Cause::TooMany);
@@ -27,8 +27,7 @@ fn make_plain<M: Machine>(world: &mut World<M>, line: Line, left: u32) -> Result
     }
 }
 
-/// Makes the events of one line of a draft, at most `left` events. Returns the schedule line to which the draft line
-/// expands.
+/// Makes the events of one line of a draft, at most `left` events. Returns the schedule line that replaces the draft line.
 fn make_line<M: Machine>(world: &mut World<M>, line: DraftLine, left: u32) -> Result<Line, Cause> {
     let most = left.min(MOST_STEPS);
     match line {
@@ -56,7 +55,7 @@ fn start_of<M: Machine>(alloc: Global, draft: &Draft) -> Result<World<M>, AllocE
     World::<M>::opened(alloc, layout, keys)
 }
 
-/// Expands the lines of a draft by running them on the list whose step table is `M`.
+/// Expands the lines of a draft by running them on the list with step table `M`.
 fn lines_on<M: Machine>(alloc: Global, draft: &Draft) -> Result<Vec<Line>, Trouble> {
     let mut world = start_of::<M>(alloc, draft)?;
     let mut number = draft.first_event_line();
@@ -95,9 +94,9 @@ impl Task for Expanding<'_> {
 
 /// Expands a draft into a schedule by inserting each missing number of steps. Allocates.
 ///
-/// `draft` must be within the limits, as every draft from `read_draft` is. A line without a count gets the smallest
-/// number of steps, at least 1, after which the thread's call has ended or the thread is at the named row. All other
-/// lines stay unchanged. The schedule has version 1 if it has no opening keys and no `ceiling`, otherwise version 2.
+/// `draft` must be within the limits, as every draft from `read_draft` is. A line without a count gets the smallest number of
+/// steps, at least 1, that ends the thread's call or brings the thread to the named row. All other lines stay unchanged. The
+/// schedule has version 1 if it has no opening keys and no `ceiling`, otherwise version 2.
 ///
 /// # Errors
 ///

@@ -97,7 +97,7 @@ fn put_begin(out: &mut Chunk, call: Call, number: u32) {
     put_call(out, number);
 }
 
-/// Writes what the event did, the row of the step table that the thread reached, and the registers that changed.
+/// Writes the event's effect, the row of the step table that the thread reached, and the registers that changed.
 fn put_deed(out: &mut Chunk, event: &TracedEvent) {
     match event.deed {
         Deed::Begin(call) => put_begin(out, call, event.call),

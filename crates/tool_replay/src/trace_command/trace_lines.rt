@@ -69,7 +69,7 @@ pub struct Lines<'a, S> {
 }
 
 impl<S: Sink> Lines<'_, S> {
-    /// Starts a trace whose destination is `sink`.
+    /// Starts a trace that is written to `sink`.
     pub fn to(sink: &mut S) -> Lines<'_, S> {
         Lines {
             chunk: Chunk::new(),

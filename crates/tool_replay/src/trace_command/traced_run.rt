@@ -43,7 +43,7 @@ fn trace<W: Steps + Drop, S: Sink>(
     Ok(0)
 }
 
-/// Traces a schedule on the list whose step table is `M`.
+/// Traces a schedule on the list with step table `M`.
 fn trace_on<M: Machine, S: Sink>(
     alloc: Global,
     schedule: &Schedule,
