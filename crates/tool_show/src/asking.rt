@@ -9,7 +9,7 @@ const DEFAULT_WIDTH: u32 = 100;
 /// The format of a picture.
 #[derive(Clone, Copy)]
 pub enum Form {
-    /// Text whose rows have at most this many characters.
+    /// Text. Each row has at most this many characters.
     Text(u32),
     /// An SVG image.
     Svg,

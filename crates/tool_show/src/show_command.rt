@@ -22,7 +22,8 @@ pub struct Show {
     pub form: Form,
     /// The range of moments to draw.
     pub window: Window,
-    /// The broken list on which to run the schedule; `None` for the list that the schedule names.
+    /// The broken list (a list without one of its checks) that runs the schedule; `None` for the list that the schedule
+    /// names.
     pub lacks: Option<BrokenList>,
 }
 
@@ -55,9 +56,9 @@ impl Show {
         Ok(picture_of_replay(alloc, &schedule)?)
     }
 
-    /// Draws the moments of a picture that are in the range of moments. The exit status is 1 if the picture shows a
-    /// refused order or event, otherwise 0. Returns `Bad(From)` if the range begins after the last moment at which
-    /// something happens, and `Memory` if an allocation fails. Allocates.
+    /// Draws a picture, limited to the range of moments in `self`. The exit status is 1 if the picture shows a
+    /// refused order or event, otherwise 0. Returns `Bad(From)` if the range begins after the last moment of the run, and
+    /// `Memory` if an allocation fails. Allocates.
     pub fn draw(self, alloc: Global, picture: &Picture) -> Result<Answer, Trouble> {
         if is_past_the_last(picture, self.window.from) {
             return Err(Trouble::Bad(ValueName::From));
