@@ -32,7 +32,7 @@ impl TextKind {
         }
     }
 
-    /// Returns the words that state what a file of this kind is or contains.
+    /// Returns a predicate for a sentence about a file of this kind, such as its format or its content.
     pub fn predicate(self) -> &'static str {
         match self {
             TextKind::Schedule => "is a schedule",
@@ -47,7 +47,7 @@ impl TextKind {
     }
 }
 
-/// The first error of a text: the file, its kind, and the line with the error.
+/// The first error of a text: the name and the kind of the file, and the line with the error.
 #[derive(Clone, Copy)]
 pub struct Place<'a> {
     /// The name of the file, as typed in commands.

@@ -1,4 +1,4 @@
-//! Explains what is wrong with a line of a text and how to correct it, for the command `explain`. Errors in events are
+//! Explains the error in a line of a text and how to correct the line, for the command `explain`. Errors in events are
 //! explained in `tool_explain`, because that needs a replay of the lines before them.
 #![tactic(auto)]
 

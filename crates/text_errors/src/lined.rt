@@ -46,7 +46,7 @@ impl<'a> Lines<'a> {
         }
     }
 
-    /// Returns the number of the last line before line `number` for which `is_meant` is true.
+    /// Returns the number of the last line before line `number` that satisfies `is_meant`.
     pub fn last_before<F: Fn(&[u8]) -> bool + Drop>(
         &self,
         number: usize,

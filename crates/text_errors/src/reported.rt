@@ -125,13 +125,13 @@ fn put_order(
     }
 }
 
-/// To the line written before, appends a shell command that sorts the calls of a recording.
+/// Appends a shell command that sorts the calls of a recording. The command is added to the last line of `out`.
 fn put_sorting(out: &mut String, place: Place<'_>) -> Result<(), AllocError> {
     if place.kind != TextKind::Recording {
         return Ok(());
     }
     let file = place.file;
-    // The line written before ends with a newline. The newline is removed, so that the command is in the same line.
+    // `out` ends with a newline. The newline is removed, so that the command is on the same line.
     let _newline = out.pop();
     writeln!(
         out,
