@@ -1,4 +1,4 @@
-//! Finds out how far a thread gets, by running the lines before an error as a draft.
+//! Determines how far a thread can run, by expanding the lines before an error as a draft.
 
 use crate::event_errors::thread_text;
 use std::alloc::{AllocError, Global};
@@ -36,8 +36,8 @@ fn answer_on<T: Tool>(alloc: Global, tool: &T, text: &[u8]) -> Option<Vec<u8>> {
     }
 }
 
-/// Returns the number of steps after which the pending call of the thread ends. Returns `None` if the thread has no
-/// pending call, or if the call cannot end while only this thread makes steps.
+/// Returns the number of steps that end the pending call of the thread. Returns `None` if the thread has no pending call, or
+/// if the call does not end within 10,000 steps of this thread alone.
 pub(crate) fn steps_out(
     alloc: Global,
     lines: &Lines<'_>,

@@ -29,7 +29,7 @@ pub(crate) fn put_event(
     }
 }
 
-/// Explains a line beyond the limits of a schedule.
+/// Explains a line that makes a schedule exceed one of its limits.
 fn put_too_many(out: &mut String, place: Place<'_>) -> Result<(), AllocError> {
     let (file, last) = (place.file, place.number.saturating_sub(1));
     writeln!(
@@ -106,7 +106,7 @@ fn put_no_thread(out: &mut String, lines: &Lines<'_>, place: Place<'_>) -> Resul
     )
 }
 
-/// Returns the number of the last line before the error in which the same thread begins a call.
+/// Returns the number of the last line before `place` that begins a call of the same thread.
 fn begun_before(lines: &Lines<'_>, place: Place<'_>) -> Option<usize> {
     let thread = number_at(place.line, 1)?;
     lines.last_before(place.number, |line| {
@@ -140,7 +140,7 @@ fn put_busy(
     put_ending(alloc, out, lines, place)
 }
 
-/// Prints how the pending call of the error's thread can end above the line with the error.
+/// Prints how the pending call of the thread can be ended by lines before the wrong line.
 fn put_ending(
     alloc: Global,
     out: &mut String,

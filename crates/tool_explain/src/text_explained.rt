@@ -9,10 +9,9 @@ use tool_base::{Answer, LONGEST, Trouble, answer_text};
 use tool_judge::judge_bytes;
 use tool_replay::{Check, Expand, Replay};
 
-/// Explains a text. Prints its kind and the first line with an error; the last printed line states what is wrong and
-/// how to correct it. If the text has no error, the last line names the commands that read it. `file` is the file's
-/// name, which is printed as it must be typed in a shell. The exit status is 0. Returns `Trouble::Memory` if an
-/// allocation fails.
+/// Explains a text. Prints its kind and the first line with an error; the last printed line explains the error and how to
+/// correct it. If the text has no error, the last line names the commands that read it. `file` is the file's name, which is
+/// printed as it must be typed in a shell. The exit status is 0. Returns `Trouble::Memory` if an allocation fails.
 pub fn explain_text(alloc: Global, file: &str, text: &[u8]) -> Result<Answer, Trouble> {
     let mut out = String::new(alloc);
     let name = quoted_name(alloc, file)?;
@@ -86,13 +85,13 @@ fn put_text(alloc: Global, out: &mut String, file: &str, text: &[u8]) -> Result<
     Ok(())
 }
 
-/// Returns an empty answer.
 fn no_answer(alloc: Global) -> Result<Answer, Trouble> {
     let text = Vec::new(alloc);
     Ok(Answer { text, status: 0 })
 }
 
-/// Returns the first error in the opening keys that `serve` reads. If there is none, returns an empty answer.
+/// Returns an answer about the first error in the opening keys that `serve` reads. If the keys have no error, returns an
+/// empty answer.
 fn said_of_keys(alloc: Global, lines: &Lines<'_>) -> Result<Answer, Trouble> {
     match wrong_key(lines) {
         Some((number, cause)) => Err(Trouble::Line(number as u64, cause)),
@@ -125,7 +124,7 @@ fn put_right(
     }
 }
 
-/// Prints what to do with a recording whose calls no order explains.
+/// Prints advice on a recording that is not linearizable.
 fn put_refused_recording(
     out: &mut String,
     lines: &Lines<'_>,
@@ -143,8 +142,8 @@ fn put_refused_recording(
     )
 }
 
-/// Prints the commands that read a text without an error. `is_refused` is true if the text is a report whose order is
-/// refused.
+/// Prints the commands that read a text without an error. `is_refused` is true if the text is a report and `check` refuses
+/// its order.
 fn put_use(
     out: &mut String,
     file: &str,
@@ -200,7 +199,7 @@ fn put_place(out: &mut String, place: Place<'_>, cause: Cause) -> Result<(), All
     out.push_str("\n")
 }
 
-/// Prints one line that states what is wrong and how to correct it.
+/// Prints one line that explains the error and how to correct it.
 fn put_sentence(
     alloc: Global,
     out: &mut String,
