@@ -12,7 +12,7 @@ pub(crate) fn put_keys(out: &mut String, keys: &[u32]) -> Result<(), AllocError>
     Ok(())
 }
 
-/// The lines of an input that were not read yet, and the line number of the first of them.
+/// The lines of an input that were not read yet, and the number of the first such line.
 #[derive(Clone, Copy)]
 struct Remaining<'a> {
     line: u64,
@@ -97,7 +97,7 @@ fn keys_of_lines(alloc: Global, left: Remaining<'_>) -> Result<Vec<u32>, LineFau
 ///
 /// Returns the first wrong line, with the first of these checks that fails:
 /// - the line ends with a newline;
-/// - `Line`: the line is `key` and one more field;
+/// - `Line`: the line has two fields, and the first is `key`;
 /// - `Number`: the key is a decimal from 0 to 4,294,967,295 without leading zeros;
 /// - `TooMany`: at most `MOST_OPENING` keys precede the line;
 /// - `Opening`: the key is greater than the previous one.

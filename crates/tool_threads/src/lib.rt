@@ -1,4 +1,4 @@
-//! The commands `run` and `serve`. `run` executes random programs in threads on one set. `serve` is a server for a set,
+//! The commands `run` and `serve`. `run` makes random calls in threads on one set. `serve` is a server for a set,
 //! on the loopback interface.
 #![tactic(auto)]
 
