@@ -1,4 +1,4 @@
--- The command that results from parsing the command line.
+-- Lemmas about the command that results from parsing the command line.
 use Rattle.std.proofs.Common.{◌≡◌, List, [], Option, Some, None, Result, Ok, Err, refl, true, subst, sym}
 use Rattle.std.specs.Prelude.{option_map, Box, IsErrAnd}
 use Rattle.std.specs.Box.{box_value}
@@ -17,7 +17,8 @@ use Rattle.lset_command.specs.declared.command_line.Words.{Words}
 abbrev pub chosen : Command → List Text → OptionValues → Choice
 chosen command values options = record { command = command; values = values; options = options }
 
--- What clap returns for a command that is equal to the program's command.
+-- If clap's command is equal to the program's command, then a successful parse returns the subcommand that the definition
+-- `subcommand_of` finds.
 pub program_matches : (m : ArgMatches) (a : App) (words : List Text) → a ≡ listset → HasMatchesOf a words m →
     subcommand_rows_of m ≡ subcommand_of listset words
 program_matches m a words is matches = (subst (λ (x : App). HasMatchesOf x words m) is matches refl).1

@@ -1,4 +1,4 @@
--- The values that a parse found, argument by argument.
+-- Lemmas about the values that a parse found, for each argument.
 use Rattle.std.proofs.Common.{◌≡◌, List, [], ◌∷◌, ◌++◌, map, drop, Option, Some, None, true, false, ap, sym, ◌∙◌, append_assoc, append-nil}
 use Rattle.std.specs.Prelude.{codes, if◌then◌else◌, option_map, slice_get, unwrap_or}
 use Rattle.std.specs.Option.{option_map_or}
@@ -22,7 +22,8 @@ by_all_names f names all =
     f.entries.items
     ∙ sym (flat_map-map (λ (row : Row). values_by row.id (rows_of f)) row_of f.entries.items)
 
--- What clap returns for the name of an argument that has values.
+-- If `name` is an argument and not an option, then the values that clap returns for `name` are its values in the
+-- specification.
 pub got : (f : Found) (name : Text) (values : Option (List Text)) → is_option name ≡ false →
     values ≡ option_map raw_values (matched_of f name)
     → values_by name (rows_of f) ≡ unwrap_or values []
@@ -44,7 +45,8 @@ first_and_rest : (name : Text) (left after : List Text) → Some name ≡ slice_
 first_and_rest name [] after first rest = absurd cc
 first_and_rest name (x ∷ xs) after first rest = cc
 
--- After one more argument, the values found so far and the values of the remaining arguments still make up all values.
+-- After the values of the argument `name` are appended, the values found, followed by the values of the remaining arguments,
+-- are still all values.
 pub one_more : (rows : List Row) (all had has : List Text) (name : Text) (left after : List Text) → had
     ++ values_by_names rows left ≡ all
     → Some name ≡ slice_get left 0 → after ≡ drop 1 left → has ≡ had ++ values_by name rows → has

@@ -25,19 +25,19 @@ flag_rule name = record (new_rule name) { long = Some name; action = Some SetTru
 abbrev pub option_rule : Text → Rule
 option_rule name = record (new_rule name) { long = Some name; value_names = 1 }
 
--- `check [FILE]`, `draft [FILE]` and `explain [FILE]`; the rules of some other commands start with this one
+-- The rules of `check [FILE]`, `draft [FILE]` and `explain [FILE]`. The rules of some other commands extend them.
 abbrev pub file_app : Text → App
 file_app name = with_rule (new_app name) (new_rule (codes "FILE"))
 
--- `judge [--brief] [--only KEY] [FILE]`
+-- The rules of `judge [--brief] [--only KEY] [FILE]`.
 abbrev pub judge_app : App
 judge_app = with_rule (with_rule (file_app (codes "judge")) (flag_rule (codes "brief"))) (option_rule (codes "only"))
 
--- `replay [--lacks NAME] [FILE]`
+-- The rules of `replay [--lacks NAME] [FILE]`.
 abbrev pub replay_app : App
 replay_app = with_rule (file_app (codes "replay")) (option_rule (codes "lacks"))
 
--- `show [--svg] [--from M] [--to M] [--width N] [--lacks NAME] [FILE]`
+-- The rules of `show [--svg] [--from M] [--to M] [--width N] [--lacks NAME] [FILE]`.
 abbrev pub show_app : App
 show_app =
     with_rule (with_rule (with_rule (with_rule (with_rule (file_app (codes "show"))
@@ -47,15 +47,15 @@ show_app =
     (option_rule (codes "width")))
     (option_rule (codes "lacks"))
 
--- `trace [--chain] [--lacks NAME] [FILE]`
+-- The rules of `trace [--chain] [--lacks NAME] [FILE]`.
 abbrev pub trace_app : App
 trace_app = with_rule (with_rule (file_app (codes "trace")) (flag_rule (codes "chain"))) (option_rule (codes "lacks"))
 
--- `example [--broken] [NAME]`
+-- The rules of `example [--broken] [NAME]`.
 abbrev pub example_app : App
 example_app = with_rule (with_rule (new_app (codes "example")) (new_rule (codes "NAME"))) (flag_rule (codes "broken"))
 
--- `gen KIND THREADS QUOTA CALLS KEYS SEED`; the rule of `run` starts with this one
+-- The rules of `gen KIND THREADS QUOTA CALLS KEYS SEED`. The rules of `run` extend them.
 abbrev pub six_values : Text → App
 six_values name =
     with_rule (with_rule (with_rule (with_rule (with_rule (with_rule (new_app name)
@@ -66,11 +66,11 @@ six_values name =
     (new_rule (codes "KEYS")))
     (new_rule (codes "SEED"))
 
--- `run KIND THREADS QUOTA CALLS KEYS SEED [LIVES]`
+-- The rules of `run KIND THREADS QUOTA CALLS KEYS SEED [LIVES]`.
 abbrev pub run_app : App
 run_app = with_rule (six_values (codes "run")) (new_rule (codes "LIVES"))
 
--- `serve KIND SEATS QUOTA PORT SESSIONS [FILE]`
+-- The rules of `serve KIND SEATS QUOTA PORT SESSIONS [FILE]`.
 abbrev pub serve_app : App
 serve_app =
     with_rule (with_rule (with_rule (with_rule (with_rule (with_rule (new_app (codes "serve"))
@@ -81,7 +81,7 @@ serve_app =
     (new_rule (codes "SESSIONS")))
     (new_rule (codes "FILE"))
 
--- `faults [CAUSE]`
+-- The rules of `faults [CAUSE]`.
 abbrev pub faults_app : App
 faults_app = with_rule (new_app (codes "faults")) (new_rule (codes "CAUSE"))
 
@@ -107,32 +107,32 @@ listset =
 
 -- ---- Commands as values of clap's type
 
--- The value `a` describes clap's command c, whose arguments are not global.
+-- `a` describes clap's command `c`, and no argument of `c` is global.
 abbrev pub IsApp : clap.Command → App → Type 0
 IsApp c a = (app_of c ≡ a) × ((out-Command c).has_globals ≡ false)
 
--- If clap's command was created, the value `a` describes it.
+-- If clap's command was created, `a` describes it.
 abbrev pub Makes : Result clap.Command AllocError → App → Type 0
 Makes made a = IfOk made (λ c. IsApp c a)
 
--- If a command was created, the result is this command with one more argument.
+-- If `old` was created, then `new` is `old` with the argument `arg` added.
 abbrev pub MakesWithArg : Result clap.Command AllocError → Arg → Result clap.Command AllocError → Type 0
 MakesWithArg old arg new = (a : App) (r : Rule) → Makes old a → rule_of arg ≡ r → arg.global ≡ false → Makes new (with_rule a r)
 
--- If both commands were created, the result is the one with the other as a subcommand.
+-- If `old` and `sub` were created, then `new` is `old` with the subcommand `sub` added.
 abbrev pub MakesWithSubcommand : Result clap.Command AllocError → Result clap.Command AllocError → Result clap.Command AllocError →
     Type 0
 MakesWithSubcommand old sub new = (a b : App) → Makes old a → Makes sub b → Makes new (with_subcommand a b.top)
 
 -- ---- The result of parsing a command line
 
--- The names of flags and options. Every other name is an argument whose values are returned in order.
+-- True if `name` is a flag or an option. Every other name is an argument, and its values are returned in order.
 abbrev pub is_option : Text → Bool
 is_option name = bytes_eq name (codes "svg") || (bytes_eq name (codes "from") || (bytes_eq name (codes "to")
     || (bytes_eq name (codes "width") || (bytes_eq name (codes "brief") || (bytes_eq name (codes "only")
     || (bytes_eq name (codes "chain") || (bytes_eq name (codes "broken") || bytes_eq name (codes "lacks"))))))))
 
--- The values of one argument among all that a parse found; empty for a flag or an option.
+-- The values that a parse found for the argument `name`; empty if `name` is a flag or an option.
 abbrev pub values_by : Text → List Row → List Text
 values_by name rows = if is_option name then [] else unwrap_or (all_of name rows) []
 

@@ -80,7 +80,7 @@ pub enum Command {
     Check,
     /// Draws a schedule or a report.
     Show,
-    /// Prints what each step of a schedule does.
+    /// Prints a line for each step of a schedule.
     Trace,
     /// Turns a draft into a schedule.
     Draft,
@@ -113,15 +113,15 @@ pub struct Options {
     pub to: Option<String>,
     /// The maximum row length of `show`, in characters.
     pub width: Option<String>,
-    /// Whether `judge` prints the verdict only, without what is wrong.
+    /// Whether `judge` prints the verdict only, without an explanation.
     pub brief: bool,
-    /// The only key whose calls `judge` prints.
+    /// The key selected by `--only`: `judge` prints the calls of this key and no others.
     pub only: Option<String>,
     /// Whether `trace` prints the chain of nodes.
     pub chain: bool,
     /// Whether `example` prints the report of a broken list.
     pub broken: bool,
-    /// The name of the broken list on which `replay`, `show` and `trace` run the schedule.
+    /// The name of the broken list (a list without one of its checks) that `replay`, `show` and `trace` use.
     pub lacks: Option<String>,
 }
 
@@ -174,7 +174,7 @@ fn value_option<'a>(alloc: Global, name: &'a str, value_name: &'a str, help: &'a
 }
 
 // Adds an argument to `command` if this command was created. The callers use this function instead of `?`: an early
-// return drops all arguments, and proving the drops would take most of the proofs.
+// return drops all arguments, and most of the proof would be about these drops.
 fn and_arg<'a>(
     command: Result<clap::Command<'a>, AllocError>,
     arg: Arg<'a>,
@@ -264,8 +264,8 @@ fn example_command<'a>(alloc: Global) -> Result<clap::Command<'a>, AllocError>
         .arg(flag(alloc, "broken", BROKEN_FLAG))
 }
 
-// Creates a command whose usage text is written by hand. `clap` treats all values as optional and would print each
-// value in brackets. If a value is missing, the program reports the first missing one.
+// Creates a command with a usage text written by hand. `clap` treats all values as optional and would print each value in
+// brackets. If values are missing, the program reports the first of them.
 fn command_with_usage<'a>(
     alloc: Global,
     name: &'a str,
@@ -384,7 +384,7 @@ fn check_command<'a>(alloc: Global) -> Result<clap::Command<'a>, AllocError>
     )
 }
 
-// Creates the command `faults`, whose help is the text that it prints.
+// Creates the command `faults`. `help` is the text that the command prints.
 fn faults_command<'a>(alloc: Global, help: &'a str) -> Result<clap::Command<'a>, AllocError>
     ensures { Makes result faults_app }
 {
@@ -514,7 +514,7 @@ fn options_of(alloc: Global, found: &ArgMatches<'_>) -> Result<Options, AllocErr
     })
 }
 
-// Returns options in which nothing is set.
+// Returns options with all flags off and all values missing.
 fn no_options() -> Options
     ensures { options_of result ≡ options_in [] }
 {
@@ -557,7 +557,7 @@ fn command_named(name: &str) -> Command
 ///
 /// The commands and options are those listed in the help. An empty command line means `replay` without arguments.
 /// Arguments and options are returned as typed: they can be missing or wrong. An argument of two or more characters
-/// that begins with `-` must come after `--`. Allocates.
+/// that begins with `-` must follow `--`. Allocates.
 ///
 /// # Errors
 ///
