@@ -1,4 +1,4 @@
--- How the program ends, derived from how its job ended.
+-- Lemmas that derive how the program ends from how its job ended.
 use Rattle.std.proofs.Common.{◌≡◌, ℕ, List, Option, Some, None, Ok, Err, IfSome, refl, subst, sym, inl, inr}
 use Rattle.std.specs.Prelude.{◌≢◌}
 use Rattle.clap.specs.declared.error.kind.ErrorKind.{ErrorKind}
@@ -32,7 +32,7 @@ module _ (IsFile : Option (List ℕ) → Type 0) (input output_old output_new st
       (told (asked a) r (path_of a) is
       (subst (λ file. EndsAsked (Some r) file IsFile input output_old output_new stderr_old stderr_new status) named ends))
 
-  -- Nothing is proved about the command `explain`.
+  -- If the command is `explain`, every way to end is allowed: nothing is proved about this command.
   pub unsaid : (a b : Choice) → a ≡ b → a.command ≡ Explain
       → EndsOnInput b IsFile input output_old output_new stderr_old stderr_new status
   unsaid a b same is =

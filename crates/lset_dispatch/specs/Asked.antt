@@ -1,5 +1,5 @@
 -- The jobs that command lines ask for. Some commands are left out: broken lists, `judge --only` and others are safe and
--- tested, but nothing is proved about what they print.
+-- tested, but nothing is proved about their output.
 use Rattle.std.specs.Prelude.{Bool, true, false, List, Option, Some, None, Result, Ok, Err}
 use Rattle.clap.specs.Words.{Text}
 use Rattle.lset_command.specs.CommandLine.{Choice, OptionValues}
@@ -16,7 +16,7 @@ use Rattle.lset_dispatch.specs.declared.job.Job.TheVariants.{Replay, Judge, Verd
 abbrev pub Asked : Type 0
 Asked = Result Job ValueName
 
--- `replay` on the list that the schedule names
+-- The job of `replay`, if the schedule runs on the list that it names. With `--lacks`, nothing is proved.
 abbrev pub asked_replay : Option Text → Option Asked
 asked_replay None = Some (Ok (Replay None))
 asked_replay (Some name) = None

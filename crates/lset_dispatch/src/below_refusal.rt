@@ -1,5 +1,5 @@
-//! Appends lines to a refusal of `judge`: what is wrong in the recording of a file, or advice to use a file. (The
-//! recording is read twice, and a pipe can be read only once.)
+//! Appends lines to a refusal of `judge`: an explanation of the refusal, or advice to use a file. (The recording is read
+//! twice, and a pipe can be read only once.)
 
 ghost use Rattle.std.specs.Prelude.{ℕ, List};
 ghost use Rattle.tool_base.specs.Tools.{view};
@@ -29,7 +29,7 @@ fn refused_lines(made: &Result<Answer, Trouble>) -> usize {
     }
 }
 
-/// Returns the lines that state what is wrong in a recording. The verdict before them has `used` lines.
+/// Returns the lines that explain why a recording is refused. The verdict before them has `used` lines.
 fn explanation<R: Read>(
     alloc: Global,
     input: &mut R,
@@ -41,7 +41,7 @@ fn explanation<R: Read>(
     }
 }
 
-/// If the answer is a refusal, appends what is wrong in the recording of the file at `path`. Allocates. Blocks while
+/// Appends an explanation to the answer if the answer refuses the recording in the file at `path`. Allocates. Blocks while
 /// reading the file.
 pub(crate) fn explained<H: Files>(
     rt: &H,
@@ -64,7 +64,8 @@ pub(crate) fn explained<H: Files>(
     }
 }
 
-/// If the answer is a refusal, appends the advice to use a file. Used for recordings that were read from a pipe.
+/// Appends the advice to use a file to the answer if the answer refuses a recording. Used for recordings that were read from
+/// a pipe.
 pub(crate) fn pointed(made: Result<Answer, Trouble>) -> Result<Answer, Trouble>
     ensures { (bytes : List ℕ) → Judges bytes (view made) → Judges bytes (view result) }
 {

@@ -17,7 +17,7 @@ use tool_show::{Show, read_show};
 pub(crate) enum Job {
     Replay(Option<BrokenList>),
     Judge,
-    /// Print the verdict of `judge` alone, without a contradiction, advice or what is wrong.
+    /// Print the verdict of `judge` alone, without a contradiction, advice or explanation.
     Verdict,
     /// Print the recorded calls of one key.
     OneKey(u32),

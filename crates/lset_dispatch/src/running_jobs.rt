@@ -53,7 +53,7 @@ fn judge<R: Read, W: Write, E: Write>(
     deliver(pointed(made), output, stderr)
 }
 
-/// Judges the recording in the input and prints the verdict alone, without a contradiction, advice or what is wrong.
+/// Judges the recording in the input and prints the verdict alone, without a contradiction, advice or explanation.
 fn judge_verdict<R: Read, W: Write, E: Write>(
     alloc: Global,
     input: &mut R,
@@ -67,8 +67,8 @@ fn judge_verdict<R: Read, W: Write, E: Write>(
     deliver(made, output, stderr)
 }
 
-/// Judges the recording in `file`, which is open. If the recording is refused, reads the file at `path` again and
-/// prints what is wrong.
+/// Judges the recording in `file`, which is open. If the recording is refused, reads the file at `path` again and prints an
+/// explanation.
 fn judge_file<H: Files, R: Read, W: Write, E: Write>(
     rt: &H,
     alloc: Global,
@@ -124,8 +124,8 @@ pub(crate) fn run_job<
     }
 }
 
-/// Runs a job whose input is the file at `path`, and returns the exit status. If the file cannot be opened, writes a
-/// line about the error to `stderr`.
+/// Runs a job on the file at `path` and returns the exit status. If the file cannot be opened, writes a line about the error
+/// to `stderr`.
 pub(crate) fn run_on_file<
     H: Files + Net<Listener = TcpListener, Stream = TcpStream> + Threads + Wait + Clock + Sync,
     W: Write,
