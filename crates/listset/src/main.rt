@@ -60,7 +60,7 @@ fn asks_for_origin(words: &[&str]) -> bool {
     words.len() == 2 && words[0] == "--version" && words[1] == "--long"
 }
 
-// `main` passes the runtime on directly: only then can the runtime start threads and open sockets.
+// Passes the runtime to other functions directly: only then can the runtime start threads and open sockets.
 fn main(rt: HostRuntime) -> ExitCode {
     let given = match words_given(&rt) {
         Ok(given) => given,
