@@ -1,5 +1,5 @@
--- Definitions for proofs at machine level: the machine values of a handle that C holds (`CSeat`), and of a box (its
--- pointer). Assumes `Logic`.
+-- Definitions for proofs at machine level: the machine values of a handle that C code keeps (`CSeat`), and of a box (its
+-- pointer). `Logic` is assumed, the program logic of the toolchain.
 pub use Rattle.std.proofs.Common.{◌≡◌, List, [], ◌∷◌, ◌++◌, refl, sym, ap, ◌∙◌, subst, ℕ, zero, suc, lit<}
 pub use mathlib.Core.Bool.{Bool, true, false, ◌&&◌}
 pub use mir.Syntax.{Fn, a_type, dcons, dnil, Ty, ty_ptr, ty_bool, ty_struct, impl, tcons, tnil}
@@ -83,7 +83,7 @@ slot_at k [] = plain (λ _. unit)
 slot_at zero (s ∷ ss) = s
 slot_at (suc k) (s ∷ ss) = slot_at k ss
 
--- Returns a struct type with these fields and no name. A struct owns the same whatever its name is.
+-- Returns a struct type with these fields and no name. The name of a struct does not affect which memory a value owns.
 abbrev pub plainly : List RattleType → RattleType
 plainly Rs = Struct (record { name = []; args = []; types = []; fields = Rs })
 
@@ -110,7 +110,7 @@ pub seat_typed : (t : Bool) (p : Ptr) → Good seat_ty (seat_val t p)
 seat_typed t (block_ptr b o) = (tt, (tt, (tt, tt)))
 seat_typed t null_ptr = (tt, (tt, (record { fits = lit< tt }, tt)))
 
--- The box that a C handle owns, taken apart into its pointer and its allocator.
+-- The type of a box that was split into its pointer and its allocator.
 abbrev pub Freed : RattleType
 Freed = Loose held.the_row HP.the_row HL.the_row_laws GI.ghosts
 

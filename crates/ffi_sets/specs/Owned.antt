@@ -1,4 +1,4 @@
--- What a C handle (`CSeat`) owns in memory: a full handle owns a box with its value, and an empty one owns nothing.
+-- The memory that a C handle (`CSeat`) owns: a full handle owns a box with its value, and an empty handle owns nothing.
 use Rattle.std.specs.Prelude.{Bool, true, false}
 use base.Fml.{Fml, ftrue}
 use denote.RawPtr.{Ptr}

@@ -30,7 +30,7 @@ receipt_in (LazyReceipt o) = Some o.receipt
 receipt_in (LockFreeReceipt o) = Some o.receipt
 receipt_in h = None
 
--- `set_in` returns the set of a seat or a receipt, else None. `number_in` returns the number that the caller gave the
+-- `set_in` returns the set of a seat or a receipt, else None. `number_in` returns the number that the C caller chose for this
 -- set.
 abbrev pub set_in : Held → Option SetValue
 set_in (Coarse o) = Some (arc_value o.set)
@@ -58,7 +58,7 @@ number_in (LazyReceipt o) = Some o.number
 number_in (LockFreeReceipt o) = Some o.number
 number_in h = None
 
--- `seat_in` returns the seat that makes the calls, else None. `spare_in` returns the seats that can be split off it.
+-- `seat_in` returns the seat that a C handle owns, or None. `spare_in` returns the seats that can be split off this seat.
 abbrev pub seat_in : Held → Option SeatValue
 seat_in (Coarse o) = o.seat
 seat_in (Fine o) = o.seat
@@ -95,7 +95,7 @@ abbrev pub GathersAt : Bool → Held → Bool → Held → Type 0
 GathersAt true h true h' = Gathers h h'
 GathersAt into h from h' = Unit {0}
 
--- States that a seat holds all seats of the set, if the seats that can be split off it are included.
+-- States that `seat`, together with the seats in `spare` that can be split off it, holds all seats of the set.
 abbrev pub IsWhole : SetValue → Option SeatValue → List SeatValue → Type 0
 IsWhole set (Some seat) spare = seat.held + length spare ≡ set.shape.threads
 IsWhole set None spare = ⊥

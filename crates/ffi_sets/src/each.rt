@@ -31,8 +31,8 @@ pub fn open_held(
     }))
 }
 
-/// Makes a call from the seat in `held`. Returns `None` if `held` has no seat, or if the call gives up after 2^64 - 1
-/// rounds of a loop. A call that gives up loses the seat.
+/// Makes a call from the seat in `held`. Returns `None` if `held` has no seat, or if the call stops after 2^64 - 1 rounds of
+/// a loop without a reply. In this case the seat is lost.
 pub fn call_held(held: &mut Held, call: Call) -> Option<Reply>
     ensures { HasCalledHeld held.old call result held.new }
 {

@@ -14,7 +14,7 @@ use std::alloc::Global;
 use std::sync::Arc;
 
 /// A seat of a set (the right to call as one thread), with the set, the number that the caller gave the set, and the
-/// seats that can be split off. `seat` is `None` after a call has given up.
+/// seats that can be split off. `seat` is `None` after a call that stopped without a reply.
 #[derive(Drop)]
 pub struct SeatOfSet<M: Bounded> {
     pub set: Arc<LiveSet<M>, Global>,

@@ -1,4 +1,4 @@
-//! Functions on a seat of a set, for any list `M`.
+//! Functions on a seat of a set (the right to call as one thread), for any list `M`.
 ghost use Rattle.std.specs.Prelude.{◌≡◌, ◌↔◌, ◌+◌, ◌≤◌, [], Some, IfNone, IfSome, IsTrue, length, vec_capacity};
 ghost use Rattle.std.specs.Arc.{arc_value};
 ghost use Rattle.lset_words.specs.declared.Call.TheVariants.{Contains};
@@ -69,8 +69,8 @@ fn keys_left<M: Bounded>(
 }
 
 impl<M: Bounded> SeatOfSet<M> {
-    /// Makes a call from this seat. Returns `None` if the seat was already lost, or if the call gives up after 2^64 - 1
-    /// rounds of a loop. A call that gives up loses the seat.
+    /// Makes a call from this seat. Returns `None` if the seat was already lost, or if the call stops after 2^64 - 1 rounds
+    /// of a loop without a reply. In this case the seat is lost.
     pub fn call(&mut self, call: Call) -> Option<Reply>
         ensures set { arc_value self.new.set ≡ arc_value self.old.set }
         ensures number { self.new.number ≡ self.old.number }

@@ -4,8 +4,8 @@
 //! keys of a closed set. Each function accepts all arguments that its types allow, with one exception: seats and
 //! receipts with the same list and number must belong to the same set. `codes` has the numbers of errors.
 //!
-//! A call from a seat gives up after 2^64 - 1 rounds of a loop (`lset_live::Bounded`), since a C function has no
-//! runtime with which it could wait forever. The seat is then lost, and each later call from it returns 255.
+//! A call from a seat stops without a reply after 2^64 - 1 rounds of a loop (`lset_live::Bounded`), because waiting forever
+//! would need a runtime, which C code does not have. The seat is then lost, and each later call from the seat returns 255.
 #![tactic(auto)]
 
 mod answers;
@@ -196,8 +196,8 @@ pub fn give_receipt(alloc: Global, seat: &mut CSeat, out: &mut CSeat) -> u8
     }
 }
 
-/// Passes the receipt `given` to `seat`. All later calls of `seat` come after every call that the receipt covers.
-/// `given` is empty afterwards. The caller must ensure that a seat and a receipt with the same list and number belong
+/// Passes the receipt `given` to `seat`. In the order of all calls, later calls of `seat` follow every call that the receipt
+/// covers. `given` is empty afterwards. The caller must ensure that a seat and a receipt with the same list and number belong
 /// to the same set.
 ///
 /// Returns `DONE`. On an error, changes nothing and returns `NO_SEAT` if `seat` or `given` is empty, or `NO_GATHER` if

@@ -61,7 +61,7 @@ impl CSeat {
     }
 }
 
-/// Takes the box out of `seat`, which is empty afterwards. Returns `None` if `seat` was empty.
+/// Moves the box out of `seat`, which is empty afterwards. Returns `None` if `seat` was empty.
 pub fn take(alloc: Global, seat: &mut CSeat) -> Option<Box<Held>>
     ensures told { MatchOption result (seat.old.full ≡ false) (λ b. (seat.old.full ≡ true) × (b.value ≡ seat.old.held)) }
     ensures left { seat.new.full ≡ false }
