@@ -117,8 +117,8 @@ pub extern "C" fn listset_receipt_of(alloc: Global, seat: &mut CSeat, out: &mut 
     ffi_sets::give_receipt(alloc, seat, out)
 }
 
-/// Passes the receipt `given` to `seat`. All later calls of `seat` come after every call that the receipt covers.
-/// `given` is empty afterwards. The caller must ensure that a seat and a receipt with the same list and number belong
+/// Passes the receipt `given` to `seat`. In the order of all calls, later calls of `seat` follow every call that the receipt
+/// covers. `given` is empty afterwards. The caller must ensure that a seat and a receipt with the same list and number belong
 /// to the same set.
 ///
 /// Returns `DONE`. On an error, changes nothing and returns `NO_SEAT` if `seat` or `given` is empty, or `NO_GATHER` if
