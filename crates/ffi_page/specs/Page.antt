@@ -16,8 +16,8 @@ abbrev pub status_of : Made → ℕ
 status_of (Ok answer) = answer.status
 status_of (Err t) = trouble.status_of t
 
--- The text is at the start of the buffer and the rest of the buffer is unchanged, or the text does not fit and the
--- whole buffer is unchanged.
+-- The text is at the start of the buffer and the rest of the buffer is unchanged. If the text does not fit, the whole buffer
+-- is unchanged.
 abbrev pub Handed : List ℕ → List ℕ → List ℕ → Type 0
 Handed text old new =
     ((length text ≤ length old) × (new ≡ text ++ drop (length text) old)) ⊎ ((length old < length text) × (new ≡ old))
@@ -40,6 +40,6 @@ words_in bytes = cut_at 0 (utf8_lossy bytes)
 abbrev pub OfWords : (List (List ℕ) → Made → Type 0) → List ℕ → Made → Type 0
 OfWords Makes bytes made = (made ≡ Err Memory) ⊎ Makes (words_in bytes) made
 
--- The caller receives a result that the command can have.
+-- The caller receives a result, and `IsMade` accepts this result.
 abbrev pub Hands : (Made → Type 0) → List ℕ → List ℕ → ℕ → ℕ → Type 0
 Hands IsMade old new status count = (made : Made) × IsMade made × IsHanded made old new status count

@@ -1,10 +1,10 @@
 //! The commands of `listset` as C functions for a web page: they read a text and return a text and the exit status.
 //!
-//! Each function writes what the program would print (or a record of it), or the line about an error, to the start of
-//! `room`. It returns the length of the text in bytes and sets `status` to the program's exit status: 0; 1 if something
-//! is wrong with the text; 2 if a name is wrong; 3 if an allocation failed. If `room` is too short, nothing is written;
-//! call again with a buffer of the returned length. The functions keep no state. Only `listset_judge_from` and
-//! `listset_why_from` block.
+//! Each function writes the program's text (or a record with the same content), or the line about an error, to the start of
+//! `room`. It returns the length of the text in bytes and sets `status` to the program's exit status: 0; 1 if something is
+//! wrong with the text; 2 if a name is wrong; 3 if an allocation failed. If `room` is too short, nothing is written; call
+//! again with a buffer of the returned length. The functions keep no state. Only `listset_judge_from` and `listset_why_from`
+//! block.
 #![tactic(auto)]
 
 mod diagnosing;
@@ -74,8 +74,8 @@ pub extern "C" fn listset_judge_from(
     room: &mut [u8],
     status: &mut u8,
 ) -> usize
-    // No contract states what a file contains. The contract of `judge_input` states the answer for all bytes that can
-    // be read.
+    // No contract states the content of a file. The contract of `judge_input` states the answer for all bytes that can be
+    // read.
     ensures { Hands (λ _. Unit {0}) room.old room.new status.new result }
 {
     let mut input = HostInput { file };
@@ -112,12 +112,12 @@ pub extern "C" fn listset_why(alloc: Global, text: &[u8], room: &mut [u8], statu
 }
 
 /// Diagnoses a refused recording and writes a record, with status 1. The record has these lines, in this order:
-/// `headline TEXT`; `call THREAD OPERATION KEY BEGIN END REPLY MARK` for each call to show, ordered by start (MARK is
-/// `-`, `expected BOOL`, `leaves STATE` or `finds STATE`, where STATE is `present` or `absent`, or `either`); `also
-/// THREAD OPERATION KEY BEGIN END REPLY` for each change of another key at the same time (of many, the longest); `fact
-/// TEXT` for each fact; and, if there is a likely cause, `likely TEXT` and `because TEXT`. END and REPLY are `-` for a
-/// pending call. If a line has the wrong form or some order explains the calls, writes nothing and sets status 0. Judge
-/// the text first: this function does not check that keys increase, nor that each call can follow the calls before it.
+/// `headline TEXT`; `call THREAD OPERATION KEY BEGIN END REPLY MARK` for each call to show, ordered by start (MARK is `-`,
+/// `expected BOOL`, `leaves STATE`, `finds STATE` or `either`; STATE is `present` or `absent`); `also THREAD OPERATION KEY
+/// BEGIN END REPLY` for each change of another key at the same time (of many, the longest); `fact TEXT` for each fact; and,
+/// if there is a likely cause, `likely TEXT` and `because TEXT`. END and REPLY are `-` for a pending call. If a line has the
+/// wrong form or some order explains the calls, writes nothing and sets status 0. Judge the text first: this function does
+/// not check that keys increase, nor that each call can follow the calls before it.
 #[unsafe(no_mangle)]
 pub extern "C" fn listset_why_record(
     alloc: Global,
@@ -153,7 +153,7 @@ pub extern "C" fn listset_why_from(
 /// - `order ERROR CALL ..`, the order's first error with its details: the reply in the order, its place and the set's
 ///   reply; or the call's start, the other call and its end;
 /// - `set K ..`, only for `SetReply` and `WrongSet`;
-/// - `verdict another`, `verdict unknown` or `verdict none`, which state what is known of all other orders;
+/// - `verdict another`, `verdict unknown` or `verdict none`, which state whether another order explains the calls;
 /// - after `verdict none`: `reply N` if no set returns the reply of call N, nothing if the final keys are not in increasing
 ///   order, and otherwise the lines of `listset_judge_record`.
 ///
@@ -253,12 +253,12 @@ pub extern "C" fn listset_show_svg(
     hand(draw_text(alloc, text, true, options), room, status)
 }
 
-/// Runs a schedule on the broken list with this name, as `--lacks NAME` does, and writes what the command prints.
+/// Runs a schedule on the broken list with this name, as `--lacks NAME` does, and writes the command's text.
 /// `words` contains the command (`replay`, `trace`, `trace_with_chains`, `show` or `show_svg`) and the options of
 /// `listset_show`, separated by zero bytes. Only `show` and `show_svg` check the report's order. If the order is
 /// refused, the last lines of `show` state whether another order explains the report.
 ///
-/// The errors are those of the command on the intact list; `listset: bad NAME: ..` with status 2 if no broken list has
+/// The errors are the errors of the command on the intact list; `listset: bad NAME: ..` with status 2 if no broken list has
 /// this name; and `Kind` in line 2 if the schedule names another list.
 #[unsafe(no_mangle)]
 pub extern "C" fn listset_lacking(
@@ -324,8 +324,8 @@ pub extern "C" fn listset_fault(
     hand(fault_by(alloc, cause), room, status)
 }
 
-/// Explains a text that comes from a file with this name. Writes the kind of the file, the first line with an error,
-/// what the error is, and how to correct it.
+/// Explains a text from a file with this name. Writes the kind of the file, the first line with an error, an explanation of
+/// the error, and how to correct it.
 #[unsafe(no_mangle)]
 pub extern "C" fn listset_explain(
     alloc: Global,

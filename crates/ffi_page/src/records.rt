@@ -50,7 +50,7 @@ fn put_set(out: &mut String, keys: &[u32]) -> Result<(), AllocError> {
     out.push_str("\n")
 }
 
-/// Writes the first error of an order, and the keys that the set has at that place of the order.
+/// Writes the first error of an order, and the keys that the set has before this error in the order.
 fn put_order(out: &mut String, refusal: &OrderRefusal) -> Result<(), AllocError> {
     match refusal {
         OrderRefusal::Unknown { call, .. } => writeln!(out, "order Unknown {call}"),
@@ -84,7 +84,7 @@ fn put_order(out: &mut String, refusal: &OrderRefusal) -> Result<(), AllocError>
     }
 }
 
-/// Writes what is known of all orders of a report's calls.
+/// Writes whether another order explains the calls of a report.
 fn put_claim(out: &mut String, claim: Claim) -> Result<(), AllocError> {
     match claim {
         Claim::NotIncreasing => out.push_str("verdict none\n"),
@@ -125,8 +125,8 @@ pub fn judge_recording(alloc: Global, text: &[u8]) -> Result<Answer, Trouble> {
     })
 }
 
-/// Checks a report and returns a record: `verdict own`, or the error of the report's order and what is known of all
-/// other orders. Fails as the command `check` does.
+/// Checks a report and returns a record: `verdict own`, or the error of the report's order and whether another order explains
+/// the calls. Fails as the command `check` does.
 pub fn judge_report(alloc: Global, text: &[u8]) -> Result<Answer, Trouble> {
     let input = Input::new(text)?;
     let report = read_report(alloc, input.bytes())?;
