@@ -77,8 +77,8 @@ fn two_lives<R: Threads + Wait + Sync>(rt: &R, alloc: Global) -> Result<(Outcome
     Ok((left, again))
 }
 
-/// Adds a key through a seat (the right to call as one thread). Returns the seat and a receipt, which records the
-/// events that the seat has seen.
+/// Adds a key through a seat (the right to call as one thread). Returns the seat and a receipt, which records the events that
+/// the seat has seen, its own `add` included.
 fn add_and_tell<M: Running, R: Wait>(
     rt: &R,
     set: &LiveSet<M>,
@@ -94,8 +94,7 @@ fn add_and_tell<M: Running, R: Wait>(
 }
 
 /// Starts two threads on one LazyList. Each thread can add one key and does so. Seat one then accepts seat zero's
-/// receipt and looks for seat zero's key. In every order that `close` promises, seat zero's `add` comes before this
-/// `contains`.
+/// receipt and looks for seat zero's key. In every order that `close` promises, seat zero's `add` precedes this `contains`.
 fn started_threads<R: Threads + Wait + Sync + Print>(rt: &R, alloc: Global) -> Result<()> {
     let (set, mut seats) = open::<LazyList>(alloc, 2, 1)?;
     let (Some(one), Some(zero)) = (seats.pop(), seats.pop()) else {
