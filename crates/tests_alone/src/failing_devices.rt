@@ -13,7 +13,7 @@ pub const NEVER: usize = usize::MAX;
 /// How a read or a write fails.
 #[derive(Clone, Copy)]
 pub enum Failure {
-    /// The call fails with an error after which loops in std repeat the call.
+    /// The call fails with an error of kind `Interrupted`. Loops in std repeat such a call.
     Interrupted,
     BrokenPipe,
     /// A write accepts no byte, and a flush fails with `WriteZero`. Not used for readers: a read of no byte means the

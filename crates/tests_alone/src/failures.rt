@@ -1,5 +1,5 @@
-//! Runs the program again and again. In each run, another read or write fails. (`tests/transcripts` checks what the
-//! program prints without failures.)
+//! Runs the program again and again. In each run, another read or write fails. (`tests/transcripts` checks the output of runs
+//! without failures.)
 use crate::failing_devices::{
     CANNOT_READ, CANNOT_WRITE, Failure, Plan, Reader, WHOLE, Way, Writer, planned,
 };
@@ -16,7 +16,7 @@ type Row = (&'static [&'static str], &'static str);
 const SCHEDULE: &str =
     "listset-schedule 1\nlist coarse\nthreads 1\nquota 4\nbegin 0 add 5\ngo 0 7\n";
 
-/// A schedule in which a thread without a pending call makes a step.
+/// A schedule with an error: a thread makes a step although it has no pending call.
 const IDLE: &str =
     "listset-schedule 1\nlist coarse\nthreads 1\nquota 4\nbegin 0 add 5\ngo 0 1\ngo 0 7\n";
 
@@ -31,7 +31,7 @@ const LEFT_OUT: &str =
 const EXPLAINED: &str =
     "listset-calls 1\nopening 7\ncall 0 add 5 1 4 true\ncall 1 remove 7 2 - -\nkey 5\nend\n";
 
-/// A recording in which two calls add the same key and both return true.
+/// A recording that is not linearizable: two calls add the same key and both return true.
 const BOTH: &str = "listset-calls 1\ncall 0 add 5 1 4 true\ncall 1 add 5 2 3 true\nkey 5\nend\n";
 
 /// A recording without its last line.
@@ -39,11 +39,11 @@ const UNENDED: &str = "listset-calls 1\ncall 0 add 5 1 4 true\nkey 5\n";
 
 const DRAFT: &str = "listset-draft 2\nlist coarse\nthreads 1\nquota 4\nbegin 0 add 5\ngo 0 out\n";
 
-/// A schedule with one `contains`, for the LazyList whose `contains` ignores marks.
+/// A schedule with one `contains`. It is run on the LazyList whose `contains` ignores marks.
 const LOOK: &str =
     "listset-schedule 2\nlist lazy\nthreads 1\nquota 0\nbegin 0 contains 5\ngo 0 2\n";
 
-/// The output of a server whose set has one final key.
+/// The output of a server that ended with the final key 7.
 const PRINTED: &str = "listening 127.0.0.1:4711\nsessions 1\ncalls 1\nkey 7\n";
 
 /// Runs of the program: first those that write to the output, then those that only write an error line.
@@ -156,7 +156,7 @@ enum Device {
 }
 
 impl Device {
-    /// Returns the plans for a run in which only this reader or writer fails.
+    /// Returns the plans for input, output and `stderr`. Only this reader or writer fails, as `plan` determines.
     fn plans(self, plan: Plan) -> [Plan; 3] {
         match self {
             Device::Input => [plan, WHOLE, WHOLE],
@@ -271,8 +271,8 @@ fn the_status_stays_if_a_device_and_the_line_about_it_fail(rt: HostRuntime) {
     }
 }
 
-/// A schedule in which one thread attempts to take a lock that the other thread holds. Its trace is longer than the
-/// buffer, so the trace is written in several pieces.
+/// A schedule for two threads: one attempts to take a lock while the other holds it. Its trace is longer than the buffer, so
+/// the trace is written in several pieces.
 const TRIES: &str = "listset-schedule 1\nlist coarse\nthreads 2\nquota 4\n\
     begin 0 add 5\ngo 0 1\nbegin 1 add 7\ngo 1 2000\n";
 

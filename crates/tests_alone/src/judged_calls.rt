@@ -62,12 +62,11 @@ fn the_first_fault_of_a_call_is_named(rt: HostRuntime) -> Result<(), Fail> {
     }
     let taken = add_of_six(3, 5, Some((7, Reply::False)));
     assert_eq!(rt; judge.add(taken), Err(StreamFault::Taken));
-    // The call has two errors: another call ends at the same moment, and the thread's earlier call overlaps it.
+    // The call has two errors: another call also ends at moment 8, and an earlier call of thread 3 overlaps it.
     judge.add(add_of_six(4, 3, Some((8, Reply::True))))?;
     let both = add_of_six(3, 5, Some((8, Reply::True)));
     assert!(rt; judge.add(both) == Err(StreamFault::Taken));
-    // The call has two errors: another call ends at the moment at which it starts, and the thread's earlier call
-    // overlaps it.
+    // The call has two errors: it starts at moment 6, when another call ends, and an earlier call of thread 3 overlaps it.
     judge.add(add_of_six(5, 4, Some((6, Reply::True))))?;
     let begins_taken = add_of_six(3, 6, Some((9, Reply::True)));
     assert!(rt; judge.add(begins_taken) == Err(StreamFault::Taken));

@@ -1,5 +1,5 @@
-//! Tests of the largest histories and recordings. Each test has a minute. Comparing all pairs of calls would take
-//! longer.
+//! Tests of the largest histories and recordings. Each test must end within a minute. Comparing all pairs of calls would need
+//! more time.
 
 use crate::prelude::*;
 use crate::test_histories::{FIVE, in_turn, increasing_keys};
@@ -21,7 +21,7 @@ fn true_calls<F: Fn(u32) -> Call>(
     Ok(calls)
 }
 
-/// Threads take turns. Each call finds another key of a set that has the maximum number of opening keys.
+/// Judges calls that do not overlap. Each call finds another key of a set with the maximum number of opening keys.
 #[test]
 fn a_million_calls_are_judged(rt: HostRuntime) -> Result<(), Fail> {
     let alloc = rt.alloc();
@@ -52,7 +52,8 @@ fn is_refused(
 /// How often key 5 is added and removed again.
 const TIMES: u32 = 100_000;
 
-/// Returns a history in which threads take turns to add and remove key 5. A final `contains` returns `last`.
+/// Returns a history of calls that do not overlap: key 5 is added and removed `TIMES` times. A final `contains` returns
+/// `last`.
 fn in_and_out(alloc: Global, last: Reply) -> Result<History, Fail> {
     let mut calls = true_calls(alloc, 2 * TIMES, |number| {
         if number % 2 == 0 {
@@ -157,7 +158,7 @@ fn many_pending_calls_are_judged(rt: HostRuntime) -> Result<(), Fail> {
 /// A number of keys that is too large for a list to open with.
 const MORE_KEYS: u32 = 1_100_000;
 
-/// One `contains` looks for each key.
+/// Judges one `contains` for each key.
 #[test]
 fn more_keys_than_a_list_can_have_are_judged(rt: HostRuntime) -> Result<(), Fail> {
     let keys = increasing_keys(rt.alloc(), MORE_KEYS)?;

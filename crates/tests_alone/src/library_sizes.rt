@@ -60,8 +60,8 @@ fn has_schedule<M: Machine, R: Abort>(rt: &R, alloc: Global, size: u32) -> Resul
     Ok(())
 }
 
-/// Returns a schedule in which one thread looks for each of `size` opening keys. On a LazyList, the search for a key
-/// takes two more steps than the search for the previous key.
+/// Returns a schedule for one thread, which looks for each of `size` opening keys. On a LazyList, the search for a key needs
+/// two more steps than the search for the previous key.
 fn looks_for_each(alloc: Global, size: u32) -> Result<String, Fail> {
     let mut text = String::from_str(alloc, "listset-schedule 2\nlist lazy\nthreads 1\nquota 0\n")?;
     for key in 0..size {
@@ -119,7 +119,7 @@ fn has_oracle<R: Abort>(rt: &R, alloc: Global, size: u32) -> Result<(), Fail> {
     Ok(())
 }
 
-/// Returns a history in which threads take turns to add `size` keys.
+/// Returns a history of `size` adds that do not overlap, each of another key.
 fn adds(alloc: Global, size: u32) -> Result<History, Fail> {
     let mut calls = Vec::new(alloc);
     for key in 0..size {
@@ -141,7 +141,7 @@ fn is_judged<R: Abort>(rt: &R, alloc: Global, size: u32) -> Result<(), Fail> {
     Ok(())
 }
 
-/// Judges a history in which each thread has a pending add. All these adds took effect.
+/// Judges a history with a pending add for each thread. All these adds took effect.
 fn is_judged_pending<R: Abort>(rt: &R, alloc: Global, threads: u32) -> Result<(), Fail> {
     let mut history = History::new(alloc, threads, 1);
     for thread in 0..threads {

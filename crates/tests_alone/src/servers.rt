@@ -1,5 +1,5 @@
-//! Tests of servers whose output fails. The first line contains the port, which differs between runs, so its digits are
-//! ignored.
+//! Tests of servers that cannot write their output. The first line of the output contains the port, which differs between
+//! runs, so its digits are ignored.
 use crate::failing_devices::{CANNOT_WRITE, Failure, Plan, Way, Writer, planned};
 use crate::prelude::*;
 use lset_dispatch::run_words;
