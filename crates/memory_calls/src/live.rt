@@ -102,7 +102,7 @@ fn call_typed<M: Running, R: Wait>(
     check(!seat.remove(rt, set, Key(3)))
 }
 
-/// Passes a receipt (a record of what a seat has seen) from each of two seats to the other seat.
+/// Passes a receipt (a record of the events that a seat has seen) from each of two seats to the other seat.
 fn pass_receipts<M: Running>(
     alloc: Global,
     calls: &mut Calls,
@@ -120,7 +120,7 @@ fn pass_receipts<M: Running>(
     Ok(())
 }
 
-/// Runs a session whose lines are in memory. Every kind of answer except `FULL` occurs.
+/// Serves a session. Its lines are in memory. Every kind of answer except `FULL` occurs.
 fn answer_session<M: Running, R: Wait>(
     rt: &R,
     alloc: Global,
@@ -209,7 +209,7 @@ fn many_calls<M: Running, R: Wait>(rt: &R, alloc: Global, calls: &mut Calls) -> 
     fill_and_empty(rt, &set, &mut zero)
 }
 
-/// Opens a set whose `contains` never blocks, and looks for present and absent keys.
+/// Opens a set with a `contains` that never blocks, and looks for present and absent keys.
 fn read_now<M: RunningReads, R: Wait>(rt: &R, alloc: Global, calls: &mut Calls) -> Result<()> {
     let (set, mut zero, mut one) = opened::<M>(alloc, calls)?;
     add_six(rt, &set, &mut one)?;

@@ -58,8 +58,8 @@ fn take_blocks(alloc: Global, count: u32) -> Result<(), AllocError> {
 }
 
 /// Returns the two parts of the line to print after all calls had the expected results. If a call returned `Memory`,
-/// the line names this call. Otherwise allocates `blocks` blocks. If this fails, the selected allocation comes after
-/// all calls, and the line states that.
+/// the line names this call. Otherwise allocates `blocks` blocks. If this fails, the selected allocation is later than all
+/// calls, and the line states that.
 fn told(alloc: Global, calls: &Calls, blocks: u32) -> (&'static str, &'static str) {
     match calls.refused {
         Some(name) => (name, " wanted memory"),
