@@ -12,7 +12,7 @@ import java.util.concurrent.CyclicBarrier;
 import java.util.stream.IntStream;
 
 /**
- * Makes the calls of foreign_calls.c from Java, through its Foreign Function API, and the same calls on a
+ * Makes the calls of foreign_calls.c from Java, through Java's Foreign Function API, and the same calls on a
  * ConcurrentSkipListSet.
  */
 final class ForeignCalls {
@@ -26,7 +26,7 @@ final class ForeignCalls {
         boolean contains(int key) throws Throwable;
     }
 
-    /** A seat of a list, called through liblistset.so. */
+    /** A seat of a list (the right to call as one thread), called through liblistset.so. */
     private record Seat(MemorySegment at) implements Calls {
         private static final int SIZE = 128;
         private static final ValueLayout.OfByte U8 = ValueLayout.JAVA_BYTE;
@@ -142,7 +142,7 @@ final class ForeignCalls {
 
     public static void main(String[] words) throws Throwable {
         int threads = Integer.parseInt(words[1]), calls = Integer.parseInt(words[2]), keys = Integer.parseInt(words[3]);
-        // These runs are not timed, because the virtual machine compiles the calls during them.
+        // Warms up: the virtual machine compiles the calls during these runs, so the runs are not timed.
         for (int at = 0; at < 3; at++) {
             nanoseconds(opened(words[0], threads, WARM_UP_KEYS), WARM_UP_CALLS / threads, WARM_UP_KEYS);
         }

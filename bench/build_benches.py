@@ -1,6 +1,6 @@
 """Builds the benches, which are Rattle programs that the gate does not prove. They are proved and built in a separate
-tree, together with their dependencies. Their file names here end in `_`, since rt accepts .rt and .antt files only in
-crates.
+tree, together with their dependencies. In bench/, the names of their files end in `_`, since rt accepts .rt and .antt files
+only in crates.
 """
 
 import pathlib
@@ -22,12 +22,12 @@ NAMES = sorted(it.name for it in SOURCES.iterdir() if it.is_dir())
 
 
 def lines_with_benches():
-    """Returns the lines of crates.txt and those of the benches, by crate."""
+    """Returns the lines of crates.txt and of bench/crates/rows.txt, by crate."""
     return crates_txt.lines_of() | crates_txt.lines_by_crate((SOURCES / "rows.txt").read_text())
 
 
 def lay_out(room, names):
-    """Creates a tree with these benches and their dependencies in a folder."""
+    """Copies these benches and their dependencies to a folder."""
     wanted = crates_txt.below(names, lines=lines_with_benches())
     (room / "crates.txt").write_text("".join(f"{lines_with_benches()[it]}\n" for it in wanted))
     shutil.copy2(TOP / "HANDLES", room)
@@ -39,8 +39,8 @@ def lay_out(room, names):
 
 
 def program_of(name):
-    """Returns the program of a bench. If it is missing, first proves and builds all benches with `rt ci`. (Delete
-    bench/out after a change.)
+    """Returns the path of a bench's program. If the program is missing, first proves and builds all benches with `rt ci`.
+    (Delete bench/out after a change.)
     """
     if not (BUILT / name).exists():
         print(f"bench: proving and building {', '.join(NAMES)}, once", file=sys.stderr)
@@ -65,9 +65,7 @@ def by_rustc(source, room):
 
 
 def read():
-    """Checks each bench and its dependencies without a proof, to see that names and types still match. Returns the exit
-    status.
-    """
+    """Checks names and types of each bench and its dependencies, without a proof. Returns the exit status."""
     failed = 0
     with tempfile.TemporaryDirectory(prefix="bench-") as room:
         lay_out(pathlib.Path(room), NAMES)

@@ -35,8 +35,8 @@ RECORDINGS = {
 
 def judge():
     """Prints the table of recordings. The time is the minimum of several runs, which alternate between the two judges.
-    The memory is the peak. The instructions per call are counted in a recording with a tenth of the calls; the last
-    column states how many times as many instructions the whole recording takes.
+    The memory is the peak. The instructions per call are counted in a recording with a tenth of the calls. The last column is
+    the number of instructions for the whole recording, divided by the number for this tenth.
     """
     measures = "`judge`, s", "KB", "by hand, s", "KB", "ratio of s", "of KB", "instructions a call", "by hand", "ratio", "ten times"
     heading("Recording", *measures)
@@ -51,7 +51,7 @@ def judge():
 
 
 def write(file, *asked):
-    """Writes a recording to a file and returns the file."""
+    """Writes a recording to a file and returns the path of the file."""
     with open(file, "w", encoding="ascii") as it:
         it.writelines(lines_of(*asked))
     return file
@@ -63,8 +63,8 @@ def ratio(ours, hand):
 
 def instructions(programs, room, whole, calls, *asked):
     """Returns the table cells about instructions: the instructions per call of both judges, counted in a recording with
-    a tenth of the calls, and their ratio. The last cell states how many times as many instructions the whole recording
-    takes; it is `-` for a recording of more than a million calls.
+    a tenth of the calls, and their ratio. The last cell is the number of instructions of `judge` for the whole recording,
+    divided by its number for this tenth, or `-` for a recording of more than a million calls.
     """
     file = write(f"{room}/tenth", calls // 10, *asked)
     ours, hand = (instructions_of(words, file) or 0 for words in programs)
@@ -73,8 +73,8 @@ def instructions(programs, room, whole, calls, *asked):
 
 
 def lines_of(calls, threads, keys, has_spanning):
-    """Yields the lines of a recording. Random threads begin a call or end their pending one. A call takes effect when
-    it starts or when it ends.
+    """Yields the lines of a recording. In each round, a random thread begins a call or ends its pending call. A call takes
+    effect when it starts or when it ends.
     """
     yield "listset-calls 1\n"
     if has_spanning:
@@ -90,7 +90,9 @@ def lines_of(calls, threads, keys, has_spanning):
 
 
 def overlapping(draw, calls, threads, keys, there):
-    """Yields each call when it begins, and None when one has ended. The set changes when a call takes effect."""
+    """Yields each call when the call begins, and None when a call has ended. A call changes the set `there` when it takes
+    effect.
+    """
     pending, left, moment = {}, calls, 1
     while left or pending:
         thread = draw.randrange(threads) if left else next(iter(pending))

@@ -91,7 +91,7 @@ fn read_answers(stream: &mut TcpStream, protocol: Protocol, many: usize) {
     }
 }
 
-/// The times of a client: when it began and ended, and how long each write took.
+/// The times of a client: its start and its end, and the duration of each write until its last answer.
 struct Seen {
     began: Instant,
     ended: Instant,

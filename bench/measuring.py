@@ -1,4 +1,4 @@
-"""Common functions of bench/run: they find programs, measure processor seconds, instructions and peak memory of runs, and print
+"""Functions for bench/run: they find programs, measure processor seconds, instructions and peak memory of runs, and print
 rows of tables."""
 
 import datetime
@@ -22,7 +22,7 @@ KINDS = [it.word for it in lists.lists()]
 
 
 def measured_on():
-    """Returns the date, the machine and its load at the start of a table."""
+    """Returns the date, the machine and its load, to print above the tables."""
     with open("/proc/cpuinfo") as it:
         model = re.search(r"model name\s*: (.*)", it.read())
     named = " ".join(re.sub(r"\(R\)|\(TM\)|CPU|Processor|@", " ", model[1] if model else "").split()) or "processors"
@@ -31,7 +31,7 @@ def measured_on():
 
 
 def built(name):
-    """Returns the program with this name. Proves and builds it first if it is missing."""
+    """Returns the path of the program with this name. If the program is missing, first proves and builds it."""
     if name in build_benches.NAMES:
         return build_benches.program_of(name)
     program = f"{TOP}/crates/{name}/out/{name}"
@@ -50,7 +50,7 @@ def processor_seconds(process):
 
 
 def seconds_of(words, given, written, wanted):
-    """Runs a command that must exit with this status, and returns its processor time in seconds."""
+    """Runs a command and returns its processor time in seconds. The command must exit with the status `wanted`."""
     with open(given) as source, open(written, "w") as sink:
         run = subprocess.Popen(words, stdin=source, stdout=sink, stderr=subprocess.DEVNULL)
         used = processor_seconds(run)
@@ -72,8 +72,9 @@ def memory_of(words, given):
 
 
 def instructions_of(words, given):
-    """Runs a command under valgrind's callgrind and returns its number of instructions, which the load of the machine does
-    not change; None if valgrind is not installed."""
+    """Returns the number of instructions of a command, counted by valgrind's callgrind: this number does not depend on the
+    load of the machine. Returns None if valgrind is not installed.
+    """
     if not shutil.which("valgrind"):
         return None
     counted = ["valgrind", "--tool=callgrind", "--callgrind-out-file=/dev/null", *words]

@@ -3,9 +3,9 @@
 //!   peer each KIND THREADS QUOTA CALLS KEYS SEED     times each call, like `bench_calls KIND each ..`
 //!   peer whole KIND ..                               times rounds of all calls, like `bench_calls KIND whole ..`; here KIND can also be
 //!                                                    `mutex-tree`, which has no quota
-//! The times are printed on standard error. `each` prints, for each operation, the nanoseconds of all threads, and how
-//! many calls are left out because they took more than `LONGEST`, for example because the thread was preempted. `whole`
-//! prints the elapsed nanoseconds. The output is the number of calls.
+//! The times are printed on standard error. `each` prints, for each operation, the nanoseconds of all threads, and the number
+//! of calls that are left out because they lasted longer than `LONGEST`, for example because the thread was preempted.
+//! `whole` prints the elapsed nanoseconds. The output is the number of calls.
 
 mod lists;
 
@@ -16,7 +16,7 @@ use std::sync::Mutex;
 use std::time::{Duration, Instant};
 
 const LONGEST: u64 = 200_000;
-/// The minimum time of all rounds together. Rounds are repeated until they have taken this long.
+/// The minimum time of all rounds together. Rounds are repeated until they have lasted this long.
 const ENOUGH: Duration = Duration::from_millis(100);
 const OPS: [(Op, &str); 3] = [(Op::Add, "add"), (Op::Remove, "remove"), (Op::Contains, "contains")];
 
@@ -90,7 +90,7 @@ fn meet(there: &AtomicUsize, many: usize) {
     }
 }
 
-/// Runs each thread's program with `run`, all at the same time.
+/// Runs each thread's program with `run`. All threads run at the same time.
 fn at_once<T: Send>(programs: &[Vec<Call>], run: impl Fn(u64, &[Call]) -> T + Sync) -> Vec<T> {
     let run = &run;
     std::thread::scope(|scope| {
@@ -100,7 +100,7 @@ fn at_once<T: Send>(programs: &[Vec<Call>], run: impl Fn(u64, &[Call]) -> T + Sy
     })
 }
 
-/// Runs each thread's program with `run`. None begins before all threads have started.
+/// Runs each thread's program with `run`. No thread makes a call before all threads have started.
 fn together<T: Send>(programs: &[Vec<Call>], run: impl Fn(u64, &[Call]) -> T + Sync) -> Vec<T> {
     let there = AtomicUsize::new(0);
     at_once(programs, |thread, calls| {
@@ -125,7 +125,7 @@ impl Spent {
         }
     }
 
-    /// Counts a call, or leaves it out if it took too long.
+    /// Counts a call, or leaves out a call that lasted too long.
     fn call(self, nanoseconds: u64) -> Spent {
         let is_counted = nanoseconds <= LONGEST;
         self.and(Spent { calls: 1, nanoseconds: if is_counted { nanoseconds } else { 0 }, left_out: u64::from(!is_counted) })

@@ -1,7 +1,8 @@
 // A judge of recordings written by hand, as a baseline. It reads `listset-calls 1` from standard input and prints `ok N
-// calls`, or `not linearizable` and the key. Its rule is that of crates/lset_judge/specs/Rule.antt: a key changes only
-// if a call that ends requires it, through the pending change with the nearest end. It works in one pass. It checks the
-// format of its input, but not that calls are ordered by start or that moments differ.
+// calls`, or `not linearizable` and the key. It uses the rule of crates/lset_judge/specs/Rule.antt: a key changes only if the
+// end of a call requires the change. Of the pending calls that can make the change, the one with the earliest end takes
+// effect. It works in one pass. It checks the format of its input, but not that calls are ordered by start or that moments
+// differ.
 use std::collections::{BinaryHeap, HashMap, HashSet};
 use std::cmp::Reverse;
 use std::io::Read;

@@ -18,7 +18,7 @@ struct L {
     node: u64,
     pkey: u64,
     ckey: u64,
-} // rep: 0 none, 1 true, 2 false, 3 full
+} // the field `rep` is the reply: 0 none, 1 true, 2 false, 3 full
 fn k(i: u64) -> usize {
     (3 + 3 * i) as usize
 }

@@ -1,5 +1,4 @@
-"""Measures the requests per second of the set server, and compares them with redis. Starts both servers and finds out
-their ports.
+"""Measures the requests per second of the set server, and compares them with redis. Starts both servers on free ports.
 """
 
 import contextlib
@@ -17,13 +16,13 @@ from measuring import KINDS, built, heading, row
 ROUNDS = 5
 CLIENTS = (1, 8)
 KEYS = "64"
-REQUESTS = {1: "20000", 100: "90000"}  # for each client, by the number of requests per write; few enough that no seat uses up its quota
+REQUESTS = {1: "20000", 100: "90000"}  # requests of each client, by the number of requests per write. No seat uses up its quota
 REDIS_STARTS_WITHIN = LOAD_ENDS_WITHIN = 60  # seconds
 
 
 @contextlib.contextmanager
 def ended(process):
-    """Kills the process at the end if it has not exited by itself."""
+    """Kills the process at the end of the block if the process has not exited by itself."""
     try:
         yield process
     finally:
@@ -33,7 +32,7 @@ def ended(process):
 
 @contextlib.contextmanager
 def listset(tool, kind, clients):
-    """Starts the program as a server for this number of clients, and returns its port."""
+    """Starts the program as a server for this number of clients, and returns the server's port."""
     words = [tool, "serve", kind, str(clients), "16384", "0", str(clients)]
     with ended(subprocess.Popen(words, stdout=subprocess.PIPE, text=True)) as process:
         yield process.stdout.readline().rpartition(":")[2].strip()

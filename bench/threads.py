@@ -17,8 +17,8 @@ MANY_RUNS = 25
 
 
 def calls():
-    """Prints the table of calls by operation. Each number is the time of the calls divided by that of the list written
-    by hand, as the median of several alternating runs.
+    """Prints the table of calls by operation. Each number is the time of the calls divided by the time of the list written by
+    hand. It is the median of several runs, which alternate between the two programs.
     """
     timer, kind_names = built("bench_calls"), ("add", "remove", "contains")
     heads = (f"`{call}`" + f", {named(many)}" * (call == "add") for many in THREADS for call in kind_names)
@@ -36,8 +36,8 @@ def calls():
 
 
 def sizes():
-    """Prints the table of sizes: millions of calls per second with random keys, about half of which are in the set, as the
-    median of several alternating runs.
+    """Prints the table of sizes: millions of calls per second. The keys are random, and about half of them are in the set.
+    Each number is the median of several runs, which alternate between the programs.
     """
     heading("Set", *(f"{size:,}" + f" keys, {named(many)}" * (size == SIZES[0]) for many in THREADS for size in SIZES))
     with tempfile.TemporaryDirectory() as room:
@@ -74,5 +74,5 @@ def nanoseconds(words):
 
 
 def rate(words, many, size):
-    """Returns the calls per second of all threads together, from rounds of 100 ms or more."""
+    """Returns the calls per second of all threads together. The rounds of calls last at least 100 ms in total."""
     return 1e9 / nanoseconds([*words, str(many), MOST_QUOTA, MANY_CALLS, str(size), SEED])["all"]
