@@ -1,4 +1,4 @@
-"""Reads crates.txt, which lists the crates and, for each crate, the crates that it uses. Also makes copies of the repository
+"""Reads crates.txt, which lists the crates and the dependencies of each crate. Also makes copies of the repository
 with some of the crates.
 """
 
@@ -42,7 +42,7 @@ def below(names, root=TOP, lines=None):
 
 def lay_out(to, names, is_whole=False):
     """Creates a repository with these crates in a folder, without their must-fail edits. If `is_whole`, the copy also has
-    these edits and all files beside the crates, so that rt ci checks them.
+    these edits and all files outside of the crates, so that rt ci checks them.
     """
     to.mkdir(parents=True, exist_ok=True)
     (to / ".git").mkdir()

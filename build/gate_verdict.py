@@ -1,5 +1,5 @@
-"""Stores the verdict of the last complete gate run in the git folder, for build/release. A gate run on uncommitted changes
-stores none.
+"""Stores the verdict of the last complete gate run in the git folder, for build/release. If there are uncommitted changes,
+nothing is stored.
 """
 
 import datetime
@@ -38,7 +38,7 @@ def sum_of(file):
 
 
 def write(commit, passed, failed):
-    """Stores the verdict of a gate that began at this commit, if the commit is still checked out. Otherwise deletes the
+    """Stores the verdict of a gate run that began at this commit, if the commit is still checked out. Otherwise deletes the
     previous verdict.
     """
     place().unlink(missing_ok=True)

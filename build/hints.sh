@@ -1,5 +1,6 @@
-# Prints hints below an error at a terminal: what is wrong, and how to correct it. Sourced by ./listset, which sets
-# `engine`, the command line of the program, and `called`, the name under which the user called the script.
+# Prints hints below an error at a terminal: an explanation of the error, and how to correct it. Sourced by ./listset, which
+# sets two variables: `engine` is the command line of the program, and `called` is the name under which the user called the
+# script.
 
 # Sets `values` to the arguments of a command that are not options, and `texts` to the values of its options.
 read_words() {
@@ -23,7 +24,7 @@ read_words() {
   done
 }
 
-# Prints the name of the file that a command reads. Prints nothing if it reads standard input or no file.
+# Prints the name of the file that a command reads. Prints nothing if the command reads standard input or no file.
 print_file() {
   local file=""
   case "$1" in
@@ -55,7 +56,8 @@ explain_file() {
   fi
 }
 
-# Prints the commands that read a file. The first line of its explanation states its kind. Prints nothing for other kinds.
+# Prints the commands that read a file. $2 is the first line of the explanation of the file, and contains the file's kind.
+# Prints nothing for other kinds.
 print_use() {
   local name
   name=$(quoted "$1")
@@ -82,7 +84,7 @@ read_by() {
   esac
 }
 
-# Prints the first line of what a command reads.
+# Prints the first line that a file for a command must have.
 title_of() {
   case "$1" in
     replay | trace | "show --lacks") echo "'listset-schedule 1' (or 2)" ;;
@@ -94,10 +96,10 @@ title_of() {
   esac
 }
 
-# Prints what is wrong in a file, and what to do: the last line of what the command explain prints. $3 and $4 are the
-# cause and the line in the error of the command $1. If the cause is Header and the file is of another kind than the
-# command reads, prints both kinds and the commands that read the file. If the kind of such a file is unknown, prints
-# the first line of what the command reads.
+# Prints the last line of the command `explain` for a file: the error, and how to correct it. $3 and $4 are the cause and the
+# line in the error of the command $1. If the cause is Header and the command $1 does not read files of this kind, prints both
+# kinds and the commands that read the file. If the kind of such a file is unknown, prints the first line that a file for the
+# command must have.
 explain_in_a_line() {
   local command=$1 file=$2 cause=${3-} number=${4-} said first last name use
   said=$(explain_file "$file")
@@ -124,7 +126,8 @@ explain_in_a_line() {
   fi
 }
 
-# Explains an error that the command explain does not find in the file: a broken list takes other steps.
+# Explains an error that the command `explain` does not find in the file: on a broken list (a list without one of its checks),
+# calls can make other steps.
 explain_other() {
   if [ -n "${texts[lacks]-}" ]; then
     echo "On the list that lacks ${texts[lacks]}, calls can take other steps than on the whole list. For each step above this line: listset trace --lacks ${texts[lacks]} $(quoted "$2"); for the cause: listset faults $3"
@@ -133,12 +136,12 @@ explain_other() {
   fi
 }
 
-# Succeeds if the last line of a file has no newline and more bytes than a line of a recording can have.
+# Succeeds if the last line of a file has no newline and is longer than a line of a recording can be.
 is_end_long() {
   [ -n "$(tail -c 1 -- "$1" | tr -d '\0')" ] && [ "$(tail -c 129 -- "$1" | wc -l)" = 0 ]
 }
 
-# Explains a refused line of a recording that is too long for the command explain. Prints the line and the cause.
+# Explains a refused line of a recording that is too long for the command `explain`. Prints the line and the cause.
 explain_long() {
   local file=$1 number=$2 cause=$3 line why
   line=$(sed -n "$number{p;q}" "$file" | cut -c1-100 | cat -v)
@@ -152,12 +155,12 @@ explain_long() {
   echo "$why"
 }
 
-# Prints the names of all broken lists, each with its list in parentheses, as in the help of --lacks.
+# Prints the names of all broken lists, each followed by the intact list in parentheses, as in the help of --lacks.
 print_broken_lists() {
   "${engine[@]}" help replay 2>/dev/null | sed -n 's/^ *--lacks <NAME> [^:]*: //p'
 }
 
-# Explains an option --lacks that does not fit the list of a schedule.
+# Explains an option --lacks that names a check of another list than the schedule's list.
 explain_lacks() {
   local lacks=${texts[lacks]} file=$1 list="" names it of="" fitting=""
   names=$(print_broken_lists)
@@ -206,8 +209,8 @@ explain_refusal() {
   echo "$file has no 'key' lines, so it says that the set is empty at the end. If its final keys are not known, write 'cut' instead of 'end': sed -i '\$s/^end\$/cut/' $file"
 }
 
-# Explains a name that no file has, if it is the command help, an example, or the name of a file without its ending.
-# Prints nothing for other names.
+# Explains the name of a missing file, if the name is `help`, an example or a URL, begins with ~, or lacks the ending of an
+# existing file. Prints nothing for other names.
 print_meant() {
   local command=$1 name=$2 found
   found=$(compgen -G "$(printf '%q' "$name").*" 2>/dev/null) || true
@@ -269,7 +272,7 @@ explain_unwritten() {
   fi
 }
 
-# Explains an input that has more bytes than the command reads.
+# Explains an input that is longer than the command accepts.
 explain_too_long() {
   local command=$1 file
   file=$(print_file "$command")
@@ -292,8 +295,8 @@ print_last_moment() {
   sed -n 's/^moments .* of \([0-9]*\);.*/\1/p; s/^moment .* \([0-9]*\)$/\1/p' <<<"$picture" | head -n 1
 }
 
-# Prints a sentence about the spelling of a value, which begins with a period: how numbers are spelled, if the range $1
-# is of a number and the value $2 is none; or the list that a misspelled name means. Prints nothing for other values.
+# Prints a sentence about a misspelled value, which begins with a period: how numbers are spelled, if the range $1 is a range
+# of numbers and the value $2 is not a number; or the list name that was probably meant. Prints nothing for other values.
 explain_spelling() {
   local range=$1 value=$2 it plain
   plain=$(tr -cd a-z <<<"${value,,}")
@@ -387,7 +390,7 @@ explain_no_value() {
   echo "Write the value after $option. ${about:-listset help $1 says what it can be}"
 }
 
-# Prints the number of arguments before this one that are not options.
+# Prints the number of arguments before argument $1, not counting options.
 count_before() {
   local it at=0
   for it in "${given[@]:1}"; do
@@ -397,7 +400,7 @@ count_before() {
   echo "$at"
 }
 
-# Explains a number below 0: prints the range of the option or argument that it is given for.
+# Explains a negative number: prints the range of the option or argument.
 explain_negative() {
   local command=$1 word=$2 help words name at
   for ((at = 1; at < ${#given[@]}; at++)); do
@@ -417,7 +420,7 @@ explain_negative() {
   echo "$name '$word' is wrong. $(sed -n "s/^ *\[$name\] *//p" <<<"$help")"
 }
 
-# Explains an argument that begins with a hyphen and is no option of any command.
+# Explains an argument that begins with a hyphen and is not an option of any command.
 explain_hyphen() {
   local command=$1 word=$2 usage name file
   for name in svg from to width brief only chain broken lacks; do
@@ -504,7 +507,7 @@ explain_command() {
   fi
 }
 
-# Prints the names of the examples that have the report of a broken list.
+# Prints the names of the examples that have a report of a broken list (a list without one of its checks).
 print_broken() {
   local it names=""
   for it in "$top"/examples/schedules/*.broken.report; do
@@ -515,7 +518,7 @@ print_broken() {
   echo "$names"
 }
 
-# Prints a text in which listset's commands begin with the name under which the script was called.
+# Prints a text about listset's commands. Each command begins with the name that the user called the script by.
 print_as_called() {
   local text=$1 it
   [ "$called" = listset ] || for it in replay judge check show trace draft example gen run serve faults explain help --help --version; do
@@ -559,7 +562,7 @@ explain_error() {
   esac
 }
 
-# Prints an error of the program without clap's tip to write '--' before an argument, which does not help here.
+# Prints an error of the program, except clap's tip to write '--' before an argument: here this tip does not help.
 print_error() {
   sed "/^  tip: to pass '-/,/^\$/d" <<<"$1"
 }

@@ -1,4 +1,4 @@
-"""The lists in crates.txt: their names, and the places outside of their crates that name them."""
+"""The lists in crates.txt: their names, and the files outside of their crates that contain these names."""
 
 import os
 import re
@@ -8,7 +8,7 @@ from crates_txt import TOP, lines_of
 
 
 class List:
-    """The names of a list: its name in files (such as lock-free), its table, its Kind, its crate and its type."""
+    """The names of a list: its name in files (such as lock-free), its step table, its Kind, its crate and its type."""
 
     def __init__(self, word):
         self.word, self.table = word, word.replace("-", "_")
@@ -16,7 +16,7 @@ class List:
         self.crate, self.type = f"lset_{self.table}", f"{self.kind}List"
 
     def has_reads(self, root=TOP):
-        """Returns whether `contains` and `ceiling` of the list take no lock and have rows of their own in its step table."""
+        """Returns whether `contains` and `ceiling` of the list use no lock and have rows of their own in its step table."""
         return f"impl OpenReads for {self.type}" in (root / "crates" / self.crate / "src/lib.rt").read_text()
 
 
@@ -26,7 +26,7 @@ def lists(root=TOP):
     return [List(it.removeprefix("lset_").replace("_", "-")) for it in found]
 
 
-# The files of code that must name each list, and the lines or items with the name. build/new_list writes them.
+# The files of code that must name each list, and the lines or items that contain the name. build/new_list writes them.
 CODE = {
     "crates/lset_words/src/lib.rt": ["    {kind},"],
     "crates/lset_text/src/words.rt": ['Kind::{kind} => "{word}"', "is_word_of(piece, Kind::{kind})"],
@@ -51,19 +51,19 @@ TEXTS = {
 
 
 def add_exercises(root):
-    """Adds the crates of examples/lists to a copy of the repository. Each is a copy of the list that its page names, with
-    its patch applied.
+    """Adds the crates of examples/lists to a copy of the repository. Each crate is a copy of an existing list, named by the
+    exercise's page, with the exercise's patch applied.
     """
     for patch in sorted((root / "examples/lists").glob("*.patch")):
         words = re.search(r"build/new_list (\S+) (\S+)", patch.with_suffix(".md").read_text()).groups()
         subprocess.run([root / "build/new_list", *words], stdout=subprocess.DEVNULL, check=True)
-        # (not as part of a git repository that may contain the copy)
+        # (git must ignore a repository around the copy)
         outside = {**os.environ, "GIT_CEILING_DIRECTORIES": str(root.parent)}
         subprocess.run(["git", "apply", "--whitespace=nowarn", patch], cwd=root, env=outside, check=True)
 
 
 def missing(one, places, root=TOP):
-    """Returns the places that do not name a list, each with its path and the missing text."""
+    """Returns the places that do not contain the name of a list: the path of each, and the missing text."""
     texts = {path: (root / path).read_text() for path in places}
     wanted = [(path, form.format(**vars(one))) for path, forms in places.items() for form in forms]
     lacks = [f"{path}: {words}" for path, words in wanted if words not in texts[path]]

@@ -4,7 +4,7 @@
     python3 build/man_page_and_completions.py man | man -l -       shows the man page
     source <(python3 build/man_page_and_completions.py bash)       completes in this shell; also: zsh, fish
 
-The program is ./listset, or the one that a second argument names.
+The program is ./listset, or the second argument.
 """
 
 import datetime
@@ -23,7 +23,7 @@ OF_A_LIST = ["gen", "run", "serve"]  # the commands whose first argument is a li
 
 
 class Help:
-    """What the program prints about itself and about each of its commands."""
+    """The help texts of the program and of each of its commands."""
 
     def __init__(self, program):
         def said(*words):
@@ -43,13 +43,11 @@ class Help:
         return re.findall(r"([\w-]+) \([\w-]+\)", about)
 
     def causes(self):
-        """Returns the causes and faults that the command faults explains."""
+        """Returns the names that the command `faults` accepts: causes and messages."""
         return sorted(set(re.findall(r"^  ([A-Z]\w+)  ", self.pages["faults"], re.M)))
 
     def options(self, name):
-        """Returns the options of a command except --help: the name, the name of the value (or ""), and what the option
-        does.
-        """
+        """Returns the options of a command except --help: the name, the name of the value (or ""), and a description."""
         return [it for it in OPTION.findall(self.pages[name]) if it[0] != "help"]
 
 
@@ -71,7 +69,7 @@ def man_page(said, version, date):
         parts += [f'.SH "listset {name}"', *filled(text)]
     parts += ['.SH "EXIT STATUS"', *(line for it, text in STATUSES.items() for line in entry(it, text))]
     parts += [".SH EXAMPLES", *(line for it in said.examples() for line in (".PP", ".nf", quoted(it), ".fi"))]
-    # A paragraph without text, as above an example that is left out, is left out too.
+    # Leaves out an empty paragraph, such as one before an omitted example.
     parts = [it for it, below in zip(parts, [*parts[1:], ".SH"]) if it != ".PP" or not below.startswith((".PP", ".SH"))]
     return "\n".join(parts) + "\n"
 

@@ -1,6 +1,6 @@
 """Makes the package formats of a release: a .tar.gz, a .deb for dpkg, a wheel for pip, and SHA256SUMS. The input is a dict
-from names to bytes. Equal files make equal packages, since only the given time and owner are used. (The packagers' own tools
-put days, owners and their versions into the bytes.)
+from names to bytes. Equal files make equal packages: the packages contain no time and no owner except the given ones. (The
+usual packaging tools write the current date, the owners of files and their own version into a package.)
 """
 
 import base64
@@ -13,11 +13,11 @@ import zipfile
 
 NO_LICENCE = "No licence is given: the owner has not chosen one. All rights are reserved."
 PROGRAMS = ("bin/", "usr/bin/")
-MEMBER = "{:<16}{:<12}{:<6}{:<6}{:<8}{:<10}`\n"  # a member's header in an ar archive
+MEMBER = "{:<16}{:<12}{:<6}{:<6}{:<8}{:<10}`\n"  # the header of a member in an ar archive
 
 
 def files_below(folder, to="", leave=()):
-    """Returns the files below a folder, without the folders and names in `leave`. Their names begin with `to`."""
+    """Returns the files below a folder, except the folders and names in `leave`. The names of the files begin with `to`."""
     found = (it for it in sorted(folder.rglob("*")) if it.is_file() and it.suffix != ".pyc")
     return {f"{to}{it.relative_to(folder)}": it.read_bytes() for it in found if not set(it.relative_to(folder).parts) & set(leave)}
 

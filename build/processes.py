@@ -1,4 +1,4 @@
-"""Starts processes that end with the script, however the script ends."""
+"""Starts processes that end when the script ends, for whatever reason."""
 
 import contextlib
 import os
@@ -13,8 +13,8 @@ import time
 
 
 def script(main):
-    """Runs a script's main function and exits with its status. On a signal, first ends the started processes, then the
-    script, and deletes its temporary folders.
+    """Runs a script's main function and exits with its status. On a signal, first ends the started processes and deletes the
+    temporary folders, then ends the script.
     """
     def end(number, _):
         global _is_ending
@@ -29,7 +29,7 @@ def script(main):
 
 def become(program, words):
     """Replaces this process by a program with these arguments."""
-    # (Python ignores these two signals, which the program would inherit.)
+    # (Python ignores these two signals. The program would inherit this.)
     for it in (signal.SIGPIPE, signal.SIGXFSZ):
         signal.signal(it, signal.SIG_DFL)
     os.execv(program, [program, *words])
@@ -50,8 +50,8 @@ def _group():
 
 
 def guarded():
-    """Returns a prefix for a command. It ends the command, and everything that the command started, however this process
-    ends.
+    """Returns a prefix for a command. If this process ends, for whatever reason, the command and all its child processes are
+    killed.
     """
     with _lock:
         if _is_ending:
@@ -59,13 +59,13 @@ def guarded():
         if os.getpid() not in _guarding:
             _guarding[os.getpid()] = _group()
         guard = _guarding[os.getpid()][0]
-    # (Python ignores these two signals, which the command would inherit.)
+    # (Python ignores these two signals. The command would inherit this.)
     joins = f"import os, sys, signal as s; os.setpgid(0, {guard.pid}); [s.signal(it, s.SIG_DFL) for it in (s.SIGPIPE, s.SIGXFSZ)]"
     return [sys.executable, "-ISc", f"{joins}; os.execvp(sys.argv[1], sys.argv[1:])"]
 
 
 def end_guarded():
-    """Ends everything that this process started with `guarded`, and waits until the process group is gone."""
+    """Ends all processes that this process started with `guarded`, and waits until their process group is gone."""
     with _lock:
         if group := _guarding.pop(os.getpid(), None):
             os.close(group[1])
@@ -76,7 +76,7 @@ def end_guarded():
 def room(kind):
     """Creates a temporary folder that is deleted when this process ends."""
     folder = tempfile.mkdtemp(prefix=f"{kind}-")
-    os.chmod(folder, 0o711)  # if rt runs as root, it runs programs as nobody, who must be able to enter
+    os.chmod(folder, 0o711)  # rt runs programs as the user nobody if rt runs as root; nobody must be able to enter the folder
     try:
         yield pathlib.Path(folder)
     finally:
@@ -89,7 +89,7 @@ def room(kind):
 
 
 def status_and_words(words, cwd, **environment):
-    """Runs a command and waits for its end. Returns its exit status and both outputs."""
+    """Runs a command and waits until it ends. Returns its exit status and both outputs."""
     how = {"stdin": subprocess.DEVNULL, "stdout": subprocess.PIPE, "stderr": subprocess.STDOUT, "errors": "replace"}
     made = subprocess.run([*guarded(), *map(str, words)], cwd=cwd, env={**os.environ, **environment}, **how)
     return made.returncode, made.stdout
@@ -100,7 +100,7 @@ class Failed(Exception):
 
 
 def output_of(*words, cwd=None):
-    """Runs a command and waits for its end. Returns both outputs, and raises Failed if the status is not 0."""
+    """Runs a command and waits until it ends. Returns both outputs, and raises Failed if the exit status is not 0."""
     status, said = status_and_words(words, cwd)
     if status:
         raise Failed(f"{words[0]} ended with status {status}\n{said[-3000:].rstrip()}")

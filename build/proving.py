@@ -15,20 +15,21 @@ import processes
 import toolchain
 import version_stamp
 
-SECONDS_BETWEEN = 60  # between two lines about the crates in progress
-MINUTES_OF_A_CRATE = 3  # on one processor, on average
-# Match lines of rt: a crate is done ("is kept" if its proof was stored earlier), and something is not proved.
+SECONDS_BETWEEN = 60  # the time between two lines about the crates in progress
+MINUTES_OF_A_CRATE = 3  # the average time to prove a crate on one processor
+# Match lines of rt. The first means that a crate is done ("is kept" if its proof was stored before). The second means that
+# something is not proved.
 IS_DONE = re.compile(r"rt: (\w+) (?:proved|is kept: .*)")
 IS_ERROR = re.compile(r"(^|: )error[:[]|it is not proved that|^rt: \w+ NOT PROVED|^rt: .*FAILED")
 
 
 def note_of(room, name):
-    """Returns the file that exists once a crate is proved in a folder."""
+    """Returns the path of a file that exists if and only if a crate has been proved in a folder."""
     return room / ".git" / "proved" / name
 
 
 def end_of(room):
-    """Returns the file that exists once build/prove --in has ended."""
+    """Returns the path of a file that exists if and only if build/prove --in has ended."""
     return room / ".git" / "ended"
 
 
@@ -40,7 +41,9 @@ def wait_for(room, names):
 
 
 def wait_for_those_below(room, names):
-    """Waits like `wait_for` until the dependencies of these crates are proved, and lets the proofs run first (nice)."""
+    """Waits like `wait_for` until the dependencies of these crates are proved. Lowers this process's priority below that of
+    the proofs (nice).
+    """
     os.nice(10)
     if not wait_for(room, [it for it in crates_txt.below(names) if it not in names]):
         raise toolchain.NotBuilt("a crate below is not proved")
@@ -56,7 +59,7 @@ def prove(room, names, tell, is_whole=False):
     if is_whole:
         lists.add_exercises(room)
     how = {"stdin": subprocess.DEVNULL, "stdout": subprocess.PIPE, "stderr": subprocess.STDOUT, "text": True, "errors": "replace"}
-    # (rt leaves its own temporary files behind if it is killed)
+    # (rt does not delete its own temporary files if it is killed)
     with processes.room("rt-ci") as temporary:
         environment = {**os.environ, "TMPDIR": str(temporary)}
         with subprocess.Popen([*processes.guarded(), "rt", "ci"], cwd=room, env=environment, **how) as running:
@@ -100,8 +103,8 @@ def telling_each_minute(room, tell, began):
 
 
 def prove_below(room, names, tell):
-    """Proves these crates and their dependencies in the folder `room`. Prints each crate that is done and, once a
-    minute, those in progress. Raises NotBuilt if a crate is not proved.
+    """Proves these crates and their dependencies in the folder `room`. Prints each crate that is done and, once a minute, the
+    crates in progress. Raises NotBuilt if a crate is not proved.
     """
     names, lines, done, began = crates_txt.below(names), [], [], time.monotonic()
     processors = len(os.sched_getaffinity(0))
@@ -122,11 +125,13 @@ def prove_below(room, names, tell):
 
 
 def take_program(name, room, began):
-    """Copies a proved program here and stamps it with its commit. The program gets the time at which its build began."""
+    """Copies a proved program to this repository and stamps it with its commit. Its modification time is the start of its
+    build.
+    """
     made, program = room / "crates" / name / "out" / name, crates_txt.TOP / "crates" / name / "out" / name
     program.parent.mkdir(exist_ok=True)
     shutil.copy2(made, f"{program}.new")
     version_stamp.stamp(f"{program}.new", version_stamp.PROVED)
-    # (so that sources edited in the meantime are younger)
+    # (sources that were edited during the build are then younger than the program)
     os.utime(f"{program}.new", (began, began))
     os.replace(f"{program}.new", program)

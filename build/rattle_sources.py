@@ -15,7 +15,7 @@ END_OF_SIGNATURE = re.compile(r"\n\s*(?:requires|ensures|//)|\s*\{|;(?![^\[\]\n]
 
 
 def braced(text, start):
-    """Returns the end of the first pair of braces after a position."""
+    """Returns the position after the first pair of matching braces that follows `start`."""
     depth = 0
     for it in re.compile("[{}]").finditer(text, start):
         depth += 1 if it[0] == "{" else -1
@@ -26,7 +26,7 @@ def braced(text, start):
 
 @dataclass(frozen=True)
 class Block:
-    """An `impl` or a trait: which of the two it is, its head, and its first and last line, counted from 1."""
+    """An `impl` or a trait: its keyword, its head, and its first and last line, counted from 1."""
 
     kind: str
     head: str
@@ -48,7 +48,7 @@ class Block:
 @dataclass(frozen=True)
 class Function:
     """A function: the block that contains it (or None), and its lines, counted from 1. `top` is the first line of its
-    comments and attributes; `first` and `last` are those of the function itself.
+    comments and attributes; `first` and `last` are the first and the last line of the function itself.
     """
 
     block: Block
@@ -91,7 +91,9 @@ class Source:
         return text[:place]
 
     def last_of(self, first, depth, contract):
-        """Returns the last line of the function that begins at a line. If it has no body, this is the end of its contract."""
+        """Returns the last line of the function that begins at line `first`. If the function has no body, returns the last
+        line of its contract.
+        """
         behind = first + contract.count("\n")
         if "\n".join(self.lines[first - 1 : behind]).removeprefix(contract).startswith(";"):
             return behind

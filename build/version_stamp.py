@@ -1,5 +1,5 @@
-"""What a program or a library of this repository states about itself, in four lines for scripts: its version; the kit and
-the logic; the commit, 0 if it was not built from a commit; and whether it is proved (`PROOFS`).
+"""The text of a program or a library about its version, in four lines for scripts: the version; the kit and the logic; the
+commit, 0 if the build is not from a commit; and whether it is proved (`PROOFS`).
 """
 
 import pathlib
@@ -11,7 +11,7 @@ TOP = pathlib.Path(__file__).resolve().parent.parent
 SOURCE = TOP / "crates/lset_command/src/command_line.rt"  # the only place that has the version
 IN_SOURCE = re.compile(r'^pub const VERSION: &str = "([^"\\]+)\\n([^"\\]+)";$', re.M)
 NO_COMMIT = "0" * 40
-PROVED, NOT_PROVED, UNKNOWN = PROOFS = "checked", "missing", "unknown"  # of equal length, so that each fits in the reserved place
+PROVED, NOT_PROVED, UNKNOWN = PROOFS = "checked", "missing", "unknown"  # of equal length, so that each fits in the reserved bytes
 PLACE = "commit {}\nproof {}\n"
 
 
@@ -30,19 +30,19 @@ def number():
 
 
 def built(proof):
-    """Returns the last two lines for a build made here now."""
+    """Returns the last two of the four lines, for a build in this repository now."""
     return PLACE.format(gate_verdict.clean_commit() or NO_COMMIT, proof)
 
 
 def told(proof):
-    """Returns all four lines for a build made here now."""
+    """Returns all four lines, for a build in this repository now."""
     number, kit = version_and_kit()
     return f"listset {number}\n{kit}\n{built(proof)}"
 
 
 def stamp(file, proof):
     """Writes the last two lines of the version text into a program or its object file, at the place that
-    crates/listset/src/main.rt reserves for them. Returns how many such places were found.
+    crates/listset/src/main.rt reserves for them. Returns the number of places that were found.
     """
     file, place = pathlib.Path(file), PLACE.format(NO_COMMIT, UNKNOWN).encode()
     content = file.read_bytes()
