@@ -1,5 +1,5 @@
-"""Checks docs/BELIEVE.md and believed.txt. Reports names that are missing there, and names there that do not exist: files
-of definitions that public contracts reach, the names of these definitions, and functions with their clauses.
+"""Checks docs/BELIEVE.md and believed.txt. Reports missing names, and names that do not exist: files of definitions that
+public contracts reach, the names of these definitions, and functions with their clauses.
 
 The search begins with the names in the signature and the clauses of each public function, and in the statements of
 public types and traits. It follows definitions by name. It does not follow lemmas, which the prover checks, or
@@ -37,7 +37,7 @@ class Module(NamedTuple):
 
 
 def uses(text):
-    """Returns what the `use` lines of a file import from the logic: names, and modules under other names."""
+    """Returns the imports in the `use` lines of a file: names of the logic, and modules under other names."""
     names, modules = {}, {}
     for path, listed, other in USE.findall(text):
         for entry in filter(None, (listed or "").split(",")):
@@ -76,8 +76,8 @@ def modules():
 
 
 def named(text, sign, names, others, own=()):
-    """Returns the definitions that a text names outside of comments, as pairs of module and name. Those of its own file
-    have no module.
+    """Returns the definitions that a text names outside of comments, as pairs of module and name. A definition of the same
+    file has no module.
     """
     text = " ".join(re.sub(rf"(^|\s){sign}.*", "", text, flags=re.M).split())
     text = re.sub(r"\bpub " + NAME + r" :", ":", re.sub(r"(?<=[{;])\s*" + NAME + r"\s*=(?![=>])", "", text))
@@ -96,13 +96,13 @@ def named(text, sign, names, others, own=()):
 
 @functools.cache
 def public_contracts():
-    """Returns what `contracts_in_sources` yields."""
+    """Returns the result of `contracts_in_sources`, which is computed only once."""
     return list(contracts_in_sources())
 
 
 def contracts_in_sources():
     """Yields the contract of each public function, type and trait: the library, the item's name, the text of the
-    contract, and the definitions to which the names in the text can refer.
+    contract, and the definitions that the names in the text can mean.
     """
     for root in sorted(CRATES.glob("*/src/lib.rt")):
         texts = {it.stem: it.read_text(encoding="utf-8") for it in sorted(root.parent.rglob("*.rt"))}
@@ -148,7 +148,7 @@ def print_reached():
             print(f"{module.file}: {', '.join(names)}")
 
 
-# For each row in the page's table of lines, a pattern for the functions that the row is about. The key is the row's
+# A pattern for each row in the page's table of lines. It matches the functions that the row is about. The key is the row's
 # first word in code, or else its first word.
 OF_ROWS = {"check_order": "lset_history::check_order$", "laws": "lset_steps::laws::", "headline": "lset_lists::runs_are_linearizable$",
            "replay": "lset_replay::replay$", "LiveSet::call": "lset_live::LiveSet::call$", "LiveSet::close": "lset_live::LiveSet::close$",
@@ -156,8 +156,8 @@ OF_ROWS = {"check_order": "lset_history::check_order$", "laws": "lset_steps::law
 
 
 def wrong_numbers(page):
-    """Yields the rows in the page's table of lines whose number is wrong by more than a twentieth. The right number is
-    that of the lines of the definitions that the row's contracts reach.
+    """Yields the rows in the page's table of lines with a number that is wrong by more than a twentieth. The right number is
+    the number of lines in the definitions that the row's contracts reach.
     """
     said = {row: int(number) for row, number in re.findall(r"^\| (.*) \| (\d+) \|$", page, re.M)}
     for word, items in OF_ROWS.items():
@@ -190,8 +190,8 @@ def file_faults():
 
 
 def name_faults(top, rows):
-    """Yields the bracketed names in comments and pages that are no names of definitions, and the definitions that no
-    row names.
+    """Yields two kinds of errors: bracketed names in comments and pages that are not the name of a definition, and
+    definitions that no row names.
     """
     known = {name for _, names in entries() for name in names}
     texts = {it: re.sub(r"^    .*$|`[^`\n]*\[[^`\n]*`", "", it.read_text(encoding="utf-8"), flags=re.M) for it in (top / "docs").glob("*.md")}
@@ -203,7 +203,7 @@ def name_faults(top, rows):
 
 
 def function_faults(rows):
-    """Yields functions named in rows, and clauses in the parentheses after them, that do not exist."""
+    """Yields the functions that rows name but that do not exist, and the clauses in parentheses that do not exist."""
     stated = {}
     for crate, name, text, _ in public_contracts():
         stated[crate, name] = stated.get((crate, name), "") + text

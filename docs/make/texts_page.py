@@ -4,7 +4,7 @@ faults`). Also reports differences between the sources and docs/TEXTS.md or docs
 
 import re
 
-# The files whose lines can be refused, and what `listset faults` calls them.
+# The kinds of files with lines that can be refused, each with its name in `listset faults`.
 FILES = {"schedule": "a schedule", "draft": "a draft", "report": "a report", "recording": "recorded calls", "keys": "the keys"}
 
 
@@ -21,8 +21,8 @@ def faults_below(top, head):
 
 
 def table_of_causes(top):
-    """Returns the table of causes for which a line is refused: the comment of each variant, and the files for which
-    `listset faults` names it.
+    """Returns the table of causes that refuse a line: the comment of each variant of `Cause`, and the files that `listset
+    faults` names for it.
     """
     text = (top / "crates/lset_text/src/causes.rt").read_text()
     causes = re.findall(r"((?:^    /// .*\n)+)    (\w+),$", text.split("pub enum Cause {")[1].split("\n}")[0], re.M)
@@ -38,13 +38,13 @@ def table_of_causes(top):
 
 
 def table_of_orders(top):
-    """Returns the table of the errors for which an order is refused, from `listset faults`."""
+    """Returns the table of errors that refuse an order, from `listset faults`."""
     return table(["Fault", "When"], [[f"`{name}`", when] for name, when in faults_below(top, "refused FAULT ID").items()])
 
 
 def problems(top):
     """Yields limits that differ from the constants in the sources, and arguments and options that differ from `listset
-    help`. (A page may leave out the names for `--lacks`.)
+    help`. (A page need not list the names for `--lacks`.)
     """
     sources = "\n".join(it.read_text() for it in top.glob("crates/*/src/**/*.rt"))
     for value, name in re.findall(r"\| ([\d,]+) \| `(\w+)` \|", (top / "docs/TEXTS.md").read_text()):
