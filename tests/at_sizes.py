@@ -1,8 +1,8 @@
-"""Tests every command on inputs of all sizes, up to the limits in docs/TEXTS.md and beyond, and compares the answers with
-those of a set in Python.
+"""Tests every command on inputs of all sizes, up to the limits in docs/TEXTS.md and beyond, and compares the answers with the
+answers of a set in Python.
 
 A valid input must get the right answer within a few seconds of processor time. Beyond a limit, the documented error is
-expected. Time and memory may grow with the input: eight times as many calls may take at most 24 times as much. `--few`
+expected. Time and memory may grow with the input: for eight times as many calls, at most 24 times as much. `--few`
 draws a tenth of the inputs.
 """
 
@@ -19,12 +19,12 @@ from harness.programs import KINDS
 
 GREATEST = 2**32 - 1  # the largest key
 MOST_THREADS, MOST_QUOTA, OPENING = 64, 16_384, 1_048_576
-CALLS, TIMES = 16_000, 8  # the larger number of calls in a comparison, and how many times larger it is than the smaller one
-LITTLE = 0.04, 14_000  # seconds and kilobytes: smaller values are compared as if they were these
-PROCESSOR_SECONDS = 9  # the limit for one command; an unproved program takes up to 2
-SPINNING_SECONDS = 90  # the limit for a command whose threads spin at locks, since the holder can be preempted for long on a busy machine
-# A small process that starts the program and reports its memory. (For a child of a large process, the system reports
-# the memory of that process too.)
+CALLS, TIMES = 16_000, 8  # the larger number of calls in a comparison, and its ratio to the smaller number
+LITTLE = 0.04, 14_000  # seconds and kilobytes; smaller measurements are replaced by these before a comparison
+PROCESSOR_SECONDS = 9  # the limit for one command; an unproved program needs up to 2
+SPINNING_SECONDS = 90  # the limit if threads spin at locks: the thread that holds a lock can be preempted for long
+# A small process that starts the program and reports its memory. (If a large process starts the program directly, the system
+# reports the memory of the large process.)
 STARTER = """import json, os, resource, sys
 resource.setrlimit(resource.RLIMIT_CPU, (int(sys.argv[2]), int(sys.argv[2])))
 _, status, used = os.wait4(os.posix_spawn(sys.argv[3], sys.argv[3:], os.environ), 0)
@@ -52,7 +52,7 @@ class Asked:
         return done.stdout
 
     def grows(self, size, greater):
-        """Fails if any command took more than three times as much per byte for the larger size."""
+        """Fails if any command needed more than three times as much time or memory, relative to the size, for the larger size."""
         for name in self.taken[size].keys() & self.taken[greater].keys():
             for before, after, little in zip(self.taken[size][name], self.taken[greater][name], LITTLE):
                 assert after <= 3 * TIMES * max(before, little), f"{name} takes {before} and {after}"
@@ -86,7 +86,7 @@ SHAPES = {
     "looks": lambda n: (range(0, n, 2), [("contains", key, "false" if key % 2 else "true") for key in shuffled(range(n))], range(0, n, 2)),
     "from the greatest": lambda n: (range(n), calls_of("remove", range(n)[::-1]), []),
 }
-NEAR = {  # shapes whose calls traverse few nodes
+NEAR = {  # in these shapes, calls traverse few nodes
     "one key": lambda n: ([], [("add", 5, "true"), ("remove", 5, "true")] * (n // 2), []),
     "at the least": lambda n: (range(n), calls_of("contains", [0] * n), range(n)),
     "come and go": lambda n: ([], [it for key in range(n // 3) for it in (("add", key, "true"), ("remove", key, "true"), ("ceiling", 0, "nothing"))], []),
@@ -99,7 +99,7 @@ def head(title, kind, threads, quota, opening=()):
 
 
 def recording_of(opening, calls, left, threads, at_once):
-    """Returns a recording of these calls. They do not overlap or, if `at_once`, all threads call at the same time."""
+    """Returns a recording of these calls. The calls do not overlap or, if `at_once`, all threads call at the same time."""
     lines = [f"opening {key}\n" for key in opening]
     for number, (word, key, reply) in enumerate(calls):
         turn, thread = divmod(number, threads)
@@ -109,7 +109,7 @@ def recording_of(opening, calls, left, threads, at_once):
 
 
 def draft_of(kind, opening, calls, threads):
-    """Returns a draft in which calls do not overlap."""
+    """Returns a draft. Its calls do not overlap."""
     lines = [f"begin {number % threads} {word} {key}\ngo {number % threads} out\n" for number, (word, key, _) in enumerate(calls)]
     return "".join([head("draft 2", kind, threads, MOST_QUOTA, opening), *lines])
 
@@ -147,7 +147,7 @@ def runs(asked, kind, size, made, words=()):
 
 @pytest.mark.parametrize("kind", KINDS)
 def test_schedules_of_each_size_are_drafted_replayed_and_checked(asked, few, kind):
-    """Runs short schedules of all shapes, and long ones whose calls traverse few nodes."""
+    """Runs short schedules of all shapes, and long schedules of the shapes in NEAR."""
     for shape in [*SHAPES.values(), *NEAR.values()]:
         runs(asked, kind, 0, shape(240))
     words = {"coarse": ["--lacks", "lock"], "lazy": ["--lacks", "mark-in-contains"]}.get(kind, ())  # (on calls that do not overlap, these broken lists behave as the intact ones)
@@ -179,7 +179,7 @@ def text_of(title, threads=1, quota=0, opening=0, lines=()):
 
 
 def tries_of(title, many):
-    """Returns a schedule in which one thread holds the lock and another one attempts to take it."""
+    """Returns a schedule for two threads: one holds the lock, and the other attempts to acquire it."""
     goes = [10_000] * ((many - 3) // 10_000) + [it for it in [(many - 3) % 10_000] if it]
     return text_of(title, 2, 1, lines=["begin 0 add 1\ngo 0 1\nbegin 1 add 1\n", *(f"go 1 {it}\n" for it in goes)])
 

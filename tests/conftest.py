@@ -2,10 +2,10 @@
 
     pytest-3                          runs all tests; -n 4 runs four in parallel
     pytest-3 tests/serve_clients.py   runs the tests of a file, or of a page in tests/transcripts; -k WORD selects tests by name
-    pytest-3 --program=PROGRAM        tests this program; by default the proved or the unproved one, whichever has younger sources
-    pytest-3 --few                    draws a tenth of the random inputs
-    pytest-3 --show PAGE              prints what the commands of a page of tests/transcripts print now, in the page's form
-    pytest-3 --tools                  also fails a test that runs a command of build/needs.txt without a mark `needs` for the command
+    pytest-3 --program=PROGRAM        tests this program; by default the proved or the unproved program, whichever has younger
+    sources pytest-3 --few                    draws a tenth of the random inputs pytest-3 --show PAGE              prints the
+    current output of the commands on a page of tests/transcripts, in the page's form pytest-3 --tools                  also
+    fails a test that runs a command of build/needs.txt without a mark `needs` for the command
 
 A test that needs a missing tool or program is skipped with a message. If it was selected by -k or as FILE::NAME, it
 fails.
@@ -37,7 +37,7 @@ def pytest_addoption(parser):
 @pytest.hookimpl(tryfirst=True)
 def pytest_cmdline_main(config):
     if getattr(config.option, "numprocesses", None) and config.option.dist == "no":
-        config.option.dist = "loadgroup"  # so that tests of one xdist_group run one after another
+        config.option.dist = "loadgroup"  # tests of one xdist_group then run one after another
 
 
 def pytest_configure(config):
@@ -51,8 +51,8 @@ def pytest_runtest_logreport(report):
 
 
 def built_program(config):
-    """Returns the program in --program or, by default, the one that was built last. A program's age counts from the
-    start of its build.
+    """Returns the program in --program or, by default, the most recently built program. A program's age counts from the start
+    of its build.
     """
     built = [it for it in (PROVED, UNPROVED) if it.exists()]
     return config.option.program or str(max(built, key=lambda it: it.stat().st_mtime, default=PROVED))
@@ -77,8 +77,8 @@ def pytest_collection_modifyitems(config, items):
 
 
 def print_missing(items):
-    """Prints, for each command that a mark needs and that is missing, how to install it and how many tests are skipped
-    without it.
+    """Prints, for each missing command that some mark `needs` names, how to install the command and how many tests are
+    skipped without it.
     """
     wanted = [it for item in items for it in {word for mark in item.iter_markers("needs") for word in mark.args}]
     for it, many in collections.Counter(wanted).items():
@@ -109,8 +109,9 @@ NOTES = '#!/bin/sh\necho "{name}" >>"${{TOOLS_USED:-/dev/null}}"\nexec "{place}"
 
 @pytest.fixture(scope="session")
 def noting(pytestconfig, tmp_path_factory):
-    """With --tools, returns a folder for PATH: for each optional command of build/needs.txt a script that writes the command's name to
-    the file TOOLS_USED, and then runs the command. Otherwise returns None."""
+    """Returns a folder for PATH if --tools is set, otherwise None. For each optional command of build/needs.txt, the folder
+    has a script that writes the command's name to the file TOOLS_USED and then runs the command.
+    """
     if not pytestconfig.option.tools:
         return None
     folder = tmp_path_factory.mktemp("noting")
@@ -122,7 +123,9 @@ def noting(pytestconfig, tmp_path_factory):
 
 @pytest.fixture(autouse=True)
 def uses_what_it_needs(request, noting, has_what_it_needs, tmp_path_factory, monkeypatch):
-    """With --tools, fails a test that runs a command without a mark for it. The test would fail on a machine without this command."""
+    """Fails a test that runs a command without a mark for it, if --tools is set. Such a test would fail on a machine without
+    this command.
+    """
     if not noting:
         yield
         return
@@ -146,15 +149,15 @@ def program(pytestconfig, lacking):
 
 @pytest.fixture
 def room(tmp_path):
-    """Returns a folder for this test. After the test, the folder is deleted, and processes that run in it or name it are
-    killed.
+    """Returns a folder for this test. After the test, the folder is deleted, and processes that run in the folder or name it
+    are killed.
     """
     yield tmp_path
     clear(tmp_path)
 
 
 def made_with_tools(make, *words):
-    """Returns the result of a function, and with --tools the names of the commands that the function ran."""
+    """Returns the result of a function and, with --tools, the names of the commands that the function ran."""
     of_test = os.environ.get("TOOLS_USED")
     if not of_test:
         return make(*words), ""
@@ -180,7 +183,7 @@ def once(tmp_path_factory, worker_id):
         with open(f"{kept}.lock", "w") as lock:
             fcntl.flock(lock, fcntl.LOCK_EX)
             if not kept.exists():
-                shutil.rmtree(folder, ignore_errors=True)  # (left by a failed call, which the next test repeats)
+                shutil.rmtree(folder, ignore_errors=True)  # (a call that failed did not delete it; the next test calls again)
                 folder.mkdir()
                 kept.write_bytes(pickle.dumps(made_with_tools(make, folder, *further)))
             result, used = pickle.loads(kept.read_bytes())

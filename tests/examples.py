@@ -1,11 +1,11 @@
-"""Tests that the program turns the schedules in examples/schedules into the reports there, and that docs/CLASSIC.md shows
-what it prints.
+"""Tests that the program turns the schedules in examples/schedules into the reports there, and that docs/CLASSIC.md shows its
+output.
 
 `replay` of each NAME.schedule must print NAME.report, and `check` of each report must print `ok`. For a file in
 refused-files.txt, `replay` must print the error listed there and no report. `example NAME` prints the schedule of each
-classic interleaving, and `example --broken NAME` its broken report if it has one. page/tests/break_it.js tests how a
-broken list reveals its missing check. Another test here checks that README, the pages in docs/ and two other pages show
-what their commands print (harness/pages.py).
+classic interleaving, and `example --broken NAME` the report of its broken list, if the example has one.
+page/tests/break_it.js tests how a broken list reveals its missing check. Another test here checks that README, the pages in
+docs/ and two other pages show the output of their commands (harness/pages.py).
 """
 
 import re
@@ -56,7 +56,9 @@ def test_a_file_is_replayed_or_checked(program, name):
 
 
 def test_examples_of_the_program_are_the_files(program):
-    """`example` prints the files in examples/schedules, and each report of a broken list belongs to one of them."""
+    """Tests that `example` prints the files in examples/schedules, and that each report of a broken list belongs to an
+    example.
+    """
     broken = {it.name.partition(".")[0]: it for it in EXAMPLES.glob("*.broken.report")}
     assert [line.split()[0] for line in lines_of(program, "example")] == NAMES and broken.keys() <= {*NAMES}
     for name in NAMES:
@@ -67,23 +69,29 @@ def test_examples_of_the_program_are_the_files(program):
 
 @pytest.mark.parametrize("file", sorted(EXAMPLES.glob("*.broken.report")), ids=lambda it: it.name)
 def test_no_order_explains_a_broken_report(program, file):
-    """`check` refuses the order in the report, and `show` states below the picture that no other order explains the calls."""
+    """Tests that `check` refuses the order in the report, and that `show` prints below the picture that no other order
+    explains the calls.
+    """
     assert "\n\nnot linearizable\nno order explains the calls of key " in "\n".join(lines_of(program, "show", file, status=1))
 
 
 @pytest.mark.parametrize("name, section", zip(NAMES, SECTIONS), ids=NAMES)
 def test_the_page_shows_the_picture_and_the_trace_of_an_example(program, name, section):
-    """The first code block shows the picture without the order below it, the second shows lines of the trace."""
+    """Tests that the first code block is the picture without the order below it, and that the second contains lines of the
+    trace.
+    """
     drawn, traced = (re.sub("^    ", "", block, flags=re.M).strip("\n").split("\n") for block in re.findall(BLOCK, section, re.M))
     schedule, picture = picture_of(program, name)
     assert [*drawn, ""] == picture[:picture.index("order")]
     trace = iter(lines_of(program, "trace", text=schedule))
-    assert [line for line in traced if line not in trace] == []  # (`trace` is an iterator, so the lines must also be in its order)
+    assert [line for line in traced if line not in trace] == []  # (`trace` is an iterator, so this also checks their order)
 
 
 @pytest.mark.parametrize("name, kind, told", LACKING.findall(BROKEN))
 def test_the_page_describes_a_broken_list(program, name, kind, told):
-    """`check` refuses the order of the report. Whether another order explains the calls is as the page states."""
+    """Tests that `check` refuses the order of the report, and that the page states correctly whether another order explains
+    the calls.
+    """
     file = LACKS / f"{name}.schedule"
     assert f"\nlist {kind}\n" in file.read_text()
     report = "\n".join(lines_of(program, "replay", "--lacks", name, file)) + "\n"

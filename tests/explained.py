@@ -1,5 +1,5 @@
-"""Tests how mistakes are explained. A pipe gets exactly one fixed line; `explain` prints the wrong line, what is wrong,
-and how to correct it. tests/hints.py tests what a terminal shows below the fixed line.
+"""Tests how mistakes are explained. A pipe gets exactly one fixed line; `explain` prints the wrong line, an explanation, and
+how to correct the line. tests/hints.py tests the lines that a terminal shows below the fixed line.
 """
 
 import bz2
@@ -22,7 +22,7 @@ RIGHT_REPORT = REPORT + "call 0 0 add 5 1 8 true\nplace 0 true\nkey 5\nend\n"
 ADD = "call 0 add 5 1 4 true\n"
 RIGHT_CALLS = f"{CALLS}{ADD}key 5\nend\n"
 
-# Mistakes by name: the command, its input, the error line that a pipe gets, and parts of the explanation
+# Mistakes by name: the command, its input, the error line in a pipe, and parts of the explanation
 ROWS = {
     "no bytes": ("replay", "", "line 1: Header", ["no bytes", "command before a pipe"]),
     "no bytes of a recording": ("judge", "", "line 1: Header", ["no bytes"]),
@@ -206,7 +206,9 @@ def test_a_shell_reads_the_name_in_a_command(program, room, name):
 
 
 def test_explain_succeeds_for_every_text(program, few):
-    """Cuts out, repeats or replaces parts of texts. `explain` must succeed and name the same line as the command."""
+    """Tests parts of texts that were cut out, repeated or replaced. `explain` must succeed and name the same line as the
+    command.
+    """
     dice = random.Random(7)
     of_commands = {"replay": RIGHT, "draft": DRAFT + "begin 0 add 5\ngo 0 out\n", "check": RIGHT_REPORT, "judge": RIGHT_CALLS}
     for _ in range(40 if few else 400):

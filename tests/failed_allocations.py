@@ -2,12 +2,12 @@
 
 `tests/harness/fail_allocation.c` refuses the allocation with a given number, and overwrites freed memory so that
 reading it has a visible effect. The program must print `out of memory` and nothing else (except for `trace`, which
-prints each event as soon as it is made). If std can do with less memory than it asked for, the program may instead
-print what it always prints. If even the error line cannot be allocated, the exit status is still that of the error.
+prints each event as soon as it is made). If std can continue with less memory than it requested, the program may instead
+print its usual output. If even the error line cannot be allocated, the exit status must still be the status for this error.
 
-CALLS is the program in crates/memory_calls. It makes the libraries' calls one by one; its input is the number of
-allocations to use up before the first call. It fails unless each call reports a failed allocation (or that a thread
-could not be started) or returns the right result, and unless a repeated call returns the right result.
+CALLS is the program in crates/memory_calls. It makes the libraries' calls one by one; its input is the number of allocations
+to make before the first call. It fails unless each call reports a failed allocation (or that a thread could not be started)
+or returns the right result, and unless a repeated call returns the right result.
 """
 
 import functools
@@ -26,8 +26,8 @@ PROCESSOR_SECONDS = 5  # the limit for one run
 CALLS = TOP / "crates/memory_calls/out/unproved/memory_calls"
 
 # The commands to test. They run on files in examples/; on a random schedule (DRAWN); on schedules with many opening
-# keys, with steps after the end of a call (OPENING) or without (ENDED); on one with many attempts to take a lock
-# (TRIES); and on one with long chains (CHAIN).
+# keys, with steps after the end of a call (OPENING) or without (ENDED); on a schedule with many attempts to acquire a lock
+# (TRIES); and on a schedule with long chains of nodes (CHAIN).
 ASKED = """
 replay opens-with-keys.schedule | replay ceiling-left-in-chain.schedule | replay DRAWN | replay OPENING | replay refused.schedule |
 judge ../../tests/transcripts/data/recorded/seen.calls | judge ../../tests/transcripts/data/recorded/lost.calls |
@@ -55,8 +55,8 @@ def refuser(folder):
 
 
 def ran_where(refuse, number, *words, **how):
-    """Runs a program in which the allocation with this number fails. Returns the exit status, the output, and the line on
-    standard error.
+    """Runs a program. The allocation with this number fails. Returns the exit status, the output, and the line on standard
+    error.
     """
     room = {**os.environ, "LD_PRELOAD": refuse, "REFUSE": str(number), "MALLOC_PERTURB_": "165"}
     limit = functools.partial(resource.setrlimit, resource.RLIMIT_CPU, (PROCESSOR_SECONDS, PROCESSOR_SECONDS))
@@ -66,7 +66,7 @@ def ran_where(refuse, number, *words, **how):
 
 def answers(program, refuse):
     """Runs CALLS again and again. In each run another allocation fails. Returns the names of the calls that CALLS prints.
-    Ends at the first number that no allocation has.
+    Stops at the first number that is larger than the number of allocations.
     """
     told = []
     for number in range(1, REFUSED):
@@ -82,11 +82,13 @@ OUT_OF_MEMORY = 3, "", "listset: out of memory\n"
 SPAWN = 1, "", "listset: work: Spawn\n"
 # The line below a verdict if an allocation for the explanation fails
 NOT_TOLD = "\nwhat is wrong is not told: memory ran out, or the file has changed since it was judged\n"
-LAST = 10  # after so many runs in a row without an effect, the program makes no further allocation
+LAST = 10  # after this many runs without an effect in a row, the program is assumed to make no further allocation
 
 
 def out_of_memory_at_each(program, words, refuse):
-    """Runs a command again and again. In each run another of its allocations fails. Returns how many runs report that."""
+    """Runs a command again and again. In each run another of its allocations fails. Returns the number of runs that report a
+    failed allocation.
+    """
     how = {"cwd": TOP / "examples/schedules", "stdin": subprocess.DEVNULL}
     due = ran_where(refuse, 0, program, *words, **how)
     goes_along = words[0] == "trace"
@@ -127,7 +129,7 @@ def test_a_command_reports_each_failed_allocation(program, room, once, words):
 
 
 def test_calls_report_each_failed_allocation(once, lacking):
-    """Runs CALLS. Whichever allocation fails, the function `work` must return the set and its seats."""
+    """Tests each failed allocation in CALLS. The function `work` must return the set and its seats in any case."""
     if not CALLS.exists():
         lacking(f"{CALLS.relative_to(TOP)} is missing: tests/unproved memory_calls builds it")
     calls = answers(CALLS, once(refuser))

@@ -1,6 +1,6 @@
 """Tests the sets and the judge from C, C++, Rust and Python, and the programs in docs/FOREIGN.md.
 
-The libraries are those that foreign/build installed in the folder LISTSET_PREFIX or in foreign/out. The test programs
+The tests use the libraries that foreign/build installed in the folder LISTSET_PREFIX or in foreign/out. The test programs
 run with the sanitizers for addresses, undefined behaviour and races, if these work on this machine. The libraries
 themselves are built without sanitizers.
 """
@@ -34,7 +34,7 @@ class InstalledLibraries:
         self.include = f"-I{PREFIX / 'include'}"
 
     def proof(self):
-        """Returns the line in which the library states whether it is proved."""
+        """Returns the library's line that states whether the library is proved."""
         return "proof missing" if "without a proof" in (self.library / "pkgconfig" / "listset.pc").read_text() else "proof checked"
 
     def works(self, sanitizer):
@@ -59,8 +59,8 @@ class InstalledLibraries:
         return [*flags, f"-Wl,-rpath,{self.library}"]
 
     def page(self, language, ending, name, before=""):
-        """Copies the program that contains `name` from docs/FOREIGN.md to a file, after the text `before`. Returns the
-        file.
+        """Copies the program that contains `name` from docs/FOREIGN.md to a file, after the text `before`. Returns the path
+        of the file.
         """
         found = re.findall(rf"^```{language}\n(.*?)^```$", (TOP / "docs" / "FOREIGN.md").read_text(), re.M | re.S)
         program, = (it for it in found if name in it)
@@ -121,7 +121,7 @@ def words_of_program(program):
 
 @needs("gcc")
 def test_a_c_program_prints_what_the_program_prints(installed, program):
-    """A C program that is linked with either library prints the same bytes as listset, with the same exit status."""
+    """Tests that a C program that is linked with either library prints the same bytes as listset and has the same exit status."""
     static, shared, run_path = installed.built("words.c"), installed.room / "shared", f"-Wl,-rpath,{installed.library}"
     well("gcc", "-std=c11", *WARN, installed.include, TESTS / "words.c", f"-L{installed.library}", "-llistset", run_path, "-o", shared)
     text = (EXAMPLES / "snip.schedule").read_bytes()
@@ -181,7 +181,7 @@ def test_programs_in_c_use_sets_and_judge(installed):
 @needs("g++", "gcc", "pkg-config")
 def test_programs_in_cpp_use_sets_and_judge(installed):
     made, first, how = installed.room / "made", installed.room / "first", [MEMORY] if installed.works(MEMORY) else []
-    # With optimization and a sanitizer, g++ would take three times as long. The page's programs compile the header with
+    # g++ needs three times as long with both optimization and a sanitizer. The page's programs compile the header with
     # optimization.
     elsewhere, flags = installed.room / "elsewhere.o", ["-std=c++17", *WARN, "-O0", *how, "-pthread"]
     well("g++", *flags, "-c", TESTS / "elsewhere.cpp", installed.include, "-o", elsewhere)
@@ -198,7 +198,9 @@ def test_programs_in_cpp_use_sets_and_judge(installed):
 
 @needs("g++", "gcc", "pkg-config")
 def test_calls_of_a_renewed_set_are_linearizable(installed):
-    """Eight threads add and remove the same keys while their set is renewed: replaced by a new set with the same keys."""
+    """Tests eight threads that add and remove the same keys while their set is renewed, that is, replaced by a new set with
+    the same keys.
+    """
     made, flags = installed.room / "made", ["-std=c++17", *WARN, "-pthread", TESTS / "renewed.cpp", *installed.flags()]
     for how, calls in (([], 50_000), (["-O0", MEMORY], 2_000), (["-O0", RACES], 500)):
         if all(map(installed.works, how[1:])):
@@ -238,12 +240,12 @@ def test_programs_in_go_use_sets_and_judge(installed):
 
 
 def in_room(installed):
-    """Returns an environment in which refused recordings are written to the tests' temporary folder."""
+    """Returns an environment that puts the recordings of refused sets into the tests' temporary folder."""
     return {**os.environ, "TMPDIR": str(installed.room)}
 
 
 def is_judged(said, proof):
-    """Checks that a test printed that this library judged the set."""
+    """Checks a test's output: this library must have judged the set."""
     assert f"; judge: liblistset, {proof}" in said
 
 

@@ -1,5 +1,5 @@
-"""Tests the lines that the script ./listset adds at a terminal: help below an error, and what a command reads before the
-command starts. If the output is a pipe, the script adds nothing.
+"""Tests the lines that the script ./listset adds at a terminal: help below an error and, before a command starts, the kind of
+text that it reads. If the output is a pipe, the script adds nothing.
 """
 
 import os
@@ -13,7 +13,7 @@ import pytest
 from explained import ADD, CALLS, RIGHT, RIGHT_CALLS, RIGHT_REPORT, SCHEDULE
 from harness.programs import SECONDS, TOP, ran, wants, well
 
-# Arguments of the script, the error line that a pipe gets too, and the lines that a terminal shows below it
+# Arguments of the script, the error line (which a pipe gets too), and the lines that a terminal shows below it
 AT_TERMINAL = {
     "replay no-such": ["listset: cannot read\n", "no-such: there is no such file"],
     "judge .": ["listset: cannot read\n", ".: this is a folder"],
@@ -94,7 +94,7 @@ AT_TERMINAL = {
 
 
 def at_terminal(words, cwd, typed=None, env=None):
-    """Returns what a command prints at a terminal, and its exit status. `typed` is its standard input."""
+    """Returns the text that a command prints at a terminal, and its exit status. `typed` is its standard input."""
     ours, theirs = pty.openpty()
     stdin = theirs if typed else subprocess.DEVNULL
     running = subprocess.Popen(words, cwd=cwd, stdin=stdin, stdout=theirs, stderr=theirs, env=env)
@@ -171,7 +171,7 @@ def test_commands_in_a_hint_have_the_name_that_the_user_typed(script):
         assert f"For its report: {called} replay b.schedule; for its picture: {called} show b.schedule\n" in said, said
 
 
-# A command line of a shell in which the input cannot be read or the output not written, the fixed line, and the hint.
+# A shell's command line that cannot read its input or cannot write its output, the fixed error line, and the hint.
 NOT_OPEN = {
     "./listset replay <&-": ("cannot read", "Standard input is closed. Name a file: ./listset replay FILE"),
     "./listset example >&-": ("cannot write", "Standard output is closed. To see the output, leave out '>&-'; to keep it: ./listset example .. > FILE"),
@@ -256,7 +256,8 @@ def test_a_long_line_of_a_long_recording_is_shown(script):
     assert "listset: line 1: NotEnded\nLine 1 is 'call 0 add 5 1 4 true call " in said and "Write the title and each call in a line of its own, which ends with LF." in said, said[:600]
 
 
-# Rows that Node cannot show: commands that only a built program has, errors with a tip of clap, and a hint about a wrong command line
+# Arguments that Node cannot handle: commands that only a built program has, errors with a tip of clap, and a hint about a
+# wrong command line
 NOT_OF_NODE = re.compile(r"(run|serve) |shwo|--prov|show --from (-5|5 --from)|trace --chain=")
 
 

@@ -2,8 +2,8 @@
 judge/LANGUAGE/tests, judges the set that SET names with the options in HOW, and prints the result and its kind.
 
 Correct sets must be `ok`, and wrong sets must be refused with the default options. If a set hangs or crashes, its calls
-so far are judged. A long run is one recording, which the program judges again. Scripts that stand in for a judge show
-how a refusal is passed on. All waits are bounded.
+so far are judged. A long run is one recording, which the program judges again. Scripts in place of a judge show that a
+refusal is passed on. All waits are bounded.
 """
 
 import os
@@ -17,7 +17,7 @@ from harness.programs import QUICK_CARGO, TOP, ran, well
 from toolchain import NEEDS
 
 FORMS = TOP / "judge"
-SECONDS = 300  # for each run of a judge, on a busy machine
+SECONDS = 300  # the time limit for each run of a judge, even on a busy machine
 # Files that are not a judge, with the message about each. `{}` is the path.
 NO_VERDICT = "{} printed no verdict, but: %s. Use a newer listset"
 NO_JUDGE = "no judge was found: {} cannot be run. Copy the file judge/listset.js"
@@ -57,7 +57,7 @@ def built_python(_folder):
 
 
 def in_jvm(*words):
-    """Returns a java command that starts in half the time, for short programs and those that they start."""
+    """Returns a java command that halves the start-up time of short programs and of the programs that they start."""
     return [shutil.which("env"), "JAVA_TOOL_OPTIONS=-XX:TieredStopAtLevel=1 -XX:+UseSerialGC", *words]
 
 
@@ -85,7 +85,7 @@ FEW = "threads=4 calls=250 runs=3 within=2"
 
 
 def each(languages):
-    """Returns the parameters for a test that runs for each language, with the compiler that each needs."""
+    """Returns the parameters for a test that runs once for each language, each marked with the compiler that it needs."""
     return pytest.mark.parametrize("language", [pytest.param(it, marks=pytest.mark.needs(*TOOLS.get(it, []))) for it in languages])
 
 
@@ -107,7 +107,7 @@ class Form:
         """Judges a set. Returns the kind of the result and all output."""
         environment = {name: it for name, it in os.environ.items() if name not in ("CI", "RUST_BACKTRACE") and not name.startswith("LISTSET")}
         environment |= {"LISTSET": str(judge)} if judge else {}
-        environment |= {"TMPDIR": str(self.room), "SET": of, "HOW": how, "RUST_TEST_THREADS": "2", **also}  # (with one, cargo's test prints its name first)
+        environment |= {"TMPDIR": str(self.room), "SET": of, "HOW": how, "RUST_TEST_THREADS": "2", **also}  # (with 1, cargo's test prints its name first)
         words = [*self.words[:-1], f"-Djava.io.tmpdir={self.room}", self.words[-1]] if self.language == "Java" else self.words
         done = ran(*words, cwd=self.room, env=environment, seconds=SECONDS)
         found = re.search("^verdict: (.*)$", done.stdout, re.M)
@@ -159,12 +159,12 @@ def test_keys_can_be_of_any_kind(form, program):
 @each(LANGUAGES)
 def test_a_call_whose_outcome_is_not_known_is_pending(form, program):
     kind, said = form.told(program, "not known", f"{FEW} runs=1 record={form.room / 'kept'}")
-    recordings = [*(form.room / "kept").iterdir()]  # (also of more runs, if few calls of the first ones overlapped)
+    recordings = [*(form.room / "kept").iterdir()]  # (more runs follow if few calls of the first runs overlapped)
     assert kind == "ok" and recordings, said
     for recorded in recordings:
         calls = [it.split() for it in recorded.read_text().splitlines() if it.startswith("call ")]
         open_calls = [it for it in calls if it[5] == "-"]
-        threads = len({it[1] for it in calls})  # (after a pending call its thread continues with a new number, if calls remain)
+        threads = len({it[1] for it in calls})  # (a thread continues with a new number after a pending call)
         assert len(calls) == 1000 and open_calls and len(open_calls) <= threads <= 4 + len(open_calls), said
 
 
@@ -172,7 +172,7 @@ def test_a_call_whose_outcome_is_not_known_is_pending(form, program):
 def test_runs_with_few_overlaps_are_reported(form, program):
     kind, said = form.told(program, "right", "threads=1 calls=2000 keys=1 pauses=0 runs=2 within=2")
     calls = int(re.search("^few calls overlapped, so ok means little: ([0-9]+) calls, and 0 of them ", said, re.M)[1])
-    assert kind == "ok" and calls in range(2000, 2_000_000, 2000), said  # (runs are repeated, and more runs follow if that takes little time)
+    assert kind == "ok" and calls in range(2000, 2_000_000, 2000), said  # (runs are repeated, and more follow if there is time)
     kind, said = form.told(program, "right", "threads=1 calls=200 runs=1 at_least=5 within=2")
     assert kind == "too few" and re.search("^too few calls overlapped: 0 of [0-9]+ calls overlapped a change of their key, and at_least requires 5 of 100", said, re.M), said
 
@@ -185,7 +185,7 @@ def test_times_and_seeds_come_from_the_options_and_the_environment(form, program
         assert kind == "ok", said
         made[name] = {int(it.stem.removeprefix("seed-")) for it in (form.room / name).iterdir()}
     assert 1 in made["within"] and 1 < len(made["within"]) < 100_000
-    assert len(made["seconds"]) > 1 and min(made["seconds"]) > 1_700_000_000  # (new seeds)
+    assert len(made["seconds"]) > 1 and min(made["seconds"]) > 1_700_000_000  # (seeds after the first are taken from the clock)
     assert min(made["seed"]) == 7
 
 
@@ -217,10 +217,12 @@ def test_calls_before_a_crash_or_a_hang_are_judged(form, program, of):
 
 @each(LANGUAGES)
 def test_a_process_that_ends_at_any_moment_has_every_call_once(form, program):
-    """The calls are saved part by part while the process runs. The verdict would be another if a call were saved twice or lost."""
+    """Tests calls that are saved part by part while the process runs. If a call were saved twice or lost, the verdict would
+    differ.
+    """
     _, said = form.told(program, "ends", "threads=4 calls=60000 keys=4 runs=1 pauses=0", TESTS="12")
     for one in said.split("verdict: ")[1:]:
-        is_early = "the set could not be created: the set ended its process" in one  # (before the first call)
+        is_early = "the set could not be created: the set ended its process" in one  # (the process ended before the first call)
         assert one.startswith("cut short") and "some order explains the calls" in one or one.startswith("ok") or is_early, one
     assert said.count("verdict: cut short") > 2, said
 
@@ -244,7 +246,7 @@ def test_a_key_whose_last_outcome_stays_unknown_can_be_there_or_not(form, progra
 
 @each(LANGUAGES)
 def test_a_correct_set_that_throws_repeatedly_is_not_refused(form, program):
-    """In Java and Go, other threads of the process can still make calls while the run is recorded."""
+    """Tests that calls made during the recording do no harm: in Java and Go, other threads can still make calls at that time."""
     tests = 5 if form.language == "Python" else 25
     for how in ("pauses=0", "pauses=20"):
         _, said = form.told(program, "throws", f"threads=4 calls=1000 keys=4 own_process=0 {how}", TESTS=str(tests))
@@ -253,7 +255,7 @@ def test_a_correct_set_that_throws_repeatedly_is_not_refused(form, program):
 
 @each(LANGUAGES)
 def test_a_set_that_continues_after_a_hang_does_not_change_the_recording(form, program):
-    """A `remove` takes 1.2 s, and the judge another second."""
+    """Tests a `remove` that lasts 1.2 s, with a judge that needs another second."""
     judge = form.script("judge", f"#!/bin/sh\n[ $1 = --version ] || sleep 1\n'{program}' \"$@\"\n")
     kind, said = form.told(judge, "naps", "threads=4 calls=1000 keys=4 seconds=1")
     assert kind == "cut short" and "the set hung: no call began or ended for 1 s" in said and form.recorded(said).count("\ncut\n") == 1, said

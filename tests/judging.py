@@ -12,7 +12,7 @@ import pytest
 from harness.programs import SECONDS, ran
 from harness.set_model import CHANGES, SetModel, reply_of
 
-TEXTS, SEEDS = 100, range(1, 5)  # texts for each seed; 10 with --few
+TEXTS, SEEDS = 100, range(1, 5)  # the number of texts for each seed; a tenth of it with --few
 THREADS, KEYS = 4, 3
 LAST = 2**63 - 1
 TITLE = "listset-calls 1"
@@ -21,7 +21,7 @@ Call = collections.namedtuple("Call", "thread word key begin end reply")
 
 
 def drawn(rng, calls):
-    """Draws overlapping calls of threads, in the order in which they began, with their opening and final keys. The set
+    """Draws overlapping calls of threads, ordered by their start, with the opening keys and the final keys. The set
     occasionally replies wrongly. Moments are 1, 2, 3 and so on.
     """
     opening = sorted(rng.sample(range(KEYS), rng.randrange(KEYS)))
@@ -87,8 +87,8 @@ def changes(it):
 
 
 def ways_left(calls, is_there):
-    """Returns the possible states of a key after these calls, given whether it was present before them. Tries all orders
-    of the completed calls and of any pending ones that change the key.
+    """Returns the possible states of a key after these calls, given whether it was present before them. Tries all orders of
+    the completed calls, with each subset of the pending calls that can change the key.
     """
     calls = [it for it in calls if it.end or changes(it)]
     ended = {number for number, it in enumerate(calls) if it.end}
@@ -107,8 +107,8 @@ def ways_left(calls, is_there):
 
 
 def known_at(calls, moment):
-    """Returns what is known of the calls at a moment. A change that ends later may have taken effect; any other call that
-    ends later is left out.
+    """Returns the calls as a judge knows them at a moment. A change that ends later is pending. Any other call that ends
+    later is left out.
     """
     ended = [it for it in calls if it.end and it.end <= moment]
     return ended + [it._replace(end=None, reply=None) for it in calls if it.begin <= moment and it not in ended and changes(it)]
@@ -176,14 +176,14 @@ def call_in(line, form, of_key):
 
 
 def may_be_made(of_key, word, since, until):
-    """Returns whether some call that brings the key into this state overlaps this period. The call must have returned
-    true or be pending.
+    """Returns whether some call that brings the key into this state overlaps the period from `since` to `until`. The call
+    must have returned true or be pending.
     """
     return any(it.word == word and changes(it) and it.begin < until and since < (it.end or LAST + 1) for it in of_key)
 
 
 def is_true(lines, key, judged):
-    """Returns whether every word of the lines about a contradiction is true for the key's calls."""
+    """Returns whether every statement in the lines about a contradiction is true for the key's calls."""
     of_key, word = judged.of_key.get(key, []), {True: "add", False: "remove"}
     first, states = call_in(lines[0], f"contradiction in both orders: {CALL}, needs key {key} {STATE} and leaves it {STATE},", of_key)
     if first:
@@ -260,7 +260,7 @@ def in_pieces(program, text, size):
 
 @pytest.mark.parametrize("size", [1, 7, 16, 4096])
 def test_the_verdict_does_not_depend_on_the_pieces(program, size):
-    """Tests a recording, a recording without its end, and one with another title."""
+    """Tests three texts: a recording, a recording without its last line, and a recording with another title."""
     rng = random.Random(size)
     for many in (3, 30, 400):
         calls, opening, keys = drawn(rng, many)
@@ -271,7 +271,7 @@ def test_the_verdict_does_not_depend_on_the_pieces(program, size):
 
 
 def test_an_error_is_reported_before_the_input_ends(program):
-    """A recorder can run for hours, so an error in a line must end the program while the pipe is still open."""
+    """Tests that an error in a line ends the program while the pipe is still open, because a recorder can run for hours."""
     with subprocess.Popen([program, "judge"], stdin=subprocess.PIPE, stdout=subprocess.PIPE, stderr=subprocess.PIPE, bufsize=0) as judge:
         judge.stdin.write(f"{TITLE}\ncall 0 add 5 1 2 true\ncall 0 add 5 2 3 true\n".encode())
         try:

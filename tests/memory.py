@@ -33,8 +33,8 @@ CALLS, KEYS = 800_000, 120
 
 @pytest.mark.parametrize("threads, at_once", [(4, True), (CALLS // 4, False)])
 def test_judge_keeps_no_completed_call(program, room, threads, at_once):
-    """`judge` keeps nothing about a completed call or its thread, except for the state of the key. The recording is a file
-    or standard input.
+    """Tests that `judge` keeps nothing about a completed call or its thread, except the state of the key. The recording is a
+    file or standard input.
     """
     of_key = ("add", "true"), ("contains", "true"), ("add", "false"), ("remove", "true"), ("remove", "false")
     calls = [(word, number % KEYS, reply) for number in range(CALLS // len(of_key)) for word, reply in of_key]
@@ -50,9 +50,7 @@ OPENING, WALKS = 2_000, 100
 
 
 def long_walks():
-    """Returns a draft with one line for each call, all of which traverse all keys. Its schedule has many events in few
-    lines.
-    """
+    """Returns a draft with one line for each call. All calls traverse all keys, so its schedule has many events in few lines."""
     opening = "".join(f"opening {key}\n" for key in range(OPENING))
     calls = f"begin 0 contains {OPENING}\ngo 0 out\n" * WALKS
     return f"listset-draft 2\nlist lazy\nthreads 1\nquota 1\n{opening}{calls}".encode()
@@ -61,7 +59,7 @@ def long_walks():
 def events_of(schedule):
     """Returns the number of events in a schedule with many steps per line."""
     many = WALKS + sum(map(int, re.findall(rb"^go 0 (\d+)$", schedule, re.M)))
-    assert many > 2 * OPENING * WALKS  # (the calls traverse all keys)
+    assert many > 2 * OPENING * WALKS  # (otherwise, a call did not traverse all keys)
     return many
 
 
@@ -71,7 +69,7 @@ def test_no_command_keeps_its_events(program, words):
     """Runs commands with hundreds of thousands of events, also on a broken list. `trace` prints tens of megabytes."""
     schedule = well(program, "draft", text=long_walks())
     many = events_of(schedule)
-    assert many > 400_000  # (`show` draws at most 64 of them)
+    assert many > 400_000  # (`show` draws at most 64 of the events)
     said = printed_within(LITTLE, program, *words.split(), text=long_walks() if words == "draft" else schedule)
     due = {"draft": [schedule], "trace": [b"\nevent %d " % many, b"\nend\n"], "show": [b": %d calls" % WALKS]}
     due["replay"] = [b"call %d " % (WALKS - 1), b"place %d " % (WALKS - 1)]
@@ -80,11 +78,11 @@ def test_no_command_keeps_its_events(program, words):
 
 # ---- The memory of `run` for the replies of its rounds
 
-CALLS_OF_RUN, LIVES = 10_000, 100  # the maximum numbers; a reply has 8 bytes
+CALLS_OF_RUN, LIVES = 10_000, 100  # the maximum numbers of calls and of rounds; a reply has 8 bytes
 
 
 def test_run_keeps_only_the_replies_of_one_round(program):
-    """The replies of all rounds together take 8,000 KB."""
+    """Tests that `run` does not keep the replies of all rounds, which need 8,000 KB."""
     said = printed_within(LITTLE, program, "run", "lazy", 1, 1, CALLS_OF_RUN, 1, 1, LIVES)
     assert said.startswith(b"calls %d\n" % (CALLS_OF_RUN * LIVES))
 
@@ -92,8 +90,8 @@ def test_run_keeps_only_the_replies_of_one_round(program):
 # ---- The memory of a server for its sessions
 
 SEATS, CALLS_AT_ONCE = 4, 2_000
-FEW, MANY, LONG_LINES = 90, 450, 9  # rounds of sessions before and after the first measurement; and sessions with a long line
-GROWTH = 1_000  # kilobytes: one page for each session of MANY rounds would be 3,600, and eight bytes for each call 4,800
+FEW, MANY, LONG_LINES = 90, 450, 9  # rounds of sessions before and after the first measurement, and sessions with a long line
+GROWTH = 1_000  # kilobytes; one page per session of MANY rounds would be 3,600, and eight bytes per call 4,800
 
 
 def most_resident(server):
@@ -111,7 +109,7 @@ def goes_away(connection):
 
 
 def sends_a_long_line(connection):
-    """Sends a long line. The server closes the connection before it has read all of it."""
+    """Sends a long line. The server closes the connection before it has read the whole line."""
     with contextlib.suppress(ConnectionError):
         connection.sendall(b"?" * 4_000_000)
 
@@ -129,8 +127,8 @@ def serves(server, sessions):
 
 
 def test_a_server_keeps_nothing_of_its_sessions(program):
-    """A server's memory does not grow with the number of served sessions and calls, with a long line, or while a silent
-    client is connected.
+    """Tests that a server's memory does not grow with the number of served sessions and calls, with a long line, or while a
+    silent client is connected.
     """
     rounds = FEW + MANY
     sessions, calls = 1 + len(SESSIONS) * rounds + LONG_LINES, CALLS_OF_SESSIONS * rounds

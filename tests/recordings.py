@@ -1,5 +1,5 @@
-"""Tests examples/recorders and examples/recordings: the recorder that docs/YOUR-SET.md shows, and judging a recording
-split by key. The verdict must be that of `listset judge` for any number of parts.
+"""Tests examples/recorders and examples/recordings: the recorder that docs/YOUR-SET.md shows, and a script that judges the
+keys of a recording in separate parts. For any number of parts, the verdict must be the verdict of `listset judge`.
 """
 
 import os
@@ -25,7 +25,9 @@ RECORDINGS = [recording(1), recording(2), recording(3), recording(1, is_cut=True
 @pytest.mark.parametrize("text", RECORDINGS, ids=range(len(RECORDINGS)))
 @pytest.mark.parametrize("parts", [4, 30])
 def test_the_parts_of_a_recording_have_its_verdict(program, room, text, parts):
-    """The verdict must be the same, but a refusal can name another key, and an error can be found in another part."""
+    """Tests that the verdict does not depend on the number of parts. A refusal can name another key, and an error can be
+    found in another part.
+    """
     recorded = room / "run.calls"
     recorded.write_text(text)
     done, due = ran(TOP / "examples/recordings/judge_by_key", recorded, parts, env={**os.environ, "LISTSET": program}), ran(program, "judge", recorded)

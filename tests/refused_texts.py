@@ -1,4 +1,4 @@
-"""Tests which error is named first in a text of each kind. The texts are those in a table, and the prefixes of a valid
+"""Tests which error is named first in a text of each kind. The texts are the rows of a table, and the prefixes of a valid
 text. The program must print exactly one line about the error and exit with status 1.
 """
 
@@ -99,8 +99,8 @@ def test_the_first_error_of_a_header_is_named(program, title, words):
 
 
 def test_the_first_error_of_each_prefix_of_a_draft_is_named(program):
-    """If a prefix ends within a line, the error is that the line has no newline. If it consists of complete lines, either
-    the next header line is missing, or the prefix is read.
+    """Tests each prefix. If it ends within a line, the error is that the line has no newline. If it consists of complete
+    lines, the next header line is missing, or the prefix is a valid draft.
     """
     text = (DATA / "drafts/opens-with-keys.draft").read_text()
     for front in (text[:at] for at in range(len(text))):

@@ -1,5 +1,5 @@
-"""Tests the packages of a release. Makes a trial release from the current build, unpacks each package where there is no
-toolchain, and uses it as its reader would: the archive, the .deb, the wheel, the crate, and the page in one file.
+"""Tests the packages of a release. Makes a trial release from the current build, unpacks each package without a toolchain in
+PATH, and uses it as a user would: the archive, the .deb, the wheel, the crate, and the page in one file.
 """
 
 import os
@@ -116,8 +116,8 @@ def test_a_release_is_reproducible(release, program, room):
 
 @pytest.mark.skipif(os.geteuid() != 0, reason="only root may chroot")
 def test_the_program_needs_no_other_file(release, program):
-    """In a root folder with nothing but its package, the program replays a schedule, runs four threads, and serves a
-    session.
+    """Tests the program in a root folder that contains only its package: it replays a schedule, runs four threads, and serves
+    a session.
     """
     enter = [shutil.which("chroot"), release.unpacked("*-linux-x86_64.tar.gz"), "/bin/listset"]
     assert well(*enter, "--version", "--long", env={}) == version_stamp.told(proof_of(program))
@@ -175,7 +175,7 @@ def test_the_wheel_is_installed(release, program, room):
     how = {"env": {**WITHOUT_RATTLE, "PYTHONPATH": str(top)}}
     assert well(sys.executable, "-B", "-c", PROGRAM_WITH_WHEEL, SCHEDULES / "snip.broken.report", **how) == told_of_broken(program)
     serve = [program, "serve", "lazy", "1", "10", "0", "1"]
-    with subprocess.Popen(serve, stdin=subprocess.DEVNULL, stdout=subprocess.PIPE, text=True) as server:  # (which ends after its only session)
+    with subprocess.Popen(serve, stdin=subprocess.DEVNULL, stdout=subprocess.PIPE, text=True) as server:  # (ends after its only session)
         said = well(sys.executable, "-B", "-c", TEST_WITH_WHEEL, server.stdout.readline().strip().rpartition(":")[2], **how)
     proved = version_stamp.told(proof_of(program)).splitlines()[3]
     assert said.startswith(("ok: ", "few calls overlapped")) and said.endswith(f"; judge: liblistset, {proved}\n")

@@ -1,5 +1,5 @@
 """Tests ./listset as a user would use it: without a program, with only Node, after an edit, and with an interrupted
-command; and `build/take`. The tests use small clones, in which the program adds up bytes.
+command; and `build/take`. The tests use small clones with a program that adds up bytes.
 """
 
 import os
@@ -19,8 +19,8 @@ from harness.programs import LONG, SECONDS, TOP, comes, is_running, ran, wants, 
 
 BUILDING = "building the program once WITHOUT A PROOF"
 NO_NODE = "no program is built here, and Node is missing. Install Debian's package nodejs (18 or later), or put the folder bin of the Rattle toolchain in PATH"
-# A small program. It prints, for each argument, the table entry for the argument's length, plus one. For "show" the
-# addition overflows (255 + 1), and for "replay" the table has no entry.
+# A small program. It prints, for each argument, the table entry for the argument's length, plus one. For the argument "show"
+# the addition overflows (255 + 1), and for "replay" the table has no entry.
 MAIN = """#![tactic(auto)]
 
 use std::io;
@@ -79,7 +79,7 @@ class Clone:
         return ran(*words, seconds=LONG, **self.how, **how)
 
     def prove(self, at):
-        """Writes a program in place of the proved one, with a time of `at` seconds from now."""
+        """Writes a program in place of the proved program. Its modification time is `at` seconds from now."""
         self.kept.mkdir(parents=True, exist_ok=True)
         self.proved.write_text('#!/bin/sh\necho "proved: $*"\n')
         self.proved.chmod(0o755)
@@ -87,7 +87,7 @@ class Clone:
 
 
 def shown(command):
-    """Returns what a command prints, according to the transcripts."""
+    """Returns the output of a command, according to the transcripts."""
     text = "".join((TOP / "tests/transcripts" / f"{page}.md").read_text() for page in ("help", "words"))
     block = re.search(rf"^    \$ listset {re.escape(command)}\n((?:    (?!\$ ).*\n|\n)*)", text, re.M)[1]
     return re.sub("^    ", "", block, flags=re.M).rstrip("\n") + "\n"
@@ -159,7 +159,7 @@ def test_a_missing_rt_is_named(room, words):
     assert done.returncode and "rt is missing: the Rattle toolchain; its folder bin must be in PATH" in said and "Traceback" not in said
 
 
-# A script that prints what the gate reports as not run
+# A script that prints the gate's lines about the checks that are not run.
 NOT_RUN = """import importlib.machinery, importlib.util, sys
 loader = importlib.machinery.SourceFileLoader("gate", "gate")
 gate = importlib.util.module_from_spec(importlib.util.spec_from_loader("gate", loader))

@@ -1,7 +1,7 @@
-"""Checks every sentence that `check` and `show` print about a report. Each kind of sentence is a property, which a
-search through all orders decides. The reports have 3 to 9 random calls and are right or wrong. A line without a
-property fails the test. `trace` and `show` must also show the calls of the report that `replay` prints.
-(tests/judging.py checks sentences about recordings.)
+"""Checks every sentence that `check` and `show` print about a report. Each kind of sentence has a property that decides
+whether the sentence is true, by a search through all orders. The reports have 3 to 9 random calls and are right or wrong. A
+line that no property covers fails the test. `trace` and `show` must also show the same calls as the report that `replay`
+prints. (tests/judging.py checks sentences about recordings.)
 
 The environment variable CASES is the number of cases that each test draws per seed; `--few` draws a tenth.
 """
@@ -89,7 +89,7 @@ def left_by_orders(calls, opening, quota):
 
 
 def drawn_calls(rng, quota, opening):
-    """Draws overlapping calls of threads, with the end and reply of those that have ended. Returns the calls; the order
+    """Draws overlapping calls of threads, with the end and the reply of each completed call. Returns the calls; the order
     in which they took effect, as numbers with the set's replies; and the final keys. Occasionally, a call returns a
     wrong reply.
     """
@@ -137,7 +137,7 @@ class Reported:
         return self.keys == sorted({*self.keys}) and frozenset(self.keys) in left_by_orders(self.calls, self.opening, self.quota)
 
     def before_place(self, place):
-        """Returns the set just before the place with this number, counted from 1."""
+        """Returns the set just before the place (the entry of the order) with this number, counted from 1."""
         held = SetModel(self.quota, self.opening)
         for number, _ in self.order[: place - 1]:
             if number < len(self.calls):
@@ -154,12 +154,12 @@ class Reported:
         return [place for place, (number, _) in enumerate(self.order, 1) if number == int(call)]
 
     def after(self, call):
-        """Returns the calls that are placed after a call."""
+        """Returns the calls that the report's order puts after a call."""
         places = self.places(call)
         return [number for number, _ in self.order[places[0]:] if number < len(self.calls)] if places else []
 
     def is_early(self, call, other):
-        """Returns whether the order puts a call before another one that had ended when the call began."""
+        """Returns whether the order puts `call` before `other`, although `other` had ended when `call` began."""
         ended = self.calls[int(other)].end
         return ended is not None and ended < self.calls[int(call)].begin and int(other) in self.after(int(call))
 
@@ -251,7 +251,7 @@ def keys_in(text):
 
 
 def has_room(case):
-    """Returns whether no thread can exceed the quota with its successful adds."""
+    """Returns whether the quota is large enough for all successful and pending adds of each thread."""
     may = collections.Counter(it.thread for it in case.calls if it.word == "add" and changes(it))
     return max(may.values(), default=0) <= case.quota
 
@@ -369,7 +369,7 @@ CALL, STATE = r"thread (\d+) (\w+) (\d+) (\S+), (\d+) to (\d+)", "(present|absen
 
 
 def look_at(case, call):
-    """Returns what a call of the report does to its key (see `read`), or None if the report has no such call."""
+    """Returns how a call of the report reads or changes its key (see `read`), or None if the report has no such call."""
     thread, word, key, reply, begin, end = call
     made = Call(int(thread), word, int(key), int(begin), int(end), reply)
     return dict(zip(case.calls, case.read())).get(made)
@@ -404,8 +404,8 @@ def the_key_has_this_state_at_the_end(case, key, state):
 
 
 def may_be_made(case, word, key, since, until):
-    """Returns whether some call that brings the key into this state overlaps this period. The call must have returned
-    true or be pending.
+    """Returns whether some call that brings the key into this state overlaps the period from `since` to `until`. The call
+    must have returned true or be pending.
     """
     return any((it.word, it.key) == (word, key) and changes(it) and it.begin <= until and since <= (it.end or LAST) for it in case.calls)
 
@@ -430,7 +430,7 @@ DRAWN = ("moment ", "thread ", "set ", "order")
 
 
 def sentences_in(shown):
-    """Returns the lines that state something about a report."""
+    """Returns the lines with a statement about a report."""
     above, refusal, below = shown.partition("\nnot linearizable\n")
     return [it for it in above.splitlines() if it and it != LEGEND and not it.startswith(DRAWN)] + f"not linearizable\n{below}".splitlines() * bool(refusal)
 
@@ -450,8 +450,8 @@ def test_each_line_of_show_about_a_report_is_true(program, cases, few, seed):
 
 
 def ends_of_trace(trace):
-    """Returns, for each call in a trace, its reply and the moment at which it takes effect. A pending call has a moment if
-    it has changed the set.
+    """Returns, for each call in a trace, its reply and the moment of its effect. A pending call has a moment if it has
+    changed the set.
     """
     ends, begun = {}, {}
     for line in trace.splitlines():
@@ -470,7 +470,9 @@ def ends_of_trace(trace):
 
 
 def order_of(ends):
-    """Returns the calls in the order in which they take effect: by moment and, at one moment, the change first, then by number."""
+    """Returns the calls ordered by the moments of their effects. At one moment, a change precedes other calls, which are
+    ordered by number.
+    """
     return sorted(ends, key=lambda it: (ends[it][1], not ends[it][2], it))
 
 
@@ -483,13 +485,13 @@ def compare_run(program, text, *words):
     order, is_refused = order_of(ends), "\nrefused " in shown
     found = re.findall(r"^ +(\d+)  (?:at (\d+))? +thread \d+  \w+ \d+ (\S+)", shown, re.M)
     due = [(str(place), "" if is_refused else str(ends[it][1]), ends[it][0]) for place, it in enumerate(order, 1)]
-    assert [*found] == [it for it in due if it in found] and (len(found) == len(due) or "\nmoments " in shown), text  # (64 columns are drawn)
+    assert [*found] == [it for it in due if it in found] and (len(found) == len(due) or "\nmoments " in shown), text  # (at most 64 columns)
     return ends
 
 
 @pytest.mark.parametrize("kind", KINDS)
 def test_traces_and_pictures_have_the_order_of_the_report(program, few, kind):
-    """The report comes from `replay`, which is proved."""
+    """Tests `trace` and `show` against the report of `replay`, which is proved."""
     for seed in range(2 if few else 12):
         text = drawn_schedule(kind, 1000 + seed)
         if not ran(program, "replay", text=text).returncode:
@@ -519,7 +521,7 @@ def continued(name, seed):
         for word in draw.sample(["contains", "remove", "ceiling"], 2):
             idle = [it for it in range(plan.threads) if model.threads[it].pc == 0]
             if not idle:
-                break  # (the links can form a cycle, in which a call never ends)
+                break  # (each thread has a pending call: the links can form a cycle, and a call in a cycle never ends)
             thread = draw.choice(idle)
             lines.append(f"begin {thread} {word} {key}")
             model.begin(thread, ListCall(0, thread, word, key, 0))
@@ -535,7 +537,9 @@ def fits_nowhere(run, number):
 
 @pytest.mark.parametrize("name", LACKING)
 def test_a_call_whose_reply_is_never_correct_is_placed_at_its_end(program, few, name):
-    """Any other call that changes nothing is placed at the first moment at which its reply is correct."""
+    """Tests the place of each call that changes nothing: its end if its reply is never correct, otherwise the first moment at
+    which its reply is correct.
+    """
     found = 0
     for seed in range(1 if few else 4):
         text = continued(name, seed)
@@ -545,4 +549,4 @@ def test_a_call_whose_reply_is_never_correct_is_placed_at_its_end(program, few, 
             if fits_nowhere(run, number):
                 found += 1
                 assert ends[number][1] == run.ends[number][0], text
-    assert few or found or name == "mark-in-remove"  # (its schedule loses no key)
+    assert few or found or name == "mark-in-remove"  # (the schedule of mark-in-remove loses no key)

@@ -22,7 +22,7 @@ ONE_LIST = "lazy"
 SEATS = 64
 CLIENTS = SEATS - 1
 REQUESTS = 300
-SHARED = 64  # keys that all clients use; the keys of a single client are larger
+SHARED = 64  # the number of keys that all clients share; a client's own keys are larger
 ROOM = 16_384
 MANNERS = ["pieces", "bytes", "all at once", "middle of a line", "random bytes"]
 BEYOND = 100_000
@@ -33,12 +33,12 @@ LATE = 3
 
 
 class Sharing:
-    """A client with habits of its own: it sends its requests in pieces of random size, byte by byte, or all of them before
+    """A client. It sends its requests in pieces of random size, byte by byte, or all of them before
     it reads an answer. It ends with QUIT, in the middle of a line, or with random bytes. `told` contains the answers to
     its calls on shared keys, and `own` its own keys.
 
-    On a LockFreeList there is no CEILING, because a ceiling that meets a marked node restarts until another call passes
-    there.
+    On a LockFreeList, the client sends no CEILING: a ceiling that reaches a marked node restarts until another call has
+    unlinked the node.
     """
 
     def __init__(self, number, kind, all_are_served):
@@ -50,8 +50,8 @@ class Sharing:
         self.calls = sum(call is not None for _, call, _ in self.turns)
 
     def turn(self):
-        """Returns a line, its call (or None), and the right answers. For a ceiling, returns the client's smallest own key
-        at or above the call's key instead of the answers.
+        """Returns a line, its call (or None), and the right answers. For a ceiling, the third value is not a set of answers,
+        but the client's smallest own key at or above the call's key.
         """
         word, key, is_own = self.draw.choice(self.words), self.draw.randrange(SHARED), self.draw.random() < 0.5
         if self.draw.random() < 0.05:
@@ -95,8 +95,8 @@ class Sharing:
 
 @pytest.mark.parametrize("kind", KINDS)
 def test_clients_at_once_receive_right_answers(program, kind):
-    """All answers about a client's own keys are right, and those about shared keys agree with what the server prints at
-    its end. All clients have a seat at the same time: none continues before all have received an answer.
+    """Tests that all answers about a client's own keys are right, and that the answers about shared keys agree with the final
+    keys that the server prints. All clients have a seat at the same time: each waits until all have received an answer.
     """
     with serving(program, kind, SEATS, ROOM, CLIENTS + 1) as server, server.connect() as idle:
         all_are_served = threading.Barrier(CLIENTS)
@@ -116,7 +116,7 @@ def test_clients_at_once_receive_right_answers(program, kind):
 
 
 def test_more_clients_than_seats_are_served(program):
-    """There are more sessions than seats, than a set can have threads, and than fit into the queue. A session that ends
+    """Tests more sessions than there are seats, than a set can have threads, and than fit into the queue. A session that ends
     with an error ends no other session. One client in ten resets its connection without having read all answers.
     """
     def speak(key, connection):
@@ -139,7 +139,7 @@ def test_more_clients_than_seats_are_served(program):
 
 
 def test_many_connections_one_after_another_are_served(program):
-    """The server accepts the maximum number of connections one after another, under a low limit on open files. Its
+    """Tests a server that accepts the maximum number of connections one after another, under a low limit on open files. Its
     sessions end in different ways.
     """
     sessions, keys, files = 10_000, 1000, 32
@@ -168,8 +168,8 @@ def drips(connection, end):
 
 
 def test_clients_of_one_seat_are_served_in_turn(program):
-    """Clients take turns on one seat, which can add 2 keys. The system refuses a connection to another address of this
-    machine, and the client after the last session.
+    """Tests clients that use one seat in turn. The seat can add 2 keys. The system refuses a connection to another address of
+    this machine, and the client after the last session.
     """
     with serving(program, ONE_LIST, 1, 2, 6) as server:
         with pytest.raises(ConnectionRefusedError):
@@ -201,7 +201,7 @@ def test_clients_of_one_seat_are_served_in_turn(program):
 
 
 def test_a_server_listens_on_the_port_in_its_arguments(program):
-    """The port was free just before."""
+    """Tests a port that was free immediately before."""
     with socket.create_server(("127.0.0.1", 0)) as free:
         port = free.getsockname()[1]
     with started(program, "serve", ONE_LIST, 1, ROOM, port, 1) as process:
@@ -217,8 +217,8 @@ def test_a_server_listens_on_the_port_in_its_arguments(program):
 
 @pytest.mark.parametrize("group", [1, 1023, 6000])
 def test_answers_to_a_group_of_lines_arrive_before_the_next_group(program, group):
-    """A client sends a group of lines, with every kind of answer and keys of every length, and reads all answers before it
-    sends the next group. The answers arrive although no further line is sent, even if they fill the server's buffer
+    """Tests a client that sends a group of lines and reads all answers before it sends the next group. Every kind of answer
+    and keys of every length occur. The answers arrive although no further line is sent, even if they fill the server's buffer
     (4,096 bytes). The answers to many lines arrive in few pieces.
     """
     keys = [10**digits for digits in range(10)]
@@ -242,7 +242,7 @@ def segments_with_data(connection):
 
 
 def test_a_silent_client_keeps_its_session(program):
-    """A client can be silent for some seconds, even within a line, and then continue, because no read of a session has a
+    """Tests that a client can be silent for some seconds, even within a line, and then continue: no read of a session has a
     timeout.
     """
     with serving(program, ONE_LIST, 1, 1, 1) as server:
@@ -261,8 +261,8 @@ def test_a_silent_client_keeps_its_session(program):
 
 
 def sends_until_stuck(connection):
-    """Sends lines without reading answers, until the system has accepted none for a second. Returns how many lines were
-    accepted.
+    """Sends lines without reading answers, until the system has accepted no line for a second. Returns the number of accepted
+    lines.
     """
     line, sent = b"CEILING 0\n", 0
     with contextlib.suppress(TimeoutError):
@@ -272,7 +272,7 @@ def sends_until_stuck(connection):
 
 
 def test_a_client_that_reads_no_answer_holds_only_its_seat(program):
-    """The other clients are served. The server ends once the client has disconnected."""
+    """Tests that the other clients are served, and that the server ends after the client has disconnected."""
     key = 4_294_967_295
     with serving(program, ONE_LIST, 2, ROOM, 5) as server:
         with server.connect() as connection:
@@ -293,7 +293,7 @@ def test_a_client_that_reads_no_answer_holds_only_its_seat(program):
 
 
 def test_answers_arrive_if_bytes_follow_the_last_line(program):
-    """All answers arrive, whatever the client sends after its last line. One client reads so late that the server has
+    """Tests that all answers arrive, whatever the client sends after its last line. One client reads so late that the server has
     already closed its connection. If the server had left bytes of the client unread, answers that the system had not
     yet delivered would be lost.
     """

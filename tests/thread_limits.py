@@ -1,8 +1,8 @@
 """Tests how `run` and `serve` end when fewer and fewer threads can be started.
 
 A thread's stack needs address space, so a limit on the program's address space (`ulimit -v`) refuses some or all
-threads. Under each limit, `run` must print its outcome, or that a thread or an allocation was refused. The same holds
-for `serve`, whose client must be served completely or not at all.
+threads. Under each limit, `run` must print its outcome, or that a thread or an allocation was refused. The same is required
+of `serve`. Its client must be served completely or not at all.
 """
 
 import collections
@@ -62,8 +62,8 @@ def ended_serve(program, limit):
 
 @pytest.fixture
 def limits(program):
-    """Returns limits, in KiB, under which the program starts (its loader needs address space too). They increase by half
-    the size of a stack, and by less at first.
+    """Returns limits, in KiB, that let the program start (its loader needs address space too). They increase by half the size
+    of a stack, and by less at first.
     """
     limits = [*range(2_000, 12_000, 128), *range(12_000, 4 * (THREADS + 2) * STACK, STACK // 2)]
     return [it for it in limits if ran(*limited(it, program, "example", "full")).returncode == 0]
@@ -71,19 +71,21 @@ def limits(program):
 
 @pytest.mark.parametrize("way", [ended_run, ended_serve])
 def test_run_and_serve_end_in_a_documented_way_under_each_limit(program, way, limits):
-    """Some limits must allow an outcome, and others must refuse a thread."""
+    """Tests how the program ends under each limit. Some limits must allow an outcome, and others must refuse a thread."""
     ends = collections.Counter(way(program, limit) for limit in limits)
     assert ends["outcome"] and ends["thread refused"]
 
 
 def test_serve_without_memory_for_the_set_does_not_listen(program):
-    """The largest set does not fit in 40 MB, so no line may say that the server is ready."""
+    """Tests that no line states that the server is ready: the largest set does not fit in 40 MB."""
     made = ran(*limited(40_000, program, "serve", "lock-free", 64, 16384, 0, 1))
     assert (made.returncode, made.stdout, made.stderr) == (3, "", "listset: out of memory\n")
 
 
 def test_serve_without_files_refuses_the_first_connection(program):
-    """The standard streams and the listener are 4 files, so the system refuses the first connection."""
+    """Tests a limit of 4 files, which the standard streams and the listener use up, so the system refuses the first
+    connection.
+    """
     made = ran(*limited(4, program, "serve", "lazy", 2, 4, 0, 1, of="-n"))
     assert re.fullmatch(r"listening 127\.0\.0\.1:\d+\n", made.stdout)
     assert (made.returncode, made.stderr) == (1, "listset: serve: Accept\n")

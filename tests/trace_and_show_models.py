@@ -2,7 +2,7 @@
 (tests/harness/traces_model.py, pictures_model.py, reports_model.py and lists_model.py). No contract covers this output.
 For an SVG, the tests compare its texts and its numbers of points and bars.
 
-The schedules are those in examples/schedules/, and random ones for the lists and the broken lists. The reports have
+The schedules are the files in examples/schedules/, and random schedules for the lists and the broken lists. The reports have
 random calls; most are damaged, so that each error of an order occurs. The options --from, --to and --width are random,
 and sometimes missing.
 """
@@ -23,8 +23,8 @@ GREATEST = 4294967295
 
 
 def drawn_schedule(kind, seed, lacks=None, overruns=False):
-    """Returns a random schedule for a list. If it overruns, it has steps after the end of a call, and the first such step
-    is refused.
+    """Returns a random schedule for a list. If `overruns`, it has steps after the end of a call, and the first such step is
+    refused.
     """
     draw = random.Random(f"{kind} {seed}")
     version, threads, quota = draw.choice([1, 2, 2]), draw.choice([64, 9]) if seed % 10 == 9 else draw.choice([1, 2, 3]), draw.randrange(5)
@@ -68,7 +68,7 @@ class Compared:
             self.compare(words, [*due, status], [*lines, ended])
 
     def picture(self, picture, asked, below=()):
-        """Compares a text picture. `asked` has the values of --from, --to and --width; None stands for a missing option."""
+        """Compares a text picture. `asked` has the values of --from, --to and --width; None means that the option is missing."""
         words, first, last, width = options("show", asked)
         lines, ended = self.said(*words)
         due = [2] if is_past(picture, first) else [*fitted(picture, first, last, width).text(), *below, status_of(picture)]
@@ -100,14 +100,16 @@ class Compared:
 
 
 def options(words, asked):
-    """Returns a command with its options, and the moments and the width that they select. None stands for a missing option."""
+    """Returns a command with its options, and the moments and the width that they select. None means that an option is
+    missing.
+    """
     given_words = [it for name, value in zip(["--from", "--to", "--width"], asked) if value is not None for it in (name, str(value))]
     first, last, width = (default if it is None else it for it, default in zip(asked, [1, GREATEST, 100]))
     return [*words.split(), *given_words], first, last, width
 
 
 def is_past(picture, first):
-    """Returns whether everything in a picture happens before a moment."""
+    """Returns whether all starts, effects and ends of calls in a picture are before a moment."""
     return bool(picture.calls) and first > max(Drawn(picture, 1, GREATEST).all)
 
 
@@ -131,7 +133,7 @@ def test_trace_and_pictures_match_the_model(program, schedule):
         kind, seed = schedule.split()
         seed = int(seed)
         text = drawn_schedule(kind, seed, overruns=seed % 4 == 0)
-    if ran(program, "trace", text=text.encode()).stdout.startswith(b"listset-trace"):  # (otherwise it is no schedule)
+    if ran(program, "trace", text=text.encode()).stdout.startswith(b"listset-trace"):  # (otherwise the text is not a schedule)
         plan = read_schedule(text)
         run = run_of(plan)
         looked, picture = Compared(program, schedule, text), picture_of_run(plan, run)

@@ -1,4 +1,4 @@
-"""Tests what `judge` prints below a refusal. page/tests/verdicts.js checks each sentence of the same engine in Node.
+"""Tests the lines that `judge` prints below a refusal. page/tests/verdicts.js checks each sentence of the same engine in Node.
 The tests here check that the program prints the same. They also check the contradictions by counting, which only the
 text has, with a search through all orders.
 """
@@ -34,8 +34,8 @@ def verdict_lines(output):
 
 
 def is_count(calls, opening, keys, lines):
-    """Returns whether no order explains the calls that a contradiction by counting names, together with the calls that
-    could have changed the key back. Returns None if the message does not name all calls.
+    """Returns whether no order explains the calls that the message of a contradiction by counting names, together with all
+    calls that could have changed the key back. Returns None if the message does not name all counted calls.
     """
     found = COUNT.match("\n".join(lines))
     named, key = found[1], int(found[2])
@@ -69,8 +69,8 @@ def test_a_message_has_at_most_fifteen_lines_and_its_count_is_true(program, path
 
 
 def mark_not_read(rounds):
-    """Draws calls of a set whose `contains` still finds a key during a remove, although another remove has already found
-    the key absent.
+    """Draws calls of a set with a bug in `contains`: it still finds a key during a remove, although another remove has
+    already found the key absent.
     """
     made = [("add", 1, 2, 0, "true"), ("remove", 3, 8, 1, "true"), ("remove", 4, 5, 0, "false"), ("contains", 6, 7, 0, "true")]
     calls = [Call(thread, word, 3, moment + begin, moment + end, reply) for moment in range(0, 8 * rounds, 8) for word, begin, end, thread, reply in made]
@@ -87,7 +87,7 @@ def test_an_operation_that_alone_is_wrong_is_named_with_a_cause(program, path):
 
 
 def test_a_few_contradictions_are_listed(program, path):
-    """Two keys, each added twice at the same time."""
+    """Tests two keys. Each was added twice at the same time."""
     calls = [Call(thread, "add", key, 10 * key + thread, 10 * key + 5 + thread, "true") for key in (3, 5) for thread in range(2)]
     path.write_text(text_of(calls, [], [3, 5]))
     said = ran(program, "judge", path).stdout
@@ -95,7 +95,7 @@ def test_a_few_contradictions_are_listed(program, path):
 
 
 def test_a_key_that_is_lost_without_a_call_is_named_and_has_a_recording(program, path):
-    """Key 5 is present at first and absent at the end, and no call has this key."""
+    """Tests key 5, which is present at first and absent at the end. No call has this key."""
     path.write_text(text_of([Call(0, "add", 1, 1, 2, "true")], [5], [1]))
     said, alone = ran(program, "judge", path).stdout, ran(program, "judge", "--only", "5", path)
     assert "\nkey 5 was lost: key 5 is absent at the end\n" in said and "\n1 contradiction: key 5 lost by the end\n" in said, said
@@ -206,7 +206,7 @@ class RepeatedCall(OneSet):
 
 
 def recorded(kind, seed, keys=4, threads=4, count=6000):
-    """Returns the recording of calls of a set by threads that take turns at random."""
+    """Returns the recording of calls of a set. The threads make their steps in a random order."""
     rng = random.Random(seed)
     these, calls, running, moment, thread = kind(rng), [], {}, 0, 0
     while len(calls) < count or running:
@@ -258,7 +258,7 @@ def test_a_linearizable_recording_has_no_diagnosis(program, path):
 
 
 def test_a_refusal_without_a_clash_has_a_count(program, path):
-    """Three adds and one remove overlap. No two of these calls contradict each other, so `judge` must count."""
+    """Tests three adds and one remove that overlap. No two of these calls contradict each other, so `judge` must count."""
     calls = [Call(thread, "add", 7, 1 + thread, 10 + thread, "true") for thread in range(3)] + [Call(3, "remove", 7, 4, 9, "true")]
     path.write_text(text_of(calls, [], [7]))
     lines = verdict_lines(ran(program, "judge", path).stdout)
@@ -273,7 +273,7 @@ def test_brief_prints_only_the_verdict(program, path):
 
 
 def test_a_long_recording_is_explained_by_its_first_calls(program, path):
-    """The first million calls are not linearizable. The message is only about these calls, and says so."""
+    """Tests a recording of more than a million calls. The message is only about the first million calls, and must say this."""
     lines = (f"call 0 contains {number % 4} {2 * number + 1} {2 * number + 2} {'true' if number == 9 else 'false'}\n" for number in range(1_100_000))
     with path.open("w") as file:
         file.writelines(itertools.chain(["listset-calls 1\n"], lines, ["end\n"]))

@@ -258,7 +258,7 @@ def command_of(language):
 
 
 def in_ci(room, command, **also):
-    """Runs the steps of judge/ci/github.yml in a project, with this command in place of the original one."""
+    """Runs the steps of judge/ci/github.yml in a project, with `command` in place of `cargo test`."""
     text = (FORMS / "ci" / "github.yml").read_text()
     given = dict(re.findall(r"^  (LISTSET\w*): (.*)$", text, re.M))
     given = {name: it.replace("${{ github.workspace }}", str(room)) for name, it in given.items() if "schedule" not in it}

@@ -1,5 +1,5 @@
-// Tests a set of maximum size for each list. It has the maximum number of opening keys and, below them, as many added
-// keys as the quotas of its seats allow. Calls traverse all of them, and the set is closed.
+// Tests a set of maximum size for each list. Such a set has the maximum number of opening keys and, below them, as many added
+// keys as the quotas of its seats allow. Calls traverse all of these keys, and the set is closed.
 #include "listset.h"
 
 #include <stdio.h>
@@ -15,12 +15,12 @@ static void expect(int kind, const char *what, size_t found, size_t due) {
   wrong++;
 }
 
-// Adds decreasing keys, so that each new node comes directly after the head.
+// Adds decreasing keys, so that each new node directly follows the head.
 static void fill(int kind, listset_seat *seat, uint32_t first) {
   for (uint32_t number = QUOTA; number > 0; number--) expect(kind, "add", listset_add(seat, first + number - 1).is, LISTSET_TRUE);
 }
 
-// Splits all other seats off the first one, uses up the quota of each, and merges it back into the first one. After a
+// Splits all other seats off the first seat, uses up the quota of each, and merges each back into the first seat. After a
 // merge, no more seats can be split off.
 static void fill_all(int kind, listset_seat *first) {
   listset_seat others[SEATS] = {LISTSET_NONE};

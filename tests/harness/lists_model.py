@@ -1,6 +1,6 @@
 """A model of the five lists. It executes the step tables of docs/TABLES.md literally, one step of a thread at a time. A
-step uses the words of the nodes (key, link, lock) and the registers of the thread (pred, curr, ..). A broken list has
-some other rows in its table.
+step uses the words of the nodes (key, link, lock) and the registers of the thread (pred, curr, ..). The table of a broken
+list differs in some rows.
 """
 
 import collections
@@ -32,8 +32,8 @@ def rows_of(text):
 
 
 def table(one):
-    """Returns a list's table: its rows, the row in which calls begin, and the rows at which a call adds its key,
-    removes it, and exits. (On some lists, a call exits by returning and has no such row.)
+    """Returns a list's table: its rows, the row at which calls begin, and the rows at which a call adds its key, removes its
+    key, and exits. (On some lists, a call exits by returning and has no row for the exit.)
     """
     own, reads = SECTIONS[one.type], SECTIONS["Reads without locks"] if one.has_reads() else ""
     places = {word: int(row) for text in (own, reads) for word, row in re.findall(r"(begin|begins|add|remove|leave|ceiling) at row (\d+)", text)}
@@ -44,8 +44,8 @@ def table(one):
 
 TABLES = {it.word: table(it) for it in lists.lists() if it.type in SECTIONS}
 
-# The broken lists of docs/CLASSIC.md: the list that each was made from, and the changed rows of its table. `pass` means to
-# attempt to take a lock and to continue in any case. `curr^` is a link to curr with the mark that register pkey has.
+# The broken lists of docs/CLASSIC.md: the intact list, and the changed rows of its table. `pass` means to attempt to acquire
+# a lock and to continue in any case. `curr^` is a link to curr with the mark that register pkey has.
 LACKING = {
     "lock": ("coarse", "1 | pass list.lock | 2"),
     "second-lock": ("fine", ""),  # (see ROWS_OF_ONE_LOCK)
@@ -124,8 +124,8 @@ class List:
             self.words[4 + 3 * node] = 2 * after
 
     def chain(self):
-        """Returns the keys from the head to the tail. (The chain of a broken list can be a cycle, and can contain a slot
-        without a key.)
+        """Returns the keys from the head to the tail, each with its mark. (The chain of a broken list can be a cycle, and can
+        contain a slot without a key.)
         """
         node, told = self.words[4] // 2, []
         while node > 1 and len(told) < len(self.words) // 3:
@@ -141,12 +141,12 @@ class List:
             setattr(it, name, 0)
 
     def node(self, t, name):
-        """Returns the node to which a name in a row refers."""
+        """Returns the node that a name in a row means."""
         own = 2 + t * self.quota + (0 if self.lacks == "new-slot" else self.threads[t].used)
         return {"head": 0, "own": own}[name] if name in ("head", "own") else getattr(self.threads[t], name)
 
     def index(self, t, name):
-        """Returns the index of the word to which a row refers."""
+        """Returns the index of the word that a name in a row means."""
         node, part = name.split(".")
         return 0 if node == "list" else 3 + 3 * self.node(t, node) + ["key", "link", "lock"].index(part)
 
@@ -158,7 +158,7 @@ class List:
         return 2 * self.node(t, name.rstrip("*^")) + mark
 
     def action(self, t, step):
-        """Returns the memory access of a row's step."""
+        """Returns the memory access of a row's step: its kind, the index of the word, and the values."""
         kind, *words = step
         if kind == "load":
             return "load", self.index(t, words[0])
@@ -184,7 +184,9 @@ class List:
         return action, seen, reply
 
     def follow(self, it, parts, seen, old):
-        """Executes the part of a row after its step: the first alternative whose condition is true. Returns the reply if the call ends."""
+        """Executes the part of a row that follows its step: the first alternative with a true condition. Returns the reply if
+        the call ends.
+        """
         for part in parts:
             test, is_test, then = part.rpartition(": ")
             if is_test and not TESTS[test](it, seen, it.call.key + 1, old):
@@ -219,7 +221,7 @@ class List:
         return None
 
     def decide(self, it, found):
-        """Decides how a call continues where its traversal ended. `found` is the key word of that node."""
+        """Decides how a call continues after its traversal. `found` is the key word of the node that the traversal ended at."""
         word, same = it.call.word, found == it.call.key + 1
         if word == "add" and not same and it.used < self.quota:
             it.pc = self.table.add

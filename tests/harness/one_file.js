@@ -1,4 +1,4 @@
-// Prints the report of the schedule on standard input, with the engine in PAGE, a page in one HTML file:
+// Prints the report of the schedule on standard input, with the engine in the file PAGE (the page as one HTML file):
 //
 //     node one_file.js PAGE replay
 //

@@ -1,9 +1,9 @@
-"""Tests that the commands in tests/transcripts/*.md print exactly what these pages show, and that the commands in README
-and the other pages print what these show.
+"""Tests that the commands in tests/transcripts/*.md print exactly the output on these pages, and that the commands in README
+and the other pages print the output shown there.
 
 A heading `## NAME` begins a test. Lines with an indent of four spaces are commands and their output:
 
-    $ COMMAND     run by bash, in a new folder with the files of tests/transcripts/data; `listset` is the program there
+    $ COMMAND     run by bash, in a new folder with the files of tests/transcripts/data; `listset` is the program
     > LINE        the next line of the command (as in a here-document)
     ! LINE        a line of standard error; ! alone is an empty one
     ? N           the exit status; 0 if there is no such line
@@ -13,9 +13,9 @@ A heading `## NAME` begins a test. Lines with an indent of four spaces are comma
 All other lines are prose. The commands of a test run one after another in the same folder. A command that runs for 300
 seconds fails. No command pipes `listset` into `head`, since head can exit before the program has written everything.
 
-In the other pages, a test is a block that is indented by four spaces or follows ```sh, and whose first line is a
-command. Its folder has the files of the repository, and ./listset is the program there. The output followed by standard
-error is compared, but not the exit status. A line .. matches any number of lines.
+In the other pages, a test is a block that is indented by four spaces or follows ```sh, if its first line is a command. The
+test runs in a folder with the files of the repository, and ./listset is the program. The output followed by standard error is
+compared, but not the exit status. A line .. matches any number of lines.
 """
 
 import os
@@ -61,7 +61,7 @@ def steps_of(lines, first):
 
 
 def tests_of(page):
-    """Returns the tests of a page, each with its name and steps."""
+    """Returns the tests on a transcript page, each with its name and steps."""
     number = 1
     for section in re.split(r"^(?=## )", page.read_text(encoding="utf-8"), flags=re.MULTILINE):
         lines = section.split("\n")
@@ -73,7 +73,7 @@ def tests_of(page):
 
 
 def tests_shown(page):
-    """Returns the tests of a page that shows commands to a reader, each with its line and steps."""
+    """Returns the tests on a page that shows commands to a reader, each with its line and steps."""
     text = page.read_text(encoding="utf-8")
     for block in SHOWN_BLOCK.finditer(text):
         shown = re.sub("^```(?:sh)?$|^    ", "", block[0], flags=re.MULTILINE).strip("\n").split("\n")
@@ -83,7 +83,7 @@ def tests_shown(page):
 
 
 def lines_of_transcript(run):
-    """Formats what a run printed like a transcript page."""
+    """Formats the output of a run like a transcript page."""
     output, faults = (text.decode("utf-8", "backslashreplace") for text in (run.stdout, run.stderr))
     lines = output.split("\n")
     lines = lines[:-1] if lines[-1] == "" else [*lines, "."]
@@ -97,7 +97,7 @@ def lines_as_shown(run):
 
 
 def repository_in(work, program):
-    """Creates a folder with the files of the repository, in which ./listset is the program."""
+    """Creates a folder with the files of the repository. In this folder, ./listset is the program."""
     work.mkdir()
     for it in TOP.iterdir():
         (work / it.name).symlink_to(program if it.name == "listset" else it)
@@ -105,7 +105,7 @@ def repository_in(work, program):
 
 
 def printed_by_commands(page, steps, program, room):
-    """Runs the steps in one folder, and returns what each step prints."""
+    """Runs the steps in one folder, and returns the output of each step."""
     is_shown = page.parent != PAGES
     (room / "bin").mkdir()
     (room / "bin/listset").symlink_to(program)
@@ -117,13 +117,13 @@ def printed_by_commands(page, steps, program, room):
 
 
 def is_as_shown(told, printed):
-    """Returns whether the page matches what was printed. A line .. of the page matches any number of lines."""
+    """Returns whether the lines of a page match the printed lines. A line .. of the page matches any number of lines."""
     pieces = [re.escape(line) + "\n" if line != LEFT_OUT else "(?:.*\n)*?" for line in told]
     return re.fullmatch("".join(pieces), "".join(f"{line}\n" for line in printed))
 
 
 def print_what_the_page_has(page, steps, program, room):
-    """Checks that the commands of a test print what the page shows."""
+    """Checks that the commands of a test print the lines of the page."""
     for step, printed in zip(steps, printed_by_commands(page, steps, program, room)):
         told, where = step.told(), f"{page.relative_to(TOP)}:{step.number}"
         if not (page.parent != PAGES and is_as_shown(told, printed)):
@@ -131,7 +131,7 @@ def print_what_the_page_has(page, steps, program, room):
 
 
 def show(name, page, steps, program, room):
-    """Prints the test as the page should show it now."""
+    """Prints a test with its current output, in the form of the page."""
     print(f"\n## {name}\n")
     for step, lines in zip(steps, printed_by_commands(page, steps, program, room)):
         print(f"{INDENT}$ " + f"\n{INDENT}> ".join(step.command))

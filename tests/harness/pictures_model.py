@@ -1,6 +1,6 @@
 """A model of the text picture that `show` prints, written from docs/TEXTS.md alone. A picture has a column for each moment,
-a row for each thread with the starts, ends and linearization points of its calls, the set after each change, and the
-order below. A Picture shows a run (traces_model) or a report (reports_model).
+a row for each thread with the starts, ends and linearization points of its calls, the set after each change, and the order of
+the calls below these rows. A Picture shows a run (traces_model) or a report (reports_model).
 """
 
 import collections
@@ -8,11 +8,11 @@ import functools
 
 GREATEST = 4294967295
 # The contents of a picture: the list; the number of events (None for a report); the calls; each call's end and reply, by
-# number; the entries of the order; the set at each moment; the final keys; why the order is refused; and the refused
+# number; the entries of the order; the set at each moment; the final keys; why the order is refused, or None; and the refused
 # event, or None.
 Picture = collections.namedtuple("Picture", "kind threads quota events calls ends order sets keys refusal refused")
 Place = collections.namedtuple("Place", "number reply at change")  # an entry of the order; it has no moment if the order is refused
-# Why an order is refused: the message, the moment at which the picture begins, and the number of an unknown call.
+# Why an order is refused: the message, the first moment of the picture, and the number of an unknown call.
 Refusal = collections.namedtuple("Refusal", "said begun unknown")
 
 
@@ -29,8 +29,8 @@ def keys_text(keys, separator=","):
 
 
 class Drawn:
-    """A picture limited to the moments from `first` to `last`. It has a column for each moment at which something
-    happens.
+    """A picture limited to the moments from `first` to `last`. It has at most 64 columns, one for each of these moments at
+    which a call begins, takes effect or ends.
     """
 
     def __init__(self, picture, first, last):
@@ -100,7 +100,7 @@ class Drawn:
 
     def side(self, place):
         """Returns whether an entry of the order is before the drawn moments (-1), in them (0) or after them (1). Decides by
-        the linearization point or, without one, by the call's bar. Returns None for an unknown call.
+        the linearization point or, if there is none, by the start and the end of the call. Returns None for an unknown call.
         """
         first = last = place.at
         if not self.has_points:
@@ -147,7 +147,7 @@ class Drawn:
 
 
 def with_rows_of(width, drawn):
-    """Removes columns until no row is longer than the width, but keeps at least one. An SVG has no width."""
+    """Removes columns until no row is longer than the width, but keeps at least one column. An SVG has no width."""
     while width and len(drawn.columns) > 1 and (len(drawn.row_of_moments()) > width or max(map(len, drawn.rows())) > width):
         drawn.columns.pop()
         drawn.last = drawn.columns[-1]
@@ -155,8 +155,8 @@ def with_rows_of(width, drawn):
 
 
 def fitted(picture, first, last, width=None):
-    """Returns the picture of the moments from `first` to `last`. If these are all moments and they do not fit, the picture
-    of a refused order begins at the call that the refusal names.
+    """Returns the picture of the moments from `first` to `last`. If all moments are requested but do not fit, the picture of
+    a refused order begins at the call that the refusal names.
     """
     drawn = with_rows_of(width, Drawn(picture, first, last))
     begun = picture.refusal.begun if picture.refusal else None

@@ -1,5 +1,5 @@
 """A model of the pictures of reports, written from docs/TEXTS.md alone: the message for the first error of an order or, if
-the order has no error, the first moments at which its calls can take effect. Also damages reports at random.
+the order has no error, the first moment that each call can take effect at. Also damages reports at random.
 """
 
 import collections
@@ -12,7 +12,7 @@ from harness.set_model import CHANGES, SetModel
 Report = collections.namedtuple("Report", "kind threads quota opening calls ends order keys")
 HEADER = 4  # lines
 
-# ---- Reads reports
+# ---- Reads the text of a report
 
 
 def read_report(text):
@@ -34,7 +34,7 @@ def read_report(text):
 
 
 def faults_of(report):
-    """Yields the reasons for which an order is refused, in the order of the checks."""
+    """Yields the reasons why an order is refused, in the order of the checks."""
     def about(said, number):
         """Returns a refusal that concerns a call. The picture begins at this call."""
         return Refusal(said, report.calls[number].begun, None)
@@ -55,7 +55,9 @@ def faults_of(report):
 
 
 def wrong_replies(report):
-    """Yields the calls whose reply in the order differs from the reply in the history or of the set, with the message."""
+    """Yields each call with a wrong reply in the order, and the message: the reply differs from the reply in the history or
+    of the set.
+    """
     held, after = SetModel(report.quota, report.opening), {0: "at first", 1: "after place 1", 2: "after places 1 and 2"}
     for place, (it, says) in enumerate(report.order):
         call, before = report.calls[it], keys_text(sorted(held.keys))
@@ -99,7 +101,9 @@ class Sets:
 
 
 def places_of(report):
-    """Returns the entries of an order, each at the first moment that its call and the earlier entries allow."""
+    """Returns the entries of an order. Each is at the first moment that is neither before the start of its call nor before an
+    earlier entry.
+    """
     at = 0
     for it, reply in report.order:
         at = max(at, report.calls[it].begun)
@@ -116,7 +120,7 @@ def picture_of_report(it):
 
 
 def spread(it):
-    """Multiplies the moments of a report by a factor that makes the last one about 400,000,000."""
+    """Multiplies the moments of a report by a factor, so that the last moment is about 400,000,000."""
     last = max([1, *(one.begun for one in it.calls), *(end for end, _ in it.ends.values())])
     it.calls[:] = [one._replace(begun=one.begun * 400_000_000 // last) for one in it.calls]
     it.ends.update({number: (end * 400_000_000 // last, reply) for number, (end, reply) in it.ends.items()})
@@ -130,7 +134,7 @@ def report_text(it):
 
 
 def damage(draw, it):
-    """Damages a report at random. An entry of the order is lost, duplicated, moved, given another reply, or names an unknown
+    """Damages a report at random. An entry of the order is lost, duplicated, moved, or changed to another reply or an unknown
     call; or a call ends with another reply; or final keys are lost, added, or reordered.
     """
     at, other = (draw.randrange(max(1, len(it.order))) for _ in range(2))

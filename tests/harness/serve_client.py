@@ -51,7 +51,7 @@ def started(*words):
 
 @contextlib.contextmanager
 def serving(program, kind, seats, quota, sessions, before=()):
-    """Starts the program as a server. `before` is a command that runs the program, for example with a limit."""
+    """Starts the program as a server. `before` is a command that runs the server, for example with a limit."""
     with started(*before, program, "serve", kind, seats, quota, 0, sessions) as process:
         yield Server(process)
 
@@ -62,7 +62,7 @@ def read_all(connection):
 
 
 def read_lines(connection, count):
-    """Returns `count` answers, and checks that nothing else has arrived."""
+    """Returns `count` answers, and checks that no further byte has arrived."""
     text = b""
     while text.count(b"\n") < count:
         piece = connection.recv(4096)
@@ -79,7 +79,7 @@ def asks(connection, lines, answers):
 
 
 def resets(connection):
-    """Disconnects in such a way that the system resets the connection."""
+    """Disconnects so that the system resets the connection."""
     connection.setsockopt(socket.SOL_SOCKET, socket.SO_LINGER, struct.pack("ii", 1, 0))
     connection.close()
 

@@ -23,13 +23,13 @@ def fits_without_change(word, key, reply, keys, has_room=True):
 
 
 class SetModel:
-    """A set in which each thread can add as many keys as its quota, or any number if there is no quota."""
+    """A set. Each thread can add as many keys as its quota, or any number if there is no quota."""
 
     def __init__(self, quota=None, keys=()):
         self.keys, self.quota, self.added = set(keys), quota, collections.Counter()
 
     def change(self, thread, word, key):
-        """Adds or removes a key, whatever the set would reply."""
+        """Adds or removes a key, even if the set would not reply `true`."""
         if word == "add":
             self.keys.add(key)
             self.added[thread] += 1

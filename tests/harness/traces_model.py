@@ -71,7 +71,7 @@ class Tracing:
         self.lines, self.calls, self.ends, self.points = [], [], {}, {}
 
     def cause(self, t, is_begin):
-        """Returns why an event of a thread is refused, or None."""
+        """Returns the cause if an event of a thread is refused, otherwise None."""
         if t >= self.plan.threads:
             return "NoThread"
         is_busy = self.list.threads[t].pc != 0
@@ -92,8 +92,8 @@ class Tracing:
         self.tallies.append(tuple(self.counts))
 
     def changes(self, it, later):
-        """Returns the keys that a step added and removed. They follow from the chains before and after it or, for a broken
-        list, from its row.
+        """Returns the keys that a step added and removed. On an intact list, compares the chains before and after the step.
+        On a broken list, uses the row of the step.
         """
         if self.list.lacks:
             key = {it.call.key}
@@ -123,7 +123,8 @@ class Tracing:
 
     def end(self, call, reply, moment):
         """Ends a call. If the call changed nothing, its linearization point is the first moment at which its reply is
-        correct. (On a broken list, `full` is always correct, and a call without such a moment has its point at its end.)
+        correct. (On a broken list, `full` counts as correct at every moment. If the reply is correct at no moment, the point
+        is the end of the call.)
         """
         self.ends[call.number] = (moment, reply)
         if call.number not in self.points:
