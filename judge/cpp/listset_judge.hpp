@@ -53,7 +53,7 @@
 #endif
 
 namespace listset {
-// (The name of the inner namespace depends on these macros, because two files of one program can define them
+// (The inner namespace has a name that depends on these macros, because two files of one program can define them
 // differently.)
 #if defined LISTSET_H && defined GTEST_SKIP
 inline namespace judged_by_library_in_gtest {
@@ -76,8 +76,8 @@ struct options {
     /// The number of keys: 1 to 1,048,576. 0 selects the preset's number. With more than eight keys, half of the calls
     /// use the first four.
     unsigned keys = 0;
-    /// The percentage of calls before which a thread pauses, for at most a few microseconds: 0 to 100. Unless it is 0,
-    /// threads in the set's own process are also interrupted during calls by the signal SIGURG.
+    /// How often a thread pauses before a call, in percent: 0 to 100. A pause lasts at most a few microseconds. Unless this
+    /// is 0, the signal SIGURG also interrupts threads during calls, if the set has its own process.
     unsigned pauses = 20;
     /// The number of runs: 1 to 1,000,000. A run calls one set, or several new sets one after another.
     unsigned runs = 20;
@@ -85,7 +85,7 @@ struct options {
     unsigned seed = 1;
     /// If no call begins or ends for this many seconds, a run is considered hung and is cut short: 1 to 3,600.
     unsigned seconds = 10;
-    /// No new run begins once the test has taken this many seconds: 1 to 604,800.
+    /// After this many seconds, the test begins no new run: 1 to 604,800.
     unsigned within = 60;
     /// The verdict is false if less than this percentage of the calls overlap a change of their key.
     unsigned at_least = 0;
@@ -97,13 +97,13 @@ struct options {
     bool opens_with_keys = false;
     /// Called at the beginning and at the end of each thread that creates or calls the set.
     std::function<void()> begins = nullptr, ends = nullptr;
-    /// The folder in which the recording of each run is kept. If empty, only the recording of a failed run is kept, in
-    /// the folder named by the variable LISTSET_RECORD, or else in TMPDIR or /tmp.
+    /// The folder for the recordings of all runs. If empty, only the recording of a failed run is kept, in the folder that
+    /// the variable LISTSET_RECORD names, or else in TMPDIR or /tmp.
     std::string record = "";
 };
 
-/// The result of a test. It is true if some order explains each run, each run was completed, and at least `at_least`
-/// percent of the calls overlapped. `<<` prints it.
+/// The result of a test. It is true if some order explains each run, each run was completed, and at least `at_least` percent
+/// of the calls overlapped a change of their key. `<<` prints it.
 struct verdict {
     bool ok = true;
     /// Whether the test was skipped because of LISTSET=skip, so that nothing was judged.
@@ -113,7 +113,7 @@ struct verdict {
     uint64_t overlapped = 0;
     /// The seed of the failed run.
     uint64_t seed = 0;
-    /// What the judge printed about the failed run, and the file with its recording.
+    /// The judge's output about the failed run, and the file with the run's recording.
     std::string said, file;
     /// The name of the judge, and its statement about its proof.
     std::string judge;
@@ -133,7 +133,7 @@ struct no_verdict : std::runtime_error {
 namespace judging {
 
 // The sizes of a run: the number of threads, of new sets used one after another, of calls per thread and set, and of
-// keys. The keys are the multiples of `times`. Threads wait for each other after each MEET calls, or only at the beginning.
+// keys. The keys are the multiples of `times`. Threads wait for each other after every MEET calls, or only at the beginning.
 struct shape {
     const char *name;
     unsigned threads, sets, calls, keys, times;
@@ -222,15 +222,15 @@ inline options by_environment(options how) {
 
 inline bool is_few(uint64_t overlapped, uint64_t calls) { return overlapped * 100 < calls * ENOUGH; }
 
-// ---- the three calls, under the names that the set uses for them
+// ---- the three calls, and the names that sets use for them
 
 enum class kind { add, remove, contains };
 enum class reply : uint8_t { no, yes, unknown };
 
 inline reply reply_of(bool it) { return it ? reply::yes : reply::no; }
 template <class I> reply reply_of(const std::pair<I, bool> &it) { return reply_of(it.second); }
-inline reply reply_of(const std::optional<bool> &it) { return it ? reply_of(*it) : reply::unknown; }  // (such as a call that timed out)
-#ifdef LISTSET_HPP  // (for a set of liblistset, if <listset.hpp> is included before this file; a `full` counts as not added)
+inline reply reply_of(const std::optional<bool> &it) { return it ? reply_of(*it) : reply::unknown; }  // (such as after a timeout)
+#ifdef LISTSET_HPP  // (for a set of liblistset, if <listset.hpp> is included before this file; `full` counts as `no`)
 inline reply reply_of(added it) { return reply_of(it == added::is_true); }
 #endif
 
@@ -241,8 +241,8 @@ inline constexpr auto by_erase = [](auto &set, auto &key) -> decltype(set.erase(
 inline constexpr auto by_contains = [](auto &set, auto &key) -> decltype(set.contains(key)) { return set.contains(key); };
 inline constexpr auto by_count = [](auto &set, auto &key) -> decltype(set.count(key)) { return set.count(key); };
 
-// Whether at least one of these calls can be made on a set of type S with a key of type K. `called` makes the first one
-// that can be made.
+// Whether a set of type S has at least one of these calls for a key of type K. `called` makes the first call that the set
+// has.
 template <class S, class K, class... Calls> constexpr bool has(const Calls &...) { return (std::is_invocable_v<Calls, S &, const K &> || ...); }
 
 template <class S, class K, class First, class... Others> reply called(S &set, const K &key, First first, Others... others) {
@@ -254,16 +254,17 @@ template <class S, class K, class First, class... Others> reply called(S &set, c
 
 enum phase { GOING, OVER, FAILED, UNMADE };
 
-// A call as recorded by its thread, at its begin and at its end. After an unknown reply, the thread continues under a
-// new thread number.
+// A call as its thread records it, at its begin and at its end. After an unknown reply, the thread continues under a new
+// thread number.
 struct slot {
     unsigned thread, key;
     kind call;
     reply answer;
-    std::atomic<unsigned> begin, end;  // 0 until they happen
+    std::atomic<unsigned> begin, end;  // 0 until the call begins, or ends
 };
 
-// The part of a run that is in the file: the length of its lines, and the moment up to which it has all calls.
+// The part of a run that is in the file: the length of the file, and a moment. The file has all calls that began up to this
+// moment.
 struct saved {
     uint64_t length = 0;
     unsigned moment = 0;
@@ -273,11 +274,11 @@ struct saved {
 struct area {
     const shape of;
     const uint64_t seed;
-    const unsigned rows, parts, rounds;  // how many calls a thread makes in a part (the last one can have fewer), how many parts a set has, and all sets together
+    const unsigned rows, parts, rounds;  // calls of a thread in a part (the last part can have fewer), parts of a set, parts of all sets together
     slot *slots = nullptr;               // the calls, thread by thread
     std::atomic<unsigned> tickets{0}, there{0}, done{0}, begun{0};
     saved saves[2];
-    std::atomic<unsigned> save{0};  // the index of the valid one: a change of the index changes both of its numbers in one step
+    std::atomic<unsigned> save{0};  // index of the valid element of `saves`: changing it replaces both numbers in one step
     std::atomic<phase> at{GOING};
     std::atomic<bool> is_stopping{false}, is_busy{false}, is_end_known{true};
     char why[240] = "";
@@ -320,8 +321,8 @@ struct area {
         return !is_stopping;
     }
 
-    // Waits until all threads are here, so that they continue at the same time. Polls without sleeping if there is a
-    // processor for each thread, unless an earlier wait of this kind took too long.
+    // Waits until all threads have called this function, so that they continue at the same time. Polls without sleeping if
+    // there is a processor for each thread, unless an earlier wait of this kind lasted too long.
     void meet() {
         const unsigned all = there++ / of.threads * of.threads + of.threads;
         const unsigned awake = of.threads <= std::thread::hardware_concurrency() && !is_busy ? AWAKE : LONGEST;
@@ -330,8 +331,8 @@ struct area {
         if (looks > awake + LONGEST) is_busy = true;
     }
 
-    // Whether threads are to be interrupted for longer. On a busy machine, a thread seldom loses its processor in the middle
-    // of a call, since it makes all its calls before it does.
+    // Returns whether interrupted threads should sleep for longer. On a busy machine, a thread is seldom preempted during a
+    // call: often it has made all its calls before it is preempted.
     bool interrupts_longer() const { return is_busy || of.meets_once; }
 };
 
@@ -342,14 +343,14 @@ inline std::string line_of(const slot &it, unsigned end) {
     return text + (is_open ? "- -\n" : std::to_string(end) + (it.answer == reply::yes ? " true\n" : " false\n"));
 }
 
-// Returns the lines of the calls that have not been saved, in the order in which they began, and the lines of the
-// pending ones. Threads may still be making calls: a call that begins after this function was called is left out, and a
-// call that ends after it is pending.
+// Returns the lines of the calls that have not been saved, ordered by start, and the lines of the pending calls. Threads may
+// be making calls meanwhile: a call that begins after the start of this function is left out, and a call that ends after the
+// start of this function is pending.
 inline std::pair<std::string, std::string> lines_of(const area &from) {
     const unsigned now = from.tickets, since = from.saves[from.save].moment;
     std::map<unsigned, std::pair<const slot *, unsigned>> found;
     for (size_t i = 0; i < from.count(); i++) {
-        const unsigned end = from.slots[i].end, begin = from.slots[i].begin;  // (a pending call's slot still has the end of an earlier call)
+        const unsigned end = from.slots[i].end, begin = from.slots[i].begin;  // (a pending call's slot can have the end of an earlier call)
         if (begin > since && begin <= now) found[begin] = {&from.slots[i], end > now || end < begin ? 0 : end};
     }
     std::string lines, under_way;
@@ -360,9 +361,9 @@ inline std::pair<std::string, std::string> lines_of(const area &from) {
     return {lines, under_way};
 }
 
-// Interrupts its thread a few microseconds after some of its calls have begun, whatever it is doing then, by SIGURG
-// from a timer. On a busy machine the thread then sleeps until other threads have made calls, up to PATIENT times. Works
-// on Linux only.
+// Interrupts its thread a few microseconds after the start of some calls, by a timer that sends the signal SIGURG. The thread
+// then sleeps for a microsecond. On a busy machine, it sleeps repeatedly until other threads have made calls, at most PATIENT
+// times. Works on Linux only.
 struct stops {
 #ifdef __linux__
     int timer = -1;
@@ -384,7 +385,7 @@ struct stops {
         errno = before;
     }
 
-    // Must be called before each of `calls` calls. Starts the timer before a few of them.
+    // Must be called before each of `calls` calls. Starts the timer before a few of these calls.
     void before_call(uint64_t calls) {
         if (timer < 0 || draw() % calls >= STOPS) return;
         itimerspec in = {};
@@ -453,7 +454,7 @@ template <class Make, class K> struct maker {
         return unsigned(draw()) % below;
     }
 
-    // Makes one part of a thread's calls on a set.
+    // Makes a thread's calls of one part on a set.
     void call_set(area &run, unsigned thread, unsigned round, unsigned &number, std::mt19937 &draw, stops &own) {
         set_type &its = *set;
         slot *at = run.slots + size_t(thread) * run.rows;
@@ -505,16 +506,16 @@ template <class Make, class K> struct maker {
         if (!(file << lines << std::flush)) run.fail(UNMADE, "its recording cannot be written");
     }
 
-    // Appends lines to the file and marks all calls up to this moment as saved. No thread makes a call during this.
+    // Appends lines to the file and marks all calls up to this moment as saved. Meanwhile, no thread makes a call.
     void save(area &run, const std::string &lines) {
         const unsigned now = run.save;
         write(run, lines);
         run.saves[1 - now] = {run.saves[now].length + lines.size(), run.tickets};
-        run.save = 1 - now;  // (a process that ends before this step has its last calls in memory alone)
+        run.save = 1 - now;  // (if the process ends before this step, its last calls are only in memory)
     }
 
-    // Creates each set and starts the threads on it, part by part. Writes each part to the file after its calls have
-    // ended.
+    // Creates the sets one after another and lets the threads call them, part by part. After each part, writes its calls to
+    // the file.
     void lead(area &run, pointer &own) {
         std::string left, lines = "listset-calls 1\n";
         for (unsigned round = 0; round < run.rounds; round++, lines = "") {
@@ -538,14 +539,14 @@ template <class Make, class K> struct maker {
         write(run, run.is_end_known ? left + "end\n" : "cut\n");  // (not marked as saved: the run can still be cut short)
     }
 
-    // Runs all threads. They are interrupted during calls if `is_own`, that is, if the process belongs to the set.
+    // Runs all threads. If `is_own`, the process belongs to the set, and threads are interrupted during calls.
     void all(area &run, bool is_own) {
         std::vector<std::thread> threads;
         for (unsigned i = 0; i < run.of.threads; i++)
             threads.emplace_back([&run, this, is_own, i] { run.tries(FAILED, [&] { call_in_rounds(run, i, is_own && how.pauses > 0); }); });
         if (how.begins) how.begins();
         {
-            pointer own{};  // (threads can call the set as long as they run)
+            pointer own{};  // (the set must exist as long as threads can call it)
             run.tries(FAILED, [&] { lead(run, own); });
             for (auto &it : threads) it.join();
         }
@@ -554,7 +555,7 @@ template <class Make, class K> struct maker {
     }
 };
 
-// Waits until `is_done` returns true. Returns false if no call begins or ends for `seconds` before that.
+// Waits until `is_done` returns true. Returns false if no call begins or ends for `seconds` seconds.
 template <class Done> bool comes_to_end(const area &run, unsigned seconds, Done is_done) {
     using clock = std::chrono::steady_clock;
     unsigned seen = run.tickets;
@@ -576,7 +577,7 @@ inline bool is_alone() {
     return std::distance(begin(threads), end(threads)) <= 1;
 }
 
-// Makes a run in a child process. Returns why it was cut short, or an empty text.
+// Makes a run in a child process. Returns the reason if the run was cut short, otherwise an empty text.
 template <class Maker> std::string made_in_child(Maker &by, area &run) {
     const pid_t process = fork();
     if (process < 0) throw no_verdict(say(NO_PROCESS, strerror(errno)));
@@ -598,8 +599,8 @@ template <class Maker> std::string made_in_child(Maker &by, area &run) {
     return run.at < OVER || ended != 0 ? say(ENDED_SO, ended) : "";
 }
 
-// Makes a run in threads of this process. Threads that hang are left running. Returns why the run was cut short, or an
-// empty text.
+// Makes a run in threads of this process. Threads that hang are left running. Returns the reason if the run was cut short,
+// otherwise an empty text.
 template <class Maker> std::string made_here(std::shared_ptr<Maker> by, std::shared_ptr<area> run) {
     const auto is_over = std::make_shared<std::atomic<bool>>(false);
     std::thread leader([=] {
@@ -625,7 +626,7 @@ struct answer {
 
 inline std::string stripped(const std::string &text) { return text.substr(0, text.find_last_not_of('\n') + 1); }
 
-// Returns the line in which a judge states whether it is proved.
+// Returns the judge's line that states whether the judge is proved.
 inline std::string proof_in(const std::string &version) {
     const size_t at = ("\n" + version).find("\nproof ");
     return at == std::string::npos ? "proof unknown" : version.substr(at, version.find('\n', at) - at);
@@ -689,8 +690,8 @@ inline judge_found find_judge() {
 }
 #endif
 
-// Judges a recording. Returns what the judge printed if no order explains the calls, otherwise an empty text, and how
-// many calls overlapped a change of their key.
+// Judges a recording. Returns two values: the judge's output if no order explains the calls, otherwise an empty text; and the
+// number of calls that overlapped a change of their key.
 inline std::pair<std::string, uint64_t> judged(const judge_found &by, const std::string &file) {
     const auto [status, said] = by.asked_of(file);
     const std::string first = said.substr(0, said.find('\n'));
@@ -730,7 +731,7 @@ struct recording {
     }
 };
 
-// Ends the recording of a run that was cut short. Returns the first pending call, and how many more there are.
+// Ends the recording of a run that was cut short. Returns the first pending call, and the number of further pending calls.
 inline std::string cut(const area &run, const std::string &path, const std::string &trouble) {
     if (run.tickets == 0) throw no_verdict(say(NOT_MADE, trouble));
     const auto [lines, under_way] = lines_of(run);
@@ -743,7 +744,7 @@ inline std::string cut(const area &run, const std::string &path, const std::stri
 
 struct outcome {
     uint64_t seed = 0, calls = 0, overlapped = 0;
-    std::string said = "", file = "", text = "";  // of a failed run; `text` is the complete message
+    std::string said = "", file = "", text = "";  // about a failed run; `text` is the complete message
 };
 
 struct number {
@@ -782,9 +783,9 @@ template <class Make, class Key> struct tester {
         return it;
     }
 
-    // Returns a shape whose calls overlap more: with more threads (possibly more than processors), fewer keys and twice
-    // as many calls, except where the options set them. On a busy machine a thread that waits for another one is not
-    // interrupted in a call, so threads do not wait for each other.
+    // Returns the sizes of a run with more overlapping calls: more threads (possibly more than processors), fewer keys and
+    // twice as many calls in total, unless the options set these numbers. The threads wait for each other only at the
+    // beginning, because on a busy machine a waiting thread is not interrupted during a call.
     shape harder(shape it) const {
         const unsigned before = it.threads;
         if (!how.threads) it.threads = std::min(std::max(2 * it.threads, std::thread::hardware_concurrency() + 2), 64u);
@@ -833,7 +834,7 @@ template <class Make, class Key> struct tester {
         return found;
     }
 
-    // Writes the calls that show why a key is refused to a small file beside the recording. Returns the part of the
+    // Writes a small file beside the recording, with the calls that show why a key is refused. Returns the part of the
     // message that names this file.
     std::string alone(const std::string &path, const std::string &number) const {
         const std::string text = number.empty() || !by.only ? "" : by.only(path, number), file = path.substr(0, path.size() - 6) + "-key-" + number + ".calls";

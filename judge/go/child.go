@@ -29,7 +29,7 @@ type child struct {
 	over    chan bool
 }
 
-// inChild returns the caller for the Check with this name. In the child process it makes the runs and never returns.
+// inChild returns the caller for the Check with this name. In the child process, it makes the runs and never returns.
 func inChild(name string, a *area) (caller, error) {
 	c := &child{area: a, over: make(chan bool)}
 	if os.Getenv(checkName) == name {
@@ -67,8 +67,8 @@ func (c *child) start(name, file string) error {
 	}
 	c.process = exec.Command(os.Args[0], "-test.run="+strings.Join(pieces, "/"))
 	c.process.Env = append(os.Environ(), checkName+"="+name, fileName+"="+file)
-	c.process.Stderr = io.MultiWriter(&c.errors, os.Stderr) // (which has the stacks)
-	_, err := c.process.StdinPipe()                         // (this process holds the other end: if it ends, the child ends too)
+	c.process.Stderr = io.MultiWriter(&c.errors, os.Stderr) // (the child writes its stacks there)
+	_, err := c.process.StdinPipe()                         // (this process has the other end: if it ends, the child ends too)
 	if err == nil {
 		err = c.process.Start()
 	}
@@ -126,7 +126,7 @@ func (c *child) close() {
 	syscall.Munmap(c.memory)
 }
 
-// serve makes the runs that the parent process asks for until the parent ends.
+// serve makes the runs that the parent process requests, until the parent ends.
 func (c *child) serve() {
 	file, err := os.OpenFile(os.Getenv(fileName), os.O_RDWR, 0)
 	if err != nil || c.share(file) != nil {
@@ -140,7 +140,7 @@ func (c *child) serve() {
 	for ; ; time.Sleep(100 * time.Microsecond) {
 		if atomic.LoadUint32(&c.at) == going {
 			if most := c.threads + 1; runtime.GOMAXPROCS(0) < most {
-				runtime.GOMAXPROCS(most) // (so that no goroutine waits until another one stops)
+				runtime.GOMAXPROCS(most) // (so that all goroutines can run at the same time)
 			}
 			isOver := make(chan bool)
 			if c.options.Pauses > 0 {
@@ -152,8 +152,8 @@ func (c *child) serve() {
 	}
 }
 
-// interrupt repeatedly stops all goroutines for a moment during their calls. Afterwards they continue in a different
-// order.
+// interrupt repeatedly stops all goroutines for a moment during their calls. Afterwards, the goroutines continue in a
+// different order.
 func interrupt(seed int64, isOver chan bool) {
 	var stats runtime.MemStats
 	for draw := rand.New(rand.NewSource(seed)); ; runtime.ReadMemStats(&stats) {

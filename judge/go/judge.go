@@ -37,26 +37,26 @@ type Set = SetOf[uint32]
 
 type notKnown struct{}
 
-// NotKnown is the value with which a call panics if its outcome is unknown.
+// NotKnown is the value of the panic if the outcome of a call is unknown.
 var NotKnown any = notKnown{}
 
 // Options are the options of a test. All of them are checked before the first set is created.
 type Options struct {
 	Threads       int    // the number of goroutines that call a set at the same time: 1 to 64; 0 selects the preset's number
-	Calls         int    // the number of calls of each goroutine: at least 1, and at most 1,000,000,000 for all together; 0 selects the preset's number; after every 20,000 calls, these are written to the file while the goroutines wait
+	Calls         int    // the number of calls of each goroutine: at least 1, at most 1,000,000,000 for all together; 0 selects the preset's number; after every 20,000 calls, the goroutines wait until these calls are written to the file
 	Keys          int    // the number of keys: 1 to 1,048,576; 0 selects the preset's number; with more than eight keys, half of the calls use the first four
-	Pauses        int    // the percentage of calls before which a goroutine pauses, for at most a few microseconds: 0 to 100; unless it is 0, goroutines in the set's own process are also stopped during calls
+	Pauses        int    // how often a goroutine pauses before a call for a few microseconds, in percent: 0 to 100; unless this is 0, goroutines in the set's own process are also stopped during calls
 	Runs          int    // the number of runs: 1 to 1,000,000; a run calls one set, or several new sets one after another
 	Seed          int64  // the random seed for the calls, keys and pauses of the first run; each later run uses the next seed
 	Seconds       int    // if no call begins or ends for this many seconds, a run is considered hung and is cut short: 1 to 3,600
-	Within        int    // no new run begins once the test has taken this many seconds: 1 to 604,800
+	Within        int    // after this many seconds, the test begins no new run: 1 to 604,800
 	AtLeast       int    // the test fails if less than this percentage of the calls overlap a change of their key
 	Adds          int    // the relative frequency of Add among the calls
-	Removes       int    // that of Remove
-	Finds         int    // that of Contains
+	Removes       int    // the relative frequency of Remove among the calls
+	Finds         int    // the relative frequency of Contains among the calls
 	InProcess     bool   // calls sets in this process, which crashes or hangs with them; useful for debuggers and coverage
 	OpensWithKeys bool   // calls Contains for each key before all other calls to record the opening keys
-	Record        string // the folder in which the recording of each run is kept; if empty, only the recording of a failed run is kept, in the folder named by the variable LISTSET_RECORD, or else in the folder for temporary files
+	Record        string // the folder for the recordings of all runs; if empty, only the recording of a failed run is kept, in the folder that the variable LISTSET_RECORD names, or else in the folder for temporary files
 }
 
 // DefaultOptions returns the options for 20 runs with the presets.
@@ -117,14 +117,14 @@ type shape struct {
 }
 
 // size has the sizes of a run: the number of goroutines, of new sets used one after another, of calls per goroutine and
-// set, and of keys. The keys are the multiples of times. Goroutines wait for each other after each manyMeet calls, or
-// only at the beginning.
+// set, and of keys. The keys are the multiples of times. Goroutines wait for each other after every manyMeet calls, or only
+// at the beginning.
 type size struct {
 	threads, sets, calls, keys, times int
 	meetsOnce                         bool
 }
 
-// rows returns how many calls a goroutine makes in a part. The last part on a set can have fewer.
+// rows returns the maximum number of calls of a goroutine between two saves of the recording, that is, in one part.
 func (s size) rows() int {
 	if most := manyPart / s.threads; most < s.calls {
 		return most
@@ -162,9 +162,9 @@ func (o Options) shapeOf(seed int64) shape {
 	return s
 }
 
-// harder returns a shape whose calls overlap more: with more goroutines (possibly more than processors), fewer keys and
-// twice as many calls, except where the options set them. On a busy machine a goroutine that waits for another one is
-// not interrupted in a call, so goroutines do not wait for each other.
+// harder returns the sizes of a run with more overlapping calls: more goroutines (possibly more than processors), fewer keys
+// and twice as many calls in total, unless the options set these numbers. The goroutines wait for each other only at the
+// beginning, because on a busy machine a waiting goroutine is not interrupted during a call.
 func (o Options) harder(s shape) shape {
 	before := s.threads
 	if o.Threads == 0 {
@@ -204,9 +204,9 @@ func (o Options) most(of func(size) int) (most int) {
 	return most
 }
 
-// Verdict is the result of a successful test: some order explains each run. It has the number of calls, how many of
-// them overlapped a change of their key (as counted by the judge), and the judge with its statement about its proof.
-// String formats it.
+// Verdict is the result of a successful test: some order explains each run. It has the number of calls, the number of calls
+// that overlapped a change of their key (as counted by the judge), and the judge with its statement about its proof. String
+// formats it.
 type Verdict struct {
 	Calls, Overlapped int
 	Judge             string
@@ -225,7 +225,7 @@ func (v Verdict) String() string {
 	return fmt.Sprintf(text, v.Calls, v.Overlapped) + "; judge: " + v.Judge
 }
 
-// Failed is a failed run: its preset, what the judge printed, the file with its recording, the judge, and the complete
+// Failed is a failed run: its preset, the judge's output, the file with the run's recording, the judge, and the complete
 // message.
 type Failed struct {
 	Seed                          int64
@@ -234,9 +234,9 @@ type Failed struct {
 
 func (f *Failed) Error() string { return f.Text }
 
-// NotLinearizable is the error if no order explains a run. CutShort is the error if the set crashed, hung or panicked
-// in a run; the calls before that were judged. Any other error means that nothing is known about the set: an option is
-// out of range, no set could be created, too few calls overlapped, or no judge was found.
+// NotLinearizable is the error if no order explains a run. CutShort is the error if the set crashed, hung or panicked in a
+// run; the run's earlier calls were judged. Any other error means that nothing is known about the set: an option is out of
+// range, no set could be created, too few calls overlapped, or no judge was found.
 type NotLinearizable struct{ Failed }
 
 type CutShort struct{ Failed }
@@ -256,7 +256,7 @@ type Test interface {
 
 // Check judges the sets that newSet creates. It fails the test if no order explains a run, or if the set crashes or
 // hangs. It uses DefaultOptions unless an Options is given. The set gets a separate process, which runs the test from
-// its beginning up to this Check; other Checks of the test do nothing there.
+// its beginning up to this Check; other Checks of the test do nothing in this process.
 func Check[S Set](t Test, newSet func() S, options ...Options) {
 	t.Helper()
 	check(t, func(int) (source, error) { return numbers(newSet), nil }, options)
@@ -296,7 +296,7 @@ func check(t Test, of func(keys int) (source, error), options []Options) {
 	}
 }
 
-// checkName is the variable that names the Check for which a child process was started.
+// checkName is the variable with the name of the Check that a child process was started for.
 const checkName = "LISTSET_CHECK"
 
 var (
@@ -304,7 +304,7 @@ var (
 	lock   sync.Mutex
 )
 
-// nameOf returns the name of the test together with the number of its Check.
+// nameOf returns the name of the test, followed by the number of its Check.
 func nameOf(t Test) string {
 	lock.Lock()
 	defer lock.Unlock()
@@ -319,7 +319,7 @@ func nameOf(t Test) string {
 	return fmt.Sprintf("%s#%d", name, checks[name])
 }
 
-// source creates sets of numbers and describes the key of a number.
+// source creates sets of numbers, and describes the key that belongs to a number.
 type source struct {
 	newSet func() Set
 	shown  func(number uint32) string
@@ -330,7 +330,7 @@ func numbers[S Set](newSet func() S) source {
 	return source{func() Set { return newSet() }, func(n uint32) string { return fmt.Sprint(n) }, false}
 }
 
-// keyed is a set with keys of another type, called with their numbers.
+// keyed is a set with keys of another type. It is called with the numbers of its keys.
 type keyed[K any] struct {
 	set  SetOf[K]
 	keys []K
@@ -429,7 +429,7 @@ func isWithin(since time.Time, seconds int) bool {
 	return time.Since(since) < time.Duration(seconds)*time.Second
 }
 
-// judgedRun makes a run and judges it. It returns how many calls overlapped a change of their key.
+// judgedRun makes a run and judges it. It returns the number of calls that overlapped a change of their key.
 func (t *tester) judgedRun(seed int64, s shape) (int, error) {
 	r, err := newRecording(seed, s.name, t.options.Record)
 	if err != nil {

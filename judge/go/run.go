@@ -30,10 +30,10 @@ const (
 	unmade
 )
 
-// slot is a call as recorded by its goroutine, at its begin and at its end. After an unknown outcome, the goroutine
-// continues under a new thread number.
+// slot is a call as its goroutine records it, at its begin and at its end. After an unknown outcome, the goroutine continues
+// under a new thread number.
 type slot struct {
-	begin, end               uint32 // 0 until they happen
+	begin, end               uint32 // 0 until the call begins, or ends
 	thread, call, key, reply uint32
 }
 
@@ -47,17 +47,18 @@ func (t *text) set(to string) { t.length = uint32(copy(t.bytes[:], to)) }
 
 func (t *text) String() string { return string(t.bytes[:t.length]) }
 
-// saved is the part of a run that is in the file: the length of its lines, and the moment up to which it has all calls.
+// saved is the part of a run that is in the file: the length of the file, and a moment. The file has all calls that began up
+// to this moment.
 type saved struct {
 	length int64
 	moment uint32
 }
 
-// head has the numbers that the maker and the watcher of a run share.
+// head has the numbers of a run that two processes can share: one makes the run, and the other watches it.
 type head struct {
 	seed  int64
 	saves [2]saved
-	save  uint32 // the index of the valid one: a change of the index changes both of its numbers in one step
+	save  uint32 // the index of the valid element of saves: changing the index replaces both of its numbers in one step
 	size
 	tickets, there, done, begun uint32
 	at, isStopping, isBusy      uint32
@@ -77,14 +78,14 @@ type area struct {
 
 func newArea(options Options, source source) *area {
 	a := &area{options: options, source: source}
-	words := make([]uint64, a.bytes()/8+1) // (so that it is aligned)
+	words := make([]uint64, a.bytes()/8+1) // (words, so that the memory is aligned)
 	a.lay(unsafe.Slice((*byte)(unsafe.Pointer(&words[0])), a.bytes()))
 	return a
 }
 
 func (a *area) bytes() int { return int(unsafe.Sizeof(head{})) + manyPart*int(unsafe.Sizeof(slot{})) }
 
-// lay makes this memory the area of a run: the head comes first, then the slots.
+// lay uses this memory for the area of a run: first the head, then the slots.
 func (a *area) lay(memory []byte) {
 	a.memory, a.head = memory, (*head)(unsafe.Pointer(&memory[0]))
 	a.slots = unsafe.Slice((*slot)(unsafe.Pointer(&memory[unsafe.Sizeof(head{})])), manyPart)
@@ -92,15 +93,15 @@ func (a *area) lay(memory []byte) {
 
 func (a *area) saved() saved { return a.saves[atomic.LoadUint32(&a.save)] }
 
-// lines returns the lines of the calls that have not been saved, in the order in which they began, and the lines of the
-// pending ones. Goroutines may still be making calls: a call that begins after lines was called is left out, and a call
-// that ends after it is pending.
+// lines returns the lines of the calls that have not been saved, ordered by start, and the lines of the pending calls.
+// Goroutines may be making calls meanwhile: a call that begins after the start of lines is left out, and a call that ends
+// after the start of lines is pending.
 func (a *area) lines() (lines, underWay string) {
 	now, since, of, begins := atomic.LoadUint32(&a.tickets), a.saved().moment, map[uint32]string{}, []uint32{}
 	for i := range a.slots[:a.threads*a.rows()] {
 		s := &a.slots[i]
 		end, begin := atomic.LoadUint32(&s.end), atomic.LoadUint32(&s.begin)
-		if end > now || end < begin { // (a pending call's slot still has the end of an earlier call)
+		if end > now || end < begin { // (the slot of a pending call can still contain the end of an earlier call)
 			end = 0
 		}
 		if begin > since && begin <= now {
@@ -130,9 +131,9 @@ func (s *slot) line(end uint32) string {
 
 // caller makes runs.
 type caller interface {
-	begin()          // must be called once the memory of a run is ready
+	begin()          // must be called when the memory of a run is ready
 	hasEnded() bool  // whether the run has ended
-	trouble() string // the error, if the run has ended with one
+	trouble() string // the error, if the run has ended with an error
 	stop()           // stops the run; a child process ends
 	close()          // frees the memory of the runs
 }
@@ -150,7 +151,7 @@ func (h *here) stop() { atomic.StoreUint32(&h.isStopping, 1) }
 
 func (h *here) close() { h.stop() }
 
-// made makes the run of a seed. It returns why the run was cut short, if it was.
+// made makes the run with this seed. It returns the reason if the run was cut short.
 func (a *area) made(seed int64, s size, file string, by caller) (trouble string, err error) {
 	for i := range a.memory {
 		a.memory[i] = 0
@@ -181,14 +182,14 @@ func (a *area) made(seed int64, s size, file string, by caller) (trouble string,
 		err = fmt.Errorf(sayNotMade, trouble)
 	}
 	if trouble != "" {
-		by.stop() // (so that a set that hung does not go on while its run is judged)
+		by.stop() // (otherwise a set that hung could continue while its run is judged)
 	}
 	return trouble, err
 }
 
 // ---- for the process that makes a run
 
-// fail stores a panic. Only the first one is kept.
+// fail stores a panic. Only the first panic is kept.
 func (a *area) fail(as uint32, words string) {
 	if why := recover(); why != nil && atomic.CompareAndSwapUint32(&a.isStopping, 0, 1) {
 		a.why.set(fmt.Sprintf(words, why))
@@ -206,8 +207,8 @@ func (a *area) waits(awake int, isDone func() bool) bool {
 	return atomic.LoadUint32(&a.isStopping) == 0
 }
 
-// meet waits until all goroutines are here, so that they continue at the same time. It does not sleep if there is a
-// processor for each goroutine, unless an earlier wait of this kind took too long.
+// meet waits until all goroutines have called it, so that they continue at the same time. It does not sleep if there is a
+// processor for each goroutine, unless an earlier wait of this kind lasted too long.
 func (a *area) meet() bool {
 	awake, count, looks := manyLongest, uint32(a.threads), 0
 	if a.threads <= runtime.NumCPU() && atomic.LoadUint32(&a.isBusy) == 0 {
@@ -252,8 +253,8 @@ func (a *area) newSet() (set Set) {
 	return set
 }
 
-// lead creates each set and starts the goroutines on it, part by part. It saves each part in the file after its calls
-// have ended.
+// lead creates the sets one after another and lets the goroutines call them, part by part. After each part, it saves its
+// calls in the file.
 func (a *area) lead(on *stage) {
 	defer a.fail(failed, sayThrew)
 	file, err := os.OpenFile(a.file.String(), os.O_WRONLY, 0)
@@ -300,13 +301,12 @@ func (a *area) write(file *os.File, lines string) {
 	}
 }
 
-// saveLines appends lines to the file and marks all calls up to this moment as saved. No goroutine makes a call during
-// this.
+// saveLines appends lines to the file and marks all calls up to this moment as saved. Meanwhile, no goroutine makes a call.
 func (a *area) saveLines(file *os.File, lines string) {
 	a.write(file, lines)
 	other := 1 - atomic.LoadUint32(&a.save)
 	a.saves[other] = saved{a.saved().length + int64(len(lines)), atomic.LoadUint32(&a.tickets)}
-	atomic.StoreUint32(&a.save, other) // (a process that ends before this step has its last calls in memory alone)
+	atomic.StoreUint32(&a.save, other) // (if the process ends before this step, its last calls are only in memory)
 }
 
 func (a *area) saveOpening(file *os.File, set Set, round int) bool {
@@ -319,7 +319,7 @@ func (a *area) saveOpening(file *os.File, set Set, round int) bool {
 	panic(fmt.Sprintf(sayNoOpening, mostAsked))
 }
 
-// number converts the index of a key to the number with which the set is called.
+// number converts the index of a key to the number that the set is called with.
 func (a *area) number(key int) uint32 {
 	if a.source.isOwn {
 		return uint32(key)

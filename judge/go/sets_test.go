@@ -60,8 +60,8 @@ func newSet() *set {
 	return made
 }
 
-// part returns the set of a key: the whole set or, with "first use", a set for this key alone. The first call of the
-// key creates it; two calls can both create it.
+// part returns the set of a key: the whole set or, with "first use", a set for this key alone. The first call with the key
+// creates this set. The bug: two calls can both create it.
 func (s *set) part(key uint32) *right[uint32] {
 	if s.is != "first use" {
 		return s.right
@@ -74,8 +74,8 @@ func (s *set) part(key uint32) *right[uint32] {
 	return made
 }
 
-// place returns the key that the set uses for this one. With "collides", it is the remainder, so different keys are
-// treated as one.
+// place returns the key that the set uses instead of key. With "collides", this is the remainder modulo 64, so some different
+// keys are treated as one key.
 func (s *set) place(key uint32) uint32 {
 	if s.is == "collides" {
 		return key % 64
@@ -83,7 +83,7 @@ func (s *set) place(key uint32) uint32 {
 	return key
 }
 
-// called loses one reply in fifty: the outcome is then unknown, or the call is repeated.
+// called makes a call and loses one reply in fifty. The outcome is then unknown, or the call is repeated.
 func (s *set) called(call func(uint32) bool, key uint32) bool {
 	reply := call(s.place(key))
 	if s.is != "not known" && s.is != "again" || atomic.AddInt32(&s.calls, 1)%50 > 0 {
@@ -178,8 +178,8 @@ func howOf(words string) Options {
 	return how
 }
 
-// TestSet judges the set that the variable SET names, with the options in HOW, such as "threads=4 runs=2". It does so
-// once, or as often as TESTS says.
+// TestSet judges the set that the variable SET names, with the options in HOW, such as "threads=4 runs=2". It judges the set
+// once, or as often as TESTS states.
 func TestSet(t *testing.T) {
 	how := howOf(os.Getenv("HOW"))
 	switch os.Getenv("SET") {

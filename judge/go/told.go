@@ -39,8 +39,8 @@ func newRecording(seed int64, name, record string) (*recording, error) {
 	return r, nil
 }
 
-// judged returns how many calls overlapped a change of their key, or the error of the run. trouble is the reason if the
-// run was cut short.
+// judged returns the number of calls that overlapped a change of their key, or the error of the run. If the run was cut
+// short, trouble is the reason.
 func (r *recording) judged(by *judgeFound, a *area, trouble string) (int, error) {
 	underWay, lines := "", ""
 	if trouble != "" {
@@ -77,7 +77,7 @@ func (r *recording) judged(by *judgeFound, a *area, trouble string) (int, error)
 // ofKey matches the key that a judge names.
 var ofKey = regexp.MustCompile(`of key (\d+) `)
 
-// firstOf returns the first of several calls' lines, and how many more there are.
+// firstOf returns the first of several lines of calls, and the number of further lines.
 func firstOf(lines string) string {
 	all := strings.Split(strings.TrimSpace(lines), "\n")
 	if all[0] == "" {
@@ -102,8 +102,8 @@ func keyLine(a *area, number int) string {
 	return fmt.Sprintf(sayKeyIs, number, shown) + set
 }
 
-// alone writes the calls that show why a key is refused to a small file beside the recording. It returns the part of
-// the message that names this file.
+// alone writes a small file beside the recording, with the calls that show why a key is refused. It returns the part of the
+// message that names this file.
 func (r *recording) alone(by *judgeFound, key string) string {
 	if by.command == nil {
 		return ""
@@ -162,7 +162,7 @@ func findJudge() (*judgeFound, error) {
 	return &judgeFound{name, proofIn(version), ask, command}, nil
 }
 
-// proofIn returns the line in which a judge states whether it is proved.
+// proofIn returns the judge's line that states whether the judge is proved.
 func proofIn(version string) string {
 	if found := regexp.MustCompile("(?m)^proof .*$").FindString(version); found != "" {
 		return found
@@ -185,8 +185,8 @@ func ran(words []string, shown io.Writer) (int, string) {
 	return made.ProcessState.ExitCode(), strings.TrimSpace(out.String())
 }
 
-// judged judges a recording. It returns how many calls overlapped a change of their key, or what the judge printed if
-// no order explains them.
+// judged judges a recording. It returns the number of calls that overlapped a change of their key, or the judge's output if
+// no order explains the calls.
 func (j *judgeFound) judged(recording *os.File) (overlapped int, refused string, err error) {
 	status, said := j.answer(recording)
 	if _, err := fmt.Sscanf(said, "ok %d calls\n%d of them", new(int), &overlapped); status == 0 && err == nil {

@@ -60,15 +60,15 @@ public final class Judge {
 
     /**
      * The sizes of a run: the number of threads, of new sets used one after another, of calls per thread and set, and
-     * of keys. The keys are the multiples of {@code times}. Threads wait for each other after each MEET calls, or only
-     * at the beginning.
+     * of keys. The keys are the multiples of {@code times}. Threads wait for each other after every MEET calls, or only at
+     * the beginning.
      */
     private record Shape(String name, int threads, int sets, int calls, int keys, int times, boolean meetsOnce) {
         Shape(String name, int threads, int sets, int calls, int keys, int times) { this(name, threads, sets, calls, keys, times, false); }
 
         long allCalls() { return (long) threads * sets * calls; }
 
-        /** Returns how many calls a thread makes in a part. The last part on a set can have fewer. */
+        /** Returns the maximum number of calls of a thread between two saves of the recording, that is, in one part. */
         int rows() { return Math.min(calls, PART / threads); }
 
         int parts() { return (calls - 1) / rows() + 1; }
@@ -138,8 +138,8 @@ public final class Judge {
         public Options withKeys(int it) { return with(made -> made.keys = it); }
 
         /**
-         * Sets the percentage of calls before which a thread pauses, for at most a few microseconds: 0 to 100. Unless
-         * it is 0, threads in the set's own JVM are also interrupted during calls.
+         * Sets how often a thread pauses before a call, in percent: 0 to 100. A pause lasts at most a few microseconds.
+         * Unless this is 0, threads in the set's own JVM are also interrupted during calls.
          */
         public Options withPauses(int it) { return with(made -> made.pauses = it); }
 
@@ -150,12 +150,12 @@ public final class Judge {
         public Options withSeed(long it) { return with(made -> made.seed = it); }
 
         /**
-         * Sets the number of seconds after which a run is cut short if no call begins or ends: 1 to 3,600. Such a run
-         * is considered hung.
+         * Sets the time limit for a run that hangs, in seconds: 1 to 3,600. If no call begins or ends for this time, the
+         * run is cut short.
          */
         public Options withSeconds(int it) { return with(made -> made.seconds = it); }
 
-        /** Sets the number of seconds after which the test begins no new run: 1 to 604,800. */
+        /** Sets the time limit for the test, in seconds: 1 to 604,800. After this time, the test begins no new run. */
         public Options withWithin(int it) { return with(made -> made.within = it); }
 
         /**
@@ -179,8 +179,8 @@ public final class Judge {
         public Options withOpeningKeys(boolean it) { return with(made -> made.opensWithKeys = it); }
 
         /**
-         * Sets the folder in which the recording of each run is kept. If null, only the recording of a failed run is
-         * kept, in the folder named by the variable LISTSET_RECORD, or else in java.io.tmpdir.
+         * Sets the folder for the recordings of all runs. If null, only the recording of a failed run is kept, in the
+         * folder that the variable LISTSET_RECORD names, or else in java.io.tmpdir.
          */
         public Options withRecord(String it) { return with(made -> made.record = it); }
 
@@ -223,9 +223,9 @@ public final class Judge {
         }
 
         /**
-         * Returns a shape whose calls overlap more: with more threads (possibly more than processors), fewer keys and
-         * twice as many calls, except where these options set them. On a busy machine a thread that waits for another
-         * one is not interrupted in a call, so threads do not wait for each other.
+         * Returns the sizes of a run with more overlapping calls: more threads (possibly more than processors), fewer keys
+         * and twice as many calls in total, unless these options set the numbers. The threads wait for each other only at
+         * the beginning, because on a busy machine a waiting thread is not interrupted during a call.
          */
         private Shape harder(Shape it) {
             int wanted = Math.max(2 * it.threads, Runtime.getRuntime().availableProcessors() + 2), more = threads > 0 ? it.threads : Math.min(wanted, 64);
@@ -235,9 +235,9 @@ public final class Judge {
     }
 
     /**
-     * The result of a successful test: some order explains each run. It has the number of calls, how many of them
-     * overlapped a change of their key (as counted by the judge), and the judge with its statement about its proof.
-     * {@code toString} formats it.
+     * The result of a successful test: some order explains each run. It has the number of calls, the number of calls that
+     * overlapped a change of their key (as counted by the judge), and the judge with its statement about its proof. {@code
+     * toString} formats it.
      */
     public record Verdict(long calls, long overlapped, String judge) {
         @Override public String toString() {
@@ -245,10 +245,10 @@ public final class Judge {
         }
     }
 
-    /** Returns whether so few calls overlapped that {@code ok} says little. */
+    /** Returns whether so few calls overlapped that the verdict {@code ok} means little. */
     private static boolean isFew(long overlapped, long calls) { return overlapped * 100 < calls * ENOUGH; }
 
-    /** A failed run: what the judge printed, and the file with the recording. */
+    /** A failed run: the judge's output, and the file with the recording. */
     public static class Failed extends AssertionError {
         private static final long serialVersionUID = 1;
         public final long seed;
@@ -269,7 +269,7 @@ public final class Judge {
         NotLinearizable(long seed, String said, Path file, String text) { super(seed, said, file, text); }
     }
 
-    /** The set ended its JVM, hung or threw during the run. The calls before that were judged. */
+    /** The set ended its JVM, hung or threw during the run. The run's earlier calls were judged. */
     public static final class CutShort extends Failed {
         private static final long serialVersionUID = 1;
 
@@ -303,7 +303,7 @@ public final class Judge {
      */
     public interface Make<S> extends Supplier<S>, Serializable { }
 
-    /** Converts a number to a key, a different one for each number. */
+    /** Converts a number to a key. Different numbers must have different keys. */
     public interface Keys<K> extends IntFunction<K>, Serializable { }
 
     /** Makes a call on a set. */
@@ -375,7 +375,7 @@ public final class Judge {
         /** Makes the requested runs, each up to three times, and then more runs while few calls have overlapped. */
         private Verdict all() throws IOException {
             long began = System.nanoTime(), seed = how.seed;
-            long[] sums = {0, 0}; // the number of calls, and of those that overlapped
+            long[] sums = {0, 0}; // the number of calls, and the number of calls that overlapped
             for (; seed - how.seed < how.runs && (seed == how.seed || isWithin(began, how.within)); seed++) {
                 Shape shape = how.shapeOf(seed);
                 for (int tries = 0; areFew(sums, seed, shape) && tries < HARDER && isWithin(began, PATIENCE); tries++) shape = how.harder(shape);
@@ -399,7 +399,7 @@ public final class Judge {
             return isFew(overlapped, shape.allCalls());
         }
 
-        /** Makes a run and judges it. Returns how many calls overlapped a change of their key. */
+        /** Makes a run and judges it. Returns the number of calls that overlapped a change of their key. */
         private long judged(long seed, Shape shape) throws IOException {
             try (Recording recording = new Recording(seed, how.record)) {
                 Path file = recording.file;
@@ -417,7 +417,7 @@ public final class Judge {
         }
 
         /**
-         * Writes the calls that show why a key is refused to a small file beside the recording. Returns the part of the
+         * Writes a small file beside the recording, with the calls that show why a key is refused. Returns the part of the
          * message that names this file.
          */
         private String alone(Path file, String key) throws IOException {
@@ -470,12 +470,12 @@ public final class Judge {
     /** The memory of a run, which JVMs can share. It contains the calls that have not been saved in the file yet. */
     private record Area(Options how, ByteBuffer memory) {
         private static final VarHandle INT = MethodHandles.byteBufferViewVarHandle(int[].class, ByteOrder.nativeOrder());
-        // Offsets in the memory. IS_HERE: whether the other JVM has started. SAVES: twice what is saved in the file (its
-        // length as a long, and the moment up to which it has all calls); SAVE names the valid one. SHAPE: six
-        // numbers. WHY and FILE: texts.
+        // Offsets in the memory. IS_HERE: whether the other JVM has started. SAVES: two records of the part that is saved in
+        // the file, each with the length of the file as a long and a moment; the file has all calls that began up to this
+        // moment. SAVE: the index of the valid record. SHAPE: six numbers. WHY and FILE: texts.
         private static final int TICKETS = 0, THERE = 4, DONE = 8, BEGUN = 12, AT = 16, STOPPING = 20, IS_HERE = 24, IS_BUSY = 28, SEED = 32, SAVE = 40,
             SAVES = 48, SAVED = 16, MOMENT = 8, SHAPE = SAVES + 2 * SAVED, WHY = SHAPE + 24, FILE = WHY + 4 + 240, SLOTS = FILE + 4 + 1024;
-        private static final int BEGIN = 0, END = 4, CALL = 8, KEY = 12, REPLY = 16, THREAD = 20, SLOT = 24; // offsets in a call; the memory has the calls of one thread after those of another
+        private static final int BEGIN = 0, END = 4, CALL = 8, KEY = 12, REPLY = 16, THREAD = 20, SLOT = 24; // offsets in a call; the calls of one thread are adjacent in the memory
         private static final int GOING = 1, OVER = 2, FAILED = 3, UNMADE = 4; // the values of AT
         private static final int SIZE = SLOTS + PART * SLOT;
 
@@ -493,7 +493,7 @@ public final class Judge {
             return new Shape("", get(SHAPE), get(SHAPE + 4), get(SHAPE + 8), get(SHAPE + 12), get(SHAPE + 16), get(SHAPE + 20) == 1);
         }
 
-        /** Prepares the memory for the run of a seed and starts the run, whose calls are written to the file. */
+        /** Prepares the memory for the run with this seed, and starts the run. Its calls are written to the file. */
         void begin(long seed, Shape of, Path file) {
             for (int at = 0; at < SIZE; at += 4) if (at != IS_HERE) memory.putInt(at, 0);
             memory.putLong(SEED, seed);
@@ -520,7 +520,7 @@ public final class Judge {
 
         /**
          * Ends the recording of a run that was cut short by adding the calls in memory. Returns the first pending call,
-         * and how many more there are.
+         * and the number of further pending calls.
          */
         String cut() throws IOException {
             List<Row> rows = rows();
@@ -532,7 +532,7 @@ public final class Judge {
 
         private int saved() { return SAVES + get(SAVE) * SAVED; }
 
-        /** Writes lines after the saved ones. Returns the length of the file. */
+        /** Writes lines after the saved lines. Returns the length of the file. */
         long write(String lines) throws IOException {
             try (FileChannel file = FileChannel.open(Path.of(text(FILE)), StandardOpenOption.WRITE)) {
                 long length = memory.getLong(saved());
@@ -543,22 +543,23 @@ public final class Judge {
             }
         }
 
-        /** Appends lines to the file and marks all calls up to this moment as saved. No thread makes a call during this. */
+        /** Appends lines to the file and marks all calls up to this moment as saved. Meanwhile, no thread makes a call. */
         void save(String lines) throws IOException {
             int other = 1 - get(SAVE);
             memory.putLong(SAVES + other * SAVED, write(lines)).putInt(SAVES + other * SAVED + MOMENT, get(TICKETS));
-            set(SAVE, other); // (a JVM that ends before this step has its last calls in memory alone)
+            set(SAVE, other); // (if the JVM ends before this step, its last calls are only in memory)
         }
 
         /**
-         * Returns the calls that have not been saved, in the order in which they began. Threads may still be making
-         * calls: a call that begins after this method was called is left out, and a call that ends after it is pending.
+         * Returns the calls that have not been saved, ordered by start. Threads may be making calls meanwhile: a call that
+         * begins after the start of this method is left out, and a call that ends after the start of this method is
+         * pending.
          */
         private List<Row> rows() {
             List<Row> found = new ArrayList<>();
             int now = get(TICKETS), since = get(saved() + MOMENT), behind = SLOTS + shape().threads * shape().rows() * SLOT;
             for (int at = SLOTS; at < behind; at += SLOT) {
-                int ended = get(at + END), begin = get(at + BEGIN); // (a pending call's slot still has the end of an earlier call)
+                int ended = get(at + END), begin = get(at + BEGIN); // (a pending call's slot can have the end of an earlier call)
                 int end = ended > now || ended < begin ? 0 : ended, reply = end > 0 ? get(at + REPLY) : Calls.NO;
                 if (begin > since && begin <= now) found.add(new Row(get(at + THREAD), get(at + CALL), get(at + KEY), begin, end, reply));
             }
@@ -573,7 +574,7 @@ public final class Judge {
         }
     }
 
-    /** The threads of a run, and the set on which they call. */
+    /** The threads of a run, and the set that they call. */
     private record Play<S, K>(Area area, Calls<S, K> calls, Shape of, AtomicReference<S> set) {
         private static final int MOST_ASKED = 100; // the maximum number of contains calls for a key, at the beginning or at the end, while the outcome is unknown
 
@@ -611,7 +612,7 @@ public final class Judge {
                 does.run();
             } catch (Throwable why) {
                 if (area.next(Area.STOPPING) > 1) return;
-                why.printStackTrace(); // (before the other JVM reads AT, and ends this one)
+                why.printStackTrace(); // (before the other JVM reads AT and ends this JVM)
                 area.putText(Area.WHY, Area.FILE - Area.WHY, (as == Area.UNMADE ? NOT_MADE : THREW).formatted(why));
                 area.set(Area.AT, as);
             }
@@ -629,8 +630,8 @@ public final class Judge {
         }
 
         /**
-         * Waits until all threads are here, so that they continue at the same time. Polls without sleeping if there is
-         * a processor for each thread, unless an earlier wait of this kind took too long.
+         * Waits until all threads have called this method, so that they continue at the same time. Polls without sleeping
+         * if there is a processor for each thread, unless an earlier wait of this kind lasted too long.
          */
         private boolean meets() {
             boolean isAwake = of.threads <= Runtime.getRuntime().availableProcessors() && area.get(Area.IS_BUSY) == 0;
@@ -642,8 +643,8 @@ public final class Judge {
         }
 
         /**
-         * Creates each set and starts the threads on it, part by part. Saves each part in the file after its calls have
-         * ended.
+         * Creates the sets one after another and lets the threads call them, part by part. After each part, saves its
+         * calls in the file.
          */
         private void lead() throws IOException {
             List<String> left = new ArrayList<>();
@@ -721,7 +722,7 @@ public final class Judge {
     }
 
     /**
-     * Makes runs one after another, in another JVM that ends when its input ends, or in this one if {@code process} is
+     * Makes runs one after another: in another JVM, which ends when its input ends, or in this JVM if {@code process} is
      * null.
      */
     private record Caller<S, K>(Calls<S, K> calls, Options how, Area area, Process process) implements AutoCloseable {
@@ -735,7 +736,7 @@ public final class Judge {
             return new Caller<>(calls, how, new Area(how, ByteBuffer.allocateDirect(Area.SIZE)), null);
         }
 
-        /** Starts the other JVM. Returns null if the calls cannot be sent, or if no set can be created there. */
+        /** Starts the other JVM. Returns null if the calls cannot be sent to it, or if it cannot create a set. */
         private static <S, K> Caller<S, K> inChild(Calls<S, K> calls, Options how) throws IOException, ClassNotFoundException, URISyntaxException {
             byte[] given = written(how, calls);
             if (!isReadBackUnchanged(given)) return null;
@@ -773,7 +774,7 @@ public final class Judge {
             }
         }
 
-        /** Makes the run of a seed. Returns why it was cut short, or null. */
+        /** Makes the run with this seed. Returns the reason if the run was cut short, otherwise null. */
         String made(long seed, Shape of, Path file) {
             area.begin(seed, of, file);
             if (process == null) start(() -> area.callAll(calls, false));
@@ -781,11 +782,11 @@ public final class Judge {
             if (area.get(Area.AT) >= Area.FAILED) trouble = area.text(Area.WHY);
             if (area.get(Area.AT) == Area.UNMADE) throw new NoVerdict(trouble);
             if (trouble != null && area.get(Area.TICKETS) == 0) throw new NoVerdict(NOT_MADE.formatted(trouble));
-            if (trouble != null) close(); // (so that a set that hung does not go on while its run is judged)
+            if (trouble != null) close(); // (otherwise a set that hung could continue while its run is judged)
             return trouble;
         }
 
-        /** Waits until the run has ended. Returns true if no call begins or ends for too long first. */
+        /** Waits until the run has ended. Returns true if the run hangs, that is, if no call begins or ends for too long. */
         private boolean isHung() {
             long since = System.nanoTime();
             for (int seen = -1; area.get(Area.AT) < Area.OVER && (process == null || process.isAlive()); LockSupport.parkNanos(300_000)) {
@@ -839,7 +840,7 @@ public final class Judge {
                     if (area.get(Area.AT) == Area.GOING) area.callAll(calls, true);
                 }
             } catch (Exception | LinkageError cannot) {
-                System.exit(1); // (if it cannot be created here, it is created in the other JVM)
+                System.exit(1); // (the JVM that started this one then creates the set itself)
             }
         }
 
@@ -898,8 +899,8 @@ public final class Judge {
     // ---- the judge
 
     /**
-     * The verdict on a recording: what the judge printed if it refused the recording (otherwise null), and how many
-     * calls overlapped a change of their key.
+     * The verdict on a recording: the judge's output if it refused the recording (otherwise null), and the number of calls
+     * that overlapped a change of their key.
      */
     private record Judgement(String refused, long overlapped) { }
 

@@ -102,7 +102,7 @@ NUMBER = "the variable %s is %s, but must be a number from %s to %s"
 
 @dataclasses.dataclass(frozen=True)
 class Verdict:
-    """The result of a successful test: some order explains each run. It has the number of calls, how many of them
+    """The result of a successful test: some order explains each run. It has the number of calls, the number of calls that
     overlapped a change of their key (as counted by the judge), and the judge with its statement about its proof. str()
     formats it.
     """
@@ -113,7 +113,7 @@ class Verdict:
 
     @property
     def is_few(self) -> bool:
-        """Returns whether so few calls overlapped that `ok` says little."""
+        """Returns whether so few calls overlapped that the verdict `ok` means little."""
         return self.overlapped * 100 < self.calls * ENOUGH
 
     def __str__(self) -> str:
@@ -121,7 +121,7 @@ class Verdict:
 
 
 class Failed(AssertionError):
-    """A failed run: its seed, what the judge printed (`said`), and the file with its recording."""
+    """A failed run: its seed, the judge's output (`said`), and the file with the run's recording."""
 
     def __init__(self, seed: int, said: str, file: pathlib.Path, text: str):
         self.seed, self.said, self.file = seed, said, file
@@ -133,7 +133,7 @@ class NotLinearizable(Failed):
 
 
 class CutShort(Failed):
-    """The set crashed, hung or raised during the run. The calls before that were judged."""
+    """The set crashed, hung or raised during the run. The run's earlier calls were judged."""
 
 
 class TooFew(AssertionError):
@@ -182,8 +182,8 @@ class Options(collections.namedtuple("Options", "threads calls keys key pauses r
         return it
 
     def harder(self, it: Shape) -> Shape:
-        """Returns a shape whose calls overlap more: with more threads (possibly more than processors) and fewer keys,
-        unless these options set the numbers. The total number of calls does not grow.
+        """Returns the sizes of a run with more overlapping calls: more threads (possibly more than processors) and fewer
+        keys, unless these options set the numbers. The total number of calls does not grow.
         """
         threads = self.threads or min(max(2 * it.threads, (os.cpu_count() or 1) + 2), 64)
         return it._replace(threads=threads, calls=self.calls or max(it.calls * it.threads // threads, 1), keys=self.keys or max(it.keys // 2, 1))
@@ -218,9 +218,9 @@ def judge(make: Callable[[], Any], *, threads: int | None = None, calls: int | N
     CutShort if the set crashes or hangs.
 
     threads -- the number of threads that call a set at the same time: 1 to 64; None selects the preset's number
-    calls -- the number of calls of each thread: at least 1, and at most 1,000,000,000 for all threads together; None
-             selects the preset's number; after every 20,000 calls, these are written to the file while the threads wait
-    keys -- the number of keys: 1 to 1,048,576; None selects the preset's number; with more than eight keys, half of
+    calls -- the number of calls of each thread: at least 1, and at most 1,000,000,000 for all threads together; None selects
+    the preset's number; after every 20,000 calls, the threads wait until these calls are written to the file keys -- the
+    number of keys: 1 to 1,048,576; None selects the preset's number; with more than eight keys, half of
             the calls use the first four
     key -- converts a number to a key; must return a different key for each number
     pauses -- the percentage of the set's lines, and in one call of ten also of its steps, before which a thread lets
@@ -228,14 +228,14 @@ def judge(make: Callable[[], Any], *, threads: int | None = None, calls: int | N
     runs -- the number of runs: 1 to 1,000,000; a run calls one set, or several new sets one after another
     seed -- the random seed for the calls, keys and pauses of the first run; each later run uses the next seed
     seconds -- if no call begins or ends for this many seconds, a run is considered hung and is cut short: 1 to 3,600
-    within -- no new run begins once the test has taken this many seconds: 1 to 604,800
+    within -- after this many seconds, the test begins no new run: 1 to 604,800
     at_least -- raises TooFew if less than this percentage of the calls overlap a change of their key
     adds, removes, finds -- the relative frequencies of add, remove and contains
     own_process -- if False, sets are called in this process, which crashes or hangs with them; useful for debuggers
                    and coverage
     opens_with_keys -- if True, `contains` is called for each key before all other calls to record the opening keys
-    record -- the folder in which the recording of each run is kept; if None, only the recording of a failed run is kept,
-              in the folder named by the variable LISTSET_RECORD, or else in the folder for temporary files
+    record -- the folder for the recordings of all runs; if None, only the recording of a failed run is kept, in the folder
+    that the variable LISTSET_RECORD names, or else in the folder for temporary files
 
     If a call returns None, its outcome is unknown, for example after a timeout.
     """
@@ -251,12 +251,12 @@ def judge(make: Callable[[], Any], *, threads: int | None = None, calls: int | N
     if verdict.overlapped * 100 < verdict.calls * at_least:
         raise TooFew(TOO_FEW % (verdict.overlapped, verdict.calls, at_least))
     if verdict.is_few:
-        warnings.warn(str(verdict), RuntimeWarning, stacklevel=2)  # (a test that passes can hide what it prints)
+        warnings.warn(str(verdict), RuntimeWarning, stacklevel=2)  # (the output of a test that passes can be hidden)
     return verdict
 
 
 def is_few(overlapped: int, calls: int) -> bool:
-    """Returns whether so few calls overlapped that `ok` says little."""
+    """Returns whether so few calls overlapped that the verdict `ok` means little."""
     return overlapped * 100 < calls * ENOUGH
 
 
@@ -318,7 +318,7 @@ class Tester:
         return KEY_IS % (number, key) + (IN_SET % (one + 1) if shape.sets > 1 else "")
 
     def alone(self, file: pathlib.Path, key: str) -> str:
-        """Writes the calls that show why a key is refused to a small file beside the recording. Returns the part of the
+        """Writes a small file beside the recording, with the calls that show why a key is refused. Returns the part of the
         message that names this file.
         """
         text = self.by.only(file, key) if key else ""
@@ -359,18 +359,18 @@ class Run:
     part.
     """
 
-    SLOT, COUNT = struct.Struct("=IIIIBB"), struct.Struct("=Q")  # a call: begin, end or 0, thread, key, operation, reply; and the progress of a thread
+    SLOT, COUNT = struct.Struct("=IIIIBB"), struct.Struct("=Q")  # a call: begin, end (or 0), thread, key, operation, reply; the progress of a thread
     SAVED = struct.Struct("=QI")  # the length of the file, and the begin of the last call in it
     AT = 240  # the offset of the run's progress, after the error
 
     def __init__(self, make, how, shape, seed, file):
         self.make, self.how, self.shape, self.seed, self.file = make, how, shape, seed, file
         self.tickets, self.there = itertools.count(1), threading.Barrier(shape.threads + 1)
-        self.most = min(shape.calls, PART // shape.threads)  # the largest number of calls of a thread in a part
-        self.parts = -(-shape.calls // self.most)  # of each set
+        self.most = min(shape.calls, PART // shape.threads)  # the maximum number of calls of a thread in a part
+        self.parts = -(-shape.calls // self.most)  # the number of parts of each set
         self.rounds = shape.sets * self.parts
-        # The memory contains, in this order: the error; the progress of the run, of each thread and of `contains`; what is
-        # saved in the file; the calls.
+        # The memory contains, in this order: the error; the progress of the run, of each thread and of `contains`; the
+        # numbers in SAVED; the calls.
         self.at_saved = self.AT + 1 + (shape.threads + 1) * self.COUNT.size
         self.at_slots = self.at_saved + self.SAVED.size
         self.slots = mmap.mmap(-1, self.at_slots + shape.threads * self.most * self.SLOT.size)
@@ -383,7 +383,7 @@ class Run:
         return self.SAVED.unpack_from(self.slots, self.at_saved)
 
     def fail(self, said, at=GOING):
-        """Stores an error. Only the first one is kept."""
+        """Stores an error. Only the first error is kept."""
         if not self.slots[0]:
             said = said.encode()[: self.AT]
             self.slots[: len(said)] = said
@@ -392,8 +392,8 @@ class Run:
     # ---- in the process that watches the run
 
     def ended(self):
-        """Makes the run. Returns why it was cut short and the pending calls, or two empty texts. If it was cut short,
-        writes the last calls.
+        """Makes the run. Returns two texts: the reason if the run was cut short, and the pending calls. Both are empty if the
+        run was completed. If the run was cut short, writes the last calls.
         """
         is_own = self.how.own_process and hasattr(os, "fork") and threading.active_count() == 1
         trouble = self.made_in_child() if is_own else self.made_here()
@@ -413,7 +413,7 @@ class Run:
         return trouble, AND_MORE % (first, len(pending) - 1) if len(pending) > 1 else first
 
     def made_in_child(self):
-        """Makes the run in a child process. Returns why it was cut short, if it was."""
+        """Makes the run in a child process. Returns the reason if the run was cut short."""
         child, status = os.fork(), []
         if child == 0:
             try:
@@ -439,8 +439,8 @@ class Run:
         return ENDED_SO % ended if ended or self.slots[self.AT] == GOING and not self.slots[0] else ""
 
     def made_here(self):
-        """Makes the run in threads of this process. Threads that hang are left running. Returns why the run was cut short,
-        if it was.
+        """Makes the run in threads of this process. Threads that hang are left running. Returns the reason if the run was cut
+        short.
         """
         leader = threading.Thread(target=self.make_all, daemon=True)
         leader.start()
@@ -450,7 +450,7 @@ class Run:
             self.there.abort()
 
     def comes_to_end(self, is_done):
-        """Waits until `is_done` returns true. Returns False if no call begins or ends for `seconds` first."""
+        """Waits until `is_done` returns true. Returns False if no call begins or ends for `seconds` seconds."""
         seen, since, wait = None, time.monotonic(), 0.0005
         while not is_done():
             time.sleep(wait)
@@ -462,7 +462,7 @@ class Run:
         return True
 
     def rows(self):
-        """Returns the calls that have not been saved, in the order in which they began."""
+        """Returns the calls that have not been saved, ordered by start."""
         (_, last), found = self.saved, self.SLOT.iter_unpack(self.slots[self.at_slots :])
         return sorted(Call(begin, 0 if reply == UNKNOWN else end, thread, WORDS[word], key, reply)
                       for begin, end, thread, key, word, reply in found if begin > last)
@@ -488,8 +488,8 @@ class Run:
         self.slots[self.AT] = self.slots[self.AT] or ENDED
 
     def lead(self):
-        """Creates each set and starts the threads on it, part by part. Writes each part to the file after its calls have
-        ended.
+        """Creates the sets one after another and lets the threads call them, part by part. After each part, writes its calls
+        to the file.
         """
         left = []
         try:
@@ -500,7 +500,7 @@ class Run:
                         self.make_set()
                         if self.how.opens_with_keys:
                             self.save(file, self.opening(one), 0)
-                    self.there.wait()  # no thread begins before all have arrived
+                    self.there.wait()  # no thread makes a call before all threads are ready
                     self.there.wait()
                     if (one + 1) % self.parts == 0:
                         left += self.lines_of_keys("key", one)
@@ -517,10 +517,10 @@ class Run:
             self.there.abort()
 
     def save(self, file, lines, last):
-        """Appends lines to the file and marks the calls up to the one that begins at `last` as saved."""
+        """Appends lines to the file and marks all calls as saved up to the call that began at the moment `last`."""
         text = "".join(lines).encode()
         file.write(text)
-        # (a process that ends before this step has its last calls in memory alone)
+        # (if the process ends before this step, its last calls are only in memory)
         self.SAVED.pack_into(self.slots, self.at_saved, self.saved[0] + len(text), last)
 
     def opening(self, one):
@@ -546,7 +546,7 @@ class Run:
 
     def lines_of_keys(self, word, one):
         """Calls `contains` for each key, and retries if the outcome is unknown. Returns a line for each key found, and None
-        for a key whose outcome stays unknown.
+        for each key with an outcome that stays unknown.
         """
         first, lines = one // self.parts * self.shape.keys, []
         for number in range(self.shape.keys):
@@ -577,18 +577,18 @@ class Run:
             self.there.abort()
 
     def call(self, places, of_set, thread, number, draw):
-        """Makes calls. Returns the number of the thread, which changes after an unknown reply."""
+        """Makes calls. Returns the number of the thread: it changes after an unknown reply."""
         before, keys, few = sys.gettrace(), self.shape.keys, min(HOT, self.shape.keys)
         drawn = [word for word, share in enumerate(self.how.shares) for _ in range(share)]
         tracer = pausing(self.how.pauses, random.Random(draw.random()), before) if self.how.pauses else before
         try:
             for at in places:
                 word, number_of_key = draw.choice(drawn), draw.randrange(few if keys > 2 * HOT and draw.random() < 0.5 else keys)
-                if self.how.pauses:  # (of many keys, those that are seldom called overlap no call)
+                if self.how.pauses:  # (with many keys, only calls of frequent keys pause)
                     sys.settrace(tracer if keys <= 64 or number_of_key < few else before)
                 key, at_slot, written = self.how.key_of(number_of_key, self.shape), self.at_slots + at * self.SLOT.size, of_set + number_of_key
                 self.count(thread, at)
-                begin = next(self.tickets)  # (a single step of the interpreter)
+                begin = next(self.tickets)  # (a single step of the interpreter, so each call gets another number)
                 self.SLOT.pack_into(self.slots, at_slot, begin, 0, number, written, word, NO)
                 reply = self.replies_of[word](key)
                 reply = UNKNOWN if reply is None else YES if reply else NO
@@ -610,9 +610,9 @@ def line_of(it):
 
 
 def pausing(pauses, draw, before):
-    """Returns a trace function that lets other threads run before this percentage of the lines of all code outside this
-    file. In one call of ten, it does so also before this percentage of the steps. `before` is the previous trace
-    function, which is called as well.
+    """Returns a trace function that lets other threads run before `pauses` percent of the lines of all code outside this
+    file. In one call of ten, it also does this before `pauses` percent of the bytecode instructions. The trace function also
+    calls `before`, the previous trace function.
     """
 
     def of_frame(inner):
@@ -657,8 +657,8 @@ class Judge:
         return f"{self.name}, {self.proof}"
 
     def judged(self, file: pathlib.Path) -> tuple[int, str]:
-        """Judges a recording. Returns how many calls overlapped a change of their key, and what the judge printed if no
-        order explains them.
+        """Judges a recording. Returns the number of calls that overlapped a change of their key, and the judge's output if no
+        order explains the calls.
         """
         text, status = self.answer(file)
         met = OVERLAPPED.match(text)

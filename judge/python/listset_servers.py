@@ -17,7 +17,7 @@ import socket
 import threading
 import time
 
-OPENING = 30  # seconds for opening a connection again while the server restarts
+OPENING = 30  # seconds to open a connection again while the server restarts
 
 
 class Connection:
@@ -46,7 +46,7 @@ class Connection:
 
     def close(self):
         for it in filter(None, (self.file, self.socket)):
-            with contextlib.suppress(OSError):  # (if bytes were never sent)
+            with contextlib.suppress(OSError):  # (closing fails if bytes were never sent)
                 it.close()
         self.socket = self.file = None
 
@@ -86,7 +86,7 @@ class Server:
 
 
 class Redis(Server):
-    """A set in Redis. It gets a new name, so a late call on an earlier set has no effect on it."""
+    """A set in Redis. Each set has a new name, so a late call on an earlier set has no effect on it."""
 
     REPLIES, made = {":1": True, ":0": False}, 0
 
@@ -111,7 +111,7 @@ class Redis(Server):
 
 
 class Listset(Server):
-    """The set of `listset serve`, which keeps its keys from one run to the next."""
+    """The set of `listset serve`. The server keeps the set's keys from one run to the next."""
 
     REPLIES = {"TRUE": True, "FALSE": False}
 

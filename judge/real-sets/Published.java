@@ -16,9 +16,9 @@ import scala.collection.concurrent.TrieMap;
 import static java.util.Collections.synchronizedSet;
 
 /**
- * Judges the sets of Java, JCTools, H2, Scala and commons-collections, each in a number of tests. The first argument is
- * the number of tests, and the second one, if there is one, the name of the only set to judge. Prints a row of the table
- * for each set, and the shortest refusal on standard error.
+ * Judges the sets of Java, JCTools, H2, Scala and commons-collections, each in a number of tests. The first argument is the
+ * number of tests. An optional second argument is the name of the only set to judge. Prints a row of the table for each set,
+ * and the shortest refusal on standard error.
  */
 final class Published {
     private static int tests = 1;
@@ -49,7 +49,7 @@ final class Published {
         judge(name, make, (map, key) -> map.putIfAbsent(key, true) == null, (map, key) -> map.remove(key) != null, Map::containsKey);
     }
 
-    /** Judges the keys of a map whose only atomic call that adds is {@code put}. */
+    /** Judges the keys of a map. Its only atomic call that adds a key is {@code put}. */
     private static void judgePuts(String name, Judge.Make<Map<Integer, Boolean>> make) {
         judge(name, make, (map, key) -> map.put(key, true) == null, (map, key) -> map.remove(key) != null, Map::containsKey);
     }

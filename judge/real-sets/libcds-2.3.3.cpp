@@ -1,5 +1,6 @@
-// Shows the bug of libcds-2.3.3.md without any judge. One thread inserts and erases key 0. The other one erases it, is told
-// that it is absent, and then finds it, while no insert runs. Ends when this has happened, or after 60 seconds:
+// Shows the bug of libcds-2.3.3.md without any judge. One thread inserts and erases key 0. The other thread erases key 0,
+// gets the reply that the key is absent, and then finds the key, while no insert runs. Ends when this has happened, or after
+// 60 seconds:
 //     g++ -O2 -std=c++17 -pthread libcds-2.3.3.cpp -lcds -o bug && ./bug
 #include <atomic>
 #include <cds/container/skip_list_set_hp.h>
@@ -17,7 +18,7 @@ using Set = cds::container::SkipListSet<cds::gc::HP, unsigned, by_less>;
 
 using Clock = std::chrono::steady_clock;
 
-std::atomic<unsigned> inserts{0};  // odd while an insert runs
+std::atomic<unsigned> inserts{0};  // an odd number while an insert runs
 std::atomic<bool> is_over{false};
 
 void insert_and_erase(Set &set) {

@@ -19,7 +19,7 @@
 #include <functional>
 #include <set>
 
-// Registers a thread with libcds, as is required before its first call.
+// Registers a thread with libcds, as libcds requires before the thread's first call.
 struct attached {
     attached() { cds::threading::Manager::attachThread(); }
     ~attached() { cds::threading::Manager::detachThread(); }
@@ -58,7 +58,7 @@ struct of_cuckoo : cds::container::cuckoo::traits {
     using hash = cds::opt::hash_tuple<first_hash, second_hash>;
     using equal_to = std::equal_to<unsigned>;
 };
-// A key is its own hash.
+// A hash function that returns the key itself.
 struct own_hash {
     const unsigned &operator()(const unsigned &key) const { return key; }
 };
@@ -66,7 +66,7 @@ struct of_feldman : cds::container::feldman_hashset::traits {
     using hash_accessor = own_hash;
 };
 
-// A hash table whose buckets are lists.
+// A hash table with lists as buckets.
 template <class List> struct Hashed : cds::container::MichaelHashSet<cds::gc::HP, List, hashed> {
     Hashed() : cds::container::MichaelHashSet<cds::gc::HP, List, hashed>(64, 4) { }
 };

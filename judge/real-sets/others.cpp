@@ -19,13 +19,13 @@ struct Tbb {
 
 constexpr unsigned long hash_of(unsigned long key) { return key * 0x9E3779B97F4A7C15; }
 
-// A set with one writer at a time and readers that take no lock.
+// A set with one writer at a time. Its readers need no lock.
 struct Ck {
     ck_hs_t keys;
     std::mutex writers;
     static void *allocate(size_t size) { return malloc(size); }
     static void *grow(void *old, size_t, size_t size, bool) { return realloc(old, size); }
-    static void leave(void *, size_t, bool) {}  // (a reader can still use the memory)
+    static void leave(void *, size_t, bool) {}  // (frees nothing: a reader can still use the memory)
     static unsigned long hash(const void *key, unsigned long) { return hash_of(reinterpret_cast<uintptr_t>(key)); }
     static void *of(unsigned key) { return reinterpret_cast<void *>((uintptr_t(key) + 1) * 4); }
     Ck() {
@@ -37,7 +37,7 @@ struct Ck {
     bool contains(unsigned key) { return ck_hs_get(&keys, hash(of(key), 0), of(key)) != nullptr; }
 };
 
-// Registers a thread with liburcu, as is required before its first call.
+// Registers a thread with liburcu, as liburcu requires before the thread's first call.
 struct registered {
     registered() { rcu_register_thread(); }
     ~registered() { rcu_unregister_thread(); }

@@ -1,4 +1,4 @@
-// Package published judges the sets of Go and of golang-lru, each in the number of tests that TESTS says.
+// Package published judges the sets of Go and of golang-lru, each in a number of tests that the variable TESTS sets.
 package published
 
 import (

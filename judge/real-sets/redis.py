@@ -1,5 +1,5 @@
-"""Judges Redis in a number of tests, and Redis whose `contains` reads at a replica: redis.py TESTS. Starts the servers on
-the loopback. Prints a row of the table for each, and the shortest refusal on standard error.
+"""Judges Redis in a number of tests, and also Redis with a `contains` that reads from a replica: redis.py TESTS. Starts the
+servers on the loopback. Prints a row of the table for each, and the shortest refusal on standard error.
 """
 
 import contextlib

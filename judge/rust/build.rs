@@ -1,4 +1,4 @@
-//! Links the judge into the tests if liblistset.a is found in the folder LISTSET_LIB, in `lib` of this crate, or in the
+//! Links the judge into the tests if liblistset.a is found: in the folder LISTSET_LIB, in `lib` of this crate, or in the
 //! `lib` of a release.
 use std::path::{Path, PathBuf};
 use std::{env, fs};

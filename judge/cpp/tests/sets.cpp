@@ -1,5 +1,5 @@
-// Judges the set that the variable SET names, with the options in HOW, such as "threads=4 runs=2". Does so once, or as
-// often as TESTS says. Prints the result and its kind.
+// Judges the set that the variable SET names, with the options in HOW, such as "threads=4 runs=2". Judges it once, or as
+// often as TESTS states. Prints the result and its kind.
 #include "../listset_judge.hpp"
 #include <iostream>
 #include <mutex>
@@ -36,18 +36,18 @@ struct Set : Right<unsigned> {
     ~Set() {
         if (is == "ends when deleted") _exit(3);
     }
-    // Returns the set of a key: the whole set or, with "first use", a set for this key alone. The first call of the
-    // key creates it; two calls can both create it.
+    // Returns the set of a key: the whole set or, with "first use", a set for this key alone. The first call with the key
+    // creates this set. The bug: two calls can both create it.
     right &part(unsigned key) {
         if (is != "first use") return *this;
-        if (!parts[key]) parts[key] = new right;  // (never deleted)
+        if (!parts[key]) parts[key] = new right;  // (a replaced set is never deleted)
         return *parts[key];
     }
-    // Returns the key that the set uses for this one. With "collides", it is the remainder, so different keys are
-    // treated as one.
+    // Returns the key that the set uses instead of `key`. With "collides", this is the remainder modulo 64, so some different
+    // keys are treated as one key.
     unsigned place(unsigned key) const { return is == "collides" ? key % 64 : key; }
 
-    // Loses one reply in fifty: the outcome is then unknown, or the call is repeated.
+    // Makes a call and loses one reply in fifty. The outcome is then unknown, or the call is repeated.
     template <class Call> std::optional<bool> called(Call call) {
         const bool reply = call();
         if ((is != "not known" && is != "again") || ++calls % 50 > 0) return reply;

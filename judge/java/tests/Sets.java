@@ -10,8 +10,8 @@ import java.util.concurrent.locks.LockSupport;
 import java.util.function.BooleanSupplier;
 
 /**
- * Judges the set that the variable SET names, with the options in HOW, such as "threads=4 runs=2". Does so once, or as
- * often as TESTS says. Prints the result and its kind.
+ * Judges the set that the variable SET names, with the options in HOW, such as "threads=4 runs=2". Judges it once, or as
+ * often as TESTS states. Prints the result and its kind.
  */
 final class Sets {
     private Sets() { }
@@ -27,7 +27,7 @@ final class Sets {
         Named() {
             if (is.equals("opens")) addAll(Set.of(1, 3));
             if (is.equals("not made")) throw new IllegalStateException("no room");
-            if (is.equals("ends") && MADE.incrementAndGet() > 1) new Thread(this::end).start(); // (the first set only shows that the other JVM can create one)
+            if (is.equals("ends") && MADE.incrementAndGet() > 1) new Thread(this::end).start(); // (the first set only shows that the other JVM can create a set)
         }
 
         private void end() {
@@ -35,17 +35,19 @@ final class Sets {
             Runtime.getRuntime().halt(3);
         }
 
-        /** Returns the key that the set uses for this one. With "collides", it is the remainder, so different keys are treated as one. */
+        /** Returns the key that the set uses instead of {@code key}. With "collides", this is the remainder modulo 64, so
+         * some different keys are treated as one key. */
         private Integer place(Object key) { return is.equals("collides") ? (Integer) key % 64 : (Integer) key; }
 
-        /** Returns the set of a key. With "first use", the first call of a key creates its set; two calls can both create it. */
+        /** Returns the set of a key. With "first use", the first call with the key creates its set. The bug: two calls can
+         * both create it. */
         private Set<Integer> part(Object key) {
             Set<Integer> found = parts.get(key);
             if (found == null) parts.put(key, found = new ConcurrentSkipListSet<>());
             return found;
         }
 
-        /** Loses one reply in fifty: the outcome is then unknown, or the call is repeated. */
+        /** Makes a call and loses one reply in fifty. The outcome is then unknown, or the call is repeated. */
         private boolean called(BooleanSupplier call) {
             boolean reply = call.getAsBoolean();
             if (!is.equals("not known") && !is.equals("again") || calls.incrementAndGet() % 50 > 0) return reply;
@@ -84,7 +86,7 @@ final class Sets {
         }
     }
 
-    /** A set whose subclasses inherit the three calls. */
+    /** A set with the three calls. Its subclasses inherit them. */
     abstract static class Inherited {
         final Set<Integer> keys = new ConcurrentSkipListSet<>();
 

@@ -1,5 +1,5 @@
-"""Judges the set that the variable SET names, with the options in HOW, such as "threads=4 runs=2". Does so once, or as
-often as TESTS says. Prints the result and its kind.
+"""Judges the set that the variable SET names, with the options in HOW, such as "threads=4 runs=2". Judges it once, or as
+often as TESTS states. Prints the result and its kind.
 """
 
 import os
@@ -44,13 +44,13 @@ class Named(Right):
             threading.Timer(random.random() * 0.04, os._exit, [3]).start()
 
     def __del__(self):
-        """Can end the process when the set is deleted."""
+        """Ends the process when the set is deleted, if the set's name requests this."""
         if self.name == "ends when deleted":
             os._exit(3)
 
     def part(self, key):
-        """Returns the set of a key: the whole set or, with "first use", a set for this key alone. The first call of the
-        key creates it; two calls can both create it.
+        """Returns the set of a key: the whole set or, with "first use", a set for this key alone. The first call with the key
+        creates this set. The bug: two calls can both create it.
         """
         if self.name != "first use":
             return super()
@@ -59,13 +59,13 @@ class Named(Right):
         return self.parts[key]
 
     def place(self, key):
-        """Returns the key that the set uses for this one. With "collides", it is the remainder, so different keys are
-        treated as one.
+        """Returns the key that the set uses instead of `key`. With "collides", this is the remainder modulo 64, so some
+        different keys are treated as one key.
         """
         return key % 64 if self.name == "collides" else key
 
     def called(self, call, key):
-        """Loses one reply in fifty: the outcome is then unknown, or the call is repeated."""
+        """Makes a call and loses one reply in fifty. The outcome is then unknown, or the call is repeated."""
         reply, is_lossy = call(self.place(key)), self.name in ("not known", "again")
         self.calls += is_lossy
         if not is_lossy or self.calls % 50:
@@ -75,7 +75,7 @@ class Named(Right):
     def stop(self):
         """Hangs in a `remove` while holding the lock."""
         self.calls += 1
-        if self.calls >= (10_000 if self.name == "crashes late" else 30):  # (two threads can count at once)
+        if self.calls >= (10_000 if self.name == "crashes late" else 30):  # (>= because two threads can count at the same time)
             with self.lock:
                 STOPS[self.name]()
 

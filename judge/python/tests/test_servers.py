@@ -19,12 +19,12 @@ import listset_judge
 import listset_servers
 
 FEW = {"threads": 4, "calls": 250, "keys": 4, "runs": 4, "pauses": 0}
-SESSIONS = 3 * FEW["runs"] * (FEW["threads"] + 1)  # (a run whose calls did not overlap is made again, up to twice)
+SESSIONS = 3 * FEW["runs"] * (FEW["threads"] + 1)  # (if the calls of a run did not overlap, the run is repeated up to twice)
 SECONDS = 30  # the maximum wait until a server listens or ends
 
 
 class CheckThenAct(listset_servers.Redis):
-    """A client whose `add` takes two requests. Another client's request can come between them."""
+    """A client with an `add` of two requests. Another client's request can arrive between them."""
 
     def add(self, key):
         return not self.contains(key) and (super().add(key) or True)
@@ -84,7 +84,7 @@ class OfRedis(unittest.TestCase):
         self.port = self.started()
 
     def started(self, *more):
-        port, room = free_port(), tempfile.mkdtemp()  # (a replica writes a file there)
+        port, room = free_port(), tempfile.mkdtemp()  # (a replica writes a file in this folder)
         self.addCleanup(shutil.rmtree, room)
         words = ["redis-server", "--bind", "127.0.0.1", "--port", port, "--dir", room, "--save", "", "--appendonly", "no", *more]
         server = subprocess.Popen([*map(str, words)], stdin=subprocess.DEVNULL, stdout=subprocess.DEVNULL)

@@ -47,11 +47,11 @@ enum At {
     Saves,
 }
 
-const SAVES: usize = At::Saves as usize; // twice what is saved: two halves of the length of the file, and the moment up to which it has all calls;
+const SAVES: usize = At::Saves as usize; // two records of the saved part: the file's length in two halves, and the last moment in the file;
 const WHY: usize = SAVES + 6; // then a text, one byte per number: why the run failed;
 const FILE: usize = WHY + 240; // then the path of the file;
 const SLOTS: usize = FILE + 1024; // then the calls,
-const SLOT: usize = 6; // each with end, begin, thread, word, key and reply. Begin and end are 0 until they happen
+const SLOT: usize = 6; // each with end, begin, thread, word, key and reply. Begin and end are 0 until the call begins or ends
 const SIZE: usize = SLOTS + PART as usize * SLOT;
 
 /// The memory of a run. It contains the calls that have not been saved in the file yet.
@@ -64,8 +64,8 @@ pub struct Area {
 struct Row([u32; SLOT]);
 
 impl Row {
-    /// Returns the call as it was at the moment `now`; `None` if it had not begun then, or was saved at the moment
-    /// `saved`. A call that has begun can have the end of a saved call.
+    /// Returns the call as it was at the moment `now`. Returns `None` if the call had not begun then, or was already saved at
+    /// the moment `saved`. (The slot of a pending call can still contain the end of an earlier call.)
     fn as_of(mut self, now: u32, saved: u32) -> Option<Row> {
         let [end, begin, ..] = self.0;
         if end > now || end < begin {
@@ -131,7 +131,7 @@ impl Area {
 
     // ---- its file
 
-    /// Writes lines after the saved ones. Returns the length of the file.
+    /// Writes lines after the saved lines. Returns the length of the file.
     pub fn write(&self, lines: &str) -> io::Result<u64> {
         let [low, high, _] = self.saved();
         let length = u64::from(high) << 32 | u64::from(low);
@@ -142,13 +142,13 @@ impl Area {
         Ok(length + lines.len() as u64)
     }
 
-    /// Appends lines to the file and marks all calls up to this moment as saved. No thread makes a call during this.
+    /// Appends lines to the file and marks all calls up to this moment as saved. Meanwhile, no thread makes a call.
     fn save(&self, lines: &str) {
         let length = self.write(lines).expect(WRITABLE);
         let other = 1 - self.get(At::Save);
         let numbers = [length as u32, (length >> 32) as u32, self.get(At::Tickets)];
         self.memory[SAVES + 3 * other as usize..].iter().zip(numbers).for_each(|(to, it)| to.store(it, SeqCst));
-        self.set(At::Save, other); // (a process that ends before this step has its last calls in memory alone)
+        self.set(At::Save, other); // (if the process ends before this step, its last calls are only in memory)
     }
 
     fn saved(&self) -> [u32; 3] {
@@ -156,9 +156,9 @@ impl Area {
         std::array::from_fn(|it| self.memory[first + it].load(SeqCst))
     }
 
-    /// Returns the lines of the calls that have not been saved, in the order in which they began, and the lines of the
-    /// pending ones. Threads may still be making calls: a call that begins after this function was called is left out,
-    /// and a call that ends after it is pending.
+    /// Returns the lines of the calls that have not been saved, ordered by start, and the lines of the pending calls. Threads
+    /// may be making calls meanwhile: a call that begins after the start of this function is left out, and a call that ends
+    /// after the start of this function is pending.
     pub fn lines(&self) -> (String, String) {
         let (now, [_, _, saved]) = (self.get(At::Tickets), self.saved());
         let slots = self.memory[SLOTS..].chunks(SLOT);
@@ -194,8 +194,8 @@ impl Area {
         self.get(At::Tickets)
     }
 
-    /// Returns whether threads are to be interrupted for longer. On a busy machine, a thread seldom loses its processor
-    /// in the middle of a call, since it makes all its calls before it does.
+    /// Returns whether interrupted threads should sleep for longer. On a busy machine, a thread is seldom preempted during a
+    /// call: often it has made all its calls before it is preempted.
     pub fn interrupts_longer(&self) -> bool {
         self.get(At::IsBusy) == 1 || self.get(At::MeetsOnce) == 1
     }
@@ -204,8 +204,8 @@ impl Area {
         self.get(At::IsHere) == 1
     }
 
-    /// Waits until a run has ended. Returns why it was cut short, if it was. `ended` returns how the process that makes
-    /// the run has ended, if it has.
+    /// Waits until a run has ended. Returns the reason if the run was cut short. `ended` returns how the process that makes
+    /// the run has ended, or `None` while it runs.
     pub fn watch(&self, ended: &dyn Fn() -> Option<String>) -> Result<Option<String>, Failure> {
         let trouble = self.end(ended);
         let phase = self.get(At::Phase);
@@ -216,7 +216,7 @@ impl Area {
         }
     }
 
-    /// Waits until the run is over, its process has ended, or no call has begun or ended for `seconds`. Returns the
+    /// Waits until the run is over, its process has ended, or no call has begun or ended for `seconds` seconds. Returns the
     /// error, if any.
     fn end(&self, ended: &dyn Fn() -> Option<String>) -> Option<String> {
         let (mut seen, mut since) = (self.get(At::Tickets), Instant::now());
@@ -237,7 +237,7 @@ impl Area {
 
     // ---- for the process that makes a run
 
-    /// Makes the runs that the test's process asks for. Never returns.
+    /// Makes the runs that the test's process requests. Never returns.
     pub(crate) fn serve<S: Sync>(&self, source: &Source<S>) -> ! {
         self.set(At::IsHere, 1);
         loop {
@@ -329,7 +329,7 @@ impl<S: Sync> Play<'_, S> {
         left
     }
 
-    /// Starts each part of the calls, waits until it has ended, and saves it in the file.
+    /// Starts each part of the calls, waits until the part has ended, and saves it in the file.
     fn lead(&self) -> Option<String> {
         let area = self.area;
         if area.options.opens_with_keys {
@@ -391,8 +391,8 @@ impl<S: Sync> Play<'_, S> {
         }
     }
 
-    /// Waits until all threads are here, so that they continue at the same time. Polls without sleeping if there is a
-    /// processor for each thread, unless an earlier wait of this kind took too long.
+    /// Waits until all threads have called this function, so that they continue at the same time. Polls without sleeping if
+    /// there is a processor for each thread, unless an earlier wait of this kind lasted too long.
     fn meet(&self) -> bool {
         let processors = std::thread::available_parallelism().map_or(1, |it| it.get());
         let may_be_awake = self.of.threads as usize <= processors && self.area.get(At::IsBusy) == 0;

@@ -1,5 +1,5 @@
-//! Makes runs. On Unix, makes them in a separate process, which runs this test again up to this judge; elsewhere, in
-//! this process.
+//! Makes runs. On Unix, makes them in a separate process, which runs this test again up to this judge. On other systems,
+//! makes them in this process.
 use std::cell::RefCell;
 use std::collections::HashMap;
 use std::fs::File;
@@ -16,7 +16,7 @@ use crate::words::*;
 use crate::{no_verdict, Failure, Options, Shape, Source};
 
 const MEMORY: &str = "LISTSET_AREA"; // the variable that names the file with the shared memory,
-const MINE: &str = "LISTSET_CHECK"; // and the variable that names the judge for which the process was started
+const MINE: &str = "LISTSET_CHECK"; // and the variable that names the judge that the process was started for
 
 /// A temporary file, deleted on drop.
 struct Temporary(PathBuf);
@@ -27,15 +27,15 @@ impl Drop for Temporary {
     }
 }
 
-/// Makes runs in a child process or in this one.
+/// Makes runs in a child process or in this process.
 pub struct Runner {
     pub area: Area,
     child: Option<RefCell<Child>>,
 }
 
 impl Runner {
-    /// Starts a child process, or prepares this one. If this is a child process that was started for this judge, makes
-    /// runs and never returns. If it was started for another judge, returns `None`.
+    /// Starts a child process, or prepares this process for the runs. If this is a child process that was started for this
+    /// judge, makes runs and never returns. If it was started for another judge, returns `None`.
     pub(crate) fn started<S: Sync>(source: &Source<S>, options: &Options) -> Result<Option<Runner>, Failure> {
         let name = name_of_judge();
         if let Ok(mine) = std::env::var(MINE) {
@@ -69,7 +69,7 @@ impl Runner {
         Ok(Runner { area, child: Some(RefCell::new(child)) })
     }
 
-    /// Makes a run. Returns why it was cut short, if it was.
+    /// Makes a run. Returns the reason if the run was cut short.
     pub(crate) fn made<S: Sync>(
         &self,
         source: &Source<S>,
@@ -82,7 +82,7 @@ impl Runner {
         if let Some(child) = &self.child {
             let trouble = area.watch(&|| trouble_of(&mut child.borrow_mut()))?;
             if trouble.is_some() {
-                self.end_child(); // (so that a set that hung does not go on while its run is judged)
+                self.end_child(); // (otherwise a set that hung could continue while its run is judged)
             }
             return Ok(trouble);
         }
@@ -111,8 +111,8 @@ impl Drop for Runner {
     }
 }
 
-/// Returns the name of the test together with the number of its judge. Returns `None` if this thread has no name,
-/// because the test cannot be run again then.
+/// Returns the name of the test, followed by the number of its judge. Returns `None` if this thread has no name: then the
+/// test cannot be run again.
 fn name_of_judge() -> Option<String> {
     static JUDGES: Mutex<Option<HashMap<String, u32>>> = Mutex::new(None);
     let test = std::thread::current().name()?.to_string();
@@ -133,7 +133,7 @@ fn process_of(name: &str, file: &Path) -> std::io::Result<Child> {
     command.env(MINE, name).env(MEMORY, file).stdin(Stdio::piped()).stdout(Stdio::null()).spawn()
 }
 
-/// Makes the runs that the parent process asks for until the parent ends.
+/// Makes the runs that the parent process requests, until the parent ends.
 fn serve<S: Sync>(source: &Source<S>, options: &Options) -> ! {
     let file = std::env::var_os(MEMORY).and_then(|it| File::options().read(true).write(true).open(it).ok());
     let memory = file.and_then(|it| Memory::of(&it, Area::SIZE).ok());

@@ -17,9 +17,9 @@ pub struct Judge {
 
 /// The verdict on a recording.
 pub enum Judged {
-    /// Some order explains the calls. `overlapped` of them overlapped a change of their key.
+    /// Some order explains the calls. `overlapped` is the number of calls that overlapped a change of their key.
     Ok { overlapped: u64 },
-    /// No order explains the calls. Contains what the judge printed.
+    /// No order explains the calls. Contains the judge's output.
     Refused(String),
 }
 
@@ -84,7 +84,7 @@ fn overlapped_in(said: &str) -> Option<u64> {
     said.strip_prefix("ok ")?.lines().nth(1)?.split(" of them").next()?.parse().ok()
 }
 
-/// Returns the line in which a judge states whether it is proved.
+/// Returns the judge's line that states whether the judge is proved.
 fn proof_in(version: &str) -> String {
     version.lines().find(|it| it.starts_with("proof ")).unwrap_or("proof unknown").to_string()
 }
@@ -107,7 +107,8 @@ mod library {
 
     pub fn judge(recording: &std::path::Path) -> std::io::Result<super::Answer> {
         let (file, mut room, mut status) = (std::fs::File::open(recording)?, [0; 8192], 0);
-        // SAFETY: the pointers refer to a buffer of this size and to a status, neither of which anything else accesses.
+        // SAFETY: the pointers refer to a buffer of this size and to a status. Nothing else accesses the buffer or the
+        // status.
         let length = unsafe { listset_judge_from(file.as_raw_fd(), room.as_mut_ptr(), room.len(), &mut status) };
         Ok((Some(status.into()), String::from_utf8_lossy(&room[..length]).trim().to_string()))
     }

@@ -50,8 +50,8 @@ pub struct Options {
     /// The number of keys: 1 to 1,048,576. 0 selects the preset's number. With more than eight keys, half of the calls
     /// use the first four.
     pub keys: u32,
-    /// The percentage of calls before which a thread pauses, for at most a few microseconds: 0 to 100. Unless it is 0,
-    /// threads in the set's own process are also interrupted during calls by the signal SIGURG.
+    /// How often a thread pauses before a call, in percent: 0 to 100. A pause lasts at most a few microseconds. Unless this
+    /// is 0, the signal SIGURG also interrupts threads during calls, if the set has its own process.
     pub pauses: u32,
     /// The number of runs: 1 to 1,000,000. A run uses one set, or several new sets one after another. Run `i` uses the
     /// seed `seed + i`.
@@ -60,7 +60,7 @@ pub struct Options {
     pub seed: u32,
     /// If no call begins or ends for this many seconds, a run is considered hung and is cut short: 1 to 3,600.
     pub seconds: u32,
-    /// No new run begins once the test has taken this many seconds: 1 to 604,800.
+    /// After this many seconds, the test begins no new run: 1 to 604,800.
     pub within: u32,
     /// The test fails with `TooFew` if less than this percentage of the calls overlap a change of their key.
     pub at_least: u32,
@@ -71,8 +71,8 @@ pub struct Options {
     pub own_process: bool,
     /// If `true`, `contains` is called for each key before all other calls to record the opening keys.
     pub opens_with_keys: bool,
-    /// The folder in which the recording of each run is kept. If `None`, only the recording of a failed run is kept, in
-    /// the folder named by the variable `LISTSET_RECORD`, or else in the folder for temporary files.
+    /// The folder for the recordings of all runs. If `None`, only the recording of a failed run is kept, in the folder that
+    /// the variable `LISTSET_RECORD` names, or else in the folder for temporary files.
     pub record: Option<PathBuf>,
 }
 
@@ -103,7 +103,7 @@ pub(crate) struct Range {
 }
 
 /// The sizes of a run: the number of threads, of new sets used one after another, of calls per thread and set, and of
-/// keys. The keys are the multiples of `times`. Threads wait for each other after each `MEET` calls, or only at the
+/// keys. The keys are the multiples of `times`. Threads wait for each other after every `MEET` calls, or only at the
 /// beginning.
 #[derive(Clone, Copy)]
 pub(crate) struct Shape {
@@ -117,7 +117,7 @@ pub(crate) struct Shape {
 }
 
 impl Shape {
-    /// Returns how many calls a thread makes in a part. The last part on a set can have fewer.
+    /// Returns the maximum number of calls of a thread between two saves of the recording, that is, in one part.
     fn rows(&self) -> u32 {
         self.calls.min(PART / self.threads)
     }
@@ -174,9 +174,9 @@ impl Options {
         Ok(it)
     }
 
-    /// Returns a shape whose calls overlap more: with more threads (possibly more than processors), fewer keys and twice
-    /// as many calls, except where these options set them. On a busy machine a thread that waits for another one is not
-    /// interrupted in a call, so threads do not wait for each other.
+    /// Returns the sizes of a run with more overlapping calls: more threads (possibly more than processors), fewer keys and
+    /// twice as many calls in total, unless these options set the numbers. The threads wait for each other only at the
+    /// beginning, because on a busy machine a waiting thread is not interrupted during a call.
     fn harder(&self, it: Shape) -> Shape {
         let processors = std::thread::available_parallelism().map_or(1, |it| it.get()) as u32;
         let threads = if self.threads == 0 { (2 * it.threads).max(processors + 2).min(64) } else { it.threads };
@@ -203,7 +203,7 @@ pub struct Verdict {
 }
 
 impl Verdict {
-    /// Returns `true` if so few calls overlapped that `ok` says little.
+    /// Returns `true` if so few calls overlapped that the verdict `ok` means little.
     fn is_few(&self) -> bool {
         is_few(self.overlapped, self.calls)
     }
@@ -230,7 +230,7 @@ pub struct Failed {
     pub seed: u64,
     /// The name of the run's preset.
     pub name: String,
-    /// What the judge printed. For a run that was cut short, the reason comes first.
+    /// The judge's output. If the run was cut short, the reason precedes this output.
     pub said: String,
     /// The file with the recording.
     pub file: PathBuf,
@@ -244,7 +244,7 @@ pub struct Failed {
 pub enum Failure {
     /// No order explains the run.
     NotLinearizable(Failed),
-    /// The set crashed, hung or panicked. The calls before that were judged.
+    /// The set crashed, hung or panicked. The run's earlier calls were judged.
     CutShort(Failed),
     /// Fewer calls overlapped a change of their key than `at_least` requires.
     TooFew(String),
@@ -269,8 +269,7 @@ impl Debug for Failure {
 
 impl std::error::Error for Failure {}
 
-/// The reply of a call: `bool`, or `Option<bool>` where `None` means that the outcome is unknown, for example after a
-/// timeout.
+/// The reply of a call: `bool` or `Option<bool>`. `None` means that the outcome is unknown, for example after a timeout.
 pub trait Reply {
     fn known(self) -> Option<bool>;
 }
@@ -385,7 +384,7 @@ fn judged<S: Sync>(source: &Source<S>, options: &Options) -> Result<Verdict, Fai
         Some(it) => it,
         None => {
             return Ok(Verdict { calls: 0, overlapped: 0, judge: String::new() });
-            // (in a child process that was started for another judge of the test)
+            // (this is a child process that was started for another judge of the test)
         }
     };
     let judge = Judge::found()?;
@@ -439,7 +438,7 @@ impl<S: Sync> Tester<'_, S> {
         Ok(verdict)
     }
 
-    /// Makes a run and judges it. Returns how many calls overlapped a change of their key.
+    /// Makes a run and judges it. Returns the number of calls that overlapped a change of their key.
     fn judged_run(&self, seed: u64, mut shape: Shape) -> Result<u64, Failure> {
         if self.source.has_keys {
             shape.times = 1;

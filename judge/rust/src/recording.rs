@@ -31,8 +31,8 @@ impl<'a> Recording<'a> {
         }
     }
 
-    /// Judges the recording. Returns how many calls overlapped a change of their key. `trouble` is the reason if the
-    /// run was cut short.
+    /// Judges the recording. Returns the number of calls that overlapped a change of their key. If the run was cut short,
+    /// `trouble` is the reason.
     pub(crate) fn judged<S>(mut self, source: &Source<S>, area: &Area, trouble: Option<String>) -> Result<u64, Failure> {
         let (lines, under_way) = area.lines();
         if trouble.is_some() && area.write(&format!("{lines}cut\n")).is_err() {
@@ -69,7 +69,7 @@ impl<'a> Recording<'a> {
         }
     }
 
-    /// Writes the calls that show why a key is refused to a small file beside the recording. Returns the part of the
+    /// Writes a small file beside the recording, with the calls that show why a key is refused. Returns the part of the
     /// message that names this file.
     fn alone(&self, key: u32) -> String {
         let stem = self.path.file_stem().unwrap_or_default().to_string_lossy();
@@ -86,7 +86,7 @@ fn key_in(refused: &str) -> Option<u32> {
     refused.split("of key ").nth(1)?.split(' ').next()?.parse().ok()
 }
 
-/// Returns the first of several calls' lines, and how many more there are.
+/// Returns the first of several lines of calls, and the number of further lines.
 fn first_of(lines: &str) -> String {
     match lines.lines().count() {
         0 => "no call".to_string(),

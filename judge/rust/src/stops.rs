@@ -1,5 +1,5 @@
 //! Interrupts a thread during its calls for at least a microsecond, with a timer that sends SIGURG to the thread. On a busy
-//! machine, the thread then sleeps until other threads have made calls, up to `PATIENT` times.
+//! machine, the thread then sleeps repeatedly until other threads have made calls, at most `PATIENT` times.
 
 #[cfg(all(target_os = "linux", any(target_arch = "x86_64", target_arch = "aarch64")))]
 mod timer {
@@ -35,7 +35,7 @@ mod timer {
     }
 
     thread_local! {
-        /// The run for which this thread makes calls.
+        /// The run that this thread makes calls in.
         static RUN: Cell<*const Area> = const { Cell::new(null()) };
     }
 
@@ -45,7 +45,7 @@ mod timer {
         pub fn of_this_thread(area: &Area) -> Option<Stops> {
             RUN.with(|run| run.set(area));
             let mut timer = -1i32;
-            // SAFETY: the numbers are those of Linux, the event outlives the call, and the handler only sleeps.
+            // SAFETY: the system calls have Linux's numbers, the event outlives the call, and the handler only sleeps.
             unsafe {
                 let thread = syscall(THREAD) as i32;
                 let event = Event { value: 0, signal: URGENT, notify: TO_THREAD, thread, rest: [0; 11] };
@@ -57,7 +57,7 @@ mod timer {
             Some(Stops(timer))
         }
 
-        /// Interrupts this thread once after this many nanoseconds, whatever it is doing then.
+        /// Interrupts this thread once after this many nanoseconds, wherever the thread is then.
         pub fn after(&self, nanoseconds: u32) {
             let once = [0i64, 0, 0, i64::from(nanoseconds)];
             // SAFETY: the array has the layout of an `itimerspec`.

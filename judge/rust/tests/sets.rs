@@ -1,5 +1,5 @@
-//! Judges the set that the variable SET names, with the options in HOW, such as "threads=4 runs=2". Does so once, or as
-//! often as TESTS says. Prints the result and its kind.
+//! Judges the set that the variable SET names, with the options in HOW, such as "threads=4 runs=2". Judges it once, or as
+//! often as TESTS states. Prints the result and its kind.
 use std::collections::{BTreeMap, BTreeSet};
 use std::sync::atomic::{AtomicU32, Ordering::SeqCst};
 use std::sync::{Arc, Mutex};
@@ -48,8 +48,8 @@ impl Set {
         Set { is, keys: Right(Mutex::new(keys)), calls: AtomicU32::new(0), parts: Mutex::default() }
     }
 
-    /// Makes a call. With "first use", each key has its own set, which its first call creates; two calls can both
-    /// create it. With "collides", keys with the same remainder are treated as one key.
+    /// Makes a call. With "first use", each key has its own set. The first call with the key creates this set; the bug is
+    /// that two calls can both create it. With "collides", keys with the same remainder are treated as one key.
     fn call(&self, call: fn(&Right<u32>, &u32) -> bool, key: u32) -> bool {
         if self.is != "first use" {
             return call(&self.keys, &if self.is == "collides" { key % 64 } else { key });
@@ -63,7 +63,7 @@ impl Set {
         call(&part, &key)
     }
 
-    /// Loses one reply in fifty: the outcome is then unknown, or the call is repeated.
+    /// Makes a call and loses one reply in fifty. The outcome is then unknown, or the call is repeated.
     fn called(&self, call: fn(&Right<u32>, &u32) -> bool, key: u32) -> Option<bool> {
         let reply = self.call(call, key);
         let is_lost = ["not known", "again"].contains(&&*self.is) && self.calls.fetch_add(1, SeqCst) % 50 == 49;
@@ -74,8 +74,8 @@ impl Set {
         }
     }
 
-    /// Hangs in a `remove` while holding the lock. If it panics instead, the lock is poisoned, and other threads that
-    /// find it poisoned panic too.
+    /// Hangs in a `remove` while holding the lock. If it panics instead, the lock is poisoned, and other threads that attempt
+    /// to acquire the lock panic too.
     fn stop(&self) {
         let _held = (self.is != "throws").then(|| self.keys.0.lock().unwrap());
         match (&*self.is, self.calls.fetch_add(1, SeqCst)) {
@@ -114,7 +114,7 @@ impl Set {
 }
 
 impl Drop for Set {
-    /// Can end the process when the set is dropped.
+    /// Ends the process when the set is dropped, if the variable SET requests this.
     fn drop(&mut self) {
         if self.is == "ends when deleted" {
             std::process::exit(3);
@@ -176,7 +176,7 @@ fn print() {
 
 static COUNTED: Mutex<u64> = Mutex::new(0);
 
-/// A correct set whose `add` takes a lock that another test holds nearly all the time.
+/// Judges a correct set with an `add` that needs a lock. Another test holds this lock nearly all the time.
 #[test]
 fn another_test_holds_a_lock() {
     let holder = std::thread::spawn(|| {
