@@ -218,13 +218,14 @@ def judge(make: Callable[[], Any], *, threads: int | None = None, calls: int | N
     CutShort if the set crashes or hangs.
 
     threads -- the number of threads that call a set at the same time: 1 to 64; None selects the preset's number
-    calls -- the number of calls of each thread: at least 1, and at most 1,000,000,000 for all threads together; None selects
-    the preset's number; after every 20,000 calls, the threads wait until these calls are written to the file keys -- the
-    number of keys: 1 to 1,048,576; None selects the preset's number; with more than eight keys, half of
+    calls -- the number of calls of each thread: at least 1, and at most 1,000,000,000 for all threads together; None
+             selects the preset's number; after every 20,000 calls, the threads wait until these calls are written to the
+             file
+    keys -- the number of keys: 1 to 1,048,576; None selects the preset's number; with more than eight keys, half of
             the calls use the first four
     key -- converts a number to a key; must return a different key for each number
-    pauses -- the percentage of the set's lines, and in one call of ten also of its steps, before which a thread lets
-              others run: 0 to 100
+    pauses -- how often a thread lets other threads run before a line of the set, in percent: 0 to 100; in one call of
+              ten, also before a bytecode instruction
     runs -- the number of runs: 1 to 1,000,000; a run calls one set, or several new sets one after another
     seed -- the random seed for the calls, keys and pauses of the first run; each later run uses the next seed
     seconds -- if no call begins or ends for this many seconds, a run is considered hung and is cut short: 1 to 3,600
@@ -234,8 +235,8 @@ def judge(make: Callable[[], Any], *, threads: int | None = None, calls: int | N
     own_process -- if False, sets are called in this process, which crashes or hangs with them; useful for debuggers
                    and coverage
     opens_with_keys -- if True, `contains` is called for each key before all other calls to record the opening keys
-    record -- the folder for the recordings of all runs; if None, only the recording of a failed run is kept, in the folder
-    that the variable LISTSET_RECORD names, or else in the folder for temporary files
+    record -- the folder for the recordings of all runs; if None, only the recording of a failed run is kept, in the
+              folder that the variable LISTSET_RECORD names, or else in the folder for temporary files
 
     If a call returns None, its outcome is unknown, for example after a timeout.
     """
