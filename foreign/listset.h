@@ -1,16 +1,15 @@
 // listset.h: sorted-list sets that threads share, and the judge of their calls, for C99.
 //
-// THE JUDGE: each function reads a text, and returns a text and the exit status of the program `listset`. A function
-// writes what the program would print, its output or the line about its error, to the start of `room`. It returns the
-// length of this text in bytes and sets `*status`. If the length is greater than `size`, nothing is written to `room`:
-// call again with a buffer of that length, or use `listset_said`, which does so.
+// THE JUDGE: each function reads a text, and returns a text and the exit status of the program `listset`. A function writes
+// the program's output, or the line about its error, to the start of `room`. It returns the length of this text in bytes and
+// sets `*status`. If the length is greater than `size`, nothing is written to `room`: call again with a buffer of that
+// length, or use `listset_said`, which does so.
 //
 //     size_t length;
 //     uint8_t status;
 //     char *said = listset_said(listset_check, report, strlen(report), &length, &status);
 //
-// docs/FOREIGN.md names the functions whose printed text is proved. The caller has four duties, which
-// nothing checks:
+// docs/FOREIGN.md names the functions whose printed text is proved. The caller has four duties, which no function checks:
 // - No pointer is null, even if the length beside it is 0.
 // - The room does not overlap a text. During a call, no other thread writes to the text or accesses the room or the
 //   status.
@@ -41,14 +40,14 @@
 // is empty or vice versa, if two seats to gather have different lists or numbers, if a set is closed while seats are
 // out, if sizes or keys are outside of their limits, and if an allocation fails.
 //
-// The caller has three more duties, which nothing checks:
+// The caller has three further duties, which no function checks:
 // - A seat is initialized with LISTSET_NONE, written only by these functions, passed by its address, and never copied.
 // - Only one thread at a time calls from a seat. A seat is passed to another thread by starting or joining that thread,
 //   or under a lock.
 // - Sets that are open at the same time have different numbers, and a new set does not have the number of any remaining
-//   receipt. A function that takes two seats, or a seat and a receipt, gets two different ones.
+//   receipt. If a function has two seats, or a seat and a receipt, as arguments, the caller passes two different ones.
 //
-// A call that needs a lock that another thread holds waits for it: it spins, and then yields the processor.
+// If a call needs a lock that another thread holds, the call waits: it spins, and then yields the processor.
 #ifndef LISTSET_H
 #define LISTSET_H
 
@@ -60,7 +59,7 @@
 
 #define LISTSET_VERSION_NUMBER 100 /* of this header: 10203 is the version 1.2.3 */
 #define LISTSET_USED __attribute__((warn_unused_result))
-#define LISTSET_BYTE __attribute__((packed)) // Makes an enum one byte large, as the functions return it.
+#define LISTSET_BYTE __attribute__((packed)) // Makes an enum one byte large: the functions return it in this size.
 
 #ifdef __cplusplus
 extern "C" {
@@ -109,8 +108,8 @@ size_t listset_trace_with_chains(const char *schedule, size_t length, char *room
 /// Expands a draft into a schedule.
 size_t listset_draft(const char *draft, size_t length, char *room, size_t size, uint8_t *status);
 
-/// The part of a run to draw: the first and the last moment, and the number of columns. For each of them, 0 selects the
-/// default.
+/// The part of a run to draw: the first and the last moment, and the number of columns. 0 selects the default for each of
+/// these numbers.
 typedef struct {
   uint32_t from, to, width;
 } listset_window;
@@ -123,17 +122,17 @@ typedef struct {
 } listset_plan;
 
 /// Draws a schedule or a report as text. `options` are the values of --from, --to and --width, separated by zero bytes;
-/// each is empty, or `=` and a number. `listset_draw` takes a `listset_window` instead.
+/// each is empty, or `=` and a number. `listset_draw` has a `listset_window` as its argument instead of `options`.
 size_t listset_show(const char *text, size_t length, const char *options, size_t options_length, char *room, size_t size,
                     uint8_t *status);
 
-/// Draws a schedule or a report as an SVG. `options` are those of `listset_show`. `listset_draw_svg` takes a
-/// `listset_window` instead.
+/// Draws a schedule or a report as an SVG. `listset_show` documents `options`. `listset_draw_svg` has a `listset_window` as
+/// its argument instead of `options`.
 size_t listset_show_svg(const char *text, size_t length, const char *options, size_t options_length, char *room, size_t size,
                         uint8_t *status);
 
-/// Generates a schedule. `values` are KIND THREADS QUOTA CALLS KEYS SEED, separated by zero bytes. `listset_generate`
-/// takes a `listset_plan` instead.
+/// Generates a schedule. `values` are KIND THREADS QUOTA CALLS KEYS SEED, separated by zero bytes. `listset_generate` has a
+/// `listset_plan` as its argument instead of `values`.
 size_t listset_gen(const char *values, size_t length, char *room, size_t size, uint8_t *status);
 
 /// Returns the names of all examples, each with its list and a description.
@@ -142,7 +141,7 @@ size_t listset_examples(char *room, size_t size, uint8_t *status);
 /// Returns the schedule of the example with this name.
 size_t listset_example(const char *name, size_t length, char *room, size_t size, uint8_t *status);
 
-/// Returns a report that belongs to the example with this name: the report of a run without the check that the example
+/// Returns the broken report of the example with this name: the report of a run on a list without the check that the example
 /// is about.
 size_t listset_broken_example(const char *name, size_t length, char *room, size_t size, uint8_t *status);
 
@@ -179,8 +178,8 @@ typedef enum LISTSET_BYTE listset_answer {
   LISTSET_NO_SEAT = 255    ///< The seat is empty or a closed set; or the call gave up after 2^64 - 1 rounds, and the seat is lost.
 } listset_answer;
 
-/// The reply of a call, to be compared like `reply.is == LISTSET_TRUE`. It is a struct, so that it does not compile as
-/// a condition or as a fault.
+/// The reply of a call. Compare it like `reply.is == LISTSET_TRUE`. It is a struct, so that it does not compile as a
+/// condition or as a fault.
 typedef struct listset_reply {
   listset_answer is;
 } listset_reply;
@@ -205,14 +204,14 @@ typedef enum LISTSET_BYTE listset_fault {
 /// Returns a constant sentence that describes a fault.
 const char *listset_fault_text(listset_fault fault);
 
-/// Opens a set with `seats` seats, each of which may add `quota` keys, and with the `count` keys in `keys`, which must
-/// be in strictly increasing order. Stores a seat that contains all others in `out`, which must be empty. No other open
-/// set may have the same `number`, because `listset_gather` uses it to compare the sets of two seats.
+/// Opens a set with `seats` seats and with the `count` keys in `keys`, which must be in strictly increasing order. Each seat
+/// may add `quota` keys. Stores a seat that contains all other seats in `out`, which must be empty. No other open set may
+/// have the same `number`, because `listset_gather` uses it to compare the sets of two seats.
 LISTSET_USED listset_fault listset_open(listset_list kind, uint32_t seats, uint32_t quota, uint64_t number, const uint32_t *keys,
                                         size_t count, listset_seat *out);
 
-/// Splits a seat off `seat` and stores it in `out`, which must be empty. Returns LISTSET_NO_MORE if no seat can be
-/// split off, as is the case once `seat` has gathered another one.
+/// Splits a seat off `seat` and stores it in `out`, which must be empty. Returns LISTSET_NO_MORE if no seat can be split off:
+/// `seat` contains no other seat, or has gathered a seat.
 LISTSET_USED listset_fault listset_split(listset_seat *seat, listset_seat *out);
 
 /// Adds a key. Replies LISTSET_TRUE if the key was absent, LISTSET_FALSE if it was present, and LISTSET_FULL if it is
@@ -229,8 +228,8 @@ LISTSET_USED listset_reply listset_contains(listset_seat *seat, uint32_t key);
 /// lock-free list the call can wait until another thread adds or removes a key.
 LISTSET_USED listset_reply listset_ceiling(listset_seat *seat, uint32_t key, uint32_t *at);
 
-/// Replies like `listset_contains`, but waits for no lock and makes at most `listset_most_reads` steps, whatever the
-/// other threads do. Only for lazy and lock-free lists: on any other list, makes no call and replies LISTSET_MAY_BLOCK.
+/// Replies like `listset_contains`, but waits for no lock and makes at most `listset_most_reads` steps, whatever other
+/// threads do. Only for lazy and lock-free lists: on any other list, makes no call and replies LISTSET_MAY_BLOCK.
 LISTSET_USED listset_reply listset_contains_now(listset_seat *seat, uint32_t key);
 
 /// Returns the maximum number of steps of `listset_contains_now` on a list that was opened with `seats` seats, this
@@ -241,19 +240,19 @@ uint64_t listset_most_reads(uint32_t seats, uint32_t quota, uint32_t opening);
 /// another thread with any message.
 LISTSET_USED listset_fault listset_receipt_of(listset_seat *seat, listset_receipt *out);
 
-/// Passes a receipt of this set to `seat`. All later calls of `seat` come after every call that the receipt covers.
-/// `given` is empty afterwards.
+/// Passes a receipt of this set to `seat`. In the order of all calls, later calls of `seat` follow every call that the
+/// receipt covers. `given` is empty afterwards.
 LISTSET_USED listset_fault listset_after(listset_seat *seat, listset_receipt *given);
 
-/// Returns how many of its set's seats `seat` contains, including itself, and writes the number of all seats of the set
-/// to `*all`. Both are 0 if `seat` is empty or a closed set.
+/// Returns the number of its set's seats that `seat` contains, including itself. Writes the number of all seats of the set to
+/// `*all`. Both numbers are 0 if `seat` is empty or a closed set.
 uint64_t listset_seats_within(listset_seat *seat, uint32_t *all);
 
 /// Merges `from`, including all seats that it contains, into `into`. `from` is empty afterwards.
 LISTSET_USED listset_fault listset_gather(listset_seat *into, listset_seat *from);
 
-/// Closes the set. `seat` must contain all of its seats; afterwards it has the final keys. If allocating them fails,
-/// the set stays open.
+/// Closes the set. `seat` must contain all seats of the set; afterwards it has the final keys. If their allocation fails, the
+/// set stays open.
 LISTSET_USED listset_fault listset_close(listset_seat *seat);
 
 /// Copies the keys of a closed set to `room` in strictly increasing order, if `places` is large enough. Returns the
@@ -265,7 +264,7 @@ size_t listset_keys(listset_seat *closed, uint32_t *room, size_t places);
 /// lost, and the call can be repeated.
 LISTSET_USED listset_fault listset_close_all(listset_seat *seats, size_t places);
 
-/// Closes the set whose seats are all in the array `seats`, and opens a set of the list `kind` with its keys.
+/// Closes a set, and opens a set of the list `kind` with the same keys. The array `seats` must contain all seats of the old set.
 /// Afterwards the first `count` places (at most `places`) contain the seats of the new set, each with this quota.
 /// During the call, no other thread may use any of the seats.
 ///
@@ -282,7 +281,7 @@ void listset_drop(listset_seat *seat);
 /// Drops a receipt; `receipt` is empty afterwards.
 static inline void listset_drop_receipt(listset_receipt *receipt) { listset_drop((listset_seat *)receipt); }
 
-// The type of a drawing function, and the call that both inline functions below make.
+// The type of the two drawing functions, and the call that both inline functions below make.
 typedef size_t listset_drawing(const char *, size_t, const char *, size_t, char *, size_t, uint8_t *);
 
 static inline size_t listset_drawn(listset_drawing *function, const char *text, size_t length, const listset_window *window, char *room,
@@ -315,7 +314,7 @@ static inline size_t listset_generate(const listset_plan *plan, char *room, size
   return listset_gen(values, (size_t)count, room, size, status);
 }
 
-/// A function of the judge that takes one text.
+/// The type of a function of the judge whose only input is one text.
 typedef size_t listset_function(const char *text, size_t length, char *room, size_t size, uint8_t *status);
 
 /// Calls `function` with a text. Returns its output in a block with a zero byte at the end, which the caller must free,

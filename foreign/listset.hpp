@@ -40,7 +40,7 @@ struct said {
   bool is_ok() const { return status == LISTSET_OK; }
 };
 
-/// Calls `call(room, size, &status)`, and repeats the call with a larger buffer if the first one was too short. Throws
+/// Calls `call(room, size, &status)`. If the buffer was too short, repeats the call with a larger buffer. Throws
 /// std::bad_alloc if an allocation fails.
 template <typename Call> said said_by(Call call) {
   said made{std::string(4096, '\0'), LISTSET_OK};
@@ -54,7 +54,7 @@ template <typename Call> said said_by(Call call) {
   }
 }
 
-/// Returns the text with a pointer that is not null even if the text is empty.
+/// Returns the same text, with a pointer that is not null even if the text is empty.
 inline std::string_view placed(std::string_view text) { return text.data() == nullptr ? std::string_view("") : text; }
 
 /// Calls a function of the judge with a text.
@@ -78,7 +78,7 @@ inline said check(std::string_view report) { return of_text(listset_check, repor
 inline said draft(std::string_view draft) { return of_text(listset_draft, draft); }
 /// Returns the schedule of the example with this name.
 inline said example(std::string_view name) { return of_text(listset_example, name); }
-/// Returns a report that belongs to the example with this name: the report of a run without the check that the example
+/// Returns the broken report of the example with this name: the report of a run on a list without the check that the example
 /// is about.
 inline said broken_example(std::string_view name) { return of_text(listset_broken_example, name); }
 /// Returns the names of all examples, each with its list and a description.
@@ -91,8 +91,8 @@ inline said trace(std::string_view schedule, bool with_chains = false) {
   return of_text(with_chains ? listset_trace_with_chains : listset_trace, schedule);
 }
 
-/// The part of a run to draw: the first and the last moment, and the number of columns. For each of them, 0 selects the
-/// default.
+/// The part of a run to draw: the first and the last moment, and the number of columns. 0 selects the default for each of
+/// these numbers.
 using window = listset_window;
 
 /// Draws a schedule or a report, as text or as an SVG.
@@ -161,7 +161,7 @@ public:
   seat() = default;
   seat(seat &&other) noexcept : raw(std::exchange(other.raw, listset_seat LISTSET_NONE)) {}
   seat &operator=(seat &&other) noexcept {
-    seat moved(std::move(other)); // The destructor drops what this seat contained.
+    seat moved(std::move(other)); // The destructor of `moved` drops the old contents of this seat.
     std::swap(raw, moved.raw);
     return *this;
   }
@@ -186,7 +186,7 @@ public:
   bool contains(uint32_t key) { return by(listset_contains, key) == LISTSET_TRUE; }
 
   /// Returns whether a key is in the set, like `contains`, but waits for no lock and makes at most `most_reads` steps,
-  /// whatever the other threads do. Only for lazy and lock-free lists: on any other list, throws with
+  /// whatever other threads do. Only for lazy and lock-free lists: on any other list, throws with
   /// LISTSET_READS_BLOCK.
   bool contains_now(uint32_t key) {
     listset_answer answer = by(listset_contains_now, key);
@@ -210,22 +210,22 @@ public:
     return made;
   }
 
-  /// Accepts a receipt: all later calls of this seat come after every call that the receipt covers. If it throws,
-  /// both are unchanged.
+  /// Accepts a receipt. In the order of all calls, later calls of this seat follow every call that the receipt covers. If
+  /// this function throws, the seat and the receipt are unchanged.
   void after(listset::receipt &&given) {
     use held(*this);
     tell(listset_after(&raw, &given.raw));
   }
 
-  /// Merges another seat of the set into this one. If it throws, both are unchanged.
+  /// Merges another seat of the set into this one. If this function throws, both seats are unchanged.
   void gather(seat &&from) {
     if (&from == this) throw fault(LISTSET_NO_GATHER);
     use held(*this), other(from);
     tell(listset_gather(&raw, &from.raw));
   }
 
-  /// Closes the set and returns its final keys. This seat must contain all others. If it throws, nothing is lost, and
-  /// the call can be repeated.
+  /// Closes the set and returns its final keys. This seat must contain all other seats. If this function throws, nothing is
+  /// lost, and the call can be repeated.
   std::vector<uint32_t> close() {
     use held(*this);
     const listset_fault code = listset_close(&raw);
@@ -240,7 +240,7 @@ private:
   listset_seat raw = LISTSET_NONE;
   std::atomic<bool> is_used{false};
 
-  // Marks a seat as used by one call. The constructor throws if another thread is using the seat.
+  // Marks a seat as in use during a call. The constructor throws if another thread is using the seat.
   class use {
     seat &of;
 
@@ -277,7 +277,7 @@ inline uint64_t next_number() {
   return sets++;
 }
 
-/// Opens a set with keys in strictly increasing order. Returns a seat that contains all others.
+/// Opens a set with keys in strictly increasing order. Returns a seat that contains all other seats.
 inline seat open(list kind, uint32_t seats, uint32_t quota, const std::vector<uint32_t> &keys = {}) {
   seat made;
   uint32_t none = 0;
@@ -286,9 +286,9 @@ inline seat open(list kind, uint32_t seats, uint32_t quota, const std::vector<ui
   return made;
 }
 
-/// Closes the set whose seats are all in `seats`, and opens a set of the list `kind` with its keys. Afterwards, `seats`
-/// contains the `count` seats of the new set, each with this quota. If it throws, nothing is lost: `seats` contains all
-/// seats or the closed set, and the call can be repeated.
+/// Closes a set, and opens a set of the list `kind` with the same keys. `seats` must contain all seats of the old set.
+/// Afterwards, `seats` contains the `count` seats of the new set, each with this quota. If this function throws, nothing is
+/// lost: `seats` contains all seats or the closed set, and the call can be repeated.
 inline void renew(std::vector<seat> &seats, list kind, uint32_t count, uint32_t quota) {
   if (count > 64) throw fault(LISTSET_BAD_SEATS);
   seats.resize(std::max<size_t>(seats.size(), count));
@@ -305,14 +305,14 @@ inline void renew(std::vector<seat> &seats, list kind, uint32_t count, uint32_t 
 ///
 /// A thread gets its own seat from `split`; the seat's destructor returns it. Calls wait during a renewal. The renewal
 /// waits for pending calls, but not for threads that are between two calls. A call waits for another call for at most
-/// `patience`; after that it throws with LISTSET_TIMED_OUT and has no effect. docs/FOREIGN.md states what is promised
-/// about the order of calls.
+/// `patience`; after that it throws with LISTSET_TIMED_OUT and has no effect. docs/FOREIGN.md states the promises about the
+/// order of calls.
 class renewed_set {
   // A place in the set: a seat with its lock, and whether a thread has the seat.
   struct alignas(128) place {
     std::mutex lock;
     listset_seat raw = LISTSET_NONE;
-    uint32_t adds = 0, removes = 0; // How many calls of each kind changed the set since it was last opened.
+    uint32_t adds = 0, removes = 0; // The numbers of adds and of removes that changed the set since it was last opened.
     std::atomic<bool> is_taken{false};
   };
   enum class stage { open, to_be_renewed, closed };
@@ -322,7 +322,7 @@ class renewed_set {
   const list kind;
   const uint32_t quota;
   const std::chrono::nanoseconds patience;
-  std::mutex renewing; // Locked before all places are.
+  std::mutex renewing; // Must be locked before a thread locks all places.
   std::atomic<bool> is_wanted{false}; // A thread has waited long for the locks, so the next calls of other threads wait for this thread.
   std::deque<place> places;
   // The stage and the number of opening keys change only while all places are locked.
@@ -332,12 +332,12 @@ class renewed_set {
   static constexpr size_t MOST_OPENING = 1 << 20;
   static constexpr std::chrono::milliseconds LONG{5};
 
-  // Locks `lock`. The thread that holds it can be in a `ceiling` of a lock-free list, which may retry until another
-  // call unlinks a marked node. An `add` from `helper` unlinks the node; it changes no key if the seat of `helper` has
+  // Locks `lock`. The thread that holds `lock` can be in a `ceiling` of a lock-free list, which may retry until another call
+  // unlinks a marked node. An `add` from the place `helper` unlinks the node, and changes no key if the seat of `helper` has
   // used up its quota.
   //
-  // A thread with a helper locks all places. After 5 ms, the next calls of the other threads wait for it, unless such a
-  // call could be needed as a helper.
+  // A thread with a helper locks all places. After 5 ms, the next calls of other threads wait for this thread, unless such a
+  // call could be needed to unlink the node.
   held taken(std::mutex &lock, place *helper = nullptr) {
     held it(lock, std::try_to_lock);
     for (const clock::time_point begun = clock::now(); !it; it.try_lock()) {
@@ -346,7 +346,7 @@ class renewed_set {
       const bool is_full = helper && helper->adds == quota;
       if (kind == list::lock_free && is_full && now == stage::open) static_cast<void>(add_from(*helper, UINT32_MAX));
       if (helper && (kind != list::lock_free || is_full) && waited > LONG) is_wanted = true;
-      // (With a quota of 100, calls took 1.1 to 4 times as long when a thread yielded the processor before it slept.)
+      // (With a quota of 100, calls were 1.1 to 4 times slower if a thread yielded the processor before it slept.)
       std::this_thread::sleep_for(std::chrono::microseconds(50));
     }
     return it;
@@ -380,7 +380,7 @@ class renewed_set {
     return keys;
   }
 
-  // Makes a call with all seats, whose places must be locked.
+  // Makes a call with an array of all seats. The places of the seats must be locked.
   template <typename Call> void by_all(Call call) {
     std::array<listset_seat, 64> raws;
     now = stage::to_be_renewed;
@@ -420,11 +420,11 @@ class renewed_set {
     return answer;
   }
 
-  // Renews the set and adds a key from `mine`, whose seat has used up its quota.
+  // Renews the set and adds a key from the place `mine`. Called if the seat of `mine` has used up its quota.
   added add_renewed(place &mine, uint32_t key) {
     all_taken all(*this, mine);
     if (now == stage::open) {
-      const added answer = add_from(mine, key); // Another thread may have renewed the set in the meantime.
+      const added answer = add_from(mine, key); // Before this call, another thread can have renewed the set.
       if (answer != added::is_full || keys_now() > MOST_OPENING || quota == 0) return answer;
     }
     renew_taken();
@@ -432,7 +432,7 @@ class renewed_set {
   }
 
 public:
-  /// A thread's seat in the set. Only one thread at a time may use it. The set must outlive it.
+  /// A thread's seat in the set. Only one thread at a time may use it. The set must outlive the seat.
   class own_seat {
     renewed_set *set;
     place *mine;
@@ -454,13 +454,13 @@ public:
       if (mine != nullptr) mine->is_taken = false;
     }
 
-    /// Adds a key, and renews the set if the seat has used up its quota. Returns `is_full` only if the quota is 0, or
-    /// if the set has more than 1,048,576 keys, with which no set can be opened.
+    /// Adds a key, and renews the set if the seat has used up its quota. Returns `is_full` only if the quota is 0, or if the
+    /// set has more than 1,048,576 keys: no set can be opened with so many keys.
     added add(uint32_t key) {
       const auto call = [&](place &it) { return add_from(it, key); };
       added answer = by(call);
       if (answer == added::is_full) {
-        set->taken(set->renewing).unlock(); // Another thread may be renewing the set.
+        set->taken(set->renewing).unlock(); // Waits while another thread renews the set.
         answer = by(call);
       }
       return answer == added::is_full ? set->add_renewed(*mine, key) : answer;
@@ -489,8 +489,8 @@ public:
     }
   };
 
-  /// Opens a set with 1 to 64 seats, each of which can add `quota` keys before the set is renewed, and with keys in
-  /// strictly increasing order.
+  /// Opens a set with 1 to 64 seats and with keys in strictly increasing order. A seat can add `quota` keys before the set is
+  /// renewed.
   renewed_set(list kind, uint32_t seats, uint32_t quota, const std::vector<uint32_t> &keys = {},
               std::chrono::nanoseconds patience = std::chrono::nanoseconds::max())
       : kind(kind), quota(quota), patience(patience), opened_with(keys.size()) {
@@ -516,8 +516,7 @@ public:
     throw fault(LISTSET_NO_MORE);
   }
 
-  /// Renews the set and returns the keys that it has at that moment. Throws with LISTSET_BAD_KEYS if there are more
-  /// than 1,048,576.
+  /// Renews the set and returns its keys at this moment. Throws with LISTSET_BAD_KEYS if there are more than 1,048,576.
   std::vector<uint32_t> keys() {
     all_taken all(*this, places.front());
     if (keys_now() > MOST_OPENING) throw fault(LISTSET_BAD_KEYS);
@@ -526,8 +525,8 @@ public:
     return keys;
   }
 
-  /// Closes the set and returns its final keys. Throws with LISTSET_SEATS_OUT while a thread has a seat; the set is
-  /// unchanged then.
+  /// Closes the set and returns its final keys. If a thread has a seat, throws with LISTSET_SEATS_OUT and does not change the
+  /// set.
   std::vector<uint32_t> close() {
     all_taken all(*this, places.front());
     for (place &it : places)
@@ -539,9 +538,8 @@ public:
   }
 };
 
-/// A set with a pool of seats, which any number of threads may call. A call uses a seat that no other call is using, or
-/// waits for one. Two calls of one thread can use different seats, so not even the order of a thread's own calls is
-/// guaranteed.
+/// A set with a pool of seats, which any number of threads may call. A call uses a seat that no other call is using, or waits
+/// for a seat. Two calls of one thread can use different seats, so not even the order of a thread's own calls is guaranteed.
 class shared {
   struct alignas(128) place {
     std::mutex lock;
@@ -555,7 +553,7 @@ class shared {
     return places.front();
   }
 
-  // Makes a call from a free seat. Each thread starts its search at its own place.
+  // Makes a call from a free seat. Threads start their search at different places, if there are enough places.
   template <typename Call> auto by(Call call) {
     first();
     static std::atomic<size_t> threads{0};
@@ -595,8 +593,8 @@ public:
   /// Returns the smallest key of the set that is at least `key`. Can block, like `seat::ceiling`.
   std::optional<uint32_t> ceiling(uint32_t key) { return by([&](seat &it) { return it.ceiling(key); }); }
 
-  /// Closes the set and returns its final keys. No call may use the set any more. Throws if an allocation fails; the
-  /// call can then be repeated.
+  /// Closes the set and returns its final keys. No later call may use the set. Throws if an allocation fails; `close` can
+  /// then be repeated.
   std::vector<uint32_t> close() {
     seat &all = first().mine;
     for (; places.size() > 1; places.pop_back()) all.gather(std::move(places.back().mine));

@@ -26,8 +26,8 @@ A `Shared` set can be called by any thread. A `RenewedSet` has seats that do not
 Keys, numbers of seats and quotas are integers from 0 to 4294967295. An integer out of range raises ValueError, and
 anything else raises TypeError; the set is unchanged then.
 
-The library is loaded from the folder LISTSET_LIB if that is set, otherwise from where foreign/build installs it beside
-this file.
+The library is loaded from the folder LISTSET_LIB if that is set, otherwise from the folder of this file, or from lib of an
+installation by foreign/build.
 """
 
 import builtins
@@ -52,9 +52,9 @@ FIRST_ROOM = 1 << 16  # bytes
 
 
 class Wrong(Exception):
-    """The program's error. `status` is 1 for a wrong text, 2 for a wrong argument, and 3 if memory ran out. `text` is what
-    the program would print. If a line of the text is wrong, `line` is its number, counted from 1, and `cause` is the
-    name of the cause, which `faults()` explains. Otherwise both are None.
+    """The program's error. `status` is 1 for a wrong text, 2 for a wrong argument, and 3 if memory ran out. `text` is the
+    text that the program would print. If a line of the text is wrong, `line` is its number, counted from 1, and `cause` is the name of the
+    cause, which `faults()` explains. Otherwise both are None.
     """
 
     def __init__(self, text, status):
@@ -132,9 +132,7 @@ def judge_text(recording):
 
 
 def judge_file(path):
-    """Judges the recording in the file `path`, which can have any length. Returns what the program would print, and its
-    exit status.
-    """
+    """Judges the recording in the file `path`, of any length. Returns the text that the program would print, and its exit status."""
     room, status = ctypes.create_string_buffer(8192), ctypes.c_uint8()
     function = _LIBRARY.listset_judge_from
     function.restype = ctypes.c_size_t
@@ -160,8 +158,8 @@ def check(report):
 
 
 def trace(schedule, with_chains=False):
-    """Returns the trace of a schedule, which states what each step did. `with_chains` adds the chain of nodes after each
-    event that changed it.
+    """Returns the trace of a schedule: a line for each event. `with_chains` adds the chain of nodes after each event that
+    changed it.
     """
     return _asked("trace_with_chains" if with_chains else "trace", schedule)
 
@@ -188,8 +186,8 @@ def examples():
 
 
 def example(name, is_broken=False):
-    """Returns the schedule of the example `name`. If `is_broken`, returns instead the report of a run without the check
-    that the example is about.
+    """Returns the schedule of the example `name`. If `is_broken`, returns instead the report of a run on a list without the
+    check that the example is about.
     """
     return _asked("broken_example" if is_broken else "example", name)
 
@@ -200,7 +198,7 @@ def faults():
 
 
 LISTS = ["coarse", "fine", "optimistic", "lazy", "lock-free"]
-FULL, AT, MAY_BLOCK, NO_SEAT = 2, 3, 254, 255  # replies; 0 and 1 are False and True
+FULL, AT, MAY_BLOCK, NO_SEAT = 2, 3, 254, 255  # the numbers of replies; 0 and 1 are False and True
 NO_MORE, NO_GATHER, SEATS_OUT, BAD_KEYS, READS_BLOCK, TIMED_OUT = 17, 18, 16, 12, 19, 20  # faults
 GREATEST, MOST_OPENING = 2**32 - 1, 2**20
 POLL, LONG = 50e-6, 5e-3  # seconds
@@ -267,7 +265,7 @@ def _told(code):
 
 
 def _number(given, what="key"):
-    """Returns `given` as an integer that fits in a uint32_t. (ctypes would truncate larger ones to 32 bits.)"""
+    """Returns `given` as an integer that fits in a uint32_t. (ctypes would truncate a larger integer to 32 bits.)"""
     try:
         number = operator.index(given)
     except TypeError:
@@ -288,7 +286,7 @@ def _keys(keys):
 
 
 def _closed_keys(closed):
-    """Returns the keys of a closed set; None if `closed` is not one."""
+    """Returns the keys of a closed set; None if `closed` is not a closed set."""
     count = _KEYS(closed, _keys([]), 0)
     if count == _SIZE(-1).value:
         return None
@@ -343,7 +341,7 @@ class Seat:
         return reply
 
     def split(self):
-        """Splits a seat off this one for another thread. No seat can be split off a seat that has gathered another one."""
+        """Splits a seat off this one for another thread. No seat can be split off a seat that has gathered another seat."""
         made = Seat()
         with self._used():
             _told(_SPLIT(self.raw, made.raw))
@@ -380,7 +378,7 @@ class Seat:
 
     def contains_now(self, key):
         """Returns whether a key is in the set, like `contains`, but waits for no lock and makes at most `most_reads`
-        steps, whatever the other threads do. Only for lazy and lock-free lists: on any other list, raises `Fault`.
+        steps, whatever other threads do. Only for lazy and lock-free lists: on any other list, raises `Fault`.
         """
         reply = self._reply(_NOW, key)
         if reply == MAY_BLOCK:
@@ -401,7 +399,7 @@ class Seat:
         return made
 
     def after(self, receipt):
-        """Accepts a receipt: all later calls of this seat come after every call that the receipt covers."""
+        """Accepts a receipt: in the order of all calls, later calls of this seat follow every call that the receipt covers."""
         with self._used():
             _told(_AFTER(self.raw, receipt.raw))
 
@@ -413,8 +411,8 @@ class Seat:
             _told(_GATHER(self.raw, other.raw))
 
     def close(self):
-        """Closes the set and returns its final keys. This seat must contain all others. If it raises, nothing is lost, and
-        the call can be repeated.
+        """Closes the set and returns its final keys. This seat must contain all other seats. If `close` raises, nothing is
+        lost, and the call can be repeated.
         """
         with self._used():
             code = _CLOSE(self.raw)
@@ -439,7 +437,7 @@ def most_reads(seats, quota, keys=0):
 
 
 def open_set(kind, seats, quota, keys=()):
-    """Opens a set with keys in strictly increasing order. Returns a seat that contains all others."""
+    """Opens a set with keys in strictly increasing order. Returns a seat that contains all other seats."""
     made, keys = Seat(), list(keys)
     sizes = _number(seats, "number of seats"), _number(quota, "quota"), next(_NUMBERS)
     _told(_OPEN(LISTS.index(_list(kind)), *sizes, _keys(keys), len(keys), made.raw))
@@ -463,10 +461,10 @@ def _renew(seats, kind, quota):
 
 
 def renew(seats, kind, count, quota):
-    """Closes the set whose seats are all in `seats`, and opens a set of the list `kind` with its keys. Returns the
-    `count` seats of the new set, each with this quota. During the call, no thread may use a seat in `seats`. If it
-    raises, nothing is lost: either the set is still open and the given seats contain all its seats (some can have been
-    gathered), or the first one is closed, and its `close` returns the keys.
+    """Closes a set, and opens a set of the list `kind` with the same keys. `seats` must contain all seats of the old set.
+    Returns the `count` seats of the new set, each with this quota. During the call, no thread may use a seat in `seats`. If
+    `renew` raises, nothing is lost: either the set is still open and the given seats contain all its seats (some can have
+    been gathered), or the first seat is a closed set, and its `close` returns the keys.
     """
     given, many, kind = list(seats), _number(count, "number of seats"), _list(kind)
     places = given + [Seat() for _ in range(len(given), min(many, 64))]
@@ -480,7 +478,7 @@ def renew(seats, kind, count, quota):
 
 class Shared:
     """A set with a pool of seats, which any number of threads may call. A call uses a seat that no other call is using, or
-    waits for one. Two calls of one thread can use different seats, so not even the order of a thread's own calls is
+    waits for a seat. Two calls of one thread can use different seats, so not even the order of a thread's own calls is
     guaranteed.
     """
 
@@ -542,9 +540,7 @@ class Shared:
         return self._by(lambda it: it.ceiling(key))
 
     def close(self):
-        """Closes the set and returns its final keys. No call may use the set any more. If it raises, the call can be
-        repeated.
-        """
+        """Closes the set and returns its final keys. No later call may use the set. If `close` raises, it can be repeated."""
         if not self._seats:
             raise Fault(NO_SEAT)
         while len(self._seats) > 1:
@@ -574,7 +570,7 @@ class RenewedSet:
     A thread gets its own seat from `split`, and returns it with `drop` or at the end of a `with` block. Calls wait
     during a renewal. The renewal waits for pending calls, but not for threads that are between two calls. A call waits
     for another call for at most `patience` seconds (forever if it is None); after that it raises `TimedOut` and has no
-    effect. docs/FOREIGN.md states what is promised about the order of calls.
+    effect. docs/FOREIGN.md states the promises about the order of calls.
     """
 
     def __init__(self, kind, seats, quota, keys=(), *, patience=None):
@@ -584,7 +580,7 @@ class RenewedSet:
         self._places = [_Place(it) for it in (first, *(first.split() for _ in range(1, seats)))]
         self._renewing, self._stage = threading.Lock(), "open"  # The stage changes only while all places are locked.
         self._splitting = threading.Lock()
-        self._is_wanted = False  # A thread has waited long for the places, so the next calls of the others wait for it.
+        self._is_wanted = False  # A thread has waited long for the places, so the next calls of other threads wait.
 
     def split(self):
         """Returns a seat for a thread. Raises `Fault` if all seats are in use."""
@@ -596,7 +592,7 @@ class RenewedSet:
         return OwnSeat(self, place)
 
     def keys(self):
-        """Renews the set and returns the keys that it has at that moment. Raises `Fault` if there are more than 1,048,576."""
+        """Renews the set and returns its keys at this moment. Raises `Fault` if there are more than 1,048,576."""
         with self._all_taken(self._places[0]):
             if self._keys_now() > MOST_OPENING:
                 raise Fault(BAD_KEYS)
@@ -605,7 +601,7 @@ class RenewedSet:
             return keys
 
     def close(self):
-        """Closes the set and returns its final keys. Raises `Fault` while a thread has a seat; the set is unchanged then."""
+        """Closes the set and returns its final keys. If a thread has a seat, raises `Fault` and does not change the set."""
         with self._all_taken(self._places[0]):
             if any(it.is_taken for it in self._places):
                 raise Fault(SEATS_OUT)
@@ -615,12 +611,12 @@ class RenewedSet:
             return keys
 
     def _lock(self, lock, helper=None):
-        """Locks `lock`. The thread that holds it can be in a `ceiling` of a lock-free list, which may retry until another
-        call unlinks a marked node. An `add` from `helper` unlinks the node; it changes no key if the seat of `helper`
-        has used up its quota.
+        """Locks `lock`. The thread that holds `lock` can be in a `ceiling` of a lock-free list, which may retry until another
+        call unlinks a marked node. An `add` from the place `helper` unlinks the node, and changes no key if the seat of
+        `helper` has used up its quota.
 
-        A thread with a helper locks all places. After 5 ms, the next calls of the other threads wait for it, unless
-        such a call could be needed as a helper.
+        A thread with a helper locks all places. After 5 ms, the next calls of other threads wait for this thread, unless such
+        a call could be needed to unlink the node.
         """
         if lock.acquire(blocking=False):
             return
@@ -700,10 +696,10 @@ class RenewedSet:
                     self._renew_taken()
 
     def _add_renewed(self, place, key):
-        """Renews the set and adds a key from `place`, whose seat has used up its quota."""
+        """Renews the set and adds a key from `place`. Called if the seat of `place` has used up its quota."""
         with self._all_taken(place):
             if self._stage == "open":
-                added = place.try_add(key)  # Another thread may have renewed the set in the meantime.
+                added = place.try_add(key)  # Before this call, another thread can have renewed the set.
                 if added is not Added.FULL or self._keys_now() > MOST_OPENING or self._quota == 0:
                     return added
             self._renew_taken()
@@ -724,19 +720,19 @@ class OwnSeat:
         return self._of._by(self._place, call)
 
     def try_add(self, key):
-        """Adds a key, and renews the set if the seat has used up its quota. Returns `Added.FULL` only if the quota is 0,
-        or if the set has more than 1,048,576 keys, with which no set can be opened.
+        """Adds a key, and renews the set if the seat has used up its quota. Returns `Added.FULL` only if the quota is 0, or
+        if the set has more than 1,048,576 keys: no set can be opened with so many keys.
         """
         added = self._by(lambda it: it.try_add(key))
         if added is Added.FULL:
-            self._of._wait_for_renewal()  # Another thread may be renewing the set.
+            self._of._wait_for_renewal()  # Waits while another thread renews the set.
             added = self._by(lambda it: it.try_add(key))
         return self._of._add_renewed(self._place, key) if added is Added.FULL else added
 
     def add(self, key):
         """Adds a key, and renews the set if the seat has used up its quota. Returns True if the key was absent, False if
-        it was present. Raises `Full` only if the quota is 0, or if the set has more than 1,048,576 keys, with which no
-        set can be opened.
+        it was present. Raises `Full` only if the quota is 0, or if the set has more than 1,048,576 keys: no set can be opened
+        with so many keys.
         """
         added = self.try_add(key)
         if added is Added.FULL:

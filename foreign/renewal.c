@@ -1,5 +1,5 @@
 // Implements `listset_close_all` and `listset_renew` of listset.h with the proved functions. (No header is included,
-// because the toolchain's compiler has none. The types and numbers are those of listset.h.)
+// because the toolchain's compiler has none. The types and numbers are copied from listset.h.)
 typedef __SIZE_TYPE__ size_t;
 typedef __UINT64_TYPE__ uint64_t;
 typedef __UINT32_TYPE__ uint32_t;
@@ -28,14 +28,14 @@ static int is_closed(seat *it) {
   return it->full && listset_keys(it, &none, 0) != (size_t)-1;
 }
 
-// Returns the index of the first place that is not empty, or `places` if all are empty.
+// Returns the index of the first full place, or `places` if all places are empty.
 static size_t empty_places(const seat *seats, size_t places) {
   size_t first = 0;
   while (first < places && !seats[first].full) first++;
   return first;
 }
 
-// Returns whether these places contain all seats of the first seat's set.
+// Returns whether these places contain all seats of a set. `first` is the first full place.
 static int are_all(seat *seats, size_t first, size_t places) {
   uint32_t all, of_other;
   uint64_t within = listset_seats_within(&seats[first], &all);
@@ -60,7 +60,7 @@ fault listset_close_all(seat *seats, size_t places) {
   return is_closed(&seats[0]) ? OK : listset_close(&seats[0]);
 }
 
-// Opens a set with the keys of the closed set `closed`, and stores its seat there.
+// Opens a set with the keys of the closed set `closed`, and stores the new set's seat in `closed`.
 static fault opened_again(seat *closed, fault kind, uint32_t count, uint32_t quota, uint64_t number) {
   uint32_t none;
   const size_t many = listset_keys(closed, &none, 0);

@@ -1,9 +1,9 @@
-// The library's version, and a sentence for each fault. foreign/build defines the text TOLD and the number NUMBER.
+// The library's version, and a sentence for each fault. foreign/build defines the macros TOLD (a text) and NUMBER.
 const char *listset_version(void) { return TOLD; }
 
 unsigned listset_version_number(void) { return NUMBER; }
 
-// The numbers are those of `listset_fault` in listset.h.
+// The numbers are the values of `listset_fault` in listset.h.
 const char *listset_fault_text(unsigned char fault) {
   switch (fault) {
   case 0: return "nothing is refused";

@@ -1,5 +1,5 @@
-//! Finds liblistset.a in the folder LISTSET_LIB if that is set, otherwise in this crate or where `foreign/build`
-//! installs it.
+//! Finds liblistset.a: in the folder LISTSET_LIB if that is set, otherwise in `lib` of this crate or of an installation by
+//! `foreign/build`.
 use std::env;
 use std::path::{Path, PathBuf};
 

@@ -1,4 +1,4 @@
-// The judge from C++: generates, replays, checks and draws a schedule, and checks the status for wrong arguments.
+// Tests the judge from C++: generates, replays, checks and draws a schedule, and checks the status for wrong arguments.
 #include "listset.hpp"
 
 #include <cstdio>
@@ -52,7 +52,7 @@ static void expect_judged() {
   expect(wrong.status == LISTSET_WRONG_TEXT && wrong.text == "listset: line 4: Line\n", "judged with a wrong line");
 }
 
-// Checks that each argument of `gen` arrives in the schedule with all its bits.
+// Checks that `gen` receives each argument with all its bits.
 static void expect_gen() {
   std::string head = "listset-schedule 1\nlist fine\nthreads 64\nquota 16384\n";
   expect(listset::gen("fine", 64, 16384, 0, UINT32_MAX, UINT64_MAX).text == head, "the values of a generated schedule");

@@ -1,4 +1,4 @@
-"""The judge from Python: each example in four threads at the same time, as str and as bytes, and the errors of wrong
+"""Tests the judge from Python: each example in four threads at the same time, as str and as bytes, and the errors of wrong
 texts.
 
     judge.py EXAMPLES     the folder of the examples; PYTHONPATH must contain the folder of listset.py

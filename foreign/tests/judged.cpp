@@ -1,4 +1,4 @@
-// Judges the five lists, each shared by eight threads, the way docs/YOUR-SET.md judges a user's set, and a wrong set.
+// Judges the five lists and a wrong set, as `shared` sets with eight seats, as docs/YOUR-SET.md judges a user's set.
 #include "listset.hpp"
 
 #include "listset_judge.hpp"
@@ -7,7 +7,7 @@
 
 template <listset::list KIND> static bool is_right() {
   listset::options how;
-  how.runs = 7;  // one of each preset
+  how.runs = 7;  // one run for each preset
   listset::verdict verdict = listset::judge<listset::shared>(how, [] { return std::make_unique<listset::shared>(KIND, 8, 16384); });
   std::cout << verdict << "\n";
   std::string version(listset::version()), proof = version.substr(version.find("\nproof ") + 1);

@@ -1,4 +1,4 @@
-//! Judges the five lists, each shared by eight threads, the way docs/YOUR-SET.md judges a user's set.
+//! Judges the five lists, as `Shared` sets with eight seats, as docs/YOUR-SET.md judges a user's set.
 use listset::{Added, List, Shared};
 use listset_judge::Options;
 
@@ -10,7 +10,7 @@ fn main() {
             |set, key| set.add(key) == Added::True,
             |set, key| set.remove(key),
             |set, key| set.contains(key),
-            Options { runs: 6, own_process: false, ..Options::default() }, // one of each preset
+            Options { runs: 6, own_process: false, ..Options::default() }, // one run for each of the first six presets
         );
         let verdict = verdict.unwrap();
         println!("{verdict}");

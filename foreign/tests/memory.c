@@ -1,5 +1,5 @@
-// Makes each allocation of a call fail in turn. The call must report it or work with less memory, and must free every
-// block. Link with --wrap for malloc, realloc and free.
+// Makes each allocation of a call fail in turn. The call must report the failed allocation or work with less memory, and must
+// free every block. Link with --wrap for malloc, realloc and free.
 //
 //     memory SCHEDULE REPORT DRAFT RECORDING
 #include "listset.h"
@@ -58,8 +58,8 @@ static size_t faults(const char *given, size_t count, char *to, size_t size, uin
 
 static int is_said(const char *want, size_t count, size_t found) { return found == count && memcmp(room, want, count) == 0; }
 
-// Makes the call without a failed allocation, then with each allocation failing. Returns how many failures the call
-// reported; 0 on an error.
+// Makes the call without a failed allocation, then repeatedly, with another allocation failing each time. Returns the number
+// of failures that the call reported; 0 on an error.
 static size_t tried(const char *name, listset_function *function) {
   uint8_t due, status;
   size_t told = 0;
@@ -78,8 +78,8 @@ static size_t tried(const char *name, listset_function *function) {
   }
 }
 
-// Makes the call through `listset_said`, with each of its allocations failing in turn. Returns how often `listset_said`
-// returned NULL.
+// Makes the call through `listset_said`, repeatedly, with another allocation failing each time. Returns how often
+// `listset_said` returned NULL.
 static size_t tried_said(listset_function *function) {
   uint8_t due, status;
   size_t count = 0, found, none = 0;

@@ -144,7 +144,7 @@ static void reads_and_receipts(uint8_t kind) {
   for (int at = 0; at < 4; at++) expect("no steps", listset_most_reads(outside[at][0], outside[at][1], outside[at][2]), 0);
 }
 
-// Renews a set with three seats in five places.
+// Renews a set with three seats in five places, with arguments that `listset_renew` must refuse.
 static void refused_renewals(uint8_t kind) {
   listset_seat seats[5] = {LISTSET_NONE, LISTSET_NONE, LISTSET_NONE, LISTSET_NONE, LISTSET_NONE}, out = LISTSET_NONE;
   uint32_t room[8];
@@ -176,7 +176,7 @@ static void refused_renewals(uint8_t kind) {
   listset_drop(&seats[0]);
 }
 
-// Renews a set while an allocation fails. A second call must renew it, with all its keys.
+// Renews a set while the allocation with the number `refused` fails. A second call must renew the set, with all its keys.
 static void one_renewal(uint8_t kind, size_t refused) {
   listset_seat seats[3] = {LISTSET_NONE, LISTSET_NONE, LISTSET_NONE};
   uint32_t room[8];
@@ -201,7 +201,7 @@ static void one_renewal(uint8_t kind, size_t refused) {
   asked = asked_by_renew;
 }
 
-// Requests a receipt while its allocation fails. A second call must return it.
+// Requests a receipt while its allocation fails. A second call must return the receipt.
 static void one_receipt(uint8_t kind) {
   listset_seat seat = LISTSET_NONE;
   listset_receipt receipt = LISTSET_NONE;
@@ -223,7 +223,7 @@ static void expect_unasked(const char *what, size_t found, size_t due) {
   asked_before = asked;
 }
 
-// Checks that no function of a set allocates, except for those that open, split and close.
+// Checks that the functions of a set do not allocate, except the functions that open, split and close.
 static void calls_without_memory(uint8_t kind) {
   listset_seat a = LISTSET_NONE, b = LISTSET_NONE;
   uint32_t at = 0;
@@ -241,8 +241,8 @@ static void calls_without_memory(uint8_t kind) {
   listset_drop(&a);
 }
 
-// Gathers the seat that opened a set of ten, with the seats that it still contains, into one of three that were split
-// off. Also closes a set most of whose seats were never split off.
+// Opens a set with ten seats and splits three seats off the first one. One of the three gathers all other seats and closes
+// the set. Also closes a set while most of its seats have never been split off.
 static void seats_within(uint8_t kind) {
   listset_seat opener = LISTSET_NONE, a = LISTSET_NONE, b = LISTSET_NONE, c = LISTSET_NONE;
   uint32_t room[4];

@@ -52,7 +52,7 @@ static size_t written(const uint32_t *keys, size_t count) {
   return at + sprintf(at, "end\n") - text;
 }
 
-// Returns whether the judge gives the same answer if it reads the text from a file.
+// Returns whether the judge's answer for the text in a file is the same as for the text in memory.
 static int is_judged_from_file(size_t length, uint8_t due, const char *said) {
   char room[8192];
   uint8_t status;
@@ -88,7 +88,7 @@ static int is_right(uint8_t list) {
   if (listset_close(&tasks[0].seat) != LISTSET_OK) return 0;
   size_t count = listset_keys(&tasks[0].seat, keys, KEYS);
   listset_drop(&tasks[0].seat);
-  // The second text lacks a final key.
+  // In the second text, a final key is missing.
   return is_judged(written(keys, count), LISTSET_OK, "ok 40000 calls\n") &&
          is_judged(written(keys, count - 1), LISTSET_WRONG_TEXT, "not linearizable\n");
 }

@@ -1,5 +1,5 @@
 // Closes a set while an allocation fails, in the library or for the vector of the keys. A second `close` must return
-// the keys. Link with --wrap for malloc, realloc and free, which then wraps only the library's calls.
+// the keys. Link with --wrap for malloc, realloc and free, so that only the library's calls are wrapped.
 #include "listset.hpp"
 
 #include <cstdio>
@@ -44,8 +44,8 @@ static void expect(bool holds, const char *what) {
   if (!holds) std::printf("wrong: %s\n", what), wrong++;
 }
 
-// Returns what `close` throws if an allocation fails: the code of a fault, LISTSET_NO_MEMORY for std::bad_alloc, or
-// LISTSET_OK for nothing.
+// Returns the error of `close` if an allocation fails: the code of a fault, LISTSET_NO_MEMORY for std::bad_alloc, or
+// LISTSET_OK if nothing was thrown.
 template <typename Set> static uint8_t thrown(Set &set, bool &refuses) {
   refuses = true;
   uint8_t code = LISTSET_OK;
@@ -60,7 +60,7 @@ template <typename Set> static uint8_t thrown(Set &set, bool &refuses) {
   return code;
 }
 
-// Returns the keys of a set whose `close` has failed twice.
+// Returns the keys of a set after its `close` has failed twice.
 template <typename Set> static std::vector<uint32_t> kept(Set set) {
   expect(set.add(7) == listset::added::is_true, "add");
   expect(thrown(set, refuses_library) == LISTSET_OUT_OF_MEMORY, "the library's memory is refused");

@@ -1,6 +1,6 @@
 // Tests `renew`, and sets that renew themselves. Eight threads call such a set. Their calls are recorded in the text of docs/YOUR-SET.md, and
-// judged in this process. Arguments: a file for the recording, and the number of calls of each thread. With two more, a list (0 to 4) and a
-// quota, only the calls of such a set are made and judged.
+// judged in this process. Arguments: a file for the recording, and the number of calls of each thread. With two further
+// arguments, a list (0 to 4) and a quota, only the calls of such a set are made and judged.
 #include "listset.hpp"
 
 #include <cstdio>
@@ -59,7 +59,7 @@ static std::vector<recorded> calls_of(renewed_set &set, uint32_t thread, size_t 
   return calls;
 }
 
-// Writes the calls of all threads in the order in which they began, and the keys.
+// Writes the calls of all threads, ordered by start, and the keys.
 static void write(FILE *file, const std::vector<std::vector<recorded>> &calls, const std::vector<uint32_t> &keys) {
   std::fprintf(file, "listset-calls 1\n");
   for (uint32_t key : OPENING) std::fprintf(file, "opening %u\n", key);
@@ -100,15 +100,15 @@ static bool is_explained(const char *path, list kind, uint32_t quota, size_t man
   return status == LISTSET_OK && said.rfind("ok " + std::to_string(THREADS * many) + " calls\n", 0) == 0;
 }
 
-// Returns the private places of a renewed set, which an explicit instantiation is allowed to name.
+// Returns the private places of a renewed set. (An explicit instantiation may name private members.)
 static auto &places_of(renewed_set &set);
 template <auto Places> struct reach {
   friend auto &places_of(renewed_set &set) { return set.*Places; }
 };
 template struct reach<&renewed_set::places>;
 
-// Checks that no call waits for a thread that is between two calls, and that a thread that stays in a call makes the
-// other threads' calls time out.
+// Checks that no call waits for a thread that is between two calls. Also checks that calls of other threads time out while a
+// thread stays in a call.
 static void expect_patience() {
   renewed_set set(list::lazy, 2, 2, {}, 20ms);
   auto mine = set.split(), rests = set.split();
@@ -150,7 +150,7 @@ static void expect_seats() {
   expect(thrown([] { renewed_set(list::lazy, 65, 1); }) == LISTSET_BAD_SEATS, "too many seats");
 }
 
-// Checks that a set is not closed if it has more keys than a set can open with, and that an add then returns full.
+// Checks that a set is not closed if it has more keys than a set can be opened with, and that an add then returns full.
 static void expect_most_keys() {
   std::vector<uint32_t> keys(1 << 20);
   for (uint32_t at = 0; at < keys.size(); at++) keys[at] = 2 * at;
@@ -164,7 +164,7 @@ static void expect_most_keys() {
   expect(set.close().size() == keys.size() + 1, "all keys");
 }
 
-// Renews seats with `renew`, with each list as the next one.
+// Renews seats with `renew`. The next set is of each list in turn.
 static void expect_by_hand() {
   std::vector<seat> seats;
   seats.push_back(listset::open(list::lazy, 3, 1, {5}));

@@ -1,5 +1,5 @@
-// Threads call one set, for each list. With its own keys, a thread compares the replies with a model. With shared keys,
-// it counts the changes: for each key, the number of true adds minus true removes must be 1 if the set has the key at
+// Tests threads that call one set, for each list. For its own keys, a thread compares the replies with a model. For shared
+// keys, it counts the changes: for each key, the number of true adds minus true removes must be 1 if the set has the key at
 // the end, and otherwise 0.
 //
 //     sets CALLS THREADS     at most 64 threads
@@ -24,8 +24,8 @@ typedef struct {
   bool own[OWN];
 } task;
 
-// The number of operations. With several threads, there is no ceiling on the lock-free list, because it can wait for a
-// remove that nobody makes.
+// The number of operations. With several threads, there is no ceiling on the lock-free list, because a ceiling could wait for
+// a remove that no thread makes.
 static uint32_t kinds;
 
 static uint64_t draw(uint64_t *drawn) {
@@ -47,7 +47,7 @@ static void call_shared(task *it, uint32_t kind, uint32_t key) {
   wrong += !may || (reply == LISTSET_FULL && it->adds < QUOTA);
 }
 
-// Makes a call with a key that only this thread uses: SHARED + t * OWN or one of the OWN - 1 keys above it.
+// Makes a call with a key that only this thread uses: one of the OWN keys from SHARED + t * OWN.
 static void call_own(task *it, uint32_t kind, uint32_t k) {
   uint32_t base = SHARED + it->number * OWN, at = 0, next = k;
   uint8_t want;

@@ -1,4 +1,4 @@
-// The lists from C++: four threads add keys and remove some of them. A refused call leaves the seats unchanged.
+// Tests the lists from C++: four threads add keys and remove some of them. A refused call must leave the seats unchanged.
 #include "listset.hpp"
 
 #include <algorithm>
@@ -12,7 +12,7 @@ using listset::added;
 using listset::list;
 using listset::seat;
 
-seat opened_elsewhere(); // by elsewhere.cpp
+seat opened_elsewhere(); // defined in elsewhere.cpp
 
 static_assert(!std::is_convertible_v<added, bool>, "what an `add` answers is no condition");
 static_assert(!std::is_copy_constructible_v<seat> && !std::is_copy_assignable_v<seat>, "a seat is moved and not copied");
@@ -73,10 +73,10 @@ static bool is_right_shared(list kind) {
   return found == 4000 && set.contains(1) && set.ceiling(3) == 4u && set.close() == due;
 }
 
-// Threads add more keys than all quotas together allow. Exactly as many adds as the quotas allow must return true, and
-// exactly these keys remain.
+// Makes threads add more keys than all quotas together allow. Returns whether exactly as many adds return true as the quotas
+// allow, and exactly these keys remain.
 static bool is_filled(uint32_t seats, uint32_t quota) {
-  listset::shared set(list::lock_free, seats, quota); // On this list, a wrong call cannot leave a lock held.
+  listset::shared set(list::lock_free, seats, quota); // This list is lock-free, so a wrong call cannot leave a lock held.
   std::vector<std::vector<uint32_t>> added_by(4);
   std::vector<std::thread> threads;
   for (uint32_t at = 0; at < 4; at++)
@@ -91,8 +91,8 @@ static bool is_filled(uint32_t seats, uint32_t quota) {
   return due.size() == seats * quota && set.close() == due;
 }
 
-// Makes four threads add the same keys, exactly as many as all quotas together allow. Returns how many adds return
-// full. None may do so: once no seat has quota left, all keys are present.
+// Makes four threads add the same keys, exactly as many as all quotas together allow. Returns the number of adds that return
+// full. It must be 0: once no seat has quota left, all keys are present.
 static int full_too_soon() {
   const uint32_t many = 1000;
   listset::shared set(list::lazy, 2, many / 2);
@@ -106,14 +106,14 @@ static int full_too_soon() {
   return full;
 }
 
-// Returns the private places of a shared set, which an explicit instantiation is allowed to name.
+// Returns the private places of a shared set. (An explicit instantiation may name private members.)
 static auto &places_of(listset::shared &set);
 template <auto Places> struct reach {
   friend auto &places_of(listset::shared &set) { return set.*Places; }
 };
 template struct reach<&listset::shared::places>;
 
-// Returns whether a thread's calls end while others occupy all seats but one. (Waiting calls continue once the seats
+// Returns whether a thread's calls end while other threads occupy all seats but one. (Waiting calls continue once the seats
 // are released.)
 static bool end_by_one_seat(size_t free, size_t seats) {
   listset::shared set(list::lock_free, static_cast<uint32_t>(seats), 1);
@@ -172,7 +172,7 @@ template <typename Set> static void expect_ends(Set set) {
   expect(set.close() == std::vector<uint32_t>({0, most}), "both are left");
 }
 
-// Assigns a seat to a full one, whose set must then be freed, as the address sanitizer checks.
+// Assigns a seat to a full seat. The old set must then be freed, as the address sanitizer checks.
 static void expect_assigned(list kind) {
   seat mine = listset::open(kind, 2, 1, {1}), other = listset::open(kind, 1, 1, {2});
   mine = std::move(other);
@@ -186,7 +186,7 @@ static void expect_assigned(list kind) {
 // another thread.
 static void expect_apart() {
   seat mine = listset::open(list::lazy, 1, 0);
-  const int many = 70000; // More than 16 bits can number
+  const int many = 70000; // more sets than 16 bits can number
   int refused = 0;
   std::thread([&] {
     for (int at = 0; at < many; at++) {

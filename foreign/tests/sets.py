@@ -1,4 +1,4 @@
-"""The lists from Python: four threads count their changes. Also tests the errors of refused calls. PYTHONPATH must contain
+"""Tests the lists from Python: four threads count their changes. Also tests the errors of refused calls. PYTHONPATH must contain
 the folder of listset.py.
 """
 
@@ -11,13 +11,13 @@ import listset
 from listset import Added
 
 THREADS, CALLS, KEYS, OPENING = 4, 3000, 64, [1, 7, 63]
-ENDS = [0, 2**32 - 1]  # the smallest key and the largest
+ENDS = [0, 2**32 - 1]  # the smallest and the largest key
 
 
 def calls_of(seat, number, kinds):
     """Makes calls with keys that all threads use, and with keys that only this thread uses. Returns, for each shared key,
-    the number of true adds minus true removes, and the thread's own keys that remain. There are 4 operations, or 3
-    without ceilings.
+    the number of true adds minus true removes, and the thread's own keys that remain. `kinds` is the number of operations: 4,
+    or 3 without `ceiling`.
     """
     draws, net, own = random.Random(number), [0] * KEYS, set()
     for _ in range(CALLS):
@@ -50,7 +50,7 @@ def calls_of(seat, number, kinds):
 def trial(kind):
     first = listset.open_set(kind, THREADS, 2 * CALLS, OPENING)
     seats = [first, *(first.split() for _ in range(1, THREADS))]
-    kinds = 3 if kind == "lock-free" else 4  # (several threads at ceilings of that list may wait for a remove that nobody makes)
+    kinds = 3 if kind == "lock-free" else 4  # (on this list, ceiling calls could wait for a remove that no thread makes)
     with concurrent.futures.ThreadPoolExecutor(THREADS) as threads:
         nets, owns = zip(*threads.map(calls_of, seats, range(THREADS), [kinds] * THREADS))
     for it in seats[1:]:
@@ -176,7 +176,7 @@ def reads_and_receipts(kind):
 
 
 def renewed_by_hand():
-    """Renews a set, with its keys, as a set of another list. Checks that a refused renewal loses nothing."""
+    """Renews a set as a set of another list with the same keys. Checks that a refused renewal loses nothing."""
     first = listset.open("lazy", 3, 1, [5])
     seats = [first, first.split(), first.split()]
     assert seats[0].add(7) and seats[1].add(8) and raised(seats[0].add, 9)[0] is listset.Full
@@ -196,7 +196,7 @@ def by_threads(run):
 
 
 def renewed_by_itself(kind, quota):
-    """Fills a set with a small quota in four threads. Each call must reply like that of a set without a quota."""
+    """Fills a set with a small quota in four threads. Each call must reply as if the set had no quota."""
     of = listset.RenewedSet(kind, THREADS, quota, [KEYS * 9])
 
     def run(number):
@@ -219,7 +219,7 @@ def seats_of_a_renewed_set():
     of = listset.RenewedSet("lazy", 2, 2, patience=0.02)
     mine, rests = of.split(), of.split()
     assert code(of.split) == 17 and code(of.close) == 16 and all(mine.add(key) for key in range(20))
-    with of._places[1].lock:  # (as if a thread stayed in a call)
+    with of._places[1].lock:  # (as if another thread stayed in a call)
         for call, key in ((mine.add, 20), (rests.contains, 1)):
             assert raised(call, key) == (listset.TimedOut, "timed out: another thread was in a call for too long")
         assert 19 in mine and 20 not in mine
@@ -253,7 +253,7 @@ def shared(kind):
 
 
 def two_users():
-    """Checks that a call from a seat raises an error while another thread is making a call from it."""
+    """Checks that a call from a seat raises an error while another thread is making a call from the same seat."""
     mine = listset.open("lazy", 1, 1)
     with mine._used():
         text = "no seat is here: it was moved, dropped, gathered or closed, or another thread is in a call from it"
@@ -268,7 +268,7 @@ def pages():
 
 
 def memory():
-    """Checks that sets without references are freed. Each of them has about 3 MB."""
+    """Checks that sets without references are freed. Each of these sets has about 3 MB."""
     before = pages()
     for _ in range(60):
         listset.open_set("lazy", 8, 16384).split()
@@ -297,7 +297,7 @@ def side_by_side():
 
 
 def opened(at, number):
-    """Opens a set with `number` as the number of seats, the quota, the first key or the last key."""
+    """Opens a set. `number` is the number of seats, the quota, the first key or the last key."""
     seats, quota, first, last = [number if at == it else it + 1 for it in range(4)]
     listset.open_set("lazy", seats, quota, [first, last])
 

@@ -1,4 +1,4 @@
-// Threads judge the texts in these files at the same time. Each must get the same answers as a single thread.
+// Judges the texts in these files in several threads at the same time. Each thread must get the same answers as a single thread.
 //
 //     threads FILE ..
 #include "listset.h"

@@ -5,7 +5,7 @@
 #include <stdio.h>
 #include <string.h>
 
-#define MOST 67108864 // bytes of an input; what is longer is not read to its end
+#define MOST 67108864 // the maximum number of bytes of an input; a longer input is not read to its end
 #define ROOM (1 << 24)
 
 static char input[MOST + 1], room[ROOM], joined[4096];
@@ -14,7 +14,7 @@ static int value_count;
 static bool is_on;
 static const char *options[3];
 
-// Returns what the program prints for a recording: the verdict and, if it is a refusal, the diagnosis below it.
+// Returns the program's output for a recording: the verdict and, if it is a refusal, the diagnosis below the verdict.
 static size_t judge_and_why(const char *text, size_t length, char *to, size_t size, uint8_t *status) {
   uint8_t of_why;
   size_t said = listset_judge(text, length, to, size, status);
@@ -33,7 +33,7 @@ static const struct {
     {"trace", listset_trace, listset_trace_with_chains},
 };
 
-// Joins the arguments after the text, separated by zero bytes. Returns the length.
+// Joins the words, separated by zero bytes. Each word follows the text `before`. Returns the length.
 static size_t join(const char **words, int count, const char *before) {
   size_t length = 0;
   for (int at = 0; at < count; at++) {
@@ -86,7 +86,7 @@ int main(int count, char **words) {
   uint8_t status = 255;
   read_words(count - 2, words + 2);
   size_t length = asked(words[1], &status);
-  // Only an error begins with these bytes.
+  // Only an error line begins with these bytes.
   fwrite(room, 1, length, length >= 9 && memcmp(room, "listset: ", 9) == 0 ? stderr : stdout);
   return status;
 }

@@ -43,12 +43,12 @@ extern "C" {
 }
 
 pub fn of_room(function: OfRoom) -> Result<String, Wrong> {
-    // SAFETY: `asked` passes pointers to a buffer of that size and to a status, which nothing else uses.
+    // SAFETY: `asked` passes pointers to a buffer of this size and to a status. Nothing else uses the buffer or the status.
     asked(|room, size, status| unsafe { function(room, size, status) })
 }
 
 pub fn of_text(function: OfText, text: &[u8]) -> Result<String, Wrong> {
-    // SAFETY: as in `of_room`; the other pointer is that of a slice, which is borrowed during the call.
+    // SAFETY: as in `of_room`. The other pointer points to a slice, which is borrowed during the call.
     asked(|room, size, status| unsafe { function(text.as_ptr(), text.len(), room, size, status) })
 }
 

@@ -10,7 +10,7 @@
 //! # Ok::<(), listset::Wrong>(())
 //! ```
 //!
-//! Any number of threads may call the judge at the same time. The page FOREIGN.md states what is proved about these
+//! Any number of threads may call the judge at the same time. The page FOREIGN.md states the proved properties of these
 //! functions.
 
 use std::error::Error;
@@ -91,12 +91,12 @@ pub fn check(report: impl AsRef<[u8]>) -> Result<(), Wrong> {
     of_text(calls::listset_check, report.as_ref()).map(|_| ())
 }
 
-/// Returns the trace of a schedule, which states what each step did.
+/// Returns the trace of a schedule: a line for each event.
 pub fn trace(schedule: impl AsRef<[u8]>) -> Result<String, Wrong> {
     of_text(calls::listset_trace, schedule.as_ref())
 }
 
-/// Returns the trace of a schedule, with the chain after each event that changed it.
+/// Returns the trace of a schedule, with the chain of nodes after each event that changed the chain.
 pub fn trace_with_chains(schedule: impl AsRef<[u8]>) -> Result<String, Wrong> {
     of_text(calls::listset_trace_with_chains, schedule.as_ref())
 }
@@ -136,8 +136,8 @@ pub fn example(name: &str) -> Result<String, Wrong> {
     of_text(calls::listset_example, name.as_bytes())
 }
 
-/// Returns the broken report of the example with this name. It is the report of a run without the check that the
-/// example is about.
+/// Returns the broken report of the example with this name: the report of a run on a list without the check that the example
+/// is about.
 pub fn broken_example(name: &str) -> Result<String, Wrong> {
     of_text(calls::listset_broken_example, name.as_bytes())
 }

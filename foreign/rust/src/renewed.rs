@@ -18,7 +18,7 @@ const MOST_OPENING: u64 = 1 << 20;
 /// A thread gets its own seat from [`RenewedSet::split`], and returns it by dropping it. Calls wait during a renewal.
 /// The renewal waits for pending calls, but not for threads that are between two calls. A call waits for another call
 /// for at most [`patience`](RenewedSet::with_patience); after that it returns [`Fault::TimedOut`] and has no effect.
-/// The page FOREIGN.md states what is promised about the order of calls.
+/// The page FOREIGN.md states the promises about the order of calls.
 ///
 /// ```
 /// use listset::{List, RenewedSet};
@@ -39,8 +39,8 @@ pub struct RenewedSet {
     list: List,
     quota: u32,
     patience: Duration,
-    renewing: Mutex<()>,   // Locked before all places are.
-    is_wanted: AtomicBool, // A thread has waited long for the places, so the next calls of the others wait for it.
+    renewing: Mutex<()>,   // Must be locked before a thread locks all places.
+    is_wanted: AtomicBool, // A thread has waited long for the places, so the next calls of other threads wait for it.
     places: Vec<Place>,
 }
 
@@ -52,16 +52,16 @@ struct Place {
     part: Mutex<Part>,
 }
 
-/// The data of one place: its seat, and what is known of the set there. (A place belongs to one thread at a time.)
+/// The data of one place: its seat, and numbers for the next renewal. (A place belongs to one thread at a time.)
 #[derive(Debug)]
 struct Part {
     seat: Seat,
     stage: Stage,
-    /// How many keys the set had when it was last opened. Only the first place has this number.
+    /// The number of keys that the set had when it was last opened. Only the first place has this number.
     opened_with: u64,
-    /// How many keys this seat has added since then.
+    /// The number of keys that this seat has added since the set was last opened.
     adds: u64,
-    /// How many keys this seat has removed since then.
+    /// The number of keys that this seat has removed since the set was last opened.
     removes: u64,
 }
 
@@ -73,7 +73,7 @@ enum Stage {
     Closed,
 }
 
-/// All places, locked, and the index of the caller's place. The fields are dropped in this order.
+/// The locks of all places, and the index of the caller's place. The fields are dropped in this order.
 struct All<'a> {
     parts: Vec<MutexGuard<'a, Part>>,
     mine: usize,
@@ -118,7 +118,7 @@ impl All<'_> {
             - self.parts.iter().map(|it| it.removes).sum::<u64>()
     }
 
-    /// Makes a call with all seats. If it fails, the stage becomes `ToBeRenewed`.
+    /// Makes a call with all seats. If the call fails, the stage becomes `ToBeRenewed`.
     fn by_all(&mut self, call: impl FnOnce(&mut [Seat]) -> Result<(), Fault>) -> Result<(), Fault> {
         self.set_stage(Stage::ToBeRenewed);
         let taken = |it: &mut MutexGuard<Part>| std::mem::replace(&mut it.seat, Seat { raw: NONE });
@@ -144,8 +144,8 @@ impl All<'_> {
 }
 
 impl RenewedSet {
-    /// Opens a set with 1 to 64 seats, each of which can add `quota` keys before the set is renewed, and with keys in
-    /// strictly increasing order.
+    /// Opens a set with 1 to 64 seats and with keys in strictly increasing order. A seat can add `quota` keys before the set
+    /// is renewed.
     pub fn open(list: List, seats: u32, quota: u32, keys: &[u32]) -> Result<RenewedSet, Fault> {
         let mut all = vec![open(list, seats, quota, keys)?];
         while all.len() < seats as usize {
@@ -171,8 +171,7 @@ impl RenewedSet {
         found.map(|place| OwnSeat { set: self, place }).ok_or(Fault::NoMore)
     }
 
-    /// Renews the set and returns the keys that it has at that moment. Returns [`Fault::Keys`] if there are more than
-    /// 1,048,576.
+    /// Renews the set and returns its keys at this moment. Returns [`Fault::Keys`] if there are more than 1,048,576.
     pub fn keys(&self) -> Result<Vec<u32>, Fault> {
         let mut all = self.all(0)?;
         if all.keys_now() > MOST_OPENING {
@@ -183,8 +182,8 @@ impl RenewedSet {
         Ok(keys)
     }
 
-    /// Closes the set and returns its final keys. Returns [`Fault::SeatsOut`] while a thread has a seat; the set is
-    /// unchanged then.
+    /// Closes the set and returns its final keys. If a thread has a seat, returns [`Fault::SeatsOut`] and does not change the
+    /// set.
     pub fn close(&self) -> Result<Vec<u32>, Fault> {
         let mut all = self.all(0)?;
         if self.places.iter().any(|it| it.is_taken.load(Ordering::Acquire)) {
@@ -196,12 +195,12 @@ impl RenewedSet {
         Ok(keys)
     }
 
-    /// Locks `lock`. The thread that holds it can be in a `ceiling` of a lock-free list, which may retry until another
-    /// call unlinks a marked node. An `add` from `helper` unlinks the node; it changes no key if the seat of `helper`
-    /// has used up its quota.
+    /// Locks `lock`. The thread that holds `lock` can be in a `ceiling` of a lock-free list, which may retry until another
+    /// call unlinks a marked node. An `add` from the place `helper` unlinks the node, and changes no key if the seat of
+    /// `helper` has used up its quota.
     ///
-    /// A thread with a helper locks all places. After 5 ms, the next calls of the other threads wait for it, unless
-    /// such a call could be needed as a helper.
+    /// A thread with a helper locks all places. After 5 ms, the next calls of other threads wait for this thread, unless such
+    /// a call could be needed to unlink the node.
     fn taken<'a, T>(&self, lock: &'a Mutex<T>, mut helper: Option<&mut Part>) -> Result<MutexGuard<'a, T>, Fault> {
         let begun = Instant::now();
         loop {
@@ -224,7 +223,7 @@ impl RenewedSet {
         }
     }
 
-    /// Locks all places, the caller's first.
+    /// Locks all places. The caller's place is locked first.
     fn all(&self, mine: usize) -> Result<All<'_>, Fault> {
         let wanted = Wanted { set: self, _one: self.taken(&self.renewing, None)? };
         let mut own = self.taken(&self.places[mine].part, None)?;
@@ -258,11 +257,11 @@ impl RenewedSet {
         }
     }
 
-    /// Renews the set and adds a key from a place whose seat has used up its quota.
+    /// Renews the set and adds a key from a place. Called if the seat of this place has used up its quota.
     fn add_renewed(&self, place: usize, key: u32) -> Result<Added, Fault> {
         let mut all = self.all(place)?;
         if all.stage() == Stage::Open {
-            let added = all.mine().add(key); // Another thread may have renewed the set in the meantime.
+            let added = all.mine().add(key); // Before this call, another thread can have renewed the set.
             if added != Added::Full || all.keys_now() > MOST_OPENING || self.quota == 0 {
                 return Ok(added);
             }
@@ -280,12 +279,12 @@ pub struct OwnSeat<'a> {
 }
 
 impl OwnSeat<'_> {
-    /// Adds a key, and renews the set if the seat has used up its quota. Returns [`Added::Full`] only if the quota is
-    /// 0, or if the set has more than 1,048,576 keys, with which no set can be opened.
+    /// Adds a key, and renews the set if the seat has used up its quota. Returns [`Added::Full`] only if the quota is 0, or
+    /// if the set has more than 1,048,576 keys: no set can be opened with so many keys.
     pub fn add(&mut self, key: u32) -> Result<Added, Fault> {
         let mut added = self.set.by(self.place, |it| it.add(key))?;
         if added == Added::Full {
-            drop(self.set.taken(&self.set.renewing, None)?); // Another thread may be renewing the set.
+            drop(self.set.taken(&self.set.renewing, None)?); // Waits while another thread renews the set.
             added = self.set.by(self.place, |it| it.add(key))?;
         }
         match added {
@@ -326,7 +325,7 @@ mod tests {
 
     use super::*;
 
-    /// While a thread stays in a call, the calls of other threads time out and have no effect. Once that call has
+    /// Tests calls of other threads while a thread stays in a call: they time out and have no effect. Once that call has
     /// ended, calls succeed again.
     #[test]
     fn a_call_that_does_not_return_makes_others_time_out() {
@@ -343,7 +342,8 @@ mod tests {
         assert_eq!((set.close(), set.keys()), (Err(Fault::Closed), Err(Fault::Closed)));
     }
 
-    /// While a thread stays in a call, a call without a time limit waits. Once the other call has ended, it is made.
+    /// Tests a call without a time limit while another thread stays in a call: it waits, and is made when the other call has
+    /// ended.
     #[test]
     fn a_call_without_patience_waits() {
         for list in [List::Lazy, List::LockFree] {

@@ -103,8 +103,8 @@ impl Display for Fault {
 
 impl Error for Fault {}
 
-/// An error that returns the refused argument. `?` converts it to a boxed error, or to its [`Fault`], which drops the
-/// argument.
+/// An error that returns the refused argument. `?` converts it to a boxed error, or to its [`Fault`]; a conversion to a
+/// [`Fault`] drops the argument.
 #[derive(Debug)]
 pub struct Refused<B> {
     /// The refused argument.
@@ -155,7 +155,7 @@ pub(crate) fn told(code: u8) -> Result<(), Fault> {
 /// # Ok::<(), Box<dyn std::error::Error>>(())
 /// ```
 #[derive(Debug)]
-#[repr(align(128))] // Seats share no cache line, since a call writes to its seat.
+#[repr(align(128))] // Seats share no cache line, because each call writes to its seat.
 pub struct Seat {
     pub(crate) raw: Raw,
 }
@@ -163,7 +163,7 @@ pub struct Seat {
 // SAFETY: the crate ffi_sets proves that the contents of a seat can be passed to another thread.
 unsafe impl Send for Seat {}
 
-// SAFETY: no function takes `&Seat`. (`?` converts an error with a seat to `Box<dyn Error + Send + Sync>`, which
+// SAFETY: no function has a parameter `&Seat`. (`?` converts an error with a seat to `Box<dyn Error + Send + Sync>`, which
 // requires `Sync`.)
 unsafe impl Sync for Seat {}
 
@@ -173,16 +173,16 @@ pub struct Receipt {
     raw: Raw,
 }
 
-// SAFETY: as for a seat.
+// SAFETY: as for `Seat`.
 unsafe impl Send for Receipt {}
 
-// SAFETY: no function takes `&Receipt`.
+// SAFETY: no function has a parameter `&Receipt`.
 unsafe impl Sync for Receipt {}
 
 /// Returns the maximum number of steps of [`Seat::contains_now`] on a list that was opened with `seats` seats, this
 /// quota and `keys` keys. Returns 0 if no set can be opened with these.
 pub fn most_reads(seats: u32, quota: u32, keys: u32) -> u64 {
-    // SAFETY: the function takes only numbers.
+    // SAFETY: all parameters of the function are numbers.
     unsafe { listset_most_reads(seats, quota, keys) }
 }
 
@@ -192,16 +192,16 @@ pub(crate) fn next_number() -> u64 {
     SETS.fetch_add(1, Ordering::Relaxed)
 }
 
-/// Opens a set with `seats` seats, each of which may add `quota` keys, and with keys in strictly increasing order.
-/// Returns a seat that contains all others.
+/// Opens a set with `seats` seats and with keys in strictly increasing order. Each seat may add `quota` keys. Returns a seat
+/// that contains all other seats.
 pub fn open(list: List, seats: u32, quota: u32, keys: &[u32]) -> Result<Seat, Fault> {
     let mut made = Seat { raw: NONE };
-    // SAFETY: the pointers are those of a slice and of an empty seat. No other set in this program has this number.
+    // SAFETY: the pointers point to a slice and to an empty seat. No other set in this program has this number.
     told(unsafe { listset_open(list as u8, seats, quota, next_number(), keys.as_ptr(), keys.len(), &mut made.raw) })?;
     Ok(made)
 }
 
-/// What a failed renewal returns: the seats of the set or, if the set is closed, its keys.
+/// The result of a failed renewal: the seats of the set or, if the set is closed, its keys.
 #[derive(Debug)]
 pub enum Left {
     /// All seats of the set, which is still open.
@@ -210,8 +210,8 @@ pub enum Left {
     Keys(Vec<u32>),
 }
 
-/// Closes the set whose seats are all in `seats`, and opens a set of the list `list` with its keys. Returns the `count`
-/// seats of the new set, each with this quota.
+/// Closes a set, and opens a set of the list `list` with the same keys. `seats` must contain all seats of the old set.
+/// Returns the `count` seats of the new set, each with this quota.
 ///
 /// ```
 /// use listset::{open, renew, Added, List};
@@ -245,18 +245,17 @@ pub fn renew(seats: Vec<Seat>, list: List, count: u32, quota: u32) -> Result<Vec
     }
 }
 
-/// Renews the set whose seats are all in these places, or the closed set in the first place. The other places may be
-/// empty.
+/// Renews a set. The places must contain all seats of the set, or the first place must contain the closed set. The other
+/// places may be empty.
 pub(crate) fn renew_in(places: &mut [Seat], list: List, count: u32, quota: u32) -> Result<(), Fault> {
-    // SAFETY: the pointers are those of an array of seats that only the caller has. No other set in this program has
-    // this number.
+    // SAFETY: the pointers point to an array of seats that only the caller has. No other set in this program has this number.
     by_all(places, |raws, many| unsafe { listset_renew(raws, many, list as u8, count, quota, next_number()) })
 }
 
-/// Closes the set whose seats are all in these places. The first place then contains the closed set. Places may be
-/// empty.
+/// Closes a set. The places must contain all seats of the set, and can be empty otherwise. Afterwards, the first place
+/// contains the closed set.
 pub(crate) fn close_in(places: &mut [Seat]) -> Result<(), Fault> {
-    // SAFETY: the pointer is that of an array of seats that only the caller has.
+    // SAFETY: the pointer points to an array of seats that only the caller has.
     by_all(places, |raws, many| unsafe { listset_close_all(raws, many) })
 }
 
@@ -283,16 +282,16 @@ pub(crate) fn keys_of(closed: &mut Raw) -> Option<Vec<u32>> {
 
 // SAFETY of each call below: `&mut self` is a seat that only this thread uses.
 impl Seat {
-    /// Splits a seat off this one. Returns [`Fault::NoMore`] if none can be split off, as is the case after a
-    /// [`gather`](Seat::gather).
+    /// Splits a seat off this one. Returns [`Fault::NoMore`] if no seat can be split off: this seat contains no other seat,
+    /// or has [gathered](Seat::gather) a seat.
     pub fn split(&mut self) -> Result<Seat, Fault> {
         let mut made = Seat { raw: NONE };
         told(unsafe { listset_split(&mut self.raw, &mut made.raw) })?;
         Ok(made)
     }
 
-    /// Adds a key. Returns [`Added::Full`] if the key is absent but the seat has used up its quota; [`renew`] returns
-    /// seats with a new one.
+    /// Adds a key. Returns [`Added::Full`] if the key is absent but the seat has used up its quota; [`renew`] returns seats
+    /// with a new quota.
     pub fn add(&mut self, key: u32) -> Added {
         match replied(unsafe { listset_add(&mut self.raw, key) }) {
             TRUE => Added::True,
@@ -312,7 +311,7 @@ impl Seat {
     }
 
     /// Returns whether a key is in the set, like `contains`, but waits for no lock and makes at most [`most_reads`]
-    /// steps, whatever the other threads do. Only for lazy and lock-free lists: on any other list, returns
+    /// steps, whatever other threads do. Only for lazy and lock-free lists: on any other list, returns
     /// [`Fault::ReadsBlock`].
     pub fn contains_now(&mut self, key: u32) -> Result<bool, Fault> {
         match replied(unsafe { listset_contains_now(&mut self.raw, key) }) {
@@ -328,7 +327,7 @@ impl Seat {
         Ok(made)
     }
 
-    /// Accepts a receipt: all later calls of this seat come after every call that the receipt covers. Returns
+    /// Accepts a receipt: in the order of all calls, later calls of this seat follow every call that the receipt covers. Returns
     /// [`Fault::OtherSet`] if the receipt is from another set.
     pub fn after(&mut self, mut given: Receipt) -> Result<(), Fault> {
         told(unsafe { listset_after(&mut self.raw, &mut given.raw) })
@@ -347,7 +346,7 @@ impl Seat {
         told(code).map_err(|fault| Refused { back: from, fault })
     }
 
-    /// Closes the set and returns its final keys. If this seat does not contain all others, or if an allocation fails,
+    /// Closes the set and returns its final keys. If this seat does not contain all other seats, or if an allocation fails,
     /// the error returns the seat.
     pub fn close(mut self) -> Result<Vec<u32>, Refused<Seat>> {
         match told(unsafe { listset_close(&mut self.raw) }) {
@@ -357,7 +356,8 @@ impl Seat {
     }
 }
 
-/// Returns the reply of a call. Every `Seat` is full, so a call is refused only if it gave up.
+/// Returns the reply of a call. Every `Seat` is full, so a call fails only if it stopped without a reply, after 2^64 - 1
+/// rounds of a loop.
 fn replied(reply: u8) -> u8 {
     assert_ne!(reply, NO_SEAT, "the call made 2^64 - 1 rounds");
     reply

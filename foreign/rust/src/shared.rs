@@ -5,8 +5,8 @@ use std::sync::{Mutex, MutexGuard, PoisonError};
 
 use crate::{open, Added, Fault, List, Refused, Seat};
 
-/// A set with a pool of seats, which any number of threads may call through `&self`. A call uses a seat that no other
-/// call is using, or waits for one.
+/// A set with a pool of seats, which any number of threads may call through `&self`. A call uses a seat that no other call is
+/// using, or waits for a seat.
 ///
 /// Two calls of one thread can use different seats, so not even the order of a thread's own calls is guaranteed.
 ///
@@ -27,8 +27,8 @@ pub struct Shared {
 }
 
 impl Shared {
-    /// Opens a set with `seats` seats, each of which may add `quota` keys, and with keys in strictly increasing order.
-    /// Up to `seats` calls can run at the same time.
+    /// Opens a set with `seats` seats and with keys in strictly increasing order. Each seat may add `quota` keys. Up to
+    /// `seats` calls can run at the same time.
     pub fn open(list: List, seats: u32, quota: u32, keys: &[u32]) -> Result<Shared, Fault> {
         let mut first = open(list, seats, quota, keys)?;
         let mut all: Vec<Seat> = (1..seats).map(|_| first.split()).collect::<Result<_, _>>()?;
@@ -70,7 +70,7 @@ impl Shared {
         all.close()
     }
 
-    /// Makes a call from a free seat. Each thread starts its search at its own place.
+    /// Makes a call from a free seat. Threads start their search at different places, if there are enough places.
     fn by<T>(&self, call: impl FnOnce(&mut Seat) -> T) -> T {
         static THREADS: AtomicUsize = AtomicUsize::new(0);
         thread_local!(static MINE: usize = THREADS.fetch_add(1, Ordering::Relaxed));
@@ -99,8 +99,8 @@ mod tests {
         heard.recv_timeout(Duration::from_secs(20)).ok()
     }
 
-    /// All seats but one are in use. Two threads run one after the other, and at most one of them begins its search at
-    /// the free seat.
+    /// Tests calls while only one seat is free. Two threads run one after the other, and at most one of them begins its
+    /// search at the free seat.
     #[test]
     fn a_call_takes_a_seat_that_no_other_uses() {
         for (seats, free) in [2, 3, 8].into_iter().flat_map(|seats| (0..seats).map(move |free| (seats, free))) {

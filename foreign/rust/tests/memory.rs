@@ -1,5 +1,5 @@
-//! Checks that dropped sets are freed, whether or not they were closed. (This file has only this test, because others
-//! would allocate at the same time.)
+//! Checks that dropped sets are freed, whether or not they were closed. (This file has only this test: other tests would
+//! allocate at the same time.)
 
 use std::fs::read_to_string;
 

@@ -1,5 +1,5 @@
-//! Checks that a set reports a failed allocation, does not leak, and stays usable. (This file has only this test: its
-//! `malloc` is that of the whole program, except for Rust's own memory.)
+//! Checks that a set reports a failed allocation, does not leak, and stays usable. (This file has only this test, because its
+//! `malloc` replaces the `malloc` of the whole program, except for Rust's own memory.)
 
 use std::alloc::{GlobalAlloc, Layout};
 use std::cell::Cell;
@@ -34,7 +34,8 @@ unsafe impl GlobalAlloc for Own {
 #[global_allocator]
 static OWN: Own = Own;
 
-// For each thread: how many allocations it has made, which of them fails (0: none), and how many blocks it has.
+// For each thread: the number of its allocations so far, the number of the allocation that fails (0: none), and the number of
+// its blocks.
 thread_local! {
     static ASKED: Cell<usize> = const { Cell::new(0) };
     static REFUSED: Cell<usize> = const { Cell::new(0) };
@@ -68,7 +69,7 @@ unsafe extern "C" fn free(block: *mut c_void) {
     __libc_free(block)
 }
 
-/// What failed while a set was used.
+/// The step that failed while a set was used.
 #[derive(PartialEq)]
 enum Told {
     Open,
@@ -76,7 +77,7 @@ enum Told {
     Nothing,
 }
 
-/// Opens, uses and closes a set with three seats while this allocation fails.
+/// Opens, uses and closes a set with three seats. The allocation with the number `refused` fails.
 fn life(list: List, refused: usize) -> Told {
     ASKED.with(|it| it.set(0));
     BLOCKS.with(|it| it.set(0));

@@ -1,4 +1,4 @@
-//! The lists in four threads, compared with sets of std, and the errors of refused calls.
+//! Compares the lists, called by four threads, with sets of std. Also tests the errors of refused calls.
 
 use std::collections::BTreeSet;
 use std::sync::Barrier;
@@ -19,8 +19,8 @@ impl<S> Once<()> for S {}
 impl<S: Clone> Once<u8> for S {}
 const _: fn() = <Seat as Once<_>>::is_once;
 
-/// Makes calls with keys that no other thread uses. Returns the keys that remain. There are 4 operations, or 3 without
-/// ceilings.
+/// Makes calls with keys that no other thread uses. Returns the keys that remain. `kinds` is the number of operations: 4, or
+/// 3 without `ceiling`.
 fn calls_of(seat: &mut Seat, thread: u32, kinds: u64) -> BTreeSet<u32> {
     let (mut left, mut drawn) = (BTreeSet::new(), u64::from(thread) + 88172645463325252);
     for _ in 0..CALLS {
@@ -49,7 +49,7 @@ fn each_list_keeps_what_its_threads_put_in() {
             let split = seats[0].split().unwrap();
             seats.push(split);
         }
-        // On this list, several threads in `ceiling` calls can wait for a `remove` that no thread ever makes.
+        // On this list, several threads in `ceiling` calls could wait for a `remove` that no thread makes.
         let kinds = if list == List::LockFree { 3 } else { 4 };
         let left: BTreeSet<u32> = scope(|threads| {
             let run = |(thread, seat)| threads.spawn(move || calls_of(seat, thread, kinds));
@@ -92,7 +92,7 @@ fn a_shared_set_uses_the_quota_of_each_seat() {
     assert_eq!(Shared::open(List::Lazy, 0, 1, &[]).err(), Some(Fault::Seats));
 }
 
-/// Checks that as many adds return true as the seats have quota for, whichever threads make them, and that exactly
+/// Checks that the number of adds that return true is the sum of all quotas, whichever threads make them, and that exactly
 /// these keys remain.
 #[test]
 fn threads_use_the_quota_of_each_seat() {
@@ -112,8 +112,8 @@ fn threads_use_the_quota_of_each_seat() {
     }
 }
 
-/// Threads add the same keys, exactly as many as all quotas together allow. No add may return full: once no seat has
-/// quota left, all keys are present.
+/// Tests threads that add the same keys, exactly as many as all quotas together allow. No add may return full: once no seat
+/// has quota left, all keys are present.
 #[test]
 fn no_add_is_full_while_a_seat_has_quota() {
     for _ in 0..20 {
@@ -216,7 +216,7 @@ fn a_refusal_is_an_error() {
     assert_eq!(gathered(), Err(Fault::OtherSet));
 }
 
-/// Checks the replies of `contains_now`, and the error on lists whose `contains` can block.
+/// Checks the replies of `contains_now`, and its error on lists with a `contains` that can block.
 #[test]
 fn reads_that_do_not_block() {
     for list in LISTS {
@@ -284,7 +284,7 @@ fn a_set_is_renewed() {
     assert_eq!(seats.remove(0).close().unwrap(), [5, 8, 9]);
 }
 
-/// Threads call a set that renews itself. Its quota is small, so it is renewed hundreds of times.
+/// Tests threads that call a set that renews itself. Its quota is small, so it is renewed hundreds of times.
 #[test]
 fn a_renewed_set_keeps_what_its_threads_put_in() {
     for (list, quota) in LISTS.into_iter().zip([50, 50, 50, 1, 7]) {
@@ -293,8 +293,8 @@ fn a_renewed_set_keeps_what_its_threads_put_in() {
             let mut seat = set.split().unwrap();
             for key in (thread * OWN..(thread + 1) * OWN).cycle().take(2000) {
                 assert_eq!((seat.add(key), seat.contains(key)), (Ok(Added::True), Ok(true)));
-                // On the lock-free list, a ceiling can wait for an add of another thread, which may not make any more
-                // adds.
+                // On the lock-free list, a ceiling can wait for an add of another thread, and the other threads may make no
+                // further adds.
                 assert!(list == List::LockFree || seat.ceiling(key) == Ok(Some(key)));
                 assert_eq!((seat.remove(key), seat.remove(key)), (Ok(true), Ok(false)));
             }
@@ -307,8 +307,8 @@ fn a_renewed_set_keeps_what_its_threads_put_in() {
     }
 }
 
-/// Checks that there are as many seats as requested, that a dropped seat is free again, and that no thread waits for
-/// one that is between two calls.
+/// Checks that there are as many seats as requested, that a dropped seat is free again, and that no call waits for a thread
+/// that is between two calls.
 #[test]
 fn the_seats_of_a_renewed_set() {
     let set = RenewedSet::open(List::LockFree, 2, 1, &[]).unwrap();
