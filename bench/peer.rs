@@ -158,7 +158,8 @@ fn each(kind: Kind, wanted: &Wanted) {
     }
 }
 
-/// Times rounds of all calls, each on a new set, from the first call of the first thread to the end of the last one.
+/// Times rounds of all calls, each on a new set. A round lasts from the first call of the first thread to the end of the last
+/// thread.
 fn whole<S: Sync>(wanted: &Wanted, new: impl Fn() -> S, make_calls: impl Fn(&S, u64, &[Call]) + Sync) {
     let programs = wanted.programs();
     let (mut calls, mut spent) = (0, Duration::ZERO);

@@ -1,6 +1,6 @@
-// A judge of recordings written by hand, as a baseline. It reads `listset-calls 1` from standard input and prints `ok N
+// A judge, written by hand as a baseline. It reads `listset-calls 1` from standard input and prints `ok N
 // calls`, or `not linearizable` and the key. It uses the rule of crates/lset_judge/specs/Rule.antt: a key changes only if the
-// end of a call requires the change. Of the pending calls that can make the change, the one with the earliest end takes
+// end of a call requires the change. Of the pending calls that can make the change, the call with the earliest end takes
 // effect. It works in one pass. It checks the format of its input, but not that calls are ordered by start or that moments
 // differ.
 use std::collections::{BinaryHeap, HashMap, HashSet};

@@ -71,7 +71,7 @@ def loaded(load, protocol, server, clients, at_once):
 
 def server():
     """Prints the table of servers: thousands of requests per second, and the 99th percentile of the microseconds per
-    write. Each is the median of several alternating rounds.
+    write. Each number is the median of several rounds, which alternate between the servers.
     """
     tool = built("listset")
     servers = {kind: ("listset", lambda clients, kind=kind: listset(tool, kind, clients)) for kind in KINDS}

@@ -62,8 +62,8 @@ def median_of(runs, call):
 
 
 def nanoseconds(words):
-    """Runs bench_calls or peer.rs and returns the nanoseconds per call, for each operation or for all of them. Calls
-    during which the thread was preempted are left out.
+    """Runs bench_calls or peer.rs and returns the nanoseconds per call, for each operation or for all of them. Calls are left
+    out if their thread was preempted.
     """
     run = subprocess.run(words, stdin=subprocess.DEVNULL, capture_output=True, text=True, check=True)
     many = {kind: int(calls) for kind, calls in map(str.split, run.stdout.splitlines())}

@@ -30,8 +30,8 @@ def tests():
 
 
 def below(names, root=TOP, lines=None):
-    """Returns these crates and all their dependencies, dependencies first. (crates.txt lists each crate after those
-    that it uses.)
+    """Returns these crates and all their dependencies, dependencies first. (crates.txt lists each crate after its
+    dependencies.)
     """
     lines, wanted = lines or lines_of(root), set(names)
     for name in reversed(lines):

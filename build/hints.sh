@@ -447,7 +447,7 @@ explain_hyphen() {
   fi
 }
 
-# Explains an argument after the last one that the command accepts.
+# Explains a superfluous argument, that is, an argument after the last argument of the command.
 explain_further() {
   local command=$1 word=$2
   case "$command" in

@@ -80,7 +80,7 @@ def room(kind):
     try:
         yield pathlib.Path(folder)
     finally:
-        # (processes that have just been killed may still be writing there)
+        # (processes that have just been killed may still be writing to the folder)
         for _ in range(20):
             shutil.rmtree(folder, ignore_errors=True)
             if not os.path.exists(folder):

@@ -51,7 +51,7 @@ def wait_for_those_below(room, names):
 
 def prove(room, names, tell, is_whole=False):
     """Proves these crates in the folder `room` and returns the exit status of rt ci. Each line of output is passed to
-    `tell`, with the copy's folder replaced by that of this repository. The libraries remain in `room`. If `is_whole`,
+    `tell`, with the folder of the copy replaced by the folder of this repository. The libraries remain in `room`. If `is_whole`,
     the copy also has the lists of examples/lists.
     """
     toolchain.folder()

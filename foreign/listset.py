@@ -54,7 +54,7 @@ FIRST_ROOM = 1 << 16  # bytes
 class Wrong(Exception):
     """The program's error. `status` is 1 for a wrong text, 2 for a wrong argument, and 3 if memory ran out. `text` is the
     text that the program would print. If a line of the text is wrong, `line` is its number, counted from 1, and `cause` is the name of the
-    cause, which `faults()` explains. Otherwise both are None.
+    cause, which `faults()` explains. Otherwise `line` and `cause` are None.
     """
 
     def __init__(self, text, status):

@@ -150,7 +150,7 @@ def test_schedules_of_each_size_are_drafted_replayed_and_checked(asked, few, kin
     """Runs short schedules of all shapes, and long schedules of the shapes in NEAR."""
     for shape in [*SHAPES.values(), *NEAR.values()]:
         runs(asked, kind, 0, shape(240))
-    words = {"coarse": ["--lacks", "lock"], "lazy": ["--lacks", "mark-in-contains"]}.get(kind, ())  # (on calls that do not overlap, these broken lists behave as the intact ones)
+    words = {"coarse": ["--lacks", "lock"], "lazy": ["--lacks", "mark-in-contains"]}.get(kind, ())  # (if calls do not overlap, these broken lists behave like the intact lists)
     name = [*NEAR][KINDS.index(kind) % len(NEAR)]
     for size in [CALLS // TIMES] if few else [CALLS // TIMES, CALLS]:
         runs(asked, kind, size, NEAR[name](size), words)

@@ -1,8 +1,8 @@
-"""Tests that the program turns the schedules in examples/schedules into the reports there, and that docs/CLASSIC.md shows its
-output.
+"""Tests that the program turns the schedules in examples/schedules into the reports in this folder, and that docs/CLASSIC.md
+shows the program's output.
 
 `replay` of each NAME.schedule must print NAME.report, and `check` of each report must print `ok`. For a file in
-refused-files.txt, `replay` must print the error listed there and no report. `example NAME` prints the schedule of each
+refused-files.txt, `replay` must print the error listed in that file and no report. `example NAME` prints the schedule of each
 classic interleaving, and `example --broken NAME` the report of its broken list, if the example has one.
 page/tests/break_it.js tests how a broken list reveals its missing check. Another test here checks that README, the pages in
 docs/ and two other pages show the output of their commands (harness/pages.py).

@@ -20,7 +20,7 @@ from judge_in_a_test import FORMS, go_words
 FOREIGN, EXAMPLES = TOP / "foreign", TOP / "examples" / "schedules"
 TESTS, FIRST, PREFIX = FOREIGN / "tests", FOREIGN / "first", pathlib.Path(os.environ.get("LISTSET_PREFIX", FOREIGN / "out"))
 needs = pytest.mark.needs
-pytestmark = pytest.mark.xdist_group("foreign")  # (one after another: each test has more threads than there are processors)
+pytestmark = pytest.mark.xdist_group("foreign")  # (one after another: each test has more threads than processors)
 WARN = ["-Wall", "-Wextra", "-Werror", "-O1", "-g"]
 MEMORY, RACES = "-fsanitize=address,undefined", "-fsanitize=thread"
 WRAPPED = [f"-Wl,--wrap={it}" for it in ("malloc", "realloc", "free")]

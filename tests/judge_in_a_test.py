@@ -139,7 +139,7 @@ def test_wrong_sets_are_refused_with_the_default_options(form, program):
     kind, said = form.told(program, "right")
     assert kind == "ok" and int(re.search(": ([0-9]+) calls", said)[1]) > 20_000, said
     for of, preset in (("check then act", ""), ("first use", ""), ("again", ""), ("collides", "multiples of 64")):
-        for seed in (1, 1002, 2003, 3004):  # (on a busy machine it can happen that no calls of a test overlap)
+        for seed in (1, 1002, 2003, 3004):  # (on a busy machine, possibly no calls of a test overlap)
             kind, said = form.told(program, of, f"seed={seed}" if seed > 1 else "")
             if kind == "refused":
                 break

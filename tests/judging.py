@@ -107,8 +107,8 @@ def ways_left(calls, is_there):
 
 
 def known_at(calls, moment):
-    """Returns the calls as a judge knows them at a moment. A change that ends later is pending. Any other call that ends
-    later is left out.
+    """Returns the calls as a judge knows them at a moment. A change that has begun but not ended at this moment is pending.
+    Any other call that has not ended is left out.
     """
     ended = [it for it in calls if it.end and it.end <= moment]
     return ended + [it._replace(end=None, reply=None) for it in calls if it.begin <= moment and it not in ended and changes(it)]

@@ -154,7 +154,7 @@ def limits():
 
 
 def closed_again():
-    """Checks that a second `close` returns the keys if an allocation failed during the first one."""
+    """Checks that `close` returns the keys at the second attempt if an allocation failed during the first attempt."""
     keys, mine = listset._keys, listset.open_set("lazy", 1, 1, [5, 9])
     for refused in (1, 2):
         with unittest.mock.patch.object(listset, "_keys", side_effect=[*[keys([])] * (refused - 1), MemoryError]):

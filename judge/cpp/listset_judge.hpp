@@ -454,7 +454,7 @@ template <class Make, class K> struct maker {
         return unsigned(draw()) % below;
     }
 
-    // Makes a thread's calls of one part on a set.
+    // Makes the calls of one thread on a set, up to the next save of the recording.
     void call_set(area &run, unsigned thread, unsigned round, unsigned &number, std::mt19937 &draw, stops &own) {
         set_type &its = *set;
         slot *at = run.slots + size_t(thread) * run.rows;
@@ -708,7 +708,7 @@ inline std::string key_in(const std::string &refused) {
     return key;
 }
 
-// ---- a test: runs one after another
+// ---- a test: a sequence of runs
 
 // The file with the recording of a run, which grows during the run. It is deleted at the end unless it is kept.
 struct recording {

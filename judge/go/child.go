@@ -21,7 +21,7 @@ import (
 // fileName is the variable that names the file with the shared memory of a run.
 const fileName = "LISTSET_AREA"
 
-// child is a process that runs a test again up to its Check and then makes runs there.
+// child is a process that runs a test again up to its Check, and then makes the runs of this Check.
 type child struct {
 	*area
 	process *exec.Cmd
@@ -50,7 +50,7 @@ func inChild(name string, a *area) (caller, error) {
 	return c, c.start(name, file.Name())
 }
 
-// share maps the file into memory and records the run there.
+// share maps the file into memory, and uses this memory for the runs.
 func (c *child) share(file *os.File) error {
 	memory, err := syscall.Mmap(int(file.Fd()), 0, c.bytes(), syscall.PROT_READ|syscall.PROT_WRITE, syscall.MAP_SHARED)
 	if err == nil {

@@ -134,7 +134,7 @@ type caller interface {
 	begin()          // must be called when the memory of a run is ready
 	hasEnded() bool  // whether the run has ended
 	trouble() string // the error, if the run has ended with an error
-	stop()           // stops the run; a child process ends
+	stop()           // stops the run, and ends the child process if there is one
 	close()          // frees the memory of the runs
 }
 

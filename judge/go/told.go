@@ -74,7 +74,7 @@ func (r *recording) judged(by *judgeFound, a *area, trouble string) (int, error)
 	return 0, &CutShort{failed}
 }
 
-// ofKey matches the key that a judge names.
+// ofKey matches the key in the judge's output.
 var ofKey = regexp.MustCompile(`of key (\d+) `)
 
 // firstOf returns the first of several lines of calls, and the number of further lines.

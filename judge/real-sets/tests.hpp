@@ -1,4 +1,4 @@
-// Runs a number of tests of a published set, and prints how many of them refused it.
+// Runs a number of tests of a published set, and prints the number of tests that refused the set.
 #include "../cpp/listset_judge.hpp"
 #include <iostream>
 

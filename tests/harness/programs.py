@@ -45,9 +45,7 @@ def well(*words, seconds=LONG, **how):
 
 
 def wants(run, status=0, output=None, tells=(), no=()):
-    """Checks the status and the output of a run. Its standard error must contain the texts in `tells` and none of those in
-    `no`.
-    """
+    """Checks the status and the output of a run. Its standard error must contain all texts in `tells` and no text in `no`."""
     found = f"{' '.join(run.args)}: status {run.returncode}, output {run.stdout[:300]!r}, standard error {run.stderr[-600:]!r}"
     assert run.returncode == status and output in (None, run.stdout), found
     for text in tells:

@@ -131,8 +131,8 @@ pub extern "C" fn listset_after(alloc: Global, seat: &mut CSeat, given: &mut CSe
     ffi_sets::take_receipt(alloc, seat, given)
 }
 
-/// Returns how many seats of its set `seat` contains, itself included. Writes the number of all seats of the set to
-/// `all`. Both are 0 if `seat` is empty, a receipt or a closed set. Does not block or allocate.
+/// Returns the number of seats that `seat` contains, itself included. Writes the number of all seats of the set to `all`.
+/// Both numbers are 0 if `seat` is empty, a receipt or a closed set. Does not block or allocate.
 #[unsafe(no_mangle)]
 pub extern "C" fn listset_seats_within(alloc: Global, seat: &mut CSeat, all: &mut u32) -> u64 {
     ffi_sets::count_seats(alloc, seat, all)

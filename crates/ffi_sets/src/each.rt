@@ -94,8 +94,8 @@ pub fn heed_held(into: &mut Held, given: Held) -> Option<Held>
     })
 }
 
-/// Returns how many seats of its set `held` contains, and how many seats the set has in all. Returns 0 and 0 if `held`
-/// has no seat.
+/// Returns the number of seats that `held` contains, and the number of all seats of its set. Returns 0 and 0 if `held` has no
+/// seat.
 pub fn counts_held(held: &Held) -> (u64, u32) {
     match held {
         Held::Coarse(of) => of.counts(),

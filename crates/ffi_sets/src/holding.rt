@@ -168,8 +168,8 @@ impl<M: Bounded> SeatOfSet<M> {
         None
     }
 
-    /// Returns how many seats of the set this one contains, and how many the set has in all. A seat contains itself,
-    /// the seats merged into it, and those that can be split off it.
+    /// Returns the number of seats that this seat contains, and the number of all seats of the set. A seat contains itself,
+    /// the seats merged into it, and the seats that can be split off it.
     pub fn counts(&self) -> (u64, u32) {
         let spare = self.spare.len() as u64;
         let held = match &self.seat {

@@ -223,8 +223,8 @@ pub fn take_receipt(alloc: Global, seat: &mut CSeat, given: &mut CSeat) -> u8
     NO_GATHER
 }
 
-/// Returns how many seats of its set `seat` contains, itself included. Writes the number of all seats of the set to
-/// `all`. Both are 0 if `seat` is empty, a receipt or a closed set. Does not block or allocate.
+/// Returns the number of seats that `seat` contains, itself included. Writes the number of all seats of the set to `all`.
+/// Both numbers are 0 if `seat` is empty, a receipt or a closed set. Does not block or allocate.
 pub fn count_seats(alloc: Global, seat: &mut CSeat, all: &mut u32) -> u64 {
     let (within, of_set) = match take(alloc, seat) {
         Some(held) => {

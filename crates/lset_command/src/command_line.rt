@@ -92,7 +92,7 @@ pub enum Command {
     Run,
     /// Serves sessions on one set.
     Serve,
-    /// Explains all error messages, or those with one cause.
+    /// Explains all error messages, or the error messages with one cause.
     Faults,
     /// Explains the first error in a file.
     Explain,
@@ -555,7 +555,7 @@ fn command_named(name: &str) -> Command
 
 /// Parses the command line, without the program's name, with `clap`.
 ///
-/// The commands and options are those listed in the help. An empty command line means `replay` without arguments.
+/// The help lists the commands and options. An empty command line means `replay` without arguments.
 /// Arguments and options are returned as typed: they can be missing or wrong. An argument of two or more characters
 /// that begins with `-` must follow `--`. Allocates.
 ///

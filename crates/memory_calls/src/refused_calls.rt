@@ -27,8 +27,8 @@ impl Calls {
         }
     }
 
-    /// Records that the latest call returned `Memory`. Returns `false` if a call did so before: only one allocation
-    /// fails in a run.
+    /// Records that the latest call returned `Memory`. Returns `false` if an earlier call returned `Memory`: only one
+    /// allocation fails in a run.
     pub fn may_be_refused(&mut self) -> bool {
         if self.refused.is_some() {
             return false;
@@ -37,7 +37,7 @@ impl Calls {
         true
     }
 
-    /// Records the name of the next call and allocates a block. This allocation, and all later ones up to the next
+    /// Records the name of the next call and allocates a block. This allocation, and all later allocations up to the next
     /// announcement, count as allocations of this call.
     pub fn announce(&mut self, alloc: Global, name: &'static str) -> Result<(), AllocError> {
         self.name = name;

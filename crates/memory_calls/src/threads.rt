@@ -35,7 +35,7 @@ fn two_programs(alloc: Global) -> Result<Vec<Vec<Call>>, AllocError> {
     Ok(programs)
 }
 
-/// Records why `work` failed. Returns the set and the seats that `work` returned with its error, or new ones.
+/// Records why `work` failed. Returns the set and the seats that `work` returned with its error, or a new set and its seats.
 fn after_refusal(
     alloc: Global,
     calls: &mut Calls,

@@ -46,7 +46,7 @@ const LOOK: &str =
 /// The output of a server that ended with the final key 7.
 const PRINTED: &str = "listening 127.0.0.1:4711\nsessions 1\ncalls 1\nkey 7\n";
 
-/// Runs of the program: first those that write to the output, then those that only write an error line.
+/// Runs of the program: first the runs that write to the output, then the runs that only write an error line.
 const ROWS: [Row; 31] = [
     (&["replay"], SCHEDULE),
     (&["check"], REPORT),

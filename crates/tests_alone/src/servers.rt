@@ -21,8 +21,8 @@ const WAYS: [Way; 3] = [
     (Failure::Nothing, 7),
 ];
 
-/// Connects a client and sends a call and `QUIT`. Both are sent before the server accepts the client, so the client
-/// needs no thread.
+/// Connects a client and sends a call and `QUIT`. The client needs no thread, because it sends these lines before the server
+/// accepts it.
 fn client<R: Host>(rt: &R, port: u16) -> io::Result<TcpStream> {
     let mut stream = TcpStream::connect(rt, ("127.0.0.1", port))?;
     stream.write_all(b"ADD 7\nQUIT\n")?;

@@ -32,7 +32,7 @@ impl TextKind {
         }
     }
 
-    /// Returns a predicate for a sentence about a file of this kind, such as its format or its content.
+    /// Returns the predicate of a sentence about a file of this kind, such as `is a schedule`.
     pub fn predicate(self) -> &'static str {
         match self {
             TextKind::Schedule => "is a schedule",

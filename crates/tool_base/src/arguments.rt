@@ -36,7 +36,7 @@ pub struct RandomRequest {
     pub seed: u64,
 }
 
-/// The arguments of the command `run`: those of `gen` for the first round, and the number of rounds.
+/// The arguments of the command `run`: the arguments of `gen` for the first round, and the number of rounds.
 #[derive(Clone, Copy)]
 pub struct LivesRequest {
     /// The arguments of the first round.
@@ -119,8 +119,8 @@ fn lives_in(values: &[String]) -> Option<u32> {
     }
 }
 
-/// Reads the arguments of `run`: those of `read_random_request`, then LIVES, a decimal from 1 to `MOST_LIVES` without
-/// leading zeros. LIVES defaults to 1. Further arguments are ignored.
+/// Reads the arguments of `run`: the arguments that `read_random_request` reads, then LIVES, a decimal from 1 to `MOST_LIVES`
+/// without leading zeros. LIVES defaults to 1. Further arguments are ignored.
 ///
 /// # Errors
 ///

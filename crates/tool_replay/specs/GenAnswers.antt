@@ -19,9 +19,10 @@ pub record IsRequested (T : Table) (request : RandomRequest) (p : Plan) : Type 0
   pub threads_are : p.threads ≡ request.threads
   pub quota_is : p.quota ≡ request.quota
   pub schedule : IsSchedule p
-  -- Each event can happen when it is due (it is enabled), and the numbers of calls and keys are at most the requested ones.
+  -- Each event is enabled: it can occur after the events before it. The numbers of calls and keys do not exceed the requested
+  -- numbers.
   pub generated : IsGenerated T request.threads request.quota request.calls request.keys p.lines
-  -- The lines of the schedule are those that the random seed determines.
+  -- The random seed determines the lines of the schedule.
   pub drawn : AreOfSeed T request.threads request.quota request.calls request.keys request.seed p.lines
 
 -- The contract of `gen` for a request: the text of a matching schedule, the argument that is wrong, or a failed

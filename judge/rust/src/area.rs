@@ -93,7 +93,7 @@ impl Area {
     /// The size of an area, as a number of `u32`s.
     pub const SIZE: usize = SIZE;
 
-    /// Wraps memory for `Area::SIZE` numbers.
+    /// Creates an area in memory for `Area::SIZE` numbers.
     pub fn new(memory: Memory, options: &Options) -> Area {
         Area { memory, options: options.clone() }
     }
