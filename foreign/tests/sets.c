@@ -47,7 +47,7 @@ static void call_shared(task *it, uint32_t kind, uint32_t key) {
   wrong += !may || (reply == LISTSET_FULL && it->adds < QUOTA);
 }
 
-// Makes a call with a key that only this thread uses: one of the OWN keys from SHARED + t * OWN.
+// Makes a call with a key that only this thread uses: one of the OWN keys that begin at SHARED + t * OWN.
 static void call_own(task *it, uint32_t kind, uint32_t k) {
   uint32_t base = SHARED + it->number * OWN, at = 0, next = k;
   uint8_t want;

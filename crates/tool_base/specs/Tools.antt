@@ -1,4 +1,4 @@
--- The ways in which a command can end: its output, its line on stderr, and its exit status.
+-- How a command can end: its output, its line on stderr, and its exit status.
 use Rattle.std.specs.Prelude.{◌≡◌, ◌⊎◌, ℕ, ◌<◌, ◌≤◌, List, [], ◌++◌, length, Option, Result, Ok, Err}
 use Rattle.std.specs.Io.KnownBytes.{Appends, Keeps}
 use Rattle.tool_base.specs.declared.answer.Answer.{Answer}
@@ -49,8 +49,8 @@ abbrev pub AppendsFront : Option (List ℕ) → Option (List ℕ) → List ℕ �
 AppendsFront old new text = (front : List ℕ) × (rest : List ℕ) × (text ≡ front ++ rest) × Appends old new front
 
 -- How a command delivers its result. The text of an answer goes to the output. An error, including a failed write to
--- the output, goes to stderr as one line. If a write fails, only a prefix has been written. The exit status comes from the
--- outcome.
+-- the output, goes to stderr as one line. If a write fails, only a prefix has been written. The exit status is the status of
+-- the outcome.
 abbrev pub IsDelivered : Made → Option (List ℕ) → Option (List ℕ) → Option (List ℕ) → Option (List ℕ) → ℕ → Type 0
 IsDelivered made output_old output_new faults_old faults_new status =
     (outcome : Outcome) × Delivers made output_old output_new outcome
