@@ -33,7 +33,7 @@ with open(sys.argv[1], "w") as file: json.dump([os.waitstatus_to_exitcode(status
 
 
 class Asked:
-    """Runs a program, and keeps the time and memory that each command took, by input size."""
+    """Runs a program, and stores the time and memory that each command needed, by input size."""
 
     def __init__(self, program, room):
         self.program, self.room, self.taken = program, room, collections.defaultdict(dict)

@@ -308,7 +308,7 @@ def refusing(form):
 def test_a_refusal_is_passed_on_unchanged(form):
     kind, said = form.told(refusing(form), "right", FEW, LISTSET_RECORD=str(form.room / "kept"))
     assert kind == "refused" and f"verdict: refused\n{REFUSED}\nseed 1 (few keys), 4 threads; recorded in {form.room / 'kept'}/listset-seed-1-" in said, said
-    kept = sorted((form.room / "kept").iterdir())  # (of the run, and of its key)
+    kept = sorted((form.room / "kept").iterdir())  # (the recordings of the key and of the run)
     assert len(kept) == 2 and form.left() == [] and f", the calls that show it in {kept[0]}; judge: " in said
     assert kept[0].read_text() == "listset-calls 1\n# 1\n" and kept[1].read_text().count("\ncall ") == 1000
 

@@ -189,7 +189,7 @@ def test_a_mark_of_an_unknown_tool_is_refused(room):
     assert done.returncode and "needs no-such-tool, which build/needs.txt does not list" in done.stdout + done.stderr, done
 
 
-# The words of an incomplete command line, as bash splits it, and how its last word can go on
+# An incomplete command line, and the completions of its last word. (Spaces separate words as bash does.)
 COMPLETED = {"ju": "judge", "help ju": "judge", "gen la": "lazy", "faults He": "Header", "show --w": "--width", "show --from 1": "", "replay --lacks marks": "marks-in-validation",
              "trace --lacks =": "lock second-lock hand-over-hand second-walk same-node marks-in-validation mark-in-contains mark-in-ceiling mark mark-in-add mark-in-remove mark-at-key new-slot",
              "replay --lacks = marks": "marks-in-validation", "replay --lacks marks --l": "--lacks"}
@@ -266,11 +266,11 @@ def test_an_interrupted_script_starts_no_further_command(room, number):
     began = time.monotonic()
     running.send_signal(number)
     assert running.wait(SECONDS) == 128 + number
-    assert time.monotonic() - began < 30  # (3 on an idle machine)
+    assert time.monotonic() - began < 30  # (about 3 on an idle machine)
     assert sorted(it.name for it in room.iterdir()) == ["a", "b", "temporary"] and [*(room / "temporary").iterdir()] == []
 
 
-# A substitute for rt: a proof that does not end, and has a file in the folder for temporary files.
+# A substitute for rt. It acts like a proof that does not end and that has created a temporary file.
 SLEEPS = """#!/bin/sh
 if [ "$1" = doc ]; then echo {room}/START-HERE.md; exit; fi
 mkdir "$TMPDIR/rattle-logic-built-locked-1"
@@ -317,7 +317,7 @@ def test_help_of_a_script_starts_no_work(room):
     assert [*clone.tree.rglob("out")] == []
 
 
-# Edits of one function's body, of its contract, of two bodies, and of a constant.
+# A source file, and texts in it that an edit replaces. Each has the name of the edited function, or None for a wrong edit.
 EDITED = """const MOST: u32 = 5;
 
 /// Returns the larger number.
