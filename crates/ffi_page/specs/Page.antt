@@ -28,7 +28,7 @@ pub record IsHanded (made : Made) (old new : List ℕ) (status count : ℕ) : Ty
   pub status_is : status ≡ status_of made
   pub count_is : count ≡ length (text_of made)
 
--- The result of a command for a text. No file is read, so the error is never CannotRead.
+-- The result of a command for a text. The command reads no file, so the error is never `CannotRead`.
 abbrev pub OfText : (List ℕ → Made → Type 0) → List ℕ → Made → Type 0
 OfText Makes text made = Makes text made × (made ≢ Err CannotRead)
 
@@ -40,6 +40,6 @@ words_in bytes = cut_at 0 (utf8_lossy bytes)
 abbrev pub OfWords : (List (List ℕ) → Made → Type 0) → List ℕ → Made → Type 0
 OfWords Makes bytes made = (made ≡ Err Memory) ⊎ Makes (words_in bytes) made
 
--- The caller receives a result, and `IsMade` accepts this result.
+-- The caller receives some result that the first argument accepts: its text, its status, and the length of its text.
 abbrev pub Hands : (Made → Type 0) → List ℕ → List ℕ → ℕ → ℕ → Type 0
 Hands IsMade old new status count = (made : Made) × IsMade made × IsHanded made old new status count

@@ -13,8 +13,8 @@ use Rattle.lset_live.specs.Explained.{HasAnswered, HasMadeAtMost}
 use Rattle.ffi_sets.specs.declared.held.Held.{Held}
 use Rattle.ffi_sets.specs.Sets.{table_in, set_in, seat_in, spare_in, keys_in, number_in, receipt_in, SameSet}
 
--- The effect of call `c` from a seat of a set (the right to call as one thread). Either the call returned `r`, or the call
--- gave up and the seat is lost, or the seat was already lost.
+-- The effect of a call from a seat of a set (the right to call as one thread). Either the call returned this reply, or the
+-- call gave up and the seat is lost, or the seat was already lost.
 abbrev pub HasCalledOf : Table → SetValue → Option SeatValue → Call → Option Reply → Option SeatValue → Type 0
 HasCalledOf T set (Some old) c (Some r) (Some new) = HasAnswered T set old c r new
 HasCalledOf T set (Some old) c None None = Unit {0}
@@ -42,7 +42,7 @@ pub record HasCalledHeld (h : Held) (c : Call) (r : Option Reply) (h' : Held) : 
   pub keys : keys_in h' ≡ keys_in h
   pub called : CallsIn (table_in h) (set_in h) (seat_in h) c r (seat_in h')
 
--- States that the last call from a seat of a set made at most `most_reads` steps.
+-- States that the last call from a seat of a set made at most as many steps as the definition `most_reads` allows.
 abbrev pub HasReadOf : SetValue → Option SeatValue → Option SeatValue → Type 0
 HasReadOf set (Some old) (Some new) = HasMadeAtMost (most_reads (sizes set.shape)) (thread_of old.past) new.events
 HasReadOf set old new = ⊥
@@ -51,19 +51,19 @@ abbrev pub ReadsIn : Option SetValue → Option SeatValue → Option SeatValue �
 ReadsIn (Some set) old new = HasReadOf set old new
 ReadsIn None old new = ⊥
 
--- States that the last call from the seat in a C handle made at most `most_reads` steps.
+-- States that the last call from the seat in a C handle made at most as many steps as the definition `most_reads` allows.
 abbrev pub HasReadHeld : Held → Held → Type 0
 HasReadHeld h h' = ReadsIn (set_in h) (seat_in h) (seat_in h')
 
--- States that call `c` through a C handle returned `n`. The first argument is true if the handle was full. An empty handle
--- stays empty, and `n` is 255.
+-- States that a call through a C handle returned this number. The first argument is true if the handle was full. An empty
+-- handle stays empty, and the number is 255.
 abbrev pub HasMade : Bool → Held → Call → ℕ → Bool → Held → Type 0
 HasMade true h c n true h' = (r : Option Reply) × (n ≡ code_of r) × HasCalledHeld h c r h'
 HasMade false h c n false h' = n ≡ 255
 HasMade full h c n full' h' = ⊥
 
--- The key that a `ceiling` stores through its pointer: `k` if the reply is `At k`. Otherwise the key `a`, which was stored
--- before the call.
+-- The key that a `ceiling` stores through its pointer: the key in the reply `At`. For any other reply, the key that was
+-- stored before the call.
 abbrev pub at_of : Option Reply → ℕ → ℕ
 at_of (Some (reply.At k)) a = k.0
 at_of r a = a
@@ -79,7 +79,8 @@ abbrev pub HasNotedOf : Option SeatValue → Option ReceiptValue → Type 0
 HasNotedOf (Some s) (Some given) = given ≡ record { set = s.set; events = s.events }
 HasNotedOf s given = ⊥
 
--- The value h of a C handle has issued the receipt `given`, with the number of its set. h does not change.
+-- The value `h` of a C handle has issued the receipt `given`, with the number of its set. `h'`, the value afterwards, has the
+-- same list, set, number and seats as `h`.
 pub record HasNotedHeld (h given h' : Held) : Type 0 where
   pub same : SameSet h h'
   pub spare : spare_in h' ≡ spare_in h

@@ -1,4 +1,4 @@
--- Some settings of a clap command do not affect how a command line is parsed.
+-- Lemmas: some settings of a clap command do not affect how a command line is parsed.
 use Rattle.std.proofs.Common.{◌≡◌, sym, subst, false, IfOk, Result, Ok, Err}
 use Rattle.std.specs.declared.alloc.AllocError.{AllocError}
 use Rattle.clap.specs.Words.{App}

@@ -17,11 +17,11 @@ use Rattle.lset_command.specs.declared.command_line.Command.TheVariants.{Gen, Ru
 use Rattle.lset_command.specs.declared.command_line.Options.{Options}
 use Rattle.lset_command.specs.declared.command_line.Words.{Words}
 
--- A flag `--NAME`.
+-- The rule for a flag `--NAME`.
 abbrev pub flag_rule : Text → Rule
 flag_rule name = record (new_rule name) { long = Some name; action = Some SetTrue }
 
--- An option with a value, `--NAME VALUE`.
+-- The rule for an option with a value, `--NAME VALUE`.
 abbrev pub option_rule : Text → Rule
 option_rule name = record (new_rule name) { long = Some name; value_names = 1 }
 
@@ -107,32 +107,34 @@ listset =
 
 -- ---- Commands as values of clap's type
 
--- `a` describes clap's command `c`, and no argument of `c` is global.
+-- States that an `App` describes a command of clap, and that no argument of this command is global.
 abbrev pub IsApp : clap.Command → App → Type 0
 IsApp c a = (app_of c ≡ a) × ((out-Command c).has_globals ≡ false)
 
--- If clap's command was created, `a` describes it.
+-- States that an `App` describes the command of clap, if the command was created.
 abbrev pub Makes : Result clap.Command AllocError → App → Type 0
 Makes made a = IfOk made (λ c. IsApp c a)
 
--- If `old` was created, then `new` is `old` with the argument `arg` added.
+-- States that the second command is the first command with this argument added, if the first command was created.
 abbrev pub MakesWithArg : Result clap.Command AllocError → Arg → Result clap.Command AllocError → Type 0
 MakesWithArg old arg new = (a : App) (r : Rule) → Makes old a → rule_of arg ≡ r → arg.global ≡ false → Makes new (with_rule a r)
 
--- If `old` and `sub` were created, then `new` is `old` with the subcommand `sub` added.
+-- States that the third command is the first command with the second command added as a subcommand, if the first and the
+-- second command were created.
 abbrev pub MakesWithSubcommand : Result clap.Command AllocError → Result clap.Command AllocError → Result clap.Command AllocError →
     Type 0
 MakesWithSubcommand old sub new = (a b : App) → Makes old a → Makes sub b → Makes new (with_subcommand a b.top)
 
 -- ---- The result of parsing a command line
 
--- True if `name` is a flag or an option. Every other name is an argument, and its values are returned in order.
+-- True if this is the name of a flag or an option. Every other name is the name of an argument, and the values of arguments
+-- are returned in order.
 abbrev pub is_option : Text → Bool
 is_option name = bytes_eq name (codes "svg") || (bytes_eq name (codes "from") || (bytes_eq name (codes "to")
     || (bytes_eq name (codes "width") || (bytes_eq name (codes "brief") || (bytes_eq name (codes "only")
     || (bytes_eq name (codes "chain") || (bytes_eq name (codes "broken") || bytes_eq name (codes "lacks"))))))))
 
--- The values that a parse found for the argument `name`; empty if `name` is a flag or an option.
+-- The values that a parse found for the argument with this name; empty for the name of a flag or an option.
 abbrev pub values_by : Text → List Row → List Text
 values_by name rows = if is_option name then [] else unwrap_or (all_of name rows) []
 

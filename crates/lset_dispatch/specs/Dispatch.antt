@@ -78,8 +78,8 @@ IsMistake kind = (kind ≢ OutOfMemory) × (kind ≢ DisplayHelp) × (kind ≢ D
 abbrev pub Helps : ErrorKind → Made → Type 0
 Helps kind made = (made ≡ Err Memory) ⊎ (IsHelp kind × (text : List ℕ) × (made ≡ Ok (record { text = text; status = 0 })))
 
--- A wrong command line writes nothing to the output and ends with status 2. The text on stderr is clap's; nothing is
--- proved about it.
+-- A wrong command line writes nothing to the output and ends with status 2. clap writes the text on stderr; nothing is proved
+-- about this text.
 abbrev pub Refuses : ErrorKind → Ending
 Refuses kind output_old output_new stderr_old stderr_new status =
     IsMistake kind × Keeps output_old output_new × (text : List ℕ) × AppendsFront stderr_old stderr_new text × (status ≡ 2)

@@ -1,4 +1,4 @@
--- The definitions of how the command `gen` reads its arguments.
+-- The meaning of the arguments of the command `gen`.
 use Rattle.std.specs.Prelude.{ℕ, ◌-◌, ◌^◌, List, Option, option_and_then, slice_get, Result, Ok}
 use Rattle.lset_words.specs.declared.Kind.{Kind}
 use Rattle.lset_words.specs.declared.TheConstants.{MOST_THREADS, MOST_QUOTA}
@@ -10,11 +10,11 @@ use Rattle.tool_base.specs.declared.trouble.ValueName.TheVariants as name
 use Rattle.tool_base.specs.declared.arguments.RandomRequest.{RandomRequest}
 use Rattle.tool_base.specs.declared.arguments.TheConstants.{MOST_CALLS_ASKED}
 
--- The kind of list that argument `index` names. Arguments are counted from 0.
+-- The kind of list that the argument with this index names. Arguments are counted from 0.
 abbrev pub kind_at : List (List ℕ) → ℕ → Option Kind
 kind_at values index = option_and_then kind_of (slice_get values index)
 
--- The number that argument `index` spells, if the number is in the range. Arguments are counted from 0.
+-- The number in the argument with this index, if the number is in the range. Arguments are counted from 0.
 abbrev pub number_at : List (List ℕ) → ℕ → ℕ → ℕ → Option ℕ
 number_at values index low high = option_and_then (number_in low high) (slice_get values index)
 

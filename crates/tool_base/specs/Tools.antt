@@ -25,7 +25,7 @@ view (Err t) = Err t
 abbrev pub Outcome : Type 0
 Outcome = Result ℕ Trouble
 
--- How a result is written to an output. `old` and `new` are the bytes of the output before and after.
+-- How a result is written to an output. The two lists of bytes are the output before and after.
 abbrev pub Delivers : Made → Option (List ℕ) → Option (List ℕ) → Outcome → Type 0
 -- If no write fails, the whole text of an answer is written.
 Delivers (Ok answer) old new (Ok status) = (status ≡ answer.status) × Appends old new answer.text
@@ -56,7 +56,7 @@ IsDelivered made output_old output_new faults_old faults_new status =
     (outcome : Outcome) × Delivers made output_old output_new outcome
     × AppendsFront faults_old faults_new (line_of outcome) × (status ≡ status_of outcome)
 
--- A command ends: it computes a result that is correct by `IsMade` and delivers this result.
+-- A command ends: it computes a result that the first argument accepts, and delivers this result.
 abbrev pub Ends : (Made → Type 0) → Option (List ℕ) → Option (List ℕ) → Option (List ℕ) → Option (List ℕ) → ℕ → Type 0
 Ends IsMade output_old output_new faults_old faults_new status =
     (made : Made) × IsMade made × IsDelivered made output_old output_new faults_old faults_new status
@@ -65,12 +65,12 @@ Ends IsMade output_old output_new faults_old faults_new status =
 abbrev pub IsTaken : List ℕ → Type 0
 IsTaken bytes = length bytes ≤ LONGEST
 
--- The input is longer than the maximum, and `t` is the error `TooLong`.
+-- The input is longer than the maximum, and the error is `TooLong`.
 abbrev pub IsTooLong : List ℕ → Trouble → Type 0
 IsTooLong bytes t = (t ≡ TooLong) × (LONGEST < length bytes)
 
--- A result is correct for a text if it is the error `TooLong` and the text is too long, or if the text is short enough
--- and `Makes` accepts the result.
+-- A result is correct for a text if it is the error `TooLong` and the text is too long, or if the text is short enough and
+-- the first argument accepts the result.
 abbrev pub OnText : (List ℕ → Made → Type 0) → List ℕ → Made → Type 0
 OnText Makes bytes made = ((t : Trouble) × (made ≡ Err t) × IsTooLong bytes t) ⊎ (IsTaken bytes × Makes bytes made)
 

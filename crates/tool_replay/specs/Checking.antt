@@ -46,12 +46,12 @@ answer_of (Some fault) = record { text = refusal_text fault; status = 1 }
 abbrev pub IsAnswerOn : ReportValue → AnswerValue → Type 0
 IsAnswerOn r answer = (verdict : Option OrderFault) × IsVerdict r verdict × (answer ≡ answer_of verdict)
 
--- The error t is the first error of the text.
+-- The error is the first error of the text.
 abbrev pub IsFirstFault : Result ReportValue LineFault → Trouble → Type 0
 IsFirstFault (Err fault) t = t ≡ of_line_fault fault
 IsFirstFault (Ok r) t = ⊥
 
--- The contract of `check` for a text: the answer for the report in it, its first error, or a failed allocation.
+-- The contract of `check` for a text: the answer for the text's report, the first error of the text, or a failed allocation.
 abbrev pub ChecksText : List ℕ → Made → Type 0
 ChecksText bytes (Ok answer) = (r : ReportValue) × IsReport r × (bytes ≡ report_text r) × IsAnswerOn r answer
 ChecksText bytes (Err t) = (t ≡ trouble.Memory) ⊎ IsFirstFault (reading bytes) t
