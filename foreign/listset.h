@@ -184,7 +184,7 @@ typedef struct listset_reply {
   listset_answer is;
 } listset_reply;
 
-/// Why a function refused its arguments.
+/// The reason why a function refused its arguments.
 typedef enum LISTSET_BYTE listset_fault {
   LISTSET_OK = 0,          ///< The function refused nothing.
   LISTSET_BAD_SEATS = 10,  ///< The number of seats is not 1 to 64.

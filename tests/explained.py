@@ -160,7 +160,9 @@ LINES_OF_KEYS = ["listening 127.0.0.1:1", "sessions 3", "calls 9", "key 1", "key
 
 
 def test_explain_finds_the_errors_in_keys_that_serve_finds(program, room, few):
-    """Draws texts of a server's lines, keys and wrong lines. Most have the right order, and some lack the last newline."""
+    """Tests random texts of a server's lines, keys and wrong lines. Most have the right order, and some have no newline at
+    the end.
+    """
     dice = random.Random(11)
     for _ in range(20 if few else 200):
         lines = [LINES_OF_KEYS[it] for it in sorted(dice.sample(range(len(LINES_OF_KEYS)), dice.randrange(1, 6)))]

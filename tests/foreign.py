@@ -73,7 +73,7 @@ class InstalledLibraries:
         assert well(*words, **how) == "2000 keys are left\n"
 
     def first_judge(self, *words, **how):
-        """Runs a first judge on a linearizable recording and on one that is not, and expects its answers."""
+        """Runs a first judge on a linearizable recording and on a recording that is not linearizable, and expects its answers."""
         refused = (TOP / "examples" / "recorders" / "both-true.calls").read_text()
         right = refused.replace("call 1 add 5 2 3 true", "call 1 add 5 2 3 false")
         for text, status, says in ((right, 0, "ok 3 calls\n"), (refused, 1, "not linearizable\n")):

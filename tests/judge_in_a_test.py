@@ -107,7 +107,7 @@ class Form:
         """Judges a set. Returns the kind of the result and all output."""
         environment = {name: it for name, it in os.environ.items() if name not in ("CI", "RUST_BACKTRACE") and not name.startswith("LISTSET")}
         environment |= {"LISTSET": str(judge)} if judge else {}
-        environment |= {"TMPDIR": str(self.room), "SET": of, "HOW": how, "RUST_TEST_THREADS": "2", **also}  # (with 1, cargo's test prints its name first)
+        environment |= {"TMPDIR": str(self.room), "SET": of, "HOW": how, "RUST_TEST_THREADS": "2", **also}  # (with 1 thread, cargo's test prints its name first)
         words = [*self.words[:-1], f"-Djava.io.tmpdir={self.room}", self.words[-1]] if self.language == "Java" else self.words
         done = ran(*words, cwd=self.room, env=environment, seconds=SECONDS)
         found = re.search("^verdict: (.*)$", done.stdout, re.M)
@@ -549,7 +549,7 @@ def test_a_project_uses_the_package_of_rust(room):
 # ---- Tests with published sets
 
 
-# The parts of judge/real-sets/run with the commands that each needs, and how many of its sets are correct.
+# The parts of judge/real-sets/run, with the commands that each part needs, and the number of its sets that are correct.
 PUBLISHED = {"libcds": (["g++"], 9), "others": (["g++"], 3), "java": (["javac", "java"], 9), "go": (["go"], 2), "redis": (["redis-server"], 1), "erlang": ([], 1)}
 WRONG = r"libcds .* SkipList|JCTools NonBlocking|without a lock|read at a replica"
 

@@ -201,7 +201,7 @@ fn what_is_refused_is_given_back() {
     assert_eq!(mine.close().unwrap(), [8]);
 }
 
-/// Checks that `?` converts a refusal to a boxed error (also one that is `Send`) and to a fault, which drops the seat.
+/// Checks that `?` converts a refusal to a boxed error, with and without `Send`, and to a fault, which drops the seat.
 #[test]
 fn a_refusal_is_an_error() {
     fn closed() -> Result<Vec<u32>, Box<dyn std::error::Error + Send + Sync>> {

@@ -23,8 +23,8 @@ const OVER: u32 = 2;
 const FAILED: u32 = 3;
 const UNMADE: u32 = 4;
 
-/// The positions of a run's numbers in memory: the counter of moments, the progress, the index of the valid saved part,
-/// and others.
+/// The positions of a run's numbers in memory: the counter of moments, the progress, the index of the valid record in
+/// `SAVES`, and others.
 #[derive(Clone, Copy)]
 enum At {
     Tickets,
@@ -170,7 +170,7 @@ impl Area {
 
     // ---- for the process that watches a run
 
-    /// Prepares the memory for a run of this shape and then starts the run.
+    /// Prepares the memory for a run with these sizes, and then starts the run.
     pub(crate) fn begin(&self, seed: u64, of: Shape, file: &Path) {
         let is_here = self.get(At::IsHere);
         self.memory.iter().for_each(|it| it.store(0, Relaxed));
