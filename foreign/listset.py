@@ -53,8 +53,8 @@ FIRST_ROOM = 1 << 16  # bytes
 
 class Wrong(Exception):
     """The program's error. `status` is 1 for a wrong text, 2 for a wrong argument, and 3 if memory ran out. `text` is the
-    text that the program would print. If a line of the text is wrong, `line` is its number, counted from 1, and `cause` is the name of the
-    cause, which `faults()` explains. Otherwise `line` and `cause` are None.
+    text that the program would print. If a line of the text is wrong, `line` is its number, counted from 1, and `cause`
+    is the name of the cause, which `faults()` explains. Otherwise `line` and `cause` are None.
     """
 
     def __init__(self, text, status):
@@ -132,7 +132,9 @@ def judge_text(recording):
 
 
 def judge_file(path):
-    """Judges the recording in the file `path`, of any length. Returns the text that the program would print, and its exit status."""
+    """Judges the recording in the file `path`, of any length. Returns the text that the program would print, and its exit
+    status.
+    """
     room, status = ctypes.create_string_buffer(8192), ctypes.c_uint8()
     function = _LIBRARY.listset_judge_from
     function.restype = ctypes.c_size_t
