@@ -1,5 +1,5 @@
--- Clashes: two calls on a key that rule out every order, whatever all other calls did. The key's opening state can
--- replace the first call, and its final state the second.
+-- Clashes: two calls on a key that rule out every order, whatever the other calls did. The key's opening state can
+-- replace the first call, and its final state can replace the second.
 use Rattle.std.specs.Prelude.{◌≡◌, ◌≢◌, ℕ, ◌⊎◌, ◌||◌, not, nat_lt, Bool, true, List, Option, Some, None, map, All, IfSome, Contains as Has}
 use Rattle.lset_words.specs.declared.Call.{Call}
 use Rattle.lset_words.specs.declared.Reply.{Reply}
@@ -23,8 +23,8 @@ abbrev pub other : Presence → Presence
 other Present = Absent
 other Absent = Present
 
--- `left_so` returns the state in which a call with this effect leaves its key. `needed_by` returns the state that the
--- key must have before such a call.
+-- `left_so` returns the state of the key after a call with this effect. `needed_by` returns the state that the key must
+-- have before such a call.
 abbrev pub left_so : Effect → Option Presence
 left_so (Changes p) = Some p
 left_so (Sees p) = Some p
@@ -35,8 +35,8 @@ needed_by (Changes p) = Some (other p)
 needed_by (Sees p) = Some p
 needed_by Other = None
 
--- `leaves_if` returns the state in which a call leaves its key. `needs_if` returns the state that the key must have
--- before the call. Both return None for a pending call.
+-- `leaves_if` returns the state of the key after a call. `needs_if` returns the state that the key must have before the
+-- call. Both return None for a pending call.
 abbrev pub leaves_if : Call → Option (ℕ × Reply) → Option Presence
 leaves_if c None = None
 leaves_if c (Some e) = left_so (effect_of c e.1)
@@ -45,25 +45,26 @@ abbrev pub needs_if : Call → Option (ℕ × Reply) → Option Presence
 needs_if c None = None
 needs_if c (Some e) = needed_by (effect_of c e.1)
 
--- x is one of these calls, and is on the key `key`.
+-- States that x is in the list `calls` and is a call on the key `key`.
 pub record IsOf (calls : List CallRecord) (key : ℕ) (x : CallRecord) : Type 0 where
   pub known : Has calls x
   pub own : (key_of x.call).0 ≡ key
 
--- States that the key was in the state `was`: either it opened in this state (None), or this call left it in this
--- state.
+-- States that the key was in the state `was`: either the set opened with the key in this state (None), or the call x
+-- left it in this state (Some x).
 abbrev pub WasSo : List CallRecord → ℕ → Presence → Presence → Option CallRecord → Type 0
 WasSo calls key there was None = there ≡ was
 WasSo calls key there was (Some x) = IsOf calls key x × (leaves_if x.call x.ended ≡ Some was)
 
--- States that the key must be in the state `need`: either this is its final state (None), or this call needs it.
+-- States that the key must be in the state `need`: either this is the key's final state (None), or the call y needs
+-- this state (Some y).
 abbrev pub HasToBe : List CallRecord → ℕ → Option Presence → Presence → Option CallRecord → Type 0
 HasToBe calls key left need None = left ≡ Some need
 HasToBe calls key left need (Some y) = IsOf calls key y × (needs_if y.call y.ended ≡ Some need)
 
--- Returns the moment at which the first of two clashing calls starts, or 0 if the key's opening state replaces this
--- call. The time between the two calls runs from this moment to the end of the second call. It has no end if the second
--- call is pending, or if the key's final state replaces it.
+-- Returns the start of the first of two clashing calls, or 0 if the key's opening state replaces this call. This moment
+-- begins the time between the two calls, which lasts until the second call ends. It never ends if the second call is
+-- pending or is replaced by the key's final state.
 abbrev pub since_of : Option CallRecord → ℕ
 since_of None = 0
 since_of (Some x) = x.begun
@@ -76,38 +77,39 @@ abbrev pub is_before : ℕ → Option CallRecord → Bool
 is_before begun None = true
 is_before begun (Some y) = is_before_end begun y.ended
 
--- States that no call can change the key to the state `there` between `since` and the end of the second call: each call
--- that could do so has ended by `since`, or starts at that end or later.
+-- States that no call on the key can change it to the state `there` between `since` and the end of the call `second`.
+-- Each call that could do so has ended by `since`, or starts when `second` ends or later.
 abbrev pub NothingTurns : List CallRecord → ℕ → Presence → ℕ → Option CallRecord → Type 0
 NothingTurns calls key there since second = All (λ (x : CallRecord). (key_of x.call).0 ≡ key → turns_to there (kind_if x.call x.ended) ≡ true
     → is_before x.begun second ≡ true → has_ended since x.ended ≡ true) calls
 
--- Returns whether call x cannot change its key to the state `there` between `since` and the end of the second call.
+-- Returns whether call x cannot change its key to the state `there` between `since` and the end of the call `second`.
 abbrev pub is_apart : Presence → ℕ → Option CallRecord → CallRecord → Bool
 is_apart there since second x = not (turns_to there (kind_if x.call x.ended)) || (not (is_before x.begun second) || has_ended since x.ended)
 
--- The first call leaves the key in the state `was`, the second call needs the other state, and no call between them can
--- change the key to the other state. Therefore the second call cannot follow the first in any order.
+-- States that the call `second` cannot follow the call `first` in any order: `first` leaves the key in the state `was`,
+-- `second` needs the other state, and no call between them can change the key to the other state.
 pub record Clashes (calls : List CallRecord) (key : ℕ) (there : Presence) (left : Option Presence) (was : Presence) (first second : Option CallRecord) : Type 0 where
   pub was_so : WasSo calls key there was first
   pub needed : HasToBe calls key left (other was) second
   pub nothing : NothingTurns calls key (other was) (since_of first) second
 
--- States that the second call comes after the first in real time, or that the two calls also clash if the second comes
--- first. Always holds if the opening state replaces the first call, or the final state the second.
+-- States that the second call starts after the first has ended, or that the two calls also clash in the opposite order.
+-- Always holds if the key's opening state replaces the first call, or its final state replaces the second.
 abbrev pub InOrder : List CallRecord → ℕ → Presence → Option Presence → Option CallRecord → Option CallRecord → Type 0
 InOrder calls key there left (Some x) (Some y) =
     Precedes x y ⊎ ((x.begun ≢ y.begun) × ((v : Presence) × Clashes calls key there left v (Some y) (Some x)))
 InOrder calls key there left None second = Unit {0}
 InOrder calls key there left (Some x) None = Unit {0}
 
--- States that two calls on a key clash: no order can have both, whatever all other calls did. The opening state can
--- replace the first call, and the final state the second.
+-- States that two calls on a key clash: no order can contain both, whatever the other calls did. The key's opening
+-- state can replace the first call, and its final state can replace the second.
 abbrev pub IsClash : List CallRecord → ℕ → Presence → Option Presence → Presence → Option CallRecord → Option CallRecord → Type 0
 IsClash calls key there left was first second =
     Clashes calls key there left was first second × InOrder calls key there left first second
 
--- If two calls in a history clash, no order explains the history and leaves `keys`, whatever the other calls did.
+-- States the lemma: if two calls in a history clash, no order explains the history and leaves `keys`, whatever the
+-- other calls did.
 abbrev pub ClashesExcludeOrders : Type 0
 ClashesExcludeOrders = (h : HistoryValue) (keys : List ℕ) (key : ℕ) (there : Presence) (left : Option Presence) (was : Presence)
     (first second : Option CallRecord) → IsHistory h.opening.threads h.calls → has_key key h.opening.keys ≡ is_there there
@@ -116,8 +118,8 @@ ClashesExcludeOrders = (h : HistoryValue) (keys : List ℕ) (key : ℕ) (there :
 abbrev pub records : List StreamCall → List CallRecord
 records calls = map record_of calls
 
--- States that no order explains these calls on a key and leaves the key in the state `left`. If `left` is None, no
--- order explains them at all. `there` says whether the key is an opening key.
+-- States that no order explains these calls on a key and leaves the key in the state `left`. If `left` is None, states
+-- that no order explains them, whatever state it leaves. `there` is the key's opening state.
 abbrev pub HaveNone : ℕ → ℕ → Presence → Option Presence → List CallRecord → Type 0
 HaveNone threads key there left calls = (quota : ℕ) (keys : List ℕ) → IfSome left (λ (l : Presence). keys ≡ key_if (is_there l) key)
     → IsUnexplained (alone threads quota (is_there there) key calls) keys

@@ -1,4 +1,4 @@
--- Converts the state of a key and its events from the judge's code to the definitions in Rule.antt.
+-- Converts the state and the events of a key from the types of the judge's code to the types in Rule.antt.
 use Rattle.std.specs.Prelude.{◌≡◌, ℕ, Bool, true, false, List, [], ◌∷◌}
 use Rattle.lset_words.specs.Effects.{is_there}
 use Rattle.lset_judge.specs.declared.key_changes.Held.{Held}
@@ -9,8 +9,8 @@ use Rattle.lset_judge.specs.declared.event.Event.{Event as MomentEvent}
 use Rattle.lset_judge.specs.declared.event.Event.TheVariants.{Begins, Ends, Looks, Idle}
 use Rattle.lset_judge.specs.Rule.{State, Event, begins, ends, looks, idle}
 
--- `puts_held` returns the ends of the key's pending `add`s that have not taken effect, and `takes_held` the ends of
--- such `remove`s. If the key has no heaps, its only pending change ends at `until`.
+-- `puts_held` returns the ends of the pending `add`s that have not taken effect, and `takes_held` the ends of the
+-- pending `remove`s. If the ends are not in heaps, there is at most one such change, and `until` is its end.
 abbrev pub puts_held : ℕ → Held → List ℕ
 puts_held until Nothing = []
 puts_held until Put = until ∷ []
@@ -29,14 +29,14 @@ puts_in c = puts_held c.puts_until c.held
 abbrev pub takes_in : KeyChanges → List ℕ
 takes_in c = takes_held c.takes_until c.held
 
--- Returns whether the ends of the changes are stored in heaps.
+-- Returns whether the ends of the pending changes are stored in heaps.
 abbrev pub is_many : Held → Bool
 is_many Nothing = false
 is_many Put = false
 is_many Take = false
 is_many (Many many) = true
 
--- States that two values have the same pending changes, and the same moments by which all changes have ended.
+-- States that the `KeyChanges` `old` and `new` have the same pending changes, and the same latest ends of changes.
 pub record AreSame (old new : KeyChanges) : Type 0 where
   pub puts : puts_in new ≡ puts_in old
   pub takes : takes_in new ≡ takes_in old

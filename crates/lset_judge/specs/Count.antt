@@ -1,5 +1,5 @@
--- Counts: calls on a key that are too many for any order, because the key would have to change back more often than it
--- can.
+-- Counts: calls on a key that are too many for any order. The key would have to change back between them more often
+-- than it can.
 use Rattle.std.specs.Prelude.{◌≡◌, ℕ, ◌+◌, ◌-◌, ◌<◌, ◌≤◌, ◌==◌, ◌⊎◌, ◌&&◌, not, nat_lt, Bool, true, List, length, filter, Option, Some, None, All, AllPairs, IfSome}
 use Rattle.lset_words.specs.declared.Reply.{Reply}
 use Rattle.lset_words.specs.declared.history.CallRecord.{CallRecord}
@@ -15,9 +15,9 @@ use Rattle.lset_judge.specs.Events.{kind_if}
 use Rattle.lset_judge.specs.Rest.{has_ended, turns_to}
 use Rattle.lset_judge.specs.Clash.{records, other, leaves_if, needs_if, IsOf}
 
--- A count covers the time from `since` to `until`. If `since` is None, the opening state counts as a first call, and is
--- `was`. If `until` is None, the final state counts as a last call, and is not `was`. `also` returns how many calls
--- that adds.
+-- A count (calls on a key that are too many for any order) covers the time from `since` to `until`. If `since` is None,
+-- the key's opening state counts as a first call, and is `was`. If `until` is None, its final state counts as a last
+-- call, and is not `was`. `also` returns the number of these additional calls: 1 for None, else 0.
 abbrev pub also : Option ℕ → ℕ
 also None = 1
 also (Some moment) = 0
@@ -42,16 +42,16 @@ abbrev pub EndsIn : Presence → Option ℕ → CallRecord → Type 0
 EndsIn was None x = leaves_if x.call x.ended ≡ Some was
 EndsIn was (Some until) x = has_ended until x.ended ≡ true
 
--- The key must change back between the calls x and y: whichever is first leaves the key in the state `was`, and the
--- second needs the other state.
+-- States that the key must change back between the calls x and y: whichever of them is first leaves the key in the
+-- state `was`, and the second needs the other state.
 pub record NeedTurn (was : Presence) (x y : CallRecord) : Type 0 where
   pub later : x.begun < y.begun
   pub leaves : leaves_if x.call x.ended ≡ Some was
   pub needs : needs_if y.call y.ended ≡ Some (other was)
   pub either : Precedes x y ⊎ ((leaves_if y.call y.ended ≡ Some was) × (needs_if x.call x.ended ≡ Some (other was)))
 
--- `begins_by` returns whether a call starts before `until`. `turns_in` returns whether a call overlaps the time from
--- `since` to `until`, and changed the key to the state `there` or is pending and can do so.
+-- `begins_by` returns whether a call starts before `until`. `turns_in` returns whether a call on the key overlaps the
+-- time from `since` to `until`, and changed the key to the state `there` or is pending and can still do so.
 abbrev pub begins_by : ℕ → Option ℕ → Bool
 begins_by begun None = true
 begins_by begun (Some until) = nat_lt begun until
@@ -67,14 +67,14 @@ turns_in key there since until x =
 abbrev pub turning_in : ℕ → Presence → Option ℕ → Option ℕ → List CallRecord → List CallRecord
 turning_in key there since until calls = filter (turns_in key there since until) calls
 
--- Returns how often the key must change back if `counted` calls each need the key in one state and leave it in the
--- other.
+-- Returns how often the key must change back between `counted` calls if each call needs one state and leaves the other.
+-- The key's opening state counts as a call if `since` is None, and its final state if `until` is None.
 abbrev pub turns_of : ℕ → Option ℕ → Option ℕ → ℕ
 turns_of counted since until = counted + also since + also until - 1
 
--- The calls `counted` on a key are too many for any order (a count). The key must change back between any two of them.
--- It must also change back before the first of them if the opening state counts as a call, and after the last if the
--- final state does. Fewer calls than that can change it back in this time.
+-- States that the calls `counted` on a key are too many for any order (a count). The key must change back between any
+-- two of them. It must also change back before the first call if the opening state counts as a call, and after the last
+-- call if the final state does. But fewer calls than needed can change the key back in this time.
 pub record IsCountOf (calls : List CallRecord) (key : ℕ) (there : Presence) (left : Option Presence) (was : Presence) (since until : Option ℕ)
     (counted : List CallRecord) : Type 0 where
   pub known : All (IsOf calls key) counted
@@ -85,15 +85,15 @@ pub record IsCountOf (calls : List CallRecord) (key : ℕ) (there : Presence) (l
   pub turns : AllPairs (NeedTurn was) counted
   pub fewer : length (turning_in key (other was) since until calls) < turns_of (length counted) since until
 
--- States that no order explains a history and leaves these keys if some calls in the history are a count (too many for
--- any order), whatever all other calls did.
+-- States the lemma: if some calls in a history are a count (too many calls on a key for any order), no order explains
+-- the history and leaves these keys, whatever the other calls did.
 abbrev pub CountsExcludeOrders : Type 0
 CountsExcludeOrders = (h : HistoryValue) (keys : List ℕ) (key : ℕ) (there : Presence) (left : Option Presence) (was : Presence)
     (since until : Option ℕ) (counted : List CallRecord) → IsHistory h.opening.threads h.calls → has_key key h.opening.keys ≡ is_there there
     → IfSome left (λ (l : Presence). has_key key keys ≡ is_there l) → IsCountOf h.calls key there left was since until counted → IsUnexplained h keys
 
--- The result of `find_count` is a count: calls that are too many for any order. Its `backs` are all calls that can
--- change the key back.
+-- States that the result c of `find_count` is a count: its calls are too many for any order. Its `backs` are all calls
+-- that can change the key back.
 pub record IsCount (calls : List CallRecord) (there : Presence) (left : Option Presence) (c : Count) : Type 0 where
   pub count : IsCountOf calls c.key.0 there left c.was c.since c.until (records c.calls.items)
   pub backs : records c.backs.items ≡ turning_in c.key.0 (other c.was) c.since c.until calls

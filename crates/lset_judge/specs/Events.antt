@@ -13,8 +13,8 @@ use Rattle.lset_words.specs.Words.{key_of}
 use Rattle.lset_history.specs.History.{HistoryValue}
 use Rattle.lset_judge.specs.Rule.{Event, begins, ends, looks, idle, may_leave}
 
--- What a call can do to its key: it makes the key present (`changes true`) or absent, it sees the key present or
--- absent, or it does nothing that matters to the judge.
+-- The effect that a call can have on its key. The call makes the key present (`changes true`) or absent, or sees the
+-- key present or absent, or does nothing that matters to the judge.
 pub data Kind : Type 0 where
   changes : Bool → Kind
   sees : Bool → Kind
@@ -28,8 +28,8 @@ kind_as Other = nothing
 abbrev pub kind_of : Call → Reply → Kind
 kind_of c r = kind_as (effect_of c r)
 
--- Returns what a pending call can do to its key. A pending `add` or `remove` can change the key. A pending read has not
--- returned what it saw.
+-- Returns the effect that a pending call can have on its key. A pending `add` or `remove` can change the key. A pending
+-- read has no effect that matters, since it has returned nothing.
 abbrev pub open_kind : Call → Kind
 open_kind (Add k) = changes true
 open_kind (Remove k) = changes false
@@ -39,8 +39,8 @@ abbrev pub kind_if : Call → Option (ℕ × Reply) → Kind
 kind_if c None = open_kind c
 kind_if c (Some e) = kind_of c e.1
 
--- Returns the moment before which a call takes effect, which is its end. For a pending call, this is a moment after all
--- others. Calls that start at different moments get different moments.
+-- Returns the end of a call. For a pending call, returns a moment after all others instead. Calls that start at
+-- different moments get different such moments.
 abbrev pub until_if : ℕ → ℕ → Option (ℕ × Reply) → ℕ
 until_if last begun None = last + begun
 until_if last begun (Some e) = e.0
@@ -59,7 +59,8 @@ end_event (changes w) begun = ends w
 end_event (sees w) begun = looks w begun
 end_event nothing begun = idle
 
--- Returns the event of key k at moment m. `last` is the last moment of the history.
+-- Returns the event of key k at moment m: the start or end of a call on this key. `last` is the last moment of the
+-- history, or a later moment.
 abbrev pub event_at : ℕ → ℕ → List CallRecord → ℕ → Event
 event_at last k [] m = idle
 event_at last k (x ∷ xs) m =
@@ -68,10 +69,11 @@ event_at last k (x ∷ xs) m =
     else (if ends_at m x.ended then end_event (kind_if x.call x.ended) x.begun else event_at last k xs m)
     ) else event_at last k xs m
 
--- Returns whether the judge's rule succeeds for key k of a history with these final keys. `last` is the last moment.
+-- Returns whether key k passes the judge's rule (the test of one key's calls) in a history with these final keys.
+-- `last` is the last moment of the history, or a later moment.
 abbrev pub rule_explains : ℕ → HistoryValue → List ℕ → ℕ → Bool
 rule_explains last h keys k = may_leave (event_at last k h.calls) (has_key k h.opening.keys) (has_key k keys) last
 
--- States that the judge's rule succeeds for each key.
+-- States that each key passes the judge's rule (the test of one key's calls).
 abbrev pub RulePasses : ℕ → HistoryValue → List ℕ → Type 0
 RulePasses last h keys = (k : ℕ) → rule_explains last h keys k ≡ true

@@ -1,5 +1,5 @@
--- Facts about the calls on a key. From these facts the judge finds a clash: two calls on the key that rule out every
--- order.
+-- The facts that the judge stores about the calls on each key. They let it find a clash: two calls on the key that rule
+-- out every order.
 use Rattle.std.specs.Prelude.{◌≡◌, ◌≢◌, ℕ, ◌<◌, ◌≤◌, ◌⊎◌, max, if◌then◌else◌, Bool, true, false, List, ◌++◌, All, Option, Some, None, IfSome, IsSomeAnd}
 use Rattle.std.specs.Bool.{nat_eq}
 use Rattle.std.specs.HashMap.{get}
@@ -29,10 +29,11 @@ use Rattle.lset_judge.specs.Rest.{turns_to}
 use Rattle.lset_judge.specs.Stream.{States, behind_all, record_of, IsStreamOf}
 use Rattle.lset_judge.specs.Clash.{record_if, other, leaves_if, needs_if, since_of, WasSo, IsClash}
 
--- What the judge knows about the calls on a key. The key was in the state `was`, either when the set opened (`kept` is
--- `Opening`) or after one completed call, called the kept call. `kept` is the kind of the kept call; `thread`, `begun`
--- and `ended` are its thread, start and end. All changes that make the key present end by `puts_until`, all changes
--- that make it absent by `takes_until`. A pending change counts as ending after all moments.
+-- The facts that the judge stores about the calls on a key. It stores one completed call, the kept call, which left the
+-- key in the state `was`. `kept` is the kind of the kept call; `thread`, `begun` and `ended` are its thread, start and
+-- end. If `kept` is `Opening`, no call is stored, and the set opened with the key in the state `was`. All changes that
+-- make the key present end by `puts_until`, and all changes that make it absent end by `takes_until`. A pending change
+-- counts as ending after all moments.
 pub record Facts : Type 0 where
   pub was : Presence
   pub kept : Kept
@@ -53,8 +54,8 @@ facts_of s = record {
   takes_until = s.changes.takes_until;
 }
 
--- `word_kept` returns the kept call, which is of this kind and leaves the key in the state `was`. `reply_kept` returns
--- its reply.
+-- `word_kept` returns the call of kind `kept` that leaves the key in the state `was`. `reply_kept` returns the reply of
+-- this call.
 abbrev pub word_kept : Kept → Presence → Key → Call
 word_kept Look was key = Contains key
 word_kept kept Present key = Add key
@@ -80,11 +81,12 @@ is_call Change = true
 is_call Refused = true
 is_call Look = true
 
--- Returns the kept call, which left the key in the state `was`, or None if the set opened with the key in this state.
+-- Returns the stored call (the kept call), which left the key in the state `was`. Returns None if no call is stored:
+-- the set then opened with the key in this state.
 abbrev pub first_of : ℕ → Facts → Option StreamCall
 first_of key f = if is_call f.kept then Some (call_kept key f) else None
 
--- Returns a moment by which all calls that change the key to this state have ended.
+-- Returns a moment by which all calls that change the key to the state `there` have ended.
 abbrev pub until_of : Presence → Facts → ℕ
 until_of Present f = f.puts_until
 until_of Absent f = f.takes_until
@@ -99,7 +101,8 @@ facts_or (Some s) = facts_of s
 abbrev pub facts_for : States → ℕ → Facts
 facts_for states k = facts_or (get nat_eq states k)
 
--- Returns the facts after a call starts. Only the start of a change alters them. For the end of a call, see `IsEnded`.
+-- Returns the facts about a key after the start of a call on it. Only the start of a change alters them. (For the end
+-- of a call, see `IsEnded`.)
 abbrev pub begun_by : Event → Facts → Facts
 begun_by (begins w end) f = record f {
   puts_until = if w then max f.puts_until end else f.puts_until;
@@ -110,20 +113,20 @@ begun_by (looks w since) f = f
 begun_by (leaves w) f = f
 begun_by idle f = f
 
--- States that the facts `new` have `call` as their kept call: a completed call that left the key in the state `was`.
--- The moments by which changes end are those of the facts `old`.
+-- States that the facts `new` store the completed call `call`, which left the key in the state `new.was`. The latest
+-- ends of changes are the same in `new` as in `old`.
 pub record IsKept (call : StreamCall) (old new : Facts) : Type 0 where
   pub first : first_of (key_of call.call).0 new ≡ Some call
   pub leaves : leaves_if call.call call.ended ≡ Some new.was
   pub puts : new.puts_until ≡ old.puts_until
   pub takes : new.takes_until ≡ old.takes_until
 
--- States how the end of a call changes the facts: they do not change, or the call replaces the one call that they store
--- (the kept call).
+-- States how the facts about a key change when a call on it ends: they stay the same, or the call replaces the one call
+-- that they store.
 abbrev pub IsEnded : StreamCall → Facts → Facts → Type 0
 IsEnded call old new = (new ≡ old) ⊎ IsKept call old new
 
--- ---- The meaning of the facts
+-- ---- The meaning of the stored facts about a key
 
 -- States that all calls that change the key to the state `there` end by `moment`. A pending change counts as ending
 -- after all moments.
@@ -131,33 +134,36 @@ abbrev pub AreOverBy : List CallRecord → ℕ → Presence → ℕ → Type 0
 AreOverBy calls key there moment = All (λ (x : CallRecord). (key_of x.call).0 ≡ key → turns_to there (kind_if x.call x.ended) ≡ true
     → until_if behind_all x.begun x.ended ≤ moment) calls
 
--- States that the facts about a key are correct. The key was in the state `was`, either when the set opened or after
--- the kept call, which is one of its calls. The changes to each state end by the moment in the facts.
+-- States that the stored facts about a key are correct. If they store a call, this call is one of `calls` and left the
+-- key in the state `was`; otherwise the set opened with the key in this state. The changes to each state end by the
+-- moment in the facts.
 pub record AreFacts (opening : List ℕ) (calls : List CallRecord) (key : ℕ) (f : Facts) : Type 0 where
   pub was : WasSo calls key (presence (has_key key opening)) f.was (record_if (first_of key f))
   pub over : (there : Presence) → AreOverBy calls key there (until_of there f)
 
--- States that c is a clash of calls on the key (no order can have both), whatever calls start after the moment.
+-- States that c is a clash of two calls on the key: no order can contain both, whatever calls start after the moment.
 abbrev pub IsClashBy : List ℕ → List CallRecord → ℕ → ℕ → Clash → Type 0
 IsClashBy opening calls moment key c = (later : List CallRecord) → All (λ (z : CallRecord). moment < z.begun) later
     → IsClash (calls ++ later) key (presence (has_key key opening)) None c.was (record_if c.first) (record_if c.second)
 
--- States that the facts about each key are correct. Once the judge's rule has failed for a key, only the facts about
--- this key must be correct, and only until a clash is found. The clash must then be on this key.
+-- States that the stored facts about each key are correct. Once a key has failed the judge's rule (the test of one
+-- key's calls), only the facts about this key must be correct, and only until a clash is found. The clash must be on
+-- this key.
 abbrev pub AreKnownBy : List ℕ → List CallRecord → ℕ → States → Option Failed → Option Clash → Type 0
 AreKnownBy opening calls moment states None clash = (k : ℕ) → AreFacts opening calls k (facts_for states k)
 AreKnownBy opening calls moment states (Some f) None = AreFacts opening calls f.key.0 (facts_for states f.key.0)
 AreKnownBy opening calls moment states (Some f) (Some c) = IsClashBy opening calls moment f.key.0 c
 
--- The stream has judged these calls, and its facts about each key are correct.
+-- States that the stream s has judged these calls, and that its stored facts about the keys are correct (see
+-- `AreKnownBy`).
 pub record IsStreamKept (threads : ℕ) (opening : List ℕ) (calls : List CallRecord) (s : Stream) : Type 0 where
   pub stream : IsStreamOf threads opening calls s
   pub known : AreKnownBy opening calls s.moment s.states s.failed s.clash
 
 -- ---- Definitions that only one contract uses
 
--- States that each call that can change the key to a state other than `was` has ended when the kept call (the one that
--- the facts store) starts. If there is no kept call, states that no such call has started.
+-- States that each call that can change the key to a state other than `was` has ended when the stored call starts. If
+-- no call is stored, states that no such change has started.
 abbrev pub IsStanding : ℕ → Facts → Type 0
 IsStanding key f = until_of (other f.was) f ≤ since_of (record_if (first_of key f))
 
@@ -165,8 +171,7 @@ IsStanding key f = until_of (other f.was) f ≤ since_of (record_if (first_of ke
 abbrev pub EndsBy : Option (ℕ × Reply) → Option (ℕ × Reply) → Type 0
 EndsBy first second = IsSomeAnd first (λ (d : ℕ × Reply). IsSomeAnd second (λ (e : ℕ × Reply). d.0 ≤ e.0))
 
--- States that, according to the facts, two calls also clash if they take effect in the opposite order: `y` first, then
--- `x`.
+-- States that, according to the stored facts f, the calls x and y also clash in the opposite order: y first, then x.
 pub record ClashTurned (f : Facts) (x y : StreamCall) : Type 0 where
   pub apart : x.begun ≢ y.begun
   pub left : Presence
@@ -179,8 +184,8 @@ abbrev pub ComesAfter : Facts → Option StreamCall → StreamCall → Type 0
 ComesAfter f None second = Unit {0}
 ComesAfter f (Some x) second = Precedes (record_of x) (record_of second) ⊎ ClashTurned f x second
 
--- States that, according to the facts, `call` and the call that they store (the kept call) rule out every order. The
--- key's opening state can take the place of the kept call.
+-- States that, according to the stored facts f, no order can contain both the stored call and the call `call`. If no
+-- call is stored, the key's opening state replaces it.
 pub record IsClashing (f : Facts) (call : StreamCall) : Type 0 where
   pub needs : needs_if call.call call.ended ≡ Some (other f.was)
   pub standing : IsStanding (key_of call.call).0 f
@@ -189,19 +194,20 @@ pub record IsClashing (f : Facts) (call : StreamCall) : Type 0 where
 abbrev pub clash_with : ℕ → Facts → Option StreamCall → Clash
 clash_with key f second = record { was = f.was; first = first_of key f; second = second }
 
--- States that, according to the facts, `c` is a clash (two calls that no order can have) whose second call is `call`.
+-- States that, according to the stored facts f, c is a clash (two calls that no order can both contain), and `call` is
+-- its second call.
 pub record IsFound (f : Facts) (call : StreamCall) (c : Clash) : Type 0 where
   pub is : c ≡ clash_with (key_of call.call).0 f (Some call)
   pub clashing : IsClashing f call
 
--- States that, according to the facts, the call that they store (or the key's opening state) clashes with the final
--- state `left` of the key. `c` is this clash.
+-- States that, according to the stored facts f, c is a clash with the key's final state `left`: no order can contain
+-- the stored call and leave this state. If no call is stored, the key's opening state replaces it.
 pub record IsFoundLeft (key : ℕ) (f : Facts) (left : Presence) (c : Clash) : Type 0 where
   pub is : c ≡ clash_with key f None
   pub is_other : left ≡ other f.was
   pub standing : IsStanding key f
 
--- States how the start of a call changes the facts.
+-- States how the start of a call changes the stored facts about the keys.
 abbrev pub BeginIsKnown : States → ℕ → Event → States → Option Failed → Option Clash → Type 0
 BeginIsKnown before key event after None clash = (facts_for after key ≡ begun_by event (facts_for before key))
     × ((k : ℕ) → k ≢ key → facts_for after k ≡ facts_for before k)
@@ -209,8 +215,8 @@ BeginIsKnown before key event after (Some f) None = (facts_for after f.key.0 ≡
     ⊎ ((facts_for after f.key.0 ≡ facts_for before f.key.0) × (f.key.0 ≢ key))
 BeginIsKnown before key event after (Some f) (Some c) = Unit {0}
 
--- States how the end of a call changes the facts about its key. If a clash is found, it follows from the facts before
--- the end, and the call is its second call.
+-- States how the end of a call changes the stored facts about its key. If `clash` is a clash, it follows from the facts
+-- before the end, and the call is its second call.
 pub record EndIsKept (before : States) (call : StreamCall) (after : States) (clash : Option Clash) : Type 0 where
   pub facts : IsEnded call (facts_for before (key_of call.call).0) (facts_for after (key_of call.call).0)
   pub found : IfSome clash (IsFound (facts_for before (key_of call.call).0) call)
@@ -226,8 +232,8 @@ abbrev pub clash_met : Option Failed → Option Clash → Option Clash
 clash_met None clash = None
 clash_met (Some f) clash = clash
 
--- States that the two calls in c rule out every order (clash), whatever calls the stream has judged. Both are on the
--- key that the reason (`refusal`) names.
+-- States that c is a clash (two calls that no order can both contain), whatever calls the stream has judged. Both calls
+-- are on the key that `refusal`, the reason of the verdict, names.
 abbrev pub ClashesStream : List ℕ → Refusal → Option Presence → Stream → Clash → Type 0
 ClashesStream opening refusal left s c = (threads : ℕ) (calls : List CallRecord) → IsStreamKept threads opening calls s
     → IsClash calls refusal.key.0 (presence (has_key refusal.key.0 opening)) left c.was (record_if c.first) (record_if c.second)

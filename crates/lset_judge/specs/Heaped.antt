@@ -1,4 +1,4 @@
--- A heap of ends of calls. In contracts, a list of the ends in increasing order.
+-- A heap of the moments when calls end. Contracts describe it as the list of these moments in increasing order.
 use Rattle.std.specs.Prelude.{ℕ, List, [], ◌∷◌}
 use Rattle.std.specs.Ordering.{nat_cmp}
 use Rattle.std.specs.declared.cmp.Ordering.{Ordering}
@@ -9,6 +9,6 @@ abbrev pub increasing_of : List (Reverse ℕ) → List ℕ
 increasing_of [] = []
 increasing_of (x ∷ xs) = put_in x.0 (increasing_of xs)
 
--- Compares two ends in reverse, so that the greatest item of a heap is the earliest end.
+-- Compares two ends of calls in reverse, so that the greatest item of a heap is the earliest end.
 abbrev pub later_first : Reverse ℕ → Reverse ℕ → Ordering
 later_first x y = nat_cmp y.0 x.0

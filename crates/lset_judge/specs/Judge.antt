@@ -1,4 +1,4 @@
--- What a `Judge` has judged, and the meaning of its verdict.
+-- The calls that a `Judge` has judged, and the meaning of its verdict.
 use Rattle.std.specs.Prelude.{ℕ, List, Option, Some, None, IfSome}
 use Rattle.lset_words.specs.declared.effect.Presence.{Presence}
 use Rattle.lset_words.specs.Effects.{presence}
@@ -13,26 +13,26 @@ use Rattle.lset_judge.specs.declared.clash.Clash.{Clash}
 use Rattle.lset_judge.specs.Clash.{record_if, IsClash}
 use Rattle.lset_judge.specs.Facts.{IsStreamKept}
 
--- States that judge j has judged these calls, on a set that opened with these keys.
+-- States that the judge j has judged these calls, on a set that opened with the keys `opening`.
 abbrev pub IsJudgeOf : ℕ → List ℕ → List CallRecord → Judge → Type 0
 IsJudgeOf threads opening calls j = IsStreamKept threads opening calls j.stream
 
 -- ---- The meaning of a verdict
 
--- Returns the final state of a key. Returns None if the reason for a verdict (the refusal) has a moment: the reason is
--- then not about the final keys.
+-- Returns the final state of a key, for a verdict with a reason about the final keys. Returns None if the reason has a
+-- moment: it is then not about the final keys.
 abbrev pub left_by : List ℕ → ℕ → Option ℕ → Option Presence
 left_by keys key (Some moment) = None
 left_by keys key None = Some (presence (has_key key keys))
 
--- States that two calls on a key clash: they rule out every order. A call can also clash with the key's opening state,
--- or with its final state.
+-- States that c is a clash of two calls on the key: no order can contain both. The key's opening state can replace the
+-- first call, and its final state `left` the second.
 abbrev pub ClashesIn : List ℕ → List CallRecord → ℕ → Option Presence → Clash → Type 0
 ClashesIn opening calls key left c =
     IsClash calls key (presence (has_key key opening)) left c.was (record_if c.first) (record_if c.second)
 
--- States that a verdict is correct. If the verdict includes a clash, the clash is on the key that the reason (the
--- refusal) names, and involves the final state only if the reason is about the final keys.
+-- States that a verdict is correct. If it includes a clash, the clash is on the key that the reason (`refusal`) names.
+-- The clash involves the key's final state only if the reason is about the final keys.
 abbrev pub IsVerdict : ℕ → List ℕ → List CallRecord → List ℕ → Verdict → Type 0
 IsVerdict threads opening calls keys verdict.Linearizable = IsStreamVerdict (stream_history threads opening calls) keys Linearizable
 IsVerdict threads opening calls keys (verdict.NotLinearizable refusal clash) =

@@ -1,4 +1,4 @@
--- Splits a recording into parts. Each key belongs to one part, and each part has the calls on its keys.
+-- Splits a recording into parts. Each key belongs to one part. Each part consists of the calls on its keys.
 use Rattle.std.specs.Prelude.{◌↔◌, ℕ, ◌<◌, ◌==◌, List, filter}
 use Rattle.std.specs.List.Sorted.{IsStrictlyIncreasing}
 use Rattle.lset_words.specs.declared.history.CallRecord.{CallRecord}
@@ -11,7 +11,7 @@ use Rattle.lset_judge.specs.Verdict.{IsExplained, IsJudged}
 abbrev pub keys_in : (ℕ → ℕ) → ℕ → List ℕ → List ℕ
 keys_in part i keys = filter (λ (k : ℕ). part k == i) keys
 
--- Returns the calls whose keys belong to part i.
+-- Returns the calls on the keys that belong to part i.
 abbrev pub calls_in : (ℕ → ℕ) → ℕ → List CallRecord → List CallRecord
 calls_in part i calls = filter (λ (x : CallRecord). part (key_of x.call).0 == i) calls
 
@@ -22,16 +22,16 @@ part_of part i h = record {
   calls = calls_in part i h.calls;
 }
 
--- Locality: some order explains a history that the judge decides if and only if, for each part of it, some order
--- explains the part and leaves the part's final keys.
+-- States the lemma of locality: some order explains a history that the judge decides if and only if, for each part of
+-- the history, some order explains the part and leaves the part's final keys.
 abbrev pub KeysAreApart : Type 0
 KeysAreApart = (h : HistoryValue) (keys : List ℕ) (part : ℕ → ℕ) (parts : ℕ)
     → IsHistory h.opening.threads h.calls → IsStrictlyIncreasing h.opening.keys → IsStrictlyIncreasing keys → IsJudged h
     → ((key : ℕ) → part key < parts)
     → IsExplained h keys ↔ ((i : ℕ) → i < parts → IsExplained (part_of part i h) (keys_in part i keys))
 
--- The quota of a history that the judge decides does not matter: if some order explains the history with another quota,
--- some order explains it with its own.
+-- States the lemma: the quota does not matter in a history that the judge decides. If some order explains the history
+-- with another quota, some order explains it with its own quota.
 abbrev pub QuotasDoNotMatter : Type 0
 QuotasDoNotMatter = (h : HistoryValue) (keys : List ℕ) (quota : ℕ)
     → IsHistory h.opening.threads h.calls → IsStrictlyIncreasing h.opening.keys → IsStrictlyIncreasing keys → IsJudged h

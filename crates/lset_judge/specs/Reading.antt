@@ -1,7 +1,7 @@
--- Calls as the judge reads them, all with replies that it can judge. A `ceiling` that returned a key is read as a
--- `contains` of this key that returned true. A `ceiling` that found no key, and an `add` that returned full, are read
--- as a `contains` of their own key that returned false. A pending call is read as it is. A call as read requires no
--- more than the call itself: if no order explains the calls as read, no order explains the calls themselves.
+-- The calls as the judge reads them: each completed call becomes a call that the judge can decide. A `ceiling` that
+-- returned a key is read as a `contains` of this key that returned true. A `ceiling` that found no key, and an `add`
+-- that returned full, are read as a `contains` of the call's own key that returned false. A pending call is read
+-- unchanged. If no order explains the calls as the judge reads them, no order explains the calls themselves.
 use Rattle.std.specs.Prelude.{ℕ, List, map, Option, Some, None}
 use Rattle.lset_words.specs.declared.Call.{Call}
 use Rattle.lset_words.specs.declared.Call.TheVariants.{Add, Contains, Ceiling}

@@ -1,4 +1,4 @@
--- The calls on a single key: which of them can change the key, and the history of these calls alone.
+-- The calls on a single key: which calls can change the key, and the history of the key's calls alone.
 use Rattle.std.specs.Prelude.{ℕ, nat_le, if◌then◌else◌, Bool, false, List, [], ◌∷◌}
 use Rattle.std.specs.Prelude.{Option, Some, None}
 use Rattle.lset_words.specs.declared.Reply.{Reply}
@@ -9,7 +9,7 @@ use Rattle.lset_history.specs.History.{HistoryValue}
 use Rattle.lset_judge.specs.Events.{Kind, changes, sees, nothing}
 use Rattle.lset_judge.specs.Rule.{same}
 
--- Returns whether a call of this kind changes its key to the state `there`, or can do so if it is pending.
+-- Returns whether a call of this kind changes its key to the state `there`, or is pending and can still do so.
 abbrev pub turns_to : Presence → Kind → Bool
 turns_to there (changes w) = same w (is_there there)
 turns_to there (sees w) = false
@@ -19,11 +19,11 @@ abbrev pub has_ended : ℕ → Option (ℕ × Reply) → Bool
 has_ended moment None = false
 has_ended moment (Some e) = nat_le e.0 moment
 
--- Returns a list with only this key if the key is present, else the empty list.
+-- Returns the list with only the key `key` if `there` is true, else the empty list.
 abbrev pub key_if : Bool → ℕ → List ℕ
 key_if there key = if there then key ∷ [] else []
 
--- Returns the history of the calls on one key. `there` says whether the set opens with the key.
+-- Returns the history with only these calls, which are on one key. The set opens with the key if `there` is true.
 abbrev pub alone : ℕ → ℕ → Bool → ℕ → List CallRecord → HistoryValue
 alone threads quota there key calls = record {
   opening = record { threads = threads; quota = quota; keys = key_if there key };

@@ -1,11 +1,11 @@
--- The judge's rule for one key: what happens to the key at each moment, and which pending change takes effect.
+-- The judge's rule for one key: the events of the key, and which pending change takes effect at each of them.
 use Rattle.std.specs.Prelude.{ℕ, zero, suc, ◌+◌, ◌==◌, ◌||◌, min, nat_lt, Bool, true, false, not, if◌then◌else◌, List, [], ◌∷◌}
 use Rattle.std.specs.Prelude.{length, Option, Some, None, is_some}
 
--- What happens to a key at a moment; `true` means present. `begins`: a change to this state starts; the second field is
--- its end (after all moments if it stays pending). `ends`: a change to this state ends. `looks`: a read that saw this
--- state ends; the second field is when it started. `leaves`: this is the key's final state. `idle`: nothing happens to
--- the key.
+-- An event of a key at a moment; `true` means present. `begins`: a change to this state starts; the second field is its
+-- end (after all moments if it stays pending). `ends`: a change to this state ends. `looks`: a read that saw this state
+-- ends; the second field is when it started. `leaves`: this is the key's final state. `idle`: nothing happens to the
+-- key.
 pub data Event : Type 0 where
   begins : Bool → ℕ → Event
   ends : Bool → Event
@@ -13,15 +13,16 @@ pub data Event : Type 0 where
   leaves : Bool → Event
   idle : Event
 
--- The state of a key under the judge's rule: whether it is present, the moment of its last change, and the ends of its
--- pending changes that have not taken effect (`puts` for `add`s, `takes` for `remove`s).
+-- The state of a key as the judge tracks it: whether the key is present (`there`), the moment of its last change
+-- (`turned`), and the ends of its pending changes that have not taken effect (`puts` for `add`s, `takes` for
+-- `remove`s).
 pub record State : Type 0 where
   pub there : Bool
   pub turned : ℕ
   pub puts : List ℕ
   pub takes : List ℕ
 
--- Returns the state of a key when the set opens. b says whether the key is present.
+-- Returns the state of a key when the set opens. The argument b is true if the key is present.
 abbrev pub opened : Bool → State
 opened b = record { there = b; turned = 0; puts = []; takes = [] }
 
@@ -32,7 +33,8 @@ same false b = not b
 abbrev pub changes_to : Bool → State → List ℕ
 changes_to w s = if w then s.puts else s.takes
 
--- Returns the ends of the pending changes that would change the key now.
+-- Returns the ends of the pending changes that would change the key now: the `remove`s if the key is present, else the
+-- `add`s.
 abbrev pub options : State → List ℕ
 options s = changes_to (not s.there) s
 
@@ -43,7 +45,7 @@ not_before d (x ∷ xs) = (if nat_lt x d then 0 else 1) + not_before d xs
 
 -- Returns whether the event at moment m is possible for a key in state s. When a change ends, each change to the same
 -- state that ends by now must have taken effect. When a read ends, the key must be in the state that the read saw, or
--- must have changed since the read started. A final state must be the state now.
+-- must have changed since the read started. The key's final state must be its state now.
 abbrev pub fits : ℕ → Event → State → Bool
 fits m (begins w end) s = true
 fits m (ends w) s = not_before (suc m) (changes_to w s) == length (changes_to w s)
@@ -51,12 +53,12 @@ fits m (looks w since) s = same w s.there || not (nat_lt s.turned since)
 fits m (leaves w) s = same w s.there
 fits m idle s = true
 
--- Inserts a moment into a list in increasing order.
+-- Inserts a moment into an increasing list of moments.
 abbrev pub put_in : ℕ → List ℕ → List ℕ
 put_in e [] = e ∷ []
 put_in e (x ∷ xs) = if nat_lt e x then e ∷ x ∷ xs else x ∷ put_in e xs
 
--- Returns the ends of the pending changes to the state w after an event. xs are the ends before it.
+-- Returns the ends of the pending changes to the state w after an event. xs are these ends before the event.
 abbrev pub entering : Bool → Event → List ℕ → List ℕ
 entering w (begins v end) xs = if same w v then put_in end xs else xs
 entering w (ends v) xs = xs
@@ -71,7 +73,7 @@ abbrev pub take_out : ℕ → List ℕ → List ℕ
 take_out e [] = []
 take_out e (x ∷ xs) = if x == e then xs else x ∷ take_out e xs
 
--- Returns the state of a key after the pending change with the end `e` has taken effect, just after moment m.
+-- Returns the state of a key just after moment m, when the pending change with the end `e` has taken effect.
 abbrev pub turned_by : ℕ → ℕ → State → State
 turned_by m e s = record {
   there = not s.there;
@@ -80,8 +82,8 @@ turned_by m e s = record {
   takes = if s.there then take_out e s.takes else s.takes;
 }
 
--- The rule: a change takes effect only when an event needs it. The pending change with the earliest end then takes
--- effect. `nearest` returns this end, and `turned_if` the state after the change.
+-- The judge's rule: a change takes effect only when an event needs it, and the pending change with the earliest end is
+-- first. `nearest` returns the earliest end, and `turned_if` the state after this change.
 abbrev pub nearest : ℕ → List ℕ → ℕ
 nearest x [] = x
 nearest x (y ∷ ys) = min x (nearest y ys)
@@ -90,8 +92,8 @@ abbrev pub turned_if : ℕ → State → List ℕ → Option State
 turned_if m s [] = None
 turned_if m s (x ∷ xs) = Some (turned_by m (nearest x xs) s)
 
--- Lets up to n pending changes take effect, until the event is possible in the key's state. Returns this state, or None
--- if the event is possible in none.
+-- Makes up to n pending changes take effect, until the event v is possible in the key's state. Returns this state, or
+-- None if the event is possible in none of the states.
 abbrev pub settled : ℕ → ℕ → Event → Option State → Option State
 settled n m v None = None
 settled zero m v (Some s) = if fits (suc m) v s then Some s else None
@@ -107,16 +109,19 @@ abbrev pub entered : Event → Option State → Option State
 entered v None = None
 entered v (Some t) = Some (enters v t)
 
--- Returns the state of a key after the event v, which happens at the moment after m. Returns None if the rule fails.
+-- Returns the state of a key after the event v, which happens at moment m + 1. Returns None if v is impossible: the
+-- judge's rule has then failed.
 abbrev pub stepped : ℕ → Event → Option State → Option State
 stepped m v None = None
 stepped m v (Some s) = entered v (found m v s)
 
--- Returns the state of a key after a moment, or None if the rule has failed by then.
+-- Returns the state of a key after a moment, or None if an event up to this moment was impossible: the judge's rule has
+-- then failed.
 abbrev pub state_after : (ℕ → Event) → Bool → ℕ → Option State
 state_after ev opening zero = Some (opened opening)
 state_after ev opening (suc m) = stepped m (ev (suc m)) (state_after ev opening m)
 
--- Returns whether the rule succeeds up to the moment `last` and then for the final state `left`.
+-- Returns whether every event up to the moment `last` is possible by the judge's rule, and the final state `left` is
+-- possible after them.
 abbrev pub may_leave : (ℕ → Event) → Bool → Bool → ℕ → Bool
 may_leave ev opening left last = is_some (stepped last (leaves left) (state_after ev opening last))

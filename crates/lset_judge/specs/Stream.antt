@@ -1,4 +1,4 @@
--- A stream: the calls of a recording, judged one after another. This file defines the state of a stream and the meaning
+-- A stream judges the calls of a recording one after another. This file defines the state of a stream and the meaning
 -- of its verdict.
 use Rattle.std.specs.Prelude.{◌≡◌, ◌≢◌, ℕ, ◌<◌, ◌≤◌, ◌^◌, ◌⊎◌, true, false, List, length, Option, Some, None, All}
 use Rattle.std.specs.Prelude.{AllPairs, Contains, IfSome, ◌-◌}
@@ -33,8 +33,8 @@ record_of x = record { thread = x.thread; call = x.call; begun = x.begun; ended 
 abbrev pub call_of : CallRecord → StreamCall
 call_of x = record { thread = x.thread; call = x.call; begun = x.begun; ended = x.ended }
 
--- Returns the history of recorded calls on a set without a quota. (The quota is set to the number of calls, which is
--- never used up.)
+-- Returns the history of recorded calls on a set without a quota. (The quota is the number of calls, so it is never
+-- used up.)
 abbrev pub stream_history : ℕ → List ℕ → List CallRecord → HistoryValue
 stream_history threads opening calls = record {
   opening = record { threads = threads; quota = length calls; keys = opening };
@@ -47,7 +47,8 @@ stream_history threads opening calls = record {
 abbrev pub behind_all : ℕ
 behind_all = 2 ^ 63
 
--- The states of the keys. A key without calls has none.
+-- The stored states of the keys, indexed by key. A key without calls has a stored state only if the set opened with the
+-- key.
 abbrev pub States : Type 0
 States = HashMap ℕ KeyState (BuildHasherDefault FoldHasher)
 
@@ -59,7 +60,7 @@ state_or (Some s) = state_of s
 abbrev pub state_for : States → ℕ → State
 state_for states k = state_or (get nat_eq states k)
 
--- Converts a call to a pending call, with the moment before which it takes effect.
+-- Converts a call to a pending call, with the end of the call (after all moments if the call has no end).
 abbrev pub pending_of : CallRecord → Pending
 pending_of x = record {
   end = until_if behind_all x.begun x.ended;
@@ -69,7 +70,7 @@ pending_of x = record {
 abbrev pub key_in : Pending → ℕ
 key_in p = (key_of p.call.call).0
 
--- Returns the event when a pending call ends.
+-- Returns the event for the end of a pending call.
 abbrev pub event_of : Pending → Event
 event_of p = end_event (kind_if p.call.call p.call.ended) p.call.begun
 
@@ -77,19 +78,21 @@ event_of p = end_event (kind_if p.call.call p.call.ended) p.call.begun
 abbrev pub IsOver : ℕ → CallRecord → Type 0
 IsOver moment x = (end : ℕ × Reply) × (x.ended ≡ Some end) × (end.0 ≤ moment)
 
--- States that a call starts, and ends if it does, at moments that a recording can have.
+-- States that the start and the end (if any) of a call are moments that a recording can have.
 abbrev pub IsBefore : CallRecord → Type 0
 IsBefore x = (x.begun < behind_all) × IfSome x.ended (λ (end : ℕ × Reply). end.0 < behind_all)
 
--- The pending calls after a moment: those that have not ended by then. No two of them have the same end.
+-- States that `pending` are the calls that are pending after a moment: those that have not ended by then. No two of
+-- them have the same end.
 pub record ArePending (calls : List CallRecord) (moment : ℕ) (pending : List Pending) : Type 0 where
   pub known : All (λ (p : Pending). (n : ℕ) × (n < length calls) × (p ≡ pending_of (call_numbered calls n))) pending
   pub kept : (n : ℕ) → n < length calls → IsOver moment (call_numbered calls n) ⊎ Contains pending (pending_of (call_numbered calls n))
   pub apart : AllPairs (λ (p q : Pending). p.end ≢ q.end) pending
   pub later : All (λ (p : Pending). moment < p.end) pending
 
--- States that the states of the keys after a moment are those of the judge's rule. If the rule has failed by then (Some
--- f), states instead that it failed for the key of f by the moment of f, and for no key earlier.
+-- States that the stored states of the keys after a moment are the states that the judge's rule computes. If the rule
+-- has failed by then (Some f), states instead that the rule failed for the key of f by the moment of f, and for no key
+-- earlier.
 abbrev pub IsJudgedTo : List ℕ → List CallRecord → ℕ → States → Option Failed → Type 0
 IsJudgedTo opening calls moment states None =
     (k : ℕ) → state_after (event_at behind_all k calls) (has_key k opening) moment ≡ Some (state_for states k)
@@ -97,8 +100,8 @@ IsJudgedTo opening calls moment states (Some f) = (f.moment ≤ moment)
     × (state_after (event_at behind_all f.key.0 calls) (has_key f.key.0 opening) f.moment ≡ None)
     × ((k m : ℕ) → state_after (event_at behind_all k calls) (has_key k opening) m ≡ None → f.moment ≤ m)
 
--- The stream has judged these calls, on a set that opened with these keys. No call starts after the stream's current
--- moment.
+-- States that the stream s has judged these calls, on a set that opened with the keys `opening`. No call starts after
+-- the stream's current moment.
 pub record IsStreamOf (threads : ℕ) (opening : List ℕ) (calls : List CallRecord) (s : Stream) : Type 0 where
   pub opens : IsStrictlyIncreasing opening
   pub history : IsHistory threads calls
@@ -116,7 +119,7 @@ moment_of s = s.moment
 abbrev pub pending_in : Stream → List Pending
 pending_in s = s.pending
 
--- The conditions under which call x can come next.
+-- The conditions for a call x to be the next call of a stream.
 
 pub record MayCome (pending : List Pending) (moment : ℕ) (x : CallRecord) : Type 0 where
   pub begins : moment < x.begun
@@ -130,28 +133,28 @@ pub record MayCome (pending : List Pending) (moment : ℕ) (x : CallRecord) : Ty
 
 -- ---- The meaning of a verdict
 
--- States that the judge's rule has failed for key k by a moment.
+-- States that key k has failed the judge's rule (the test of one key's calls) by a moment.
 abbrev pub HasFailed : HistoryValue → ℕ → ℕ → Type 0
 HasFailed h k moment = state_after (event_at behind_all k h.calls) (has_key k h.opening.keys) moment ≡ None
 
--- States that the judge's rule fails first for this key, at this moment: it has failed for this key by then, and for no
--- key earlier. Without a moment, states that the rule never fails. (Then only the final state of the key is wrong: see
+-- States that this key is the first to fail the judge's rule (the test of one key's calls), at this moment: no key
+-- fails earlier. Without a moment, states that no key ever fails. (Then only the final state of the key is wrong: see
 -- `IsRefusedBy`.)
 abbrev pub FailsFirst : HistoryValue → ℕ → Option ℕ → Type 0
 FailsFirst h key None = (k m : ℕ) → HasFailed h k m → ⊥
 FailsFirst h key (Some moment) = HasFailed h key moment × ((k m : ℕ) → HasFailed h k m → moment ≤ m)
 
 -- States that a verdict is correct. Linearizable: some order explains the calls and leaves the keys. NotLinearizable:
--- no order does, with any quota; the calls on the key that the reason (the refusal) names suffice to show it
--- (`IsRefusedBy`), and the judge's rule fails first for this key, at the reason's moment.
+-- no order does, with any quota. The calls on the key that the reason (`refusal`) names suffice to show it
+-- (`IsRefusedBy`), and this key is the first to fail the judge's rule, at the reason's moment.
 abbrev pub IsStreamVerdict : HistoryValue → List ℕ → StreamVerdict → Type 0
 IsStreamVerdict h keys Linearizable = IsExplained h keys
 IsStreamVerdict h keys (NotLinearizable refusal) =
     ((quota : ℕ) → IsUnexplained (with_quota quota h) keys) × IsRefusedBy h keys refusal.key.0 refusal.moment
     × FailsFirst h refusal.key.0 refusal.moment
 
--- States that a verdict on a recording that was cut off is correct: Linearizable for some final keys, NotLinearizable
--- for all.
+-- States that a verdict on a recording that was cut off is correct: Linearizable is correct for some final keys,
+-- NotLinearizable for all.
 abbrev pub IsStreamVerdictCutOff : HistoryValue → StreamVerdict → Type 0
 IsStreamVerdictCutOff h Linearizable = (keys : List ℕ) × IsStreamVerdict h keys Linearizable
 IsStreamVerdictCutOff h (NotLinearizable refusal) = (keys : List ℕ) → IsStreamVerdict h keys (NotLinearizable refusal)
@@ -161,8 +164,8 @@ IsStreamVerdictCutOff h (NotLinearizable refusal) = (keys : List ℕ) → IsStre
 abbrev pub no_pending : Pending
 no_pending = record { end = 0; call = call_of no_call }
 
--- States how an event of a key at a moment changes the states of the keys, and whether the judge's rule fails. Once the
--- rule has failed, says nothing about the states.
+-- States how an event of a key at a moment changes the stored states of the keys, and whether the judge's rule (the
+-- test of one key's calls) fails. Once the rule has failed, states nothing about the stored states.
 abbrev pub IsMetBy : States → ℕ → ℕ → Event → States → Option Failed → Option Failed → Type 0
 IsMetBy before key moment event after (Some f) failed = failed ≡ Some f
 IsMetBy before key moment event after None None =
@@ -183,8 +186,8 @@ abbrev pub verdict_of_key : Option ℕ → StreamVerdict
 verdict_of_key None = Linearizable
 verdict_of_key (Some k) = NotLinearizable (record { key = record { 0 = k }; moment = None })
 
--- States that the verdict reports the failure of the judge's rule, if the rule has failed. If the rule has not failed,
--- the reason for NotLinearizable has no moment.
+-- States that the verdict reports the failure of the judge's rule (the test of one key's calls), if the rule has
+-- failed. If the rule has not failed, the reason for NotLinearizable has no moment.
 abbrev pub IsToldBy : Option Failed → StreamVerdict → Type 0
 IsToldBy None Linearizable = Unit {0}
 IsToldBy None (NotLinearizable refusal) = refusal.moment ≡ None

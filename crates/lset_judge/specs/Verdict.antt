@@ -24,7 +24,8 @@ is_truth True = true
 is_truth False = true
 is_truth r = false
 
--- Returns whether the judge decides a completed call: the call is no `ceiling`, and its reply is true or false.
+-- Returns whether the judge can decide a completed call with this reply: the call is no `ceiling`, and its reply is
+-- true or false.
 abbrev pub is_plain : Call → Reply → Bool
 is_plain (Ceiling k) r = false
 is_plain c r = is_truth r
@@ -38,7 +39,7 @@ puts_in nothing = false
 abbrev pub may_add : Call → Option (ℕ × Reply) → Bool
 may_add c ended = puts_in (kind_if c ended)
 
--- Returns how many `add`s of a thread returned true or are pending.
+-- Returns how many `add`s of the thread returned true or are pending.
 abbrev pub adds_of : ℕ → List CallRecord → ℕ
 adds_of thread calls = count_by (λ (x : CallRecord). may_add x.call x.ended && x.thread == thread) calls
 
@@ -46,8 +47,8 @@ adds_of thread calls = count_by (λ (x : CallRecord). may_add x.call x.ended && 
 abbrev pub IsPlain : List CallRecord → Type 0
 IsPlain calls = All (λ (x : CallRecord). IfSome x.ended (λ (e : ℕ × Reply). is_plain x.call e.1 ≡ true)) calls
 
--- The judge decides a history if each completed call returned true or false and is no `ceiling`, and no thread has more
--- `add`s that returned true or are pending than its quota allows.
+-- States that the judge decides the history h: each completed call is no `ceiling` and returned true or false, and the
+-- quota covers all `add`s of each thread that returned true or are pending.
 pub record IsJudged (h : HistoryValue) : Type 0 where
   pub plain : IsPlain h.calls
   pub room : (thread : ℕ) → adds_of thread h.calls ≤ h.opening.quota
@@ -60,11 +61,11 @@ with_quota quota h = record {
 
 -- ---- The meaning of a refusal: the reason why no order explains the calls
 
--- Returns the calls on a key that start by a moment, with their ends and replies.
+-- Returns the calls on the key that start by the moment, with their ends and replies.
 abbrev pub calls_by : ℕ → ℕ → List CallRecord → List CallRecord
 calls_by key moment calls = filter (λ (x : CallRecord). (key_of x.call).0 == key && nat_le x.begun moment) calls
 
--- Returns the history of the calls on a key that start by a moment. The set opens with the key if h does.
+-- Returns the history of the calls on the key that start by the moment. The set opens with the key if it does so in h.
 abbrev pub of_key : ℕ → ℕ → HistoryValue → HistoryValue
 of_key key moment h = record {
   opening = record {
@@ -75,7 +76,7 @@ of_key key moment h = record {
   calls = calls_by key moment h.calls;
 }
 
--- States that the reason why no order explains the calls (the refusal) is correct, with any quota. With a moment: no
+-- States that the reason of a verdict (why no order explains the calls) is correct, with any quota. With a moment: no
 -- order explains the calls on the key that start by this moment, whatever keys the order leaves. Without a moment: no
 -- order explains all calls on the key and leaves the key's final state.
 abbrev pub IsRefusedBy : HistoryValue → List ℕ → ℕ → Option ℕ → Type 0

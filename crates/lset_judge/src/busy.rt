@@ -1,4 +1,4 @@
-//! The moment at which the last call of each thread ends.
+//! For each thread, the moment when its last call ends.
 
 ghost use Rattle.std.specs.Prelude.{◌≡◌, ◌==◌, ◌≤◌, ◌<◌, ◌^◌, ℕ, length, slice_index_or, OnOk, OnErr, if◌then◌else◌};
 ghost use Rattle.lset_judge.specs.Pending.{last_end};
@@ -6,7 +6,8 @@ ghost use Rattle.lset_judge.specs.Pending.{last_end};
 use std::alloc::{AllocError, Global};
 use std::collections::HashMap;
 
-/// For threads below this number, the end of the last call is in a vector. All other threads are in a hash table.
+/// The ends of the last calls of threads 0 to `LOW` - 1 are in a vector. Those of all other threads are in a hash
+/// table.
 const LOW: u32 = 65_536;
 
 /// For each thread that has made a call, the end of its last call.
@@ -29,7 +30,7 @@ fn lengthen(ends: &mut Vec<u64>, len: usize) -> Result<(), AllocError>
     Ok(())
 }
 
-/// Stores `end` at index `place`, and lengthens the vector if necessary.
+/// Stores `end` at index `place` of the vector. Lengthens the vector if necessary.
 fn store(ends: &mut Vec<u64>, place: usize, end: u64) -> Result<(), AllocError>
     requires { place < 2 ^ 32 }
     ensures stored { OnOk result ((i : ℕ) → slice_index_or ends.new.items i 0 ≡ (if place == i then end else slice_index_or ends.old.items i 0)) }
@@ -41,7 +42,7 @@ fn store(ends: &mut Vec<u64>, place: usize, end: u64) -> Result<(), AllocError>
 }
 
 impl Busy {
-    /// Returns the value for threads without calls. Does not allocate.
+    /// Returns an empty `Busy`, for threads that have made no calls. Does not allocate.
     pub(crate) fn new(alloc: Global) -> Busy {
         Busy {
             low: Vec::new(alloc),

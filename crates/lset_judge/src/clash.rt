@@ -1,4 +1,4 @@
-//! Clashes: two calls on a key that rule out every order, whatever all other calls did.
+//! Clashes: two calls on a key that rule out every order, whatever the other calls did.
 
 ghost use Rattle.std.specs.Prelude.{◌≡◌, ℕ, All, Contains, IfSome, IsTrue, true};
 ghost use Rattle.lset_words.specs.History.{IsHistory};
@@ -10,21 +10,23 @@ ghost use Rattle.lset_judge.specs.Rest.{has_ended, turns_to};
 use crate::stream::StreamCall;
 use lset_words::{Effect, Key, Presence};
 
-/// Two calls on a key that clash. The first leaves the key in one state, and the second needs the other state. From the
-/// start of the first to the end of the second, no call is pending that could change the state. The second call comes
-/// after the first in real time, or the two also clash in the opposite order.
+/// Two calls on a key that clash: no order can explain both, whatever the other calls did. The first call leaves the
+/// key in one state, and the second needs the other state. No call that overlaps the time from the start of the first
+/// call to the end of the second can change the key to that other state. The second call starts after the first has
+/// ended, or the two also clash in the opposite order.
 #[derive(Clone, Copy, Debug, PartialEq, Eq)]
 pub struct Clash {
-    /// The state (present or absent) in which the first call leaves the key.
+    /// The key's state (present or absent) after the first call.
     pub was: Presence,
-    /// The first call. `None` if the key was in the state `was` when the set opened.
+    /// The first call. `None` if the set opened with the key in the state `was`: the opening state then replaces the
+    /// first call.
     pub first: Option<StreamCall>,
-    /// The second call. `None` if the first call clashes with the final keys, since the key's final state is not `was`.
+    /// The second call. `None` if the key's final state is not `was`: the final state then replaces the second call.
     pub second: Option<StreamCall>,
 }
 
-/// A search for two calls that rule out every order: the key whose calls are searched, whether the set opened with it,
-/// and its final state, if known.
+/// The arguments of a search for two calls that rule out every order: the key, whether the set opened with the key
+/// (`there`), and the key's final state (`left`), if known.
 #[derive(Clone, Copy)]
 struct Asked {
     key: Key,
@@ -32,8 +34,8 @@ struct Asked {
     left: Option<Presence>,
 }
 
-/// Lemma: if two calls in a history clash, no order explains the history and leaves these keys. Does nothing at run
-/// time.
+/// States a lemma: if two calls in a history clash, no order explains the history and leaves these final keys. This
+/// function does nothing at run time.
 pub fn clashes_exclude_orders()
     ensures { ClashesExcludeOrders }
 {}
@@ -72,7 +74,7 @@ pub(crate) fn needs(call: StreamCall) -> Option<Presence>
     }
 }
 
-/// Returns whether a call changes its key to the state `there`, or is pending and can do so.
+/// Returns whether the call changed its key to the state `there`, or is pending and can still do so.
 pub(crate) fn turns_to(call: StreamCall, there: Presence) -> bool
     ensures { result ≡ turns_to there (kind_if call.call call.ended) }
 {
@@ -151,8 +153,8 @@ fn is_before(begun: u64, second: Option<StreamCall>) -> bool
     }
 }
 
-/// Returns whether a call cannot change its key to the state `there` after the moment `since` and before the end of the
-/// second call.
+/// Returns whether `call` cannot change its key to the state `there` between the moment `since` and the end of the call
+/// `second`.
 fn is_apart(call: StreamCall, there: Presence, since: u64, second: Option<StreamCall>) -> bool
     ensures { result ≡ is_apart there since (record_if second) (record_of call) }
 {
@@ -211,14 +213,14 @@ fn in_order(calls: &[StreamCall], asked: Asked, clash: Clash) -> bool
     first.begun != second.begun && clashes(calls, asked, turned)
 }
 
-/// Returns whether the two calls in `clash` are among these calls and rule out every order.
+/// Returns whether both calls of `clash` are in `calls`, and no order can explain both.
 fn is_clash(calls: &[StreamCall], asked: Asked, clash: Clash) -> bool
     ensures { IsTrue result → IsClash (records calls.now) asked.key.0 asked.there asked.left clash.was (record_if clash.first) (record_if clash.second) }
 {
     clashes(calls, asked, clash) && in_order(calls, asked, clash)
 }
 
-/// Returns the call that started last among those that ended by `moment` and left the key in the state `was`.
+/// Returns the last call in `calls` that ended by `moment` and left the key in the state `was`.
 fn last_before(calls: &[StreamCall], was: Presence, moment: u64) -> Option<StreamCall> {
     let mut last = None;
     for call in calls {
@@ -229,8 +231,8 @@ fn last_before(calls: &[StreamCall], was: Presence, moment: u64) -> Option<Strea
     last
 }
 
-/// Searches for a call that, followed by `second`, rules out every order. The result has no `first` if the key's
-/// opening state takes the place of this call.
+/// Searches for a call before `second` such that no order can explain both (a clash). If the key's opening state
+/// already rules out `second`, the result has no `first`.
 fn clash_with(calls: &[StreamCall], asked: Asked, second: StreamCall) -> Option<Clash>
     ensures { IfSome result (λ c. IsClash (records calls.now) asked.key.0 asked.there asked.left c.was (record_if c.first) (record_if c.second)) }
 {
@@ -257,8 +259,8 @@ fn clash_with(calls: &[StreamCall], asked: Asked, second: StreamCall) -> Option<
     None
 }
 
-/// Searches these calls for two that rule out every order (a clash). If it finds several such pairs, returns the one
-/// whose second call starts last.
+/// Searches `calls` for two calls that clash: no order can explain both. If several pairs clash, returns the pair with
+/// the latest second call.
 fn last_clash(calls: &[StreamCall], asked: Asked) -> Option<Clash>
     ensures { IfSome result (λ c. IsClash (records calls.now) asked.key.0 asked.there asked.left c.was (record_if c.first) (record_if c.second)) }
 {
@@ -279,8 +281,8 @@ fn last_clash(calls: &[StreamCall], asked: Asked) -> Option<Clash>
     None
 }
 
-/// Searches for two calls on `key` that clash. `there` says whether the set opened with the key; `left` is the key's
-/// final state, if known. If a clash is returned, no order explains these calls, whatever all other calls did.
+/// Searches for two calls on `key` that clash. `there` is the key's state when the set opened; `left` is its final
+/// state, if known. If a clash is returned, no order explains these calls, whatever the other calls did.
 pub fn find_clash(
     calls: &[StreamCall],
     key: Key,

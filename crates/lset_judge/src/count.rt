@@ -12,31 +12,31 @@ use crate::stretch::{Stretch, smallest_stretch};
 use lset_words::{Key, Presence};
 use std::alloc::{AllocError, Global};
 
-/// A count: calls on a key that no order explains, because they are too many. Whichever of two of the calls comes
-/// first, it leaves the key in the state `was`, and the other call needs the other state. The key must therefore change
-/// back between any two of them. But fewer calls can change it back.
+/// A count: calls on a key that no order explains, because they are too many. Whichever of two of these calls is first,
+/// it leaves the key in the state `was`, and the second needs the other state. Between any two of these calls, another
+/// call must therefore change the key back. But too few calls can do that.
 #[derive(Debug, Drop)]
 pub struct Count {
-    /// The key.
+    /// The key of all these calls.
     pub key: Key,
-    /// The state (present or absent) in which each call except the last leaves the key. Each call except the first
-    /// needs the other state.
+    /// The key's state (present or absent) after each call except the last. Each call except the first needs the other
+    /// state.
     pub was: Presence,
     /// The calls, ordered by start.
     pub calls: Vec<StreamCall>,
-    /// All calls that can change the key back in between: they returned true or are pending, and overlap the time from
-    /// `since` to `until`.
+    /// All calls that can change the key back between the calls in `calls`. They returned true or are pending, and they
+    /// overlap the time from `since` to `until`.
     pub backs: Vec<StreamCall>,
-    /// No counted call starts before this moment. `None` if the opening state counts as a first call: the set opened
-    /// with the key in the state `was`.
+    /// No call in `calls` starts before this moment. `None` if the set opened with the key in the state `was`: the
+    /// opening state then counts as a first call.
     pub since: Option<u64>,
-    /// All counted calls have ended by this moment. `None` if the final state counts as a last call: the key's final
-    /// state is not `was`.
+    /// All calls in `calls` have ended by this moment. `None` if the key's final state is not `was`: the final state
+    /// then counts as a last call.
     pub until: Option<u64>,
 }
 
 impl Count {
-    /// Returns how often the key must change back. This is more than the length of `backs`.
+    /// Returns how often the key must change back between the calls. The number is greater than `backs.len()`.
     pub fn turns(&self) -> usize
         ensures { result ≡ turns_of (length self.now.calls.items) self.now.since self.now.until }
     {
@@ -44,13 +44,13 @@ impl Count {
     }
 }
 
-/// Lemma: if some calls in a history are a count (the key would have to change back between them more often than it
-/// can), no order explains the history and leaves these keys. Does nothing at run time.
+/// States a lemma: if some calls in a history are a count (the key would have to change back between them more often
+/// than it can), no order explains the history and leaves these final keys. This function does nothing at run time.
 pub fn counts_exclude_orders()
     ensures { CountsExcludeOrders }
 {}
 
-/// Returns 1 if `bound` is `None`, else 0. `None` means that the opening state (or the final state) counts as a call.
+/// Returns 1 if `bound` is `None`, else 0. `None` means that the key's opening or final state counts as a call.
 fn also(bound: Option<u64>) -> usize
     ensures { result ≡ also bound }
 {
@@ -60,7 +60,7 @@ fn also(bound: Option<u64>) -> usize
     }
 }
 
-// ---- Tests whether calls are a count (too many for any order)
+// ---- Tests whether calls are a count: calls on a key that are too many for any order
 
 fn begins_in(call: StreamCall, was: Presence, since: Option<u64>) -> bool
     ensures { IsTrue result → BeginsIn was since (record_of call) }
@@ -107,8 +107,8 @@ fn has_ended_before(first: StreamCall, second: StreamCall) -> bool
     }
 }
 
-/// Returns whether the key must change back between two calls, in each order that real time allows: whichever call
-/// comes first leaves the key in the state `was`, and the other call needs the other state.
+/// Returns whether the key must change back between the two calls, in each order that their times allow: the earlier
+/// call leaves the key in the state `was`, and the later one needs the other state.
 fn need_turn(first: StreamCall, second: StreamCall, was: Presence) -> bool
     ensures { IsTrue result → NeedTurn was (record_of first) (record_of second) }
 {
@@ -213,8 +213,8 @@ fn turning_in(
         .collect(alloc)
 }
 
-/// Returns whether `count` has calls that are too many for any order of these calls on its key. Its `backs` must be all
-/// calls that can change the key back. `there` is the key's opening state, `left` its final state, if known.
+/// Returns whether the calls in `count` are among `calls` and are too many for any order. `count.backs` must contain
+/// all calls that can change the key back. `there` is the key's opening state; `left` is its final state, if known.
 fn is_count(calls: &[StreamCall], there: Presence, left: Option<Presence>, count: &Count) -> bool
     requires { count.now.backs.items ≡ filter (λ x. turns_in count.now.key.0 (other count.now.was) count.now.since count.now.until (record_of x)) calls.now }
     ensures { IsTrue result → IsCount (records calls.now) there left count.now }
@@ -239,7 +239,8 @@ fn is_count(calls: &[StreamCall], there: Presence, left: Option<Presence>, count
     need_turns(counted, was) && count.backs.len() < count.turns()
 }
 
-/// Returns the calls in a stretch of time that can be too many for any order, ordered by start.
+/// Returns the calls within a stretch of time, ordered by start. They can be a count: calls that are too many for any
+/// order.
 fn counted_in(
     alloc: Global,
     calls: &[StreamCall],
@@ -260,7 +261,8 @@ fn counted_in(
     Ok(counted)
 }
 
-/// Returns the start of the first of these calls, or `None` if the opening state counts as a call.
+/// Returns the start of the first call in `counted`. Returns `None` if `since` is `None`: the key's opening state then
+/// counts as the first call.
 fn since_first(counted: &[StreamCall], since: Option<u64>) -> Option<u64> {
     match (since, counted.first()) {
         (Some(_), Some(first)) => Some(first.begun),
@@ -268,11 +270,11 @@ fn since_first(counted: &[StreamCall], since: Option<u64>) -> Option<u64> {
     }
 }
 
-/// Returns the smallest count of calls on `key` that it finds, if any. `calls` must be ordered by start. `there` is the
-/// key's opening state, `left` its final state, if known.
+/// Searches for a count: calls on `key` that are too many for any order. Returns the smallest count found. `calls` must
+/// be ordered by start. `there` is the key's opening state; `left` is its final state, if known.
 ///
-/// If a count is returned, no order explains the calls. Takes quadratic time in the number of calls. Fails only if an
-/// allocation fails.
+/// If a count is returned, no order explains the calls. The search needs quadratic time in the number of calls. It
+/// fails only if an allocation fails.
 pub fn find_count(
     alloc: Global,
     calls: &[StreamCall],

@@ -1,5 +1,5 @@
-//! A heap of the ends of calls. Reading the earliest end takes constant time. Inserting or removing an end takes
-//! logarithmic time.
+//! A heap of the moments when calls end. Reading the earliest end needs constant time. Inserting or removing an end
+//! needs logarithmic time.
 
 ghost use Rattle.std.specs.Prelude.{◌≡◌, ◌==◌, ◌<◌, ◌≤◌, ◌∷◌, [], suc, length, slice_get, All, IsTrue, MatchOption, Some, OnOk, OnErr};
 ghost use Rattle.lset_judge.specs.Rule.{nearest, not_before, put_in};
@@ -9,7 +9,7 @@ use std::cmp::Reverse;
 use std::collections::BinaryHeap;
 use std::marker::Model;
 
-/// The ends of some calls. In contracts, a list in increasing order.
+/// The moments when some calls end. Contracts describe them as a list in increasing order.
 #[derive(Drop)]
 pub(crate) struct Ends {
     heap: BinaryHeap<Reverse<u64>>,

@@ -1,4 +1,4 @@
-//! Events of a key: the starts and ends of its calls, as the judge sees them.
+//! Events of a key: the starts and ends of the calls on this key, as the judge sees them.
 
 ghost use Rattle.std.specs.Prelude.{◌≡◌};
 ghost use Rattle.lset_judge.specs.Code.{event_as};
@@ -6,20 +6,21 @@ ghost use Rattle.lset_judge.specs.Events.{kind_as, open_kind, begin_event, end_e
 
 use lset_words::{Call, Effect, Presence};
 
-/// What the start or the end of a call means for its key.
+/// The meaning of a call's start or end for the call's key.
 #[derive(Clone, Copy, Debug, PartialEq, Eq)]
 pub(crate) enum Event {
-    /// A change starts: the state to which it changes the key, and the moment before which it takes effect.
+    /// A change starts. The fields are the new state of the key, and the end of the call (after all moments if it has
+    /// no end).
     Begins(Presence, u64),
-    /// A change ends: the state to which it changed the key.
+    /// A change ends. The field is the new state of the key.
     Ends(Presence),
-    /// A read ends: the state in which it saw the key, and when the read started.
+    /// A read ends. The fields are the state that the read saw, and the moment when the read started.
     Looks(Presence, u64),
-    /// The call does not matter to the judge.
+    /// A start or an end that does not matter to the judge.
     Idle,
 }
 
-/// Returns the effect that a pending call can have on its key.
+/// Returns the effect that `call` can have on its key while it is pending.
 pub(crate) fn open_effect(call: Call) -> Effect
     ensures { kind_as result ≡ open_kind call }
 {
@@ -30,7 +31,8 @@ pub(crate) fn open_effect(call: Call) -> Effect
     }
 }
 
-/// Returns the event when a call starts. `until` is the moment before which the call takes effect.
+/// Returns the event for the start of a call with this effect. `until` is the end of the call, or a moment after all
+/// others if the call has no end.
 pub(crate) fn begin_event(effect: Effect, until: u64) -> Event
     ensures { event_as result ≡ begin_event (kind_as effect) until }
 {
@@ -40,7 +42,7 @@ pub(crate) fn begin_event(effect: Effect, until: u64) -> Event
     }
 }
 
-/// Returns the event when a call ends. `begun` is when the call started.
+/// Returns the event for the end of a call with this effect. The call started at the moment `begun`.
 pub(crate) fn end_event(effect: Effect, begun: u64) -> Event
     ensures { event_as result ≡ end_event (kind_as effect) begun }
 {

@@ -1,5 +1,5 @@
-//! Facts about the calls on a key. From these facts the judge finds a clash: two calls on the key that rule out every
-//! order.
+//! The facts that the judge stores about the calls on each key. They let it find a clash: two calls on the key that
+//! rule out every order.
 
 ghost use Rattle.std.specs.Prelude.{◌≡◌, ◌↔◌, IfSome, IsTrue, MatchOption, Some};
 ghost use Rattle.lset_words.specs.Effects.{effect_of};
@@ -14,7 +14,7 @@ use crate::rule::{Kept, KeyState};
 use crate::stream::StreamCall;
 use lset_words::{Call, Key, Presence, Reply};
 
-/// Returns whether both calls have ended, and the first has ended first or at the same moment.
+/// Returns whether both calls have ended, and the first call ended no later than the second.
 fn ends_by(first: StreamCall, second: StreamCall) -> bool
     ensures { IsTrue result ↔ EndsBy first.ended second.ended }
 {
@@ -24,8 +24,8 @@ fn ends_by(first: StreamCall, second: StreamCall) -> bool
     }
 }
 
-/// Returns the state in which a completed call leaves its key, and the kind of the call. Returns `None` for a
-/// `ceiling`, and for a reply that is neither true nor false.
+/// Returns the key's state after a completed call, and the kind of the call. Returns `None` for a `ceiling`, and for a
+/// reply that is neither true nor false.
 fn kept_as(call: Call, reply: Reply) -> Option<(Presence, Kept)>
     ensures { IfSome result (λ p. (left_so (effect_of call reply) ≡ Some p.0) × (word_kept p.1 p.0 (key_of call) ≡ call)
         × (reply_kept p.1 p.0 ≡ reply) × IsTrue (is_call p.1)) }
@@ -41,7 +41,7 @@ fn kept_as(call: Call, reply: Reply) -> Option<(Presence, Kept)>
     }
 }
 
-/// Returns the call (`add`, `remove` or `contains`) that is of this kind and left `key` in the state `was`.
+/// Returns the call of kind `kept` that left `key` in the state `was`: an `add`, a `remove` or a `contains`.
 fn word_kept(kept: Kept, was: Presence, key: Key) -> Call
     ensures { result ≡ word_kept kept was key }
 {
@@ -52,7 +52,7 @@ fn word_kept(kept: Kept, was: Presence, key: Key) -> Call
     }
 }
 
-/// Returns the reply of a call that is of this kind and left its key in the state `was`.
+/// Returns the reply of a call of kind `kept` that left its key in the state `was`.
 fn reply_kept(kept: Kept, was: Presence) -> Reply
     ensures { result ≡ reply_kept kept was }
 {
@@ -74,8 +74,8 @@ impl KeyState {
         }
     }
 
-    /// Returns the kept call of `key`: a completed call that left the key in the state `was`. Returns `None` if the key
-    /// was in this state when the set opened.
+    /// Returns the stored call on `key` (the kept call), which left the key in the state `was`. Returns `None` if no
+    /// call is stored: the key was then in this state when the set opened.
     fn first(&self, key: Key) -> Option<StreamCall>
         ensures { result ≡ first_of key.0 (facts_of self.now) }
     {
@@ -90,8 +90,8 @@ impl KeyState {
         })
     }
 
-    /// Records the start of a call after the judge has found that no order exists. Only raises the moments by which
-    /// changes end, since the pending changes no longer matter.
+    /// Records the start of a call after the judge has found that no order exists. Only raises `puts_until` and
+    /// `takes_until`: all changes of the key have ended by these moments.
     pub(crate) fn note_begin(&mut self, event: Event)
         ensures { facts_of self.new ≡ begun_by (event_as event) (facts_of self.old) }
     {
@@ -102,8 +102,8 @@ impl KeyState {
         }
     }
 
-    /// Returns whether each call that can change the key to a state other than `was` has ended when the stored call
-    /// `first` starts. If `first` is `None`, returns whether no such call has started.
+    /// Returns whether each call that can change the key to a state other than `was` has ended when `first` starts.
+    /// `first` is the call that is stored for the key. If it is `None`, returns whether no such change has started.
     fn is_standing(&self, first: Option<StreamCall>, key: Key) -> bool
         requires { first ≡ first_of key.0 (facts_of self.now) }
         ensures { IsTrue result ↔ IsStanding key.0 (facts_of self.now) }
@@ -115,8 +115,8 @@ impl KeyState {
         }
     }
 
-    /// Returns whether the second call comes after the first in real time, or the two calls also clash in the opposite
-    /// order according to these facts. Returns true if `first` is `None`.
+    /// Returns whether `second` starts after `first` has ended, or the stored facts show that the two calls also clash
+    /// in the opposite order. Returns true if `first` is `None`.
     fn comes_after(&self, first: Option<StreamCall>, second: StreamCall) -> bool
         ensures { IsTrue result ↔ ComesAfter (facts_of self.now) first second }
     {
@@ -137,8 +137,8 @@ impl KeyState {
             && ends_by(first, second)
     }
 
-    /// Returns the clash of the stored call (the kept call) with the call `second`, which ends now. Returns `None` exactly
-    /// if these facts show no clash.
+    /// Returns the clash of the call `second`, which ends now, with the stored call on the key (or with the key's
+    /// opening state, if no call is stored). Returns `None` exactly if the stored facts show no clash.
     pub(crate) fn clash_of(&self, second: StreamCall) -> Option<Clash>
         ensures { MatchOption result (IsClashing (facts_of self.now) second → ⊥) (IsFound (facts_of self.now) second) }
     {
@@ -157,16 +157,17 @@ impl KeyState {
         })
     }
 
-    /// Stores in `clash` the clash of the kept call with the call `second`, which ends now. Stores `None` exactly if these
-    /// facts show no clash. A separate function, so that the ends of other calls need no stack space for a `Clash`.
+    /// Stores in `clash` the clash of the call `second`, which ends now, with the stored call on the key (or with the
+    /// key's opening state, if no call is stored). Stores `None` exactly if the stored facts show no clash. This is a
+    /// separate function so that processing other ends needs no stack space for a `Clash`.
     pub(crate) fn store_clash(&self, second: StreamCall, clash: &mut Option<Clash>)
         ensures { MatchOption clash.new (IsClashing (facts_of self.now) second → ⊥) (IsFound (facts_of self.now) second) }
     {
         *clash = self.clash_of(second);
     }
 
-    /// Returns the clash of the stored call (the kept call) with the key's final state `left`. Returns `None` exactly if
-    /// these facts show no clash.
+    /// Returns the clash of the key's final state `left` with the stored call on the key (or with the key's opening
+    /// state, if no call is stored). Returns `None` exactly if the stored facts show no clash.
     pub(crate) fn clash_left(&self, key: Key, left: Presence) -> Option<Clash>
         ensures { MatchOption result (left ≡ other self.now.was → IsStanding key.0 (facts_of self.now) → ⊥) (IsFoundLeft key.0 (facts_of self.now) left) }
     {
@@ -181,15 +182,15 @@ impl KeyState {
         })
     }
 
-    /// Returns whether a completed call replaces the kept call. The call started at `begun` and left the key in the
-    /// state `was`. All changes to the other state must have ended by `begun`. A kept call that left the same state
-    /// stays if all such changes had ended when it started.
+    /// Returns whether a completed call that started at `begun` and left the key in the state `was` replaces the stored
+    /// call. It does so only if all changes to the other state had ended by `begun`. If the stored call left the same
+    /// state and all these changes had ended when it started, the stored call stays.
     fn is_to_be_kept(&self, begun: u64, was: Presence) -> bool {
         let until = self.until(other(was));
         until <= begun && !(self.was == was && until <= self.begun)
     }
 
-    /// Records that a call ends: the call replaces the stored call (the kept call), or nothing changes.
+    /// Records the end of a call. Either this call replaces the stored call on the key, or nothing changes.
     pub(crate) fn keep(&mut self, call: StreamCall)
         ensures state { state_of self.new ≡ state_of self.old }
         ensures ended { IsEnded call (facts_of self.old) (facts_of self.new) }

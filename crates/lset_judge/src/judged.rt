@@ -1,4 +1,4 @@
-//! The histories that the judge decides exactly.
+//! The histories that the judge decides exactly: it finds either that some order explains the calls, or that none does.
 
 ghost use Rattle.std.specs.Prelude.{◌≡◌, ◌≤◌, ℕ, IsTrue, ◌↔◌, All, IfSome, true};
 ghost use Rattle.lset_judge.specs.Verdict.{is_plain, may_add, adds_of, IsPlain, IsJudged};
@@ -41,7 +41,7 @@ fn all_plain(calls: &[CallRecord]) -> bool
     calls.iter().all(|call_record| ends_plain(call_record))
 }
 
-/// Returns how many `add`s of a thread returned true or are pending.
+/// Returns how many `add`s of the thread returned true or are pending.
 fn adds_of(calls: &[CallRecord], thread: u32) -> usize
     ensures { result ≡ adds_of thread calls.now }
 {
@@ -51,7 +51,7 @@ fn adds_of(calls: &[CallRecord], thread: u32) -> usize
         .count()
 }
 
-/// Returns whether no thread has more `add`s that returned true or are pending than its quota allows.
+/// Returns whether every thread's quota covers all its `add`s that returned true or are pending.
 fn has_room(history: &History) -> bool
     ensures { IsTrue result ↔ ((thread : ℕ) → adds_of thread history.now.calls ≤ history.now.opening.quota) }
 {
@@ -65,20 +65,20 @@ fn has_room(history: &History) -> bool
     true
 }
 
-/// Returns whether each completed call of a history returned true or false and is no `ceiling`. Does not allocate.
+/// Returns whether each completed call of the history is an `add`, a `remove` or a `contains` that returned true or
+/// false. Does not allocate.
 ///
-/// The judge decides such a history if no thread has more `add`s that returned true or are pending than its quota
-/// allows.
+/// The judge decides such a history if every thread's quota covers all its `add`s that returned true or are pending.
 pub fn is_plain(history: &History) -> bool
     ensures { IsTrue result ↔ IsPlain history.now.calls }
 {
     all_plain(history.calls())
 }
 
-/// Returns whether `judge` decides a history, so that it does not return `Undecided`. Does not allocate.
+/// Returns whether `judge` decides the history, that is, returns a verdict other than `Undecided`. Does not allocate.
 ///
-/// Each completed call must have returned true or false and be no `ceiling`. No thread can have more `add`s that
-/// returned true or are pending than its quota allows.
+/// Each completed call must be an `add`, a `remove` or a `contains` that returned true or false. Every thread's quota
+/// must cover all its `add`s that returned true or are pending.
 pub fn is_judged(history: &History) -> bool
     ensures { IsTrue result ↔ IsJudged history.now }
 {

@@ -23,8 +23,8 @@ pub enum Judged {
     /// No order explains the calls and leaves the final keys. Contains the reason, and two calls that clash, if the
     /// judge found them.
     NotLinearizable(Refusal, Option<Clash>),
-    /// Not decided: a completed call is a `ceiling`, or returned neither true nor false. Some order explains the calls
-    /// if each such call is replaced by one that the judge can decide.
+    /// Not decided: a completed call is a `ceiling`, or returned neither true nor false. The judge replaced each such
+    /// call by a call that it can decide, and some order explains the resulting history.
     Undecided,
 }
 
@@ -48,8 +48,8 @@ fn reply_as(call: Call, reply: Reply) -> Reply
     }
 }
 
-/// Returns the call that the judge reads in place of `call`: a `ceiling`, and an `add` that returned `Full`, become a
-/// `contains`.
+/// Returns the call that the judge reads instead of `call`. A `ceiling`, or an `add` that returned `Full`, becomes a
+/// `contains`. Any other call is unchanged.
 fn read_as(call: &CallRecord) -> StreamCall
     ensures is { record_of result ≡ read_as call.now }
     ensures before { IsBefore (record_of result) }
@@ -70,8 +70,8 @@ fn read_as(call: &CallRecord) -> StreamCall
     }
 }
 
-/// Adds the next call of the history. The caller must know that this call can come next. Fails only if an allocation
-/// fails.
+/// Adds the next call of the history to the judge. The caller must know that the judge accepts this call next. Fails
+/// only if an allocation fails.
 fn add_next(judge: &mut Judge, call: StreamCall) -> Result<(), AllocError>
     requires { MayCome (pending_in judge.old.stream) (moment_of judge.old.stream) (record_of call) }
     ensures added { OnOk result ((threads : ℕ) (opening : List ℕ) (calls : List RecordedCall) → call.thread < threads
@@ -94,11 +94,12 @@ fn add_next(judge: &mut Judge, call: StreamCall) -> Result<(), AllocError>
     }
 }
 
-/// Decides whether some order linearizes the calls in a history from its opening keys and leaves `keys`, for a set
-/// without a quota. `keys` must be in increasing order.
+/// Decides whether some order linearizes the calls of a history, from its opening keys, and leaves `keys`. The set has
+/// no quota. `keys` must be in increasing order.
 ///
-/// The answer is exact if each completed call returned true or false and is no `ceiling`. For any other history, the
-/// answer is `NotLinearizable` only if no order exists, and `Undecided` otherwise. Fails only if an allocation fails.
+/// The verdict is exact if each completed call returned true or false and is no `ceiling`. For any other history, the
+/// verdict is `NotLinearizable` only if no order exists, and `Undecided` otherwise. The function fails only if an
+/// allocation fails.
 pub fn judge(alloc: Global, history: &History, keys: &[u32]) -> Result<Judged, AllocError>
     requires { IsStrictlyIncreasing keys.now }
     ensures { IfOk result (IsJudged history.now keys.now) }

@@ -1,4 +1,4 @@
-//! The changes of a key that have started: `add`s and `remove`s that returned true or are pending.
+//! The changes of a key that have started. A change is an `add` or `remove` that returned true or is pending.
 
 ghost use Rattle.std.specs.Prelude.{◌≡◌, ◌==◌, ◌≤◌, ◌∷◌, [], suc, length, max, true, false, IsTrue, MatchOption, OnOk};
 ghost use Rattle.lset_judge.specs.Code.{puts_in, takes_in, is_many, AreSame};
@@ -10,8 +10,8 @@ use crate::stream::BEHIND_ALL;
 use lset_words::Presence;
 use std::alloc::{AllocError, Global};
 
-/// The pending changes of a key in heaps: the ends of the `add`s and of the `remove`s that have not taken effect, and
-/// how many changes are pending.
+/// The pending changes of a key in two heaps: the ends of the `add`s, and the ends of the `remove`s, that have not
+/// taken effect. Also stores how many changes are pending.
 #[derive(Drop)]
 pub(crate) struct ManyChanges {
     puts: Ends,
@@ -21,8 +21,8 @@ pub(crate) struct ManyChanges {
 
 /// The pending changes of a key that have not taken effect.
 ///
-/// A key needs no heaps, and no allocation, as long as its changes do not overlap, `add`s and `remove`s alternate, and
-/// no change is pending at the end of the recording.
+/// A key needs no heap, and no allocation, if its changes do not overlap, its `add`s and `remove`s alternate, and no
+/// change is pending at the end of the recording.
 #[derive(Drop)]
 pub(crate) enum Held {
     /// Every pending change has taken effect.
@@ -31,23 +31,25 @@ pub(crate) enum Held {
     Put,
     /// Only one pending change has not taken effect: a `remove` that ends at `takes_until`.
     Take,
-    /// Any number of changes, in heaps.
+    /// Any number of pending changes. Their ends are in heaps.
     Many(Box<ManyChanges>),
 }
 
-/// The changes of a key that have started: a moment by which all of them end, and the ends of those that have not taken
-/// effect. A change without an end counts as ending after all moments.
+/// The changes of a key that have started: the latest ends of the changes, and the ends of the changes that have not
+/// taken effect. A change without an end counts as ending after all moments.
 #[derive(Drop)]
 pub(crate) struct KeyChanges {
-    /// The latest end of the key's `add`s that have started and returned true or are pending. 0 if the key has none.
+    /// The latest end among the key's `add`s that have started and that returned true or are pending. 0 if the key has
+    /// no such `add`.
     pub(crate) puts_until: u64,
-    /// The latest end of the key's `remove`s that have started and returned true or are pending. 0 if the key has none.
+    /// The latest end among the key's `remove`s that have started and that returned true or are pending. 0 if the key
+    /// has no such `remove`.
     pub(crate) takes_until: u64,
     held: Held,
 }
 
 impl KeyChanges {
-    /// Returns the value for a key without changes. Does not allocate.
+    /// Returns a `KeyChanges` for a key without changes. Does not allocate.
     pub(crate) fn none() -> KeyChanges
         ensures puts { puts_in result ≡ [] }
         ensures takes { takes_in result ≡ [] }
@@ -83,7 +85,7 @@ impl KeyChanges {
         }
     }
 
-    /// Returns whether each pending `add` of the key that has not taken effect ends later than at `before` + 1.
+    /// Returns whether all pending `add`s of the key that have not taken effect end later than moment `before` + 1.
     pub(crate) fn no_put_is_due(&self, before: u64) -> bool
         ensures { result ≡ (not_before (suc (suc before)) (puts_in self.now) == length (puts_in self.now)) }
     {
@@ -94,7 +96,7 @@ impl KeyChanges {
         }
     }
 
-    /// Returns whether each pending `remove` of the key that has not taken effect ends later than at `before` + 1.
+    /// Returns whether all pending `remove`s of the key that have not taken effect end later than moment `before` + 1.
     pub(crate) fn no_take_is_due(&self, before: u64) -> bool
         ensures { result ≡ (not_before (suc (suc before)) (takes_in self.now) == length (takes_in self.now)) }
     {
@@ -105,7 +107,8 @@ impl KeyChanges {
         }
     }
 
-    /// Of the pending `add`s that have not taken effect, removes the one with the earliest end and returns this end.
+    /// Removes the `add` with the earliest end from the pending `add`s that have not taken effect, and returns this
+    /// end. Returns `None` if there are none.
     pub(crate) fn pop_put(&mut self) -> Option<u64>
         ensures popped { MatchOption result (puts_in self.old ≡ [])
             (λ end. (puts_in self.old ≡ end ∷ puts_in self.new) × (nearest end (puts_in self.new) ≡ end)) }
@@ -123,7 +126,8 @@ impl KeyChanges {
         }
     }
 
-    /// Of the pending `remove`s that have not taken effect, removes the one with the earliest end and returns this end.
+    /// Removes the `remove` with the earliest end from the pending `remove`s that have not taken effect, and returns
+    /// this end. Returns `None` if there are none.
     pub(crate) fn pop_take(&mut self) -> Option<u64>
         ensures popped { MatchOption result (takes_in self.old ≡ [])
             (λ end. (takes_in self.old ≡ end ∷ takes_in self.new) × (nearest end (takes_in self.new) ≡ end)) }
@@ -141,13 +145,13 @@ impl KeyChanges {
         }
     }
 
-    /// Returns how many changes with an end are pending after the moment `before`, and when the last completed change
-    /// ended.
+    /// Returns the number of changes that have an end and are pending after the moment `before`, and when the last
+    /// completed change ended.
     pub(crate) fn counts(&self, before: u64) -> Changes {
         if let Held::Many(many) = &self.held {
             return many.counts;
         }
-        // Without heaps, changes do not overlap, so only the one with the latest end can be pending.
+        // Without heaps, changes do not overlap. Only the change with the latest end can be pending.
         let last = self.puts_until.max(self.takes_until);
         if before < last {
             Changes::one(self.puts_until.min(self.takes_until))
@@ -156,7 +160,7 @@ impl KeyChanges {
         }
     }
 
-    /// Counts a change of the key as ended at `moment`.
+    /// Records that one of the key's changes ends at `moment`.
     pub(crate) fn end(&mut self, moment: u64)
         ensures { AreSame self.old self.new }
     {
@@ -165,8 +169,9 @@ impl KeyChanges {
         }
     }
 
-    /// Returns whether a change to the state `to`, from moment `before` + 1 to `end`, needs no heap: it has an end,
-    /// each earlier change has ended by `before`, and the last of them was to the other state.
+    /// Returns whether a change of the key to the state `to`, from moment `before` + 1 to `end`, needs no heap. This is
+    /// the case if the change has an end, each earlier change has ended by `before`, and the last earlier change, if
+    /// any, was to the other state.
     fn is_alone(&self, to: Presence, before: u64, end: u64) -> bool
         ensures alone { IsTrue result → is_many self.now.held ≡ false }
         ensures puts { IsTrue result → (puts_in self.now ≡ []) × (takes_in self.now ≡ []) }
@@ -183,7 +188,7 @@ impl KeyChanges {
             && end < BEHIND_ALL
     }
 
-    /// Moves the pending changes into heaps.
+    /// Moves the ends of the pending changes into heaps.
     fn spread(&mut self, alloc: Global, before: u64) -> Result<(), AllocError>
         requires { is_many self.old.held ≡ false }
         ensures same { OnOk result (AreSame self.old self.new) }
@@ -206,7 +211,7 @@ impl KeyChanges {
         Ok(())
     }
 
-    /// Adds an `add` that ends at `end` to the heaps.
+    /// Inserts the end of an `add` into the heap of `add`s.
     fn push_put(&mut self, end: u64) -> Result<(), AllocError>
         requires { is_many self.old.held ≡ true }
         ensures puts { OnOk result (puts_in self.new ≡ put_in end (puts_in self.old)) }
@@ -224,7 +229,7 @@ impl KeyChanges {
         }
     }
 
-    /// Adds a `remove` that ends at `end` to the heaps.
+    /// Inserts the end of a `remove` into the heap of `remove`s.
     fn push_take(&mut self, end: u64) -> Result<(), AllocError>
         requires { is_many self.old.held ≡ true }
         ensures puts { OnOk result (puts_in self.new ≡ puts_in self.old) }
@@ -242,8 +247,9 @@ impl KeyChanges {
         }
     }
 
-    /// Raises `puts_until` to at least `end`. Without heaps, this also moves the end of a pending `add`. Call it only
-    /// if the changes are in heaps, or after the judge has found that no order exists.
+    /// Raises `puts_until` to `end` if it is smaller. Without heaps, this also changes the end of a pending `add`,
+    /// which is `puts_until`. Call this function only if the changes are in heaps, or after the judge has found that no
+    /// order exists.
     pub(crate) fn raise_puts(&mut self, end: u64)
         ensures puts { is_many self.old.held ≡ true → puts_in self.new ≡ puts_in self.old }
         ensures takes { takes_in self.new ≡ takes_in self.old }
@@ -253,8 +259,9 @@ impl KeyChanges {
         self.puts_until = self.puts_until.max(end);
     }
 
-    /// Raises `takes_until` to at least `end`. Without heaps, this also moves the end of a pending `remove`. Call it
-    /// only if the changes are in heaps, or after the judge has found that no order exists.
+    /// Raises `takes_until` to `end` if it is smaller. Without heaps, this also changes the end of a pending `remove`,
+    /// which is `takes_until`. Call this function only if the changes are in heaps, or after the judge has found that
+    /// no order exists.
     pub(crate) fn raise_takes(&mut self, end: u64)
         ensures puts { puts_in self.new ≡ puts_in self.old }
         ensures takes { is_many self.old.held ≡ true → takes_in self.new ≡ takes_in self.old }

@@ -1,4 +1,4 @@
-//! Many pending calls, in a hash table indexed by their ends. Adding or removing a call takes a few look-ups, plus
+//! Many pending calls, in a hash table indexed by their ends. Adding or removing a call needs a few look-ups, and
 //! logarithmic time in the number of calls.
 
 ghost use Rattle.std.specs.Prelude.{◌≡◌, ◌≢◌, ◌↔◌, ◌<◌, ◌≤◌, ◌∷◌, [], IsTrue, All, Contains, IfSome, MatchOption, OnOk, length};
@@ -35,7 +35,7 @@ impl Model for ManyCalls {
     ghost invariant = { λ c. AreHeld c.calls.entries c.ends c.busy };
 }
 
-/// Returns the moment at which a call ends, or its start if it has no end.
+/// Returns the end of a call, or its start if the call has no end.
 pub(crate) fn end_or_begin(call: StreamCall) -> u64
     ensures { result ≡ end_or call.begun call.ended }
 {
@@ -53,7 +53,7 @@ fn pop_before(calls: &mut HashMap<u64, StreamCall>, ends: &mut Ends, moment: u64
         (λ p. (p.end < moment) × IsPermutation calls.old.entries ((p.end, p.call) ∷ calls.new.entries)
         × All (λ e. p.end ≤ e.0) calls.old.entries) }
 {
-    // After a failed allocation, the heap can contain an end whose call is not in the table.
+    // After a failed allocation, the heap can contain an end without a call in the table.
     while let Some(end) = ends.pop_before(moment) {
         if let Some(call) = calls.remove(&end) {
             return Some(Pending { end, call });
@@ -104,7 +104,7 @@ impl ManyCalls {
         self.none_ends_at(call.begun) && self.none_ends_at(end_or_begin(call))
     }
 
-    /// Returns whether the thread of `call` has no pending call in the table when `call` starts.
+    /// Returns whether no call in the table that is pending when `call` starts has the same thread as `call`.
     pub(crate) fn are_free(&self, call: StreamCall) -> bool
         ensures { IsTrue result ↔ All (λ p. p.call.thread ≡ call.thread → p.end ≤ call.begun) self.now }
     {

@@ -1,8 +1,9 @@
-//! Counts the calls that overlap a change of their key. If only few calls do, the verdict `Linearizable` says little.
+//! Counts the calls that overlap a change of their key. If only few calls do, the verdict `Linearizable` is weak
+//! evidence.
 
 use crate::stream::BEHIND_ALL;
 
-/// The changes of a key that have an end: how many are pending, and when the last completed one ended.
+/// The changes of a key that have an end: how many are pending, and when the last completed change ended.
 #[derive(Clone, Copy)]
 pub(crate) struct Changes {
     pending: u64,
@@ -10,7 +11,8 @@ pub(crate) struct Changes {
 }
 
 impl Changes {
-    /// Returns the value for one pending change. The last completed change ended at `last_end`, or 0 if there is none.
+    /// Returns a `Changes` for one pending change. The last completed change ended at `last_end`, which is 0 if no
+    /// change has ended.
     pub(crate) fn one(last_end: u64) -> Changes {
         Changes {
             pending: 1,
@@ -18,7 +20,8 @@ impl Changes {
         }
     }
 
-    /// Returns the value for a key without pending changes. The last change ended at `last_end`, or 0 if there is none.
+    /// Returns a `Changes` for a key without pending changes. The last change ended at `last_end`, which is 0 if no
+    /// change has ended.
     pub(crate) fn ended(last_end: u64) -> Changes {
         Changes {
             pending: 0,
@@ -26,8 +29,8 @@ impl Changes {
         }
     }
 
-    /// Records the start of a change that takes effect before `until`. If `until` is at least `BEHIND_ALL`, the change
-    /// has no end and is not counted.
+    /// Counts a change that starts and takes effect before `until`. If `until` is at least `BEHIND_ALL`, the change has
+    /// no end and is not counted.
     pub(crate) fn begin(&mut self, until: u64) {
         if until < BEHIND_ALL {
             self.pending = self.pending.saturating_add(1);
@@ -40,8 +43,8 @@ impl Changes {
         self.last_end = moment;
     }
 
-    /// Returns whether a pending call overlaps a change of its key other than itself. `is_change` says whether the call
-    /// is a change with an end; `begun` is when it started.
+    /// Returns whether a pending call overlaps another call that is a change of its key. `is_change` must be true if
+    /// the call itself is a change with an end. `begun` is when the call started.
     pub(crate) fn overlap(self, is_change: bool, begun: u64) -> bool {
         self.pending > u64::from(is_change) || begun < self.last_end
     }

@@ -12,11 +12,11 @@ use std::alloc::{AllocError, Global};
 use std::collections::HashMap;
 use std::marker::Model;
 
-/// The maximum number of pending calls in the vector. They are searched one by one.
+/// The maximum number of pending calls in the vector `few`. The vector is searched call by call.
 const FEW: usize = 32;
 
-/// The pending calls in a recording. Up to `FEW` of them are in a vector and searched one by one, which is fastest. The
-/// others are in a hash table, where inserting or removing a call takes logarithmic time.
+/// The pending calls in a recording. Up to `FEW` of them are in a vector, which is searched call by call and is
+/// fastest. The others are in a hash table. Inserting a call there, or removing one, needs logarithmic time.
 #[derive(Drop)]
 pub(crate) struct PendingCalls {
     few: Vec<Pending>,
@@ -38,8 +38,8 @@ impl Model for PendingCalls {
     ghost invariant = { λ c. IsFirst c.next c.few.items };
 }
 
-/// Returns why `call` cannot start while the calls `few` are pending, or `None` if it can. It cannot if one of them
-/// ends when `call` starts or ends, or is a pending call of the same thread.
+/// Returns the reason why `call` cannot start while the calls `few` are pending, or `None` if it can. The reason is
+/// that one of these calls ends when `call` starts or ends, or that its thread already has a pending call.
 fn clash(few: &[Pending], call: StreamCall) -> Option<StreamFault>
     ensures { MatchOption result
         (All (λ p. (p.end ≢ call.begun) × IfSome call.ended (λ end. p.end ≢ end.0)) few.now
@@ -82,7 +82,7 @@ fn nearest_place(few: &[Pending]) -> usize
     place
 }
 
-/// Returns which index the call with the earliest end has once `pending` is appended.
+/// Returns the index that the call with the earliest end has after `pending` is appended to `few`.
 fn next_with(few: &[Pending], next: usize, pending: Pending) -> usize
     requires { IsFirst next few.now }
     ensures { IsFirst result (few.now ++ pending ∷ []) }
@@ -94,7 +94,7 @@ fn next_with(few: &[Pending], next: usize, pending: Pending) -> usize
     }
 }
 
-/// Returns the earliest end, or `u64::MAX` if there are no calls.
+/// Returns the earliest end of the calls in `few`, or `u64::MAX` if `few` is empty.
 fn end_of_few(few: &[Pending], next: usize) -> u64
     requires { IsFirst next few.now }
     ensures smallest { All (λ p. result ≤ p.end) few.now }
@@ -130,8 +130,9 @@ impl PendingCalls {
         }
     }
 
-    /// Returns why `call` cannot start while these calls are pending, or `None` if it can. It cannot if one of them
-    /// ends when `call` starts or ends, or is a pending call of the same thread.
+    /// Returns the reason why `call` cannot start while the calls in this collection are pending, or `None` if it can.
+    /// The reason is that one of these calls ends when `call` starts or ends, or that its thread already has a pending
+    /// call.
     pub(crate) fn clash(&self, call: StreamCall) -> Option<StreamFault>
         ensures { MatchOption result
             (All (λ p. (p.end ≢ call.begun) × IfSome call.ended (λ end. p.end ≢ end.0)) self.now

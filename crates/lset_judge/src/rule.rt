@@ -1,4 +1,4 @@
-//! The judge's rule for one key: which pending change takes effect, and when it must.
+//! The judge's rule for the calls on one key: which pending change takes effect, and when.
 
 ghost use Rattle.std.specs.Prelude.{◌≡◌, suc, true, false, IfOk, IfSome, OnOk, Some, None};
 ghost use Rattle.std.specs.Prelude.{if◌then◌else◌};
@@ -17,10 +17,11 @@ use crate::stream::StreamCall;
 use lset_words::Presence;
 use std::alloc::{AllocError, Global};
 
-/// The kind of a key's kept call, which is a completed call that left the key in the state `was`.
+/// The kind of the completed call that the judge stores for a key (the kept call). This call left the key in the state
+/// `was`.
 #[derive(Clone, Copy)]
 pub(crate) enum Kept {
-    /// No call: the key was in the state `was` when the set opened.
+    /// No call is stored: the key was in the state `was` when the set opened.
     Opening,
     /// An `add` or a `remove` that returned true.
     Change,
@@ -30,8 +31,8 @@ pub(crate) enum Kept {
     Look,
 }
 
-/// The state of a key: whether it is present, since when, its changes, and its kept call, which is the completed call
-/// with which a later call can clash. (64 bytes.)
+/// The state of a key: whether it is present and since when, its changes, and one completed call (the kept call). A
+/// later call can clash with this call. (64 bytes.)
 #[derive(Drop)]
 pub(crate) struct KeyState {
     pub(crate) changes: KeyChanges,
@@ -43,14 +44,14 @@ pub(crate) struct KeyState {
     /// The thread of the stored completed call (the kept call).
     pub(crate) thread: u32,
     pub(crate) kept: Kept,
-    /// The state (present or absent) in which the stored call (the kept call) left the key. If no call is stored, the
-    /// key's opening state.
+    /// The key's state (present or absent) after the stored call (the kept call). If no call is stored, the key's
+    /// opening state.
     pub(crate) was: Presence,
     there: Presence,
 }
 
 impl KeyState {
-    /// Returns the state of a key without calls. `there` says whether the set opens with the key. Does not allocate.
+    /// Returns the state of a key without calls. `there` is the key's state when the set opens. Does not allocate.
     pub(crate) fn opened(there: Presence) -> KeyState
         ensures state { state_of result ≡ opened (is_there there) }
         ensures facts { facts_of result ≡ facts_opened there }
@@ -67,8 +68,8 @@ impl KeyState {
         }
     }
 
-    /// Returns whether the key can end in the state `there`: it is in this state now, or a pending change can lead to
-    /// it.
+    /// Returns whether `there` can be the key's final state: the key is in this state now, or a pending change can lead
+    /// to it.
     pub(crate) fn may_be_left(&self, there: Presence) -> bool
         ensures { result ≡ may_be_left (is_there there) (state_of self.now) }
     {
@@ -130,8 +131,8 @@ impl KeyState {
         }
     }
 
-    /// Lets pending changes take effect just after the moment `before`, until the key is in a state in which `event`
-    /// (at the next moment) is possible. Returns whether it reaches such a state.
+    /// Makes pending changes take effect, just after the moment `before`, until `event` is possible in the key's state.
+    /// The event is at the next moment. Returns whether such a state was reached.
     pub(crate) fn settle(&mut self, before: u64, event: Event) -> bool
         ensures found { found before (event_as event) (state_of self.old) ≡ (if result then Some (state_of self.new) else None) }
         ensures facts { facts_of self.new ≡ facts_of self.old }
@@ -144,8 +145,8 @@ impl KeyState {
         true
     }
 
-    /// Processes `event`, which is at the moment after `before`. Returns whether the judge's rule still succeeds for
-    /// the key.
+    /// Processes `event` of the key, which is at moment `before` + 1. Returns whether the judge's rule (the test of the
+    /// key's calls) still succeeds.
     pub(crate) fn meet(
         &mut self,
         alloc: Global,
@@ -167,8 +168,8 @@ impl KeyState {
         Ok(true)
     }
 
-    /// Processes the end of a call, at the moment after `before`. Returns whether the judge's rule still succeeds for
-    /// the key. If it fails, searches for a call that clashes with this one.
+    /// Processes the end of a call on the key, at moment `before` + 1. Returns whether the judge's rule (the test of
+    /// the key's calls) still succeeds. If the rule fails, searches for a call that clashes with this one.
     pub(crate) fn meet_end(
         &mut self,
         alloc: Global,

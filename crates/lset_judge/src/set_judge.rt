@@ -1,5 +1,4 @@
-//! The judge of a recording whose calls come one after another. If no order explains the calls, the judge returns the
-//! reason.
+//! The judge of a recording that is read call by call. If no order explains the calls, the judge returns the reason.
 
 ghost use Rattle.std.specs.Prelude.{◌≡◌, ◌<◌, ◌++◌, ◌∷◌, ◌≢◌, [], ℕ, IfErr, IfOk, IfSome, List, OnOk};
 ghost use Rattle.std.specs.List.Sorted.{IsStrictlyIncreasing};
@@ -25,19 +24,19 @@ pub enum Verdict {
     NotLinearizable(Refusal, Option<Clash>),
 }
 
-/// A judge for the calls on a set. The calls must be added in the order in which they start. `close` and
-/// `close_cut_off` return whether some order explains all calls.
+/// A judge for the calls on a set. Add the calls in the order of their starts. `close` and `close_cut_off` return
+/// whether some order explains all calls.
 ///
-/// A judge stores the state of each key with at most one completed call, the pending calls, and the end of each
-/// thread's last call. Its memory grows with the numbers of keys, threads and pending calls, but not with the number of
+/// A judge stores the pending calls, the end of each thread's last call, and for each key its state and at most one
+/// completed call. Its memory grows with the numbers of keys, threads and pending calls, but not with the number of
 /// calls.
 #[derive(Drop)]
 pub struct Judge {
     stream: Stream,
 }
 
-/// Returns the final state of the key that the reason (`refusal`) names if the reason is about the final keys, else
-/// `None`.
+/// Returns the final state of the key that `refusal` (the reason of the verdict) names, or `None` if the reason is not
+/// about the final keys.
 fn left_as(keys: &[u32], refusal: Refusal) -> Option<Presence>
     requires { IsStrictlyIncreasing keys.now }
     ensures { result ≡ left_by keys.now refusal.key.0 refusal.moment }
@@ -48,7 +47,8 @@ fn left_as(keys: &[u32], refusal: Refusal) -> Option<Presence>
     }
 }
 
-/// Returns the two clashing calls on the key that the reason (`refusal`) names, if the judge found them.
+/// Returns two clashing calls on the key that `refusal` (the reason of the verdict) names, if the judge found such
+/// calls.
 fn clash_for(stream: &Stream, refusal: Refusal, left: Option<Presence>) -> Option<Clash>
     requires { IsToldBy stream.now.failed (NotLinearizable refusal) }
     ensures { IfSome result (λ c. (opening : List ℕ) → ClashesStream opening refusal left stream.now c) }
@@ -72,12 +72,12 @@ impl Judge {
 
     /// Adds a call, which must start after all calls added before.
     ///
-    /// An error other than `Memory` is the reason why this call cannot come next; nothing changes then. After `Memory`,
-    /// the judge can no longer be used.
+    /// An error other than `Memory` is the reason why this call cannot be next; the judge is then unchanged. After
+    /// `Memory`, the judge can no longer be used.
     pub fn add(&mut self, call: StreamCall) -> Result<(), StreamFault>
         ensures added { OnOk result ((threads : ℕ) (opening : List ℕ) (calls : List RecordedCall) → call.thread < threads
             → IsJudgeOf threads opening calls self.old → IsJudgeOf threads opening (calls ++ record_of call ∷ []) self.new) }
-        // The judge has advanced to the moment at which the call starts.
+        // The judge has advanced to the moment when the call starts.
         ensures moment { OnOk result (moment_of self.new.stream ≡ call.begun) }
         ensures refused { IfErr result (λ fault. fault ≢ StreamFault.Memory
             → (MayCome (pending_in self.old.stream) (moment_of self.old.stream) (record_of call) → ⊥) × (self.new ≡ self.old)) }
@@ -91,10 +91,10 @@ impl Judge {
         self.stream.overlapped()
     }
 
-    /// Decides whether some order linearizes all calls, from the opening keys, and leaves `keys`: returns
-    /// `Linearizable` if one does and `NotLinearizable` if none does. The set has no quota.
+    /// Decides whether some order linearizes all calls, from the opening keys, and leaves `keys`. Returns
+    /// `Linearizable` if such an order exists, else `NotLinearizable`. The set has no quota.
     ///
-    /// `keys` are the final keys, in increasing order. Fails only if an allocation fails.
+    /// `keys` are the final keys, in increasing order. The function fails only if an allocation fails.
     pub fn close(self, keys: &[u32]) -> Result<Verdict, AllocError>
         requires { IsStrictlyIncreasing keys.now }
         ensures { IfOk result (λ verdict. (threads : ℕ) (opening : List ℕ) (calls : List RecordedCall) → IsJudgeOf threads opening calls self
@@ -113,7 +113,8 @@ impl Judge {
     }
 
     /// Decides whether some order linearizes all calls, from the opening keys, whatever keys it leaves. Use this
-    /// function for a recording that was cut off, since its final keys are unknown. Fails only if an allocation fails.
+    /// function for a recording that was cut off, since its final keys are unknown. The function fails only if an
+    /// allocation fails.
     pub fn close_cut_off(self) -> Result<Verdict, AllocError>
         ensures { IfOk result (λ verdict. (threads : ℕ) (opening : List ℕ) (calls : List RecordedCall) → IsJudgeOf threads opening calls self
             → IsVerdictCutOff threads opening calls verdict) }

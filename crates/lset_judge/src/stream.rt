@@ -1,4 +1,4 @@
-//! A stream: the calls of a recording, judged one after another. Keeps the state of each key and the pending calls.
+//! A stream: judges the calls of a recording one after another. Stores the state of each key and the pending calls.
 
 ghost use Rattle.std.specs.Prelude.{◌≡◌, ◌≢◌, ◌↔◌, ◌<◌, ◌≤◌, ◌+◌, ◌++◌, ◌∷◌, [], ℕ, IsTrue, All, List, length, false, true, None, Some, IfOk, OnOk, IfErr, IfSome, MatchOption, if◌then◌else◌, ◌⊎◌};
 ghost use Rattle.std.specs.Prelude.{Contains, IsSome, slice_index_or, ◌==◌, ◌&&◌};
@@ -29,9 +29,9 @@ use std::alloc::{AllocError, Global};
 use std::collections::HashMap;
 use thiserror::Error;
 
-/// A call of a recording. `thread` is any number. `begun` is the moment at which the call starts, from 1 to
-/// `LAST_MOMENT`. `ended` is the moment at which the call ends, later and at most `LAST_MOMENT`, and its reply. A call
-/// without an end is pending when the recording ends.
+/// A call of a recording. `thread` is any number. `begun` is the moment when the call starts, from 1 to `LAST_MOMENT`.
+/// `ended` contains the call's reply and the moment when the call ends, which is later and at most `LAST_MOMENT`. A
+/// call without an end is pending when the recording ends.
 #[derive(Clone, Copy, Debug, PartialEq, Eq)]
 pub struct StreamCall {
     pub thread: u32,
@@ -46,7 +46,7 @@ pub const LAST_MOMENT: u64 = (1 << 63) - 1;
 /// The smallest number that is greater than every moment.
 pub(crate) const BEHIND_ALL: u64 = 1 << 63;
 
-/// The reason why a call cannot come next. If several reasons apply, the first one below is returned.
+/// The reason why a call cannot be the next one. If several reasons apply, the reason that is listed first is returned.
 #[derive(Clone, Copy, Debug, PartialEq, Eq, Error)]
 pub enum StreamFault {
     /// The call starts at moment 0 or no later than an earlier call, or one of its moments is above `LAST_MOMENT`.
@@ -58,7 +58,7 @@ pub enum StreamFault {
     /// The call is a completed `ceiling`, or its reply is neither true nor false.
     #[error("it is a ceiling that ended, or its reply is not true or false")]
     NotPlain,
-    /// An earlier call ends at the moment at which this call starts or ends.
+    /// An earlier call ends exactly when this call starts or ends.
     #[error("a call before it ends at one of its moments")]
     Taken,
     /// The thread already has a pending call when this call starts.
@@ -86,26 +86,26 @@ pub(crate) enum StreamVerdict {
     NotLinearizable(Refusal),
 }
 
-/// The reason why no order explains the calls and leaves the final keys: a key that rules out every order, and a
-/// moment.
+/// The reason why no order explains the calls and leaves the final keys: a key, since no order explains its calls, and
+/// a moment.
 #[derive(Clone, Copy, Debug, PartialEq, Eq)]
 pub struct Refusal {
-    /// The key that rules out every order.
+    /// No order explains the calls on this key.
     pub key: Key,
-    /// No order explains the calls on the key that start by this moment, with all their replies, whatever keys the
-    /// order leaves. This is the first moment at which the judge's rule fails for any key. `None` if the rule fails for
-    /// no key, but no order explains all calls on this key and leaves its final state.
+    /// No order explains the calls on `key` that start by this moment, with all their replies, whatever keys the order
+    /// leaves. This is the first moment when the judge's rule (its test of one key's calls) fails for any key. `None`
+    /// if the rule fails for no key, but no order explains all calls on `key` and leaves the key's final state.
     pub moment: Option<u64>,
 }
 
-/// The first key for which the judge's rule has failed, and the moment at which it failed.
+/// The first key that fails the judge's rule (the test of one key's calls), and the moment when it fails.
 #[derive(Clone, Copy)]
 pub(crate) struct Failed {
     pub(crate) key: Key,
     pub(crate) moment: u64,
 }
 
-/// A pending call, and the moment by which it takes effect.
+/// A pending call. If it takes effect, then before the moment `end`.
 #[derive(Clone, Copy)]
 pub(crate) struct Pending {
     pub(crate) end: u64,
@@ -119,7 +119,7 @@ impl StreamCall {
         self.call.key().0 == key
     }
 
-    /// Returns the effect of the call on its key. For a pending call, returns the effect that the call can have.
+    /// Returns the effect of the call on its key. For a pending call, returns the effect that the call can still have.
     pub(crate) fn effect(self) -> Effect
         ensures { kind_as result ≡ kind_if self.call self.ended }
     {
@@ -184,7 +184,7 @@ impl Pending {
         self.call.call.key().0
     }
 
-    /// Returns the event when the call ends.
+    /// Returns the event for the end of this pending call.
     pub(crate) fn event(self) -> Event
         ensures { event_as result ≡ event_of self }
     {
@@ -192,8 +192,9 @@ impl Pending {
     }
 }
 
-/// Processes `event` at the moment after `before`, for a key that has no state yet. Returns whether the judge's rule
-/// still succeeds. A separate function, so that other events need no stack space for a new state.
+/// Processes `event` at moment `before` + 1, for a key that has no stored state yet. Returns whether the judge's rule
+/// (the test of one key's calls) still succeeds. This is a separate function so that other events need no stack space
+/// for a new state.
 fn meet_new_key(
     states: &mut HashMap<u32, KeyState>,
     alloc: Global,
@@ -214,7 +215,8 @@ fn meet_new_key(
     Ok(goes_on)
 }
 
-/// Processes `event` of a key at the moment after `before`. Returns whether the judge's rule still succeeds.
+/// Processes `event` of a key at moment `before` + 1. Returns whether the judge's rule (the test of one key's calls)
+/// still succeeds for this key.
 fn meet_key(
     states: &mut HashMap<u32, KeyState>,
     alloc: Global,
@@ -236,7 +238,7 @@ fn meet_key(
     Ok(goes_on)
 }
 
-/// Records the start of a call on a key for which the judge's rule has failed.
+/// Records the start of a call on a key after the judge's rule (the test of one key's calls) has failed for this key.
 fn note_begin(
     states: &mut HashMap<u32, KeyState>,
     alloc: Global,
@@ -255,8 +257,8 @@ fn note_begin(
     Ok(())
 }
 
-/// Records the end of a call on a key for which the judge's rule has failed. Returns a clash that involves this call,
-/// if the facts show one.
+/// Records the end of a call on a key after the judge's rule (the test of one key's calls) has failed for this key.
+/// Returns a clash that involves this call, if the stored facts show one.
 fn note_end(states: &mut HashMap<u32, KeyState>, call: StreamCall) -> Option<Clash>
     ensures kept { EndIsKept states.old call states.new result }
     ensures missed { result ≡ None → IsClashing (facts_for states.old (key_of call.call).0) call → ⊥ }
@@ -273,14 +275,14 @@ fn note_end(states: &mut HashMap<u32, KeyState>, call: StreamCall) -> Option<Cla
 /// The result of processing the end of a call.
 #[derive(Clone, Copy)]
 struct EndMet {
-    /// Whether the judge's rule succeeds at this end.
+    /// Whether the judge's rule (the test of one key's calls) still succeeds after this end.
     goes_on: bool,
-    /// Whether the call overlaps a change of its key.
+    /// Whether the call overlaps another call that changes the same key.
     overlaps: bool,
 }
 
-/// Processes the end of a call at the moment after `before`, if its key has no state yet. If the judge's rule fails,
-/// searches for a call that clashes with this one.
+/// Processes the end of a call at moment `before` + 1, if its key has no stored state yet. If the judge's rule (the
+/// test of one key's calls) fails, searches for a call that clashes with this one.
 fn meet_new_key_end(
     states: &mut HashMap<u32, KeyState>,
     alloc: Global,
@@ -310,8 +312,8 @@ fn meet_new_key_end(
     })
 }
 
-/// Processes the end of a call at the moment after `before`. If the judge's rule fails, searches for a call that
-/// clashes with this one.
+/// Processes the end of a call at moment `before` + 1. If the judge's rule (the test of one key's calls) fails,
+/// searches for a call that clashes with this one.
 fn meet_key_end(
     states: &mut HashMap<u32, KeyState>,
     alloc: Global,
@@ -341,7 +343,7 @@ fn meet_key_end(
     Ok(met)
 }
 
-/// Returns the state of each key of a set that opens with the keys `opening`.
+/// Returns the first state of each key in `opening`, for a set that opens with these keys.
 fn opening_states(alloc: Global, opening: &[u32]) -> Result<HashMap<u32, KeyState>, AllocError>
     ensures states { IfOk result (λ states. (k : ℕ) → state_for states k ≡ opened (has_key k opening.now)) }
     ensures facts { IfOk result (λ states. (k : ℕ) → facts_for states k ≡ facts_opened (presence (has_key k opening.now))) }
@@ -364,7 +366,7 @@ impl Failed {
     }
 }
 
-/// Returns the smaller of two keys, or `key` if `other` is `None`.
+/// Returns the smaller of the keys `key` and `other`, or `key` if `other` is `None`.
 fn smallest(key: u32, other: Option<u32>) -> u32
     ensures { (result ≡ key) ⊎ (other ≡ Some result) }
 {
@@ -374,7 +376,8 @@ fn smallest(key: u32, other: Option<u32>) -> u32
     }
 }
 
-/// Returns the verdict. `key` is a key whose final state is impossible, or `None` if every final state is possible.
+/// Returns the verdict from `key`, which has an impossible final state. If `key` is `None`, every final state is
+/// possible, and the verdict is `Linearizable`.
 fn verdict_of_key(key: Option<u32>) -> StreamVerdict
     ensures { result ≡ verdict_of_key key }
 {
@@ -387,12 +390,12 @@ fn verdict_of_key(key: Option<u32>) -> StreamVerdict
     }
 }
 
-/// A stream: the calls of a recording, ordered by start and judged one after another. Stores the state of each key, the
+/// A stream: judges the calls of a recording one after another, ordered by start. Stores the state of each key, the
 /// pending calls, and the end of each thread's last call. Its memory grows with the numbers of keys, threads and
 /// pending calls, but not with the number of calls.
 ///
-/// `verdict` and `verdict_cut_off` return whether some order explains all calls. The judge's rule looks at the moments
-/// of each key once and in order, so no past moment must be stored.
+/// `verdict` and `verdict_cut_off` return whether some order explains all calls. The judge reads the moments of each
+/// key once and in order, so no past moment must be stored.
 #[derive(Drop)]
 pub(crate) struct Stream {
     alloc: Global,
@@ -400,9 +403,9 @@ pub(crate) struct Stream {
     pending: PendingCalls,
     moment: u64,
     failed: Option<Failed>,
-    /// Two calls that clash, on the key for which the judge's rule has failed, if they were found.
+    /// Two clashing calls (no order can explain both), if the judge found them. They are on the key in `failed`.
     clash: Option<Clash>,
-    /// The number of completed calls that overlap a change of their key.
+    /// The number of completed calls that overlap another call that changes the same key.
     overlapped: u64,
 }
 
@@ -424,7 +427,7 @@ impl Stream {
         })
     }
 
-    /// Returns the reason why `call` cannot come next, or `None` if it can.
+    /// Returns the reason why `call` cannot be the next call of the stream, or `None` if it can.
     fn find_fault(&self, call: StreamCall) -> Option<StreamFault>
         ensures { MatchOption result (MayCome self.now.pending self.now.moment (record_of call))
             (λ fault. MayCome self.now.pending self.now.moment (record_of call) → ⊥) }
@@ -440,7 +443,7 @@ impl Stream {
         }
     }
 
-    /// Processes `event` of a key at `moment`, and advances to this moment.
+    /// Processes `event` of a key at `moment`, and advances the stream to this moment.
     fn meet(&mut self, key: u32, moment: u64, event: Event) -> Result<(), AllocError>
         ensures met { OnOk result (IsMet self.old key moment (event_as event) self.new) }
         ensures known { OnOk result (BeginIsKnown self.old.states key (event_as event) self.new.states self.old.failed self.old.clash) }
@@ -473,15 +476,15 @@ impl Stream {
         Ok(())
     }
 
-    /// Forgets the two clashing calls. A separate function, so that the ends of calls need no stack space for a
-    /// `Clash`.
+    /// Forgets the two clashing calls. This is a separate function so that processing the ends of calls needs no stack
+    /// space for a `Clash`.
     fn forget_clash(&mut self)
         ensures { self.new ≡ record self.old { clash = None } }
     {
         self.clash = None;
     }
 
-    /// Processes the end of a pending call. The judge's rule must not have failed.
+    /// Processes the end of a pending call. The judge's rule (its test of each key's calls) must not have failed.
     fn meet_end_going(&mut self, next: Pending) -> Result<(), AllocError>
         requires { self.old.failed ≡ None }
         ensures pending { OnOk result (self.new.pending ≡ self.old.pending) }
@@ -511,7 +514,7 @@ impl Stream {
         Ok(())
     }
 
-    /// Processes the end of a pending call after the judge's rule has failed.
+    /// Processes the end of a pending call after the judge's rule (its test of each key's calls) has failed.
     fn end_after_failure(&mut self, next: Pending, failed: Failed)
         requires { self.old.failed ≡ Some failed }
         ensures met { IsMet self.old (key_in next) next.end (event_of next) self.new }
@@ -524,11 +527,12 @@ impl Stream {
         self.moment = next.end;
     }
 
-    /// Processes the end of a pending call, and advances to the moment of this end.
+    /// Processes the end of a pending call, and advances the stream to this end.
     fn end(&mut self, next: Pending) -> Result<(), AllocError>
         ensures met { OnOk result (IsMet self.old (key_in next) next.end (event_of next) self.new) }
         ensures known { OnOk result (EndIsKnown self.old.states next.call self.new.states self.old.failed self.old.clash self.new.clash) }
-        // If the rule has failed for the call's key and no clash is stored, the facts show no clash of the call.
+        // If the judge's rule has failed for the call's key and no clash is stored, the stored facts show no clash of
+        // this call with an earlier one.
         ensures missed { OnOk result (IfSome self.new.failed (λ f. f.key.0 ≡ key_in next → self.new.clash ≡ None
             → IsClashing (facts_for self.old.states (key_in next)) next.call → ⊥)) }
     {
@@ -556,7 +560,7 @@ impl Stream {
         Ok(())
     }
 
-    /// Processes the start of a call. All earlier ends must have been processed.
+    /// Processes the start of a call. All ends before this start must have been processed.
     fn begin(&mut self, call: StreamCall) -> Result<(), AllocError>
         requires may { MayCome self.old.pending self.old.moment (record_of call) }
         requires met { All (λ p. call.begun ≤ p.end) self.old.pending }
@@ -587,12 +591,12 @@ impl Stream {
 
     /// Adds a call, which must start after all calls added before.
     ///
-    /// An error other than `Memory` is the reason why this call cannot come next; nothing changes then. After `Memory`,
-    /// the stream can no longer be used.
+    /// An error other than `Memory` is the reason why this call cannot be next; the stream is then unchanged. After
+    /// `Memory`, the stream can no longer be used.
     pub fn add(&mut self, call: StreamCall) -> Result<(), StreamFault>
         ensures added { OnOk result ((threads : ℕ) (opening : List ℕ) (calls : List RecordedCall) → call.thread < threads
             → IsStreamKept threads opening calls self.old → IsStreamKept threads opening (calls ++ record_of call ∷ []) self.new) }
-        // The stream has advanced to the moment at which the call starts.
+        // The stream has advanced to the moment when the call starts.
         ensures moment { OnOk result (moment_of self.new ≡ call.begun) }
         ensures refused { IfErr result (λ fault. fault ≢ StreamFault.Memory
             → (MayCome (pending_in self.old) (moment_of self.old) (record_of call) → ⊥) × (self.new ≡ self.old)) }
@@ -604,8 +608,8 @@ impl Stream {
         Ok(())
     }
 
-    /// Of the keys that have a state, returns the smallest whose final state is impossible. Returns `None` if all their
-    /// final states are possible. `keys` are the final keys.
+    /// Returns the smallest key that has a stored state and an impossible final state. Returns `None` if every such key
+    /// has a possible final state. `keys` are the final keys.
     fn wrongly_left(&self, keys: &[u32]) -> Option<u32>
         requires { IsStrictlyIncreasing keys.now }
         ensures { MatchOption result
@@ -621,7 +625,7 @@ impl Stream {
         wrong
     }
 
-    /// Returns one of the final keys that has no state, or `None` if all of them have one.
+    /// Returns a final key that has no stored state, or `None` if every final key has one.
     fn unknown_left(&self, keys: &[u32]) -> Option<u32>
         ensures { MatchOption result
             ((k : ℕ) → has_key k keys.now ≡ true → get nat_eq self.now.states k ≢ None)
@@ -646,8 +650,8 @@ impl Stream {
         }
     }
 
-    /// Returns how many calls overlap another call on their key that is a change with an end. The number can be wrong
-    /// if the judge's rule has failed.
+    /// Returns how many calls overlap another call on the same key that is a completed change. The number can be wrong
+    /// if the judge's rule (its test of each key's calls) has failed.
     pub(crate) fn overlapped(&self) -> u64 {
         self.overlapped
             .saturating_add(self.pending.overlapping(&self.states, self.moment))
@@ -662,8 +666,8 @@ impl Stream {
         self.meet_before(BEHIND_ALL)
     }
 
-    /// Decides whether some order linearizes all calls, from the opening keys, and leaves `keys`: returns
-    /// `Linearizable` if one does, otherwise `NotLinearizable`. The set has no quota. All ends must have been
+    /// Decides whether some order linearizes all calls, from the opening keys, and leaves `keys`. Returns
+    /// `Linearizable` if such an order exists, else `NotLinearizable`. The set has no quota. All ends must have been
     /// processed.
     pub(crate) fn verdict(&self, keys: &[u32]) -> StreamVerdict
         requires increase { IsStrictlyIncreasing keys.now }
@@ -678,9 +682,9 @@ impl Stream {
         }
     }
 
-    /// Decides whether some order linearizes all calls, from the opening keys, whatever keys it leaves: returns
-    /// `Linearizable` if one does, otherwise `NotLinearizable`. This function is for a recording that was cut off,
-    /// since its final keys are unknown. All ends must have been processed.
+    /// Decides whether some order linearizes all calls, from the opening keys, whatever keys it leaves. Returns
+    /// `Linearizable` if such an order exists, else `NotLinearizable`. This function is for a recording that was cut
+    /// off, since its final keys are unknown. All ends must have been processed.
     pub(crate) fn verdict_cut_off(&self) -> StreamVerdict
         requires { All (λ p. behind_all ≤ p.end) (pending_in self.now) }
         ensures said { (threads : ℕ) (opening : List ℕ) (calls : List RecordedCall) → IsStreamOf threads opening calls self.now
@@ -693,7 +697,8 @@ impl Stream {
         }
     }
 
-    /// Returns two calls that clash, on the key for which the judge's rule has failed, if they were found.
+    /// Returns two clashing calls (no order can explain both), if the judge found them. They are on the key that failed
+    /// the judge's rule.
     pub(crate) fn clash_met(&self) -> Option<Clash>
         ensures { result ≡ clash_met self.now.failed self.now.clash }
     {
@@ -703,8 +708,8 @@ impl Stream {
         }
     }
 
-    /// Returns a call on `key` that clashes with the key's final state `left`, if one is found. Returns `None` if the
-    /// judge's rule has failed.
+    /// Returns a call on `key` that clashes with the key's final state `left`, if the stored facts show one. Returns
+    /// `None` if the judge's rule (the test of one key's calls) has failed for any key.
     pub(crate) fn clash_left(&self, key: u32, left: Presence) -> Option<Clash>
         ensures { IfSome result (λ c. (self.now.failed ≡ None) × IsFoundLeft key (facts_for self.now.states key) left c) }
     {

@@ -1,31 +1,32 @@
-//! Searches for a period of time (a stretch) in which a key would have to change back more often than it can. The count
-//! that a stretch yields is checked afterwards. No contract mentions stretches.
+//! Searches for a stretch: a period of time when a key would have to change back more often than it can. The calls of
+//! the stretch found are checked afterwards. No contract mentions stretches.
 
 use crate::clash::{has_ended, other};
 use crate::stream::StreamCall;
 use lset_words::{Effect, Presence};
 use std::alloc::{AllocError, Global};
 
-/// A stretch of time. The calls in it form a count: calls on a key that are too many for any order.
+/// A stretch: a period of time that contains too many calls on a key for any order.
 #[derive(Clone, Copy)]
 pub(crate) struct Stretch {
-    /// The state (present or absent) in which the changes in the stretch leave the key.
+    /// The key's state (present or absent) after each counted change.
     pub(crate) was: Presence,
-    /// The changes in this stretch of time start at this moment or later.
+    /// Only changes that start at this moment or later are counted.
     from: u64,
-    /// The changes in this stretch of time have ended by this moment.
+    /// Only changes that have ended by this moment are counted.
     upto: u64,
-    /// A call that saw the key in the state `was`. It counts as a call before the changes.
+    /// A call that saw the key in the state `was`. It counts as an additional call before the changes.
     pub(crate) first: Option<StreamCall>,
-    /// A call that saw the key in the state other than `was`. It counts as a call after the changes.
+    /// A call that saw the key in the state other than `was`. It counts as an additional call after the changes.
     pub(crate) last: Option<StreamCall>,
-    /// The start of the stretch. `None` if the set opened with the key in the state `was`, which counts as a call.
+    /// The start of the stretch. `None` if the set opened with the key in the state `was`: the opening state then
+    /// counts as a call.
     pub(crate) since: Option<u64>,
-    /// The end of the stretch. `None` if the key's final state is not `was`, which counts as a call.
+    /// The end of the stretch. `None` if the key's final state is not `was`: the final state then counts as a call.
     pub(crate) until: Option<u64>,
 }
 
-/// The smallest stretch of time found so far, if any. Its size is the number of its calls plus the number of calls that
+/// The smallest stretch of time found, if any. `size` is the number of its counted calls plus the number of calls that
 /// can change the key back.
 #[derive(Clone, Copy)]
 struct Best {
@@ -33,16 +34,16 @@ struct Best {
     size: usize,
 }
 
-/// The start or the end of a call, with what the search for stretches needs.
+/// The start or the end of a call, as the search for stretches of time uses it.
 #[derive(Clone, Copy)]
 enum Step {
-    /// A call that can change the key back starts. The value is when it ends.
+    /// A call that can change the key back starts. The field is the moment when this call ends.
     Back(u64),
-    /// A change to the state `was` ends. The value is when it started.
+    /// A change to the state `was` ends. The field is the moment when the change started.
     Change(u64),
-    /// A call that saw the other state starts. The value is its index in `looks`.
+    /// A call that saw the state other than `was` starts. The field is its index in `looks`.
     Begins(usize),
-    /// A call that saw the other state ends. The value is its index in `looks`.
+    /// A call that saw the state other than `was` ends. The field is its index in `looks`.
     Ends(usize),
 }
 
@@ -52,14 +53,14 @@ struct Timed {
     step: Step,
 }
 
-/// A call that saw the other state, and how many changes had ended when it started.
+/// A call that saw the state other than `was`, and how many changes to `was` had ended when this call started.
 #[derive(Clone, Copy)]
 struct Look {
     call: StreamCall,
     changes: usize,
 }
 
-/// The starts and ends of the calls on a key, ordered by moment.
+/// The starts and ends of the calls on a key, ordered by moment, and the calls that saw the state other than `was`.
 #[derive(Drop)]
 struct Steps {
     steps: Vec<Timed>,
@@ -67,7 +68,7 @@ struct Steps {
 }
 
 impl Stretch {
-    /// Returns the stretch that starts at `from`, when its first change starts.
+    /// Returns the stretch of time that starts at `from`, the start of its first change.
     fn from_change(was: Presence, from: u64) -> Stretch {
         Stretch {
             was,
@@ -80,7 +81,7 @@ impl Stretch {
         }
     }
 
-    /// Returns whether `call` is one of the changes in the stretch.
+    /// Returns whether `call` is one of the changes that this stretch of time counts.
     pub(crate) fn has(&self, call: StreamCall) -> bool {
         is_change_to(call, self.was) && self.from <= call.begun && has_ended(call, self.upto)
     }
@@ -92,8 +93,8 @@ impl Stretch {
         }
     }
 
-    /// Returns the number of calls in the stretch if it contains this many changes. `first` and `last` count as calls,
-    /// and so do the opening state and the final state if the stretch starts or ends with them.
+    /// Returns how many calls the stretch of time counts if it contains `changes` changes. `first` and `last` count as
+    /// calls. The key's opening state and final state also count if `since` or `until` is `None`.
     fn places(&self, changes: usize) -> usize {
         let before = self.first.is_some() || self.since.is_none();
         let after = self.last.is_some() || self.until.is_none();
@@ -110,7 +111,7 @@ fn is_change_to(call: StreamCall, was: Presence) -> bool {
     }
 }
 
-/// Of the calls that saw the state `was` and had ended by `moment`, returns the one that started last.
+/// Returns the last call in `calls` that saw the state `was` and had ended by `moment`.
 fn last_look(calls: &[StreamCall], was: Presence, moment: u64) -> Option<StreamCall> {
     let mut last = None;
     for call in calls {
@@ -124,8 +125,9 @@ fn last_look(calls: &[StreamCall], was: Presence, moment: u64) -> Option<StreamC
 }
 
 impl Best {
-    /// Returns `stretch` if its calls form a count and it is smaller than the best one so far, else the best one. The
-    /// calls form a count if the key must change back more often than there are calls that can change it back.
+    /// Returns `stretch` if it contains too many calls for any order and is smaller than the best stretch so far.
+    /// Otherwise returns the best stretch so far. There are too many calls if the key must change back more than
+    /// `backs` times.
     fn or(self, stretch: Stretch, changes: usize, backs: usize) -> Best {
         let places = stretch.places(changes);
         let size = places.saturating_add(backs);
@@ -141,8 +143,7 @@ impl Best {
 }
 
 impl Steps {
-    /// Returns the starts and ends of calls that matter to stretches of time in which changes leave the key in the
-    /// state `was`.
+    /// Returns the starts and ends of the calls in `calls` that matter to stretches with changes to the state `was`.
     fn of(alloc: Global, calls: &[StreamCall], was: Presence) -> Result<Steps, AllocError> {
         let mut all = Steps {
             steps: Vec::new(alloc),
@@ -186,7 +187,8 @@ impl Steps {
         Ok(())
     }
 
-    /// Returns the smallest stretch that starts like `start`, or `best` if `best` is smaller.
+    /// Returns the smallest stretch of time that starts like `start` and contains too many calls for any order. Returns
+    /// `best` if none is smaller than `best`.
     fn pass(&mut self, start: Stretch, left: Option<Presence>, best: Best) -> Best {
         let mut pass = Pass {
             start,
@@ -206,8 +208,8 @@ impl Steps {
     }
 }
 
-/// The state of a pass over the starts and ends of calls, which finds all stretches with the same start: how many
-/// changes have ended, and how many calls that can change the key back have started.
+/// The state of one pass over the starts and ends of calls: how many changes have ended, and how many calls that can
+/// change the key back have started. A pass searches all stretches of time that start like `start`.
 #[derive(Clone, Copy)]
 struct Pass {
     start: Stretch,
@@ -254,7 +256,8 @@ impl Pass {
     }
 }
 
-/// Returns the smallest stretch whose changes leave the key in the state `was`, or `best` if `best` is smaller.
+/// Returns the smallest stretch of time with changes to the state `was` and too many calls for any order. Returns
+/// `best` if none is smaller than `best`.
 fn smaller_stretch(
     alloc: Global,
     calls: &[StreamCall],
@@ -282,8 +285,8 @@ fn smaller_stretch(
     Ok(best)
 }
 
-/// Returns the smallest stretch of time found in which the key would have to change back more often than it can, or
-/// `None` if none is found.
+/// Returns the smallest stretch of time found that contains too many calls for any order: the key would have to change
+/// back more often than it can. Returns `None` if no such stretch is found.
 pub(crate) fn smallest_stretch(
     alloc: Global,
     calls: &[StreamCall],
