@@ -1,4 +1,4 @@
--- Proof: the judge's state stays correct when a call starts.
+-- Proof: the stored state of a stream (which judges calls one after another) stays correct when a call starts.
 use Rattle.std.proofs.Common.{◌≡◌, ◌≢◌, ℕ, suc, ◌+◌, ◌-◌, ◌<◌, ◌≤◌, true, List, [], ◌∷◌, ◌++◌, refl, sym, ap, ◌∙◌, arith, subst, inl, inr}
 use Rattle.std.proofs.Common.{length, get_or, length-append}
 use Rattle.std.specs.Prelude.{Option, Some, None, IfSome, IsSomeAnd, All, Contains}
@@ -30,7 +30,7 @@ use Rattle.lset_judge.proofs.StreamSteps.{quiet_before, ends_next, without_next,
 some_and : (P : ℕ × Reply → Type 0) (o : Option (ℕ × Reply)) (e : ℕ × Reply) → o ≡ Some e → P e → IsSomeAnd o P
 some_and P o e s h = subst (λ q. IsSomeAnd q P) (sym s) h
 
--- ---- Lemmas about the next end of a pending call
+-- ---- Lemmas about the earliest end of a pending call
 
 pub end_met : (threads : ℕ) (opening : List ℕ) (calls : List CallRecord) (s t : Stream) (moment : ℕ) (p : Pending) (rest : List Pending)
     → moment ≤ behind_all → IsNext moment s.pending p rest → t.pending ≡ rest → t.moment ≡ p.end
@@ -68,7 +68,7 @@ end_met threads opening calls s t moment p rest upto next pending at met is =
           (subst (λ (q : Pending). IsMetBy s.states (key_in q) q.end (event_of q) t.states s.failed t.failed) (sym own) met) is.judged);
     }
 
--- ---- Proof that the judge's state stays correct when call x starts
+-- ---- Proof that the stored state of the stream stays correct when call x starts
 
 module _ (threads : ℕ) (opening : List ℕ) (calls : List CallRecord) (s : Stream) (is : IsStreamOf threads opening calls s) (x : CallRecord)
     (may : MayCome s.pending s.moment x) (met : All (λ (p : Pending). x.begun ≤ p.end) s.pending) where
@@ -137,7 +137,7 @@ module _ (threads : ℕ) (opening : List ℕ) (calls : List CallRecord) (s : Str
   long : length more ≡ length calls + 1
   long = length-append calls (x ∷ [])
 
-  -- No pending call ends at the moment at which the new call ends.
+  -- No pending call has the same end as the new call x.
   ends_apart : (k : ℕ) (d : Pending) → k < length s.pending → (get_or s.pending k d).end ≢ (pending_of x).end
   ends_apart k d low z = elim (none_or_some x.ended) [
     | inr e ↦ (

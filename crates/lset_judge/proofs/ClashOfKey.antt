@@ -1,4 +1,4 @@
--- Proof: if two calls clash, no order explains the calls, whatever all other calls did.
+-- Proof: if two calls clash, no order explains the calls, whatever the other calls did.
 use Rattle.std.proofs.Common.{◌≡◌, ℕ, ◌<◌, ◌≤◌, ◌⊎◌, List, [], ◌∷◌, Bool, true, false, inl, inr, refl, sym, ap, ◌∙◌, arith, subst, length, get_or, map}
 use Rattle.std.specs.Prelude.{not, ◌||◌, Option, Some, None, IfSome, IsSomeAnd, All, Contains as Has, ◌==◌}
 use Rattle.std.specs.List.{AllByRecursion}
@@ -34,7 +34,7 @@ use Rattle.lset_judge.proofs.PlacedCalls.{below_test}
 use Rattle.lset_judge.proofs.TimelineOfKey.{In, one_of, Act, act, suits, becomes, TakeTurns, Apart, IsAct}
 use Rattle.lset_judge.proofs.TimelineFromOrder.{does, begins_told, stands, ready}
 
--- ---- Lemmas about acts in an order. An act is the effect of a call on the key.
+-- ---- Lemmas about the acts in an order. An act is the effect of a call on the key.
 
 abbrev Before : Act → Act → List Act → Type 0
 Before x t [] = ⊥
@@ -60,8 +60,8 @@ goes_on s false (changes true) e n = absurd (n refl)
 goes_on s b (sees w) e n = e
 goes_on s b nothing e n = e
 
--- Act t (the effect of a call) finds the key in the state b if the key starts in this state and no act that starts
--- before the end of t changes it to the other state.
+-- If the key starts in the state b, and no act (the effect of a call) that starts before act t ends changes the key to
+-- the other state, then t finds the key in the state b.
 stays : (left s b : Bool) (t : Act) (ys : List Act) → s ≡ b → TakeTurns left s ys → Pairs Apart ys → In t ys
     → ((a : Act) → In a ys → a.does ≡ changes (not b) → a.begun < t.until → ⊥) → suits b t.does
 stays left s b t [] e turns pairs i n = absurd i
@@ -69,8 +69,8 @@ stays left s b t (p ∷ ys) e turns pairs (inl q) n = subst (λ (a : Act). suits
 stays left s b t (p ∷ ys) e turns pairs (inr i) n = stays left (becomes s p.does) b t ys
     (goes_on s b p.does e (λ d. n p (inl refl) d (one_of (Apart p) t ys pairs.0 i).in_time)) turns.1 pairs.1 i (λ a j. n a (inr j))
 
--- The key's final state is b if the key starts in this state and no act (the effect of a call) changes it to the other
--- state.
+-- If the key starts in the state b, and no act (the effect of a call) changes it to the other state, then the key's
+-- final state is b.
 stays_left : (left s b : Bool) (ys : List Act) → s ≡ b → TakeTurns left s ys → ((a : Act) → In a ys → a.does ≡ changes (not b) → ⊥) → b ≡ left
 stays_left left s b [] e turns n = sym e ∙ turns
 stays_left left s b (p ∷ ys) e turns n = stays_left left (becomes s p.does) b ys (goes_on s b p.does e (n p (inl refl))) turns.1 (λ a j. n a (inr j))
@@ -78,8 +78,8 @@ stays_left left s b (p ∷ ys) e turns n = stays_left left (becomes s p.does) b 
 abbrev pub Leaves : Bool → Kind → Type 0
 Leaves b k = (s : Bool) → suits s k → becomes s k ≡ b
 
--- Act t (the effect of a call) finds the key in the state b if an earlier act x leaves it in this state and no act that
--- can come between x and t changes it.
+-- If an earlier act x (the effect of a call) leaves the key in the state b, and no act that can be between x and act t
+-- changes it to the other state, then t finds the key in the state b.
 after : (left s b : Bool) (x t : Act) (ys : List Act) → TakeTurns left s ys → Pairs Apart ys → Before x t ys → Leaves b x.does
     → ((a : Act) → In a ys → a.does ≡ changes (not b) → x.begun < a.until → a.begun < t.until → ⊥) → suits b t.does
 after left s b x t [] turns pairs i l n = absurd i
@@ -96,7 +96,7 @@ after_left left s b x (p ∷ ys) turns pairs (inl e) l n = stays_left left (beco
     (λ a j d. n a (inr j) d (subst (λ (q : Act). q.begun < a.until) e (one_of (Apart p) a ys pairs.0 j).in_time))
 after_left left s b x (p ∷ ys) turns pairs (inr i) l n = after_left left (becomes s p.does) b x ys turns.1 pairs.1 i l (λ a j. n a (inr j))
 
--- ---- Lemmas about the states in which calls leave a key, and those that they need
+-- ---- Lemmas about the states that calls leave and the states that calls need
 
 some_same : (p q : Presence) → Some p ≡ Some q → p ≡ q
 some_same p q e = cc
@@ -143,7 +143,7 @@ ended_by_then since u last x (Some d) e is h =
 before_end : (begun : ℕ) (e : ℕ × Reply) (y : CallRecord) → y.ended ≡ Some e → begun < e.0 → is_before begun (Some y) ≡ true
 before_end begun e y is l = rw is (below_test begun e.0 l)
 
--- ---- Lemmas about the acts (effects of calls on the key) that an order of the calls determines
+-- ---- Lemmas about the acts that an order of the calls determines. An act is the effect of a call on the key.
 
 module _ (threads : ℕ) (calls : List CallRecord) (history : IsHistory threads calls) (last : ℕ) (upto : latest_moment calls ≤ last) (k : ℕ)
     (there : Presence) (left : Option Presence) (finally : Bool) (leaves : IfSome left (λ (l : Presence). finally ≡ is_there l))
@@ -166,8 +166,8 @@ module _ (threads : ℕ) (calls : List CallRecord) (history : IsHistory threads 
   positive : (a : Act) → In a ys → 0 < a.until
   positive a i = let l = (is_act a i).ends_later in omega (arith, l)
 
-  -- If no call can change the key to the other state after `since` and before the second call, then no act (the effect
-  -- of a call on the key) does.
+  -- If no call can change the key to the other state between `since` and the end of the call `second`, then no act (the
+  -- effect of a call on the key) changes it then.
   none : (p : Presence) (since : ℕ) (second : Option CallRecord) → NothingTurns calls k (other p) since second
       → (a : Act) → In a ys → a.does ≡ changes (not (is_there p)) → since < a.until → is_before a.begun second ≡ true → ⊥
   none p since second n a i d s b =
@@ -233,7 +233,7 @@ clash_refutes h keys k there left was first second history opens leaves c order 
     (subst (λ b. TakeTurns (has_key k keys) b acts) opens r.take_turns) r.pairs r.acts
     (stands h.opening.threads h.calls history last upto k h.opening.quota (opening_set h.opening) order ex.linearizes) was first second c
 
--- If two calls on a key clash, no order explains the calls on this key, with any quota.
+-- If two calls on a key clash, no order explains the key's calls, with any quota.
 pub clash_has_none : (threads key : ℕ) (there : Presence) (left : Option Presence) (was : Presence) (first second : Option CallRecord) (calls : List CallRecord)
     → IsHistory threads calls → IsClash calls key there left was first second → HaveNone threads key there left calls
 clash_has_none threads key there left was first second calls history c quota keys leaves =

@@ -1,4 +1,4 @@
--- Proof that the verdict is correct once all events of the recorded calls have been processed.
+-- Proof: once the starts and ends of all recorded calls have been processed, the verdict is correct.
 use Rattle.std.proofs.Common.{◌≡◌, ◌≢◌, ℕ, ◌-◌, ◌<◌, ◌≤◌, Bool, false, List, [], ◌∷◌, sym, ap, ◌∙◌, arith, inl, inr, zero, suc, true, refl, subst, length, get_or}
 use Rattle.std.specs.Prelude.{◌==◌, ◌&&◌, nat_le, None, IfSome, ◌||◌, Option, Some, is_some, MatchOption, All}
 use Rattle.std.specs.List.{AllByRecursion}
@@ -32,7 +32,7 @@ use Rattle.lset_judge.proofs.PlacedCalls.{same_flips}
 use Rattle.lset_judge.proofs.RuleLeads.{at_once, no_state, settled_none}
 use Rattle.lset_judge.proofs.StreamSteps.{same_some, until_end}
 
--- ---- Up to a moment, the rule has the same result for the calls that start by this moment as for all calls
+-- ---- Up to a moment, the judge's rule has the same result for the calls that start by this moment as for all calls
 
 abbrev EndsLater : CallRecord → Type 0
 EndsLater x = IfSome x.ended (λ (e : ℕ × Reply). x.begun < e.0)
@@ -40,7 +40,7 @@ EndsLater x = IfSome x.ended (λ (e : ℕ × Reply). x.begun < e.0)
 abbrev is_by : ℕ → ℕ → CallRecord → Bool
 is_by k M x = (key_of x.call).0 == k && nat_le x.begun M
 
--- Up to moment M, the calls that start by M cause all events of the key.
+-- All events of the key up to moment M are starts and ends of calls that start by M.
 event_by : (last k M m : ℕ) (xs : List CallRecord) → m ≤ M → AllByRecursion EndsLater xs → event_at last k (calls_by k M xs) m ≡ event_at last k xs m
 event_by last k M m xs low later = event_filter last k m (is_by k M) xs (silent xs later)
   where
@@ -95,7 +95,7 @@ module _ (last : ℕ) (h : HistoryValue) (told : IsHistory h.opening.threads h.c
       ])
       ∙ fails)
 
--- ---- Lemmas about the final states that are possible for a key
+-- ---- Lemmas about the possible final states of a key
 
 module _ (m : ℕ) (w : Bool) where
   one_turn : (n : ℕ) (s : State) (os : List ℕ) → same w s.there ≡ false → options s ≡ os → length os ≤ n
@@ -127,7 +127,7 @@ as_it_is s = of s.there (has_any (options s))
     of true b = refl
     of false b = refl
 
--- ---- No event is after the last moment
+-- ---- No event is after the last moment of the history
 
 pub latest_upto : (G : ℕ) (xs : List CallRecord) → All (λ (x : CallRecord). (x.begun ≤ G) × IfSome x.ended (λ (e : ℕ × Reply). e.0 ≤ G)) xs → latest_moment xs ≤ G
 latest_upto G [] a = omega arith

@@ -1,5 +1,5 @@
--- Proof: if a key must change back between calls more often than it can, no order explains the calls, whatever all
--- other calls did.
+-- Proof: if a key would have to change back between calls more often than it can, no order explains the calls, whatever
+-- the other calls did.
 use Rattle.std.proofs.Common.{◌≡◌, ◌≢◌, ℕ, zero, suc, ◌+◌, ◌<◌, ◌≤◌, ◌⊎◌, List, [], ◌∷◌, Bool, true, false, inl, inr, refl, sym, ap, ◌∙◌, arith, subst, length}
 use Rattle.std.proofs.Common.{◌-◌, drop, get_or, map, take}
 use Rattle.std.proofs.lemmas.Grind.{common_steps}
@@ -68,7 +68,7 @@ empty_or_not : (xs : List ℕ) → (xs ≡ []) ⊎ ((u : ℕ) × (has_key u xs �
 empty_or_not [] = inl refl
 empty_or_not (x ∷ xs) = inr (x, has_head x xs)
 
--- ---- Lemmas about acts (effects of calls on the key) in a count: the key must change back between any two of them
+-- ---- Lemmas about the acts in a count. An act is the effect of a call; the key must change back between any two of them.
 
 abbrev Needs : Bool → Kind → Type 0
 Needs b k = (s : Bool) → suits s k → s ≡ not b
@@ -95,7 +95,7 @@ against_so true false e = absurd (true≢false (sym e))
 against_so false true e = absurd (true≢false e)
 against_so false false e = refl
 
--- An act (the effect of a call on the key) either changes the key to the state other than b, or does not move it away
+-- An act (the effect of a call on the key) either changes the key to the state other than b, or does not change it away
 -- from b.
 turns_or_not : (b s : Bool) (k : Kind) → suits s k → (k ≡ changes (not b)) ⊎ (against b (becomes s k) ≤ against b s)
 turns_or_not true s (changes true) h = inr (let a = against_so true true refl in omega (arith, a))
@@ -105,8 +105,9 @@ turns_or_not false s (changes false) h = inr (let a = against_so false false ref
 turns_or_not b s (sees w) h = inr (omega arith)
 turns_or_not b s nothing h = inr (omega arith)
 
--- `Earlier`: an act (the effect of a counted call) starts before act t ends, or the opening state counts as an act.
--- `Later`: an act ends after act a starts, or the final state counts as an act. `us` are the ends of the counted acts.
+-- `Earlier`: another counted act (the effect of a call) starts before act t ends, or the opening state counts as an act
+-- (None). `Later`: another counted act ends after act a starts, or the final state counts as an act (None). `us` are
+-- the ends of the counted acts.
 abbrev Earlier : Option ℕ → List ℕ → List Act → Act → Type 0
 Earlier o us ys t = ((a : Act) × In a ys × (has_key a.until us ≡ true) × (a.until ≢ t.until) × (a.begun < t.until)) ⊎ (o ≡ None)
 
@@ -119,11 +120,12 @@ record Due (b left : Bool) (o c : Option ℕ) (us zs : List ℕ) (ys : List Act)
   closes : c ≡ None → left ≡ not b
   leave : (a : Act) → In a ys → has_key a.until us ≡ true → Later c us ys a → Leaves b a.does
   need : (t : Act) → In t ys → has_key t.until us ≡ true → Earlier o us ys t → Needs b t.does
-  -- Each change back between two acts (effects of counted calls) is in `zs`.
+  -- If act a (the effect of a call) changes the key back between two counted acts, `zs` contains its end.
   back : (a : Act) → In a ys → a.does ≡ changes (not b) → Earlier o us ys a → Later c us ys a → has_key a.until zs ≡ true
 
 module _ (b left : Bool) (c : Option ℕ) where
-  -- `Due` still holds for the remaining acts (effects of calls) after the first act was removed.
+  -- If `Due` holds for the acts a ∷ ys (the effects of calls), then it holds for ys, with the end of a removed from the
+  -- lists of ends.
   due_on : (o p : Option ℕ) (us zs : List ℕ) (a : Act) (ys : List Act) → (p ≡ None → (has_key a.until us ≡ true) ⊎ (o ≡ None))
       → AllByRecursion (Apart a) ys → Due b left o c us zs (a ∷ ys) → Due b left p c (take_out a.until us) (take_out a.until zs) ys
   due_on o p us zs a ys from apart d = record {
@@ -152,8 +154,8 @@ module _ (b left : Bool) (c : Option ℕ) where
         | inr q ↦ inr q
       ]
 
-  -- Either another counted act (the effect of a call), or the final state if it counts, follows act a, or a was the
-  -- last.
+  -- Another counted act (the effect of a call) can follow act a, or the final state counts as an act, or no counted act
+  -- is left after a.
   later_or_last : (p : Option ℕ) (us vs : List ℕ) (a : Act) (ys : List Act) → AllByRecursion (Apart a) ys → Due b left p c (take_out a.until us) vs ys
       → Later c us (a ∷ ys) a ⊎ ((take_out a.until us ≡ []) × (also c ≡ 0))
   later_or_last p us vs a ys apart d = by c refl
@@ -167,7 +169,7 @@ module _ (b left : Bool) (c : Option ℕ) where
       ]
 
   -- If the opening state or an earlier act (the effect of a call) counts, there are at most as many counted acts as
-  -- changes back.
+  -- changes back, plus one if the key is not in the state b. The final state counts as an act if c is None.
   count_on : (s : Bool) (o : Option ℕ) (us zs : List ℕ) (ys : List Act) → o ≡ None → TakeTurns left s ys → Pairs Apart ys → Due b left o c us zs ys
       → length us + also c ≤ length zs + against b s
   count_on s o (u ∷ us) zs [] none turns pairs d = absurd (d.stand u (has_head u us)).1
@@ -201,8 +203,8 @@ module _ (b left : Bool) (c : Option ℕ) where
         ])
       ]
 
-  -- If neither the opening state nor an earlier act (the effect of a call) counts, there is at most one more counted
-  -- act than changes back.
+  -- If neither the opening state nor an earlier act (the effect of a call) has to count, the number of counted acts is
+  -- at most the number of changes back plus one. The final state counts as an act if c is None.
   count_from : (s : Bool) (o : Option ℕ) (us zs : List ℕ) (ys : List Act) → TakeTurns left s ys → Pairs Apart ys → Due b left o c us zs ys
       → length us + also c ≤ suc (length zs)
   count_from s o (u ∷ us) zs [] turns pairs d = absurd (d.stand u (has_head u us)).1
@@ -282,7 +284,7 @@ module _ (f : CallRecord → ℕ) where
     no_twice_mapped xs p.1,
   )
 
--- ---- Lemmas about the calls in a count: calls on a key that are too many for any order
+-- ---- Lemmas about the calls in a count, which are too many calls on a key for any order
 
 until_is : (last : ℕ) (x : CallRecord) (e : ℕ × Reply) → x.ended ≡ Some e → until last x ≡ e.0
 until_is last x e is = rw is refl
@@ -313,7 +315,7 @@ other_not : (p : Presence) → is_there (other p) ≡ not (is_there p)
 other_not Present = refl
 other_not Absent = refl
 
--- ---- Lemmas about the acts (effects of calls on the key) that an order of the calls determines
+-- ---- Lemmas about the acts that an order of the calls determines. An act is the effect of a call on the key.
 
 module _ (threads : ℕ) (calls : List CallRecord) (history : IsHistory threads calls) (last : ℕ) (upto : latest_moment calls ≤ last) (k : ℕ)
     (there : Presence) (left : Option Presence) (finally : Bool) (leaves : IfSome left (λ (l : Presence). finally ≡ is_there l))
@@ -352,7 +354,7 @@ module _ (threads : ℕ) (calls : List CallRecord) (history : IsHistory threads 
       let t : x.begun ≡ y.begun = ap (λ (z : CallRecord). z.begun) s in let l = n.later in omega (arith, t, l))
       (ap (until last) (numbered x p) ∙ q ∙ sym (ap (until last) (numbered y r)))
 
-  -- The act of a counted call, with the call's start, end and effect.
+  -- States that act a is the effect of a counted call x, with the start, the end and the effect of x.
   record IsDue (a : Act) : Type 0 where
     x : CallRecord
     counts : In x counted
@@ -396,7 +398,8 @@ module _ (threads : ℕ) (calls : List CallRecord) (history : IsHistory threads 
     ]
   ]
 
-  -- A change back between two counted calls overlaps the time that the count covers.
+  -- If act a (the effect of a call) changes the key back between two counted calls, it overlaps the time from `since`
+  -- to `til`: `zs` contains its end.
   overlaps : (a : Act) → In a ys → a.does ≡ changes (not b) → Earlier since us ys a → Later til us ys a → has_key a.until zs ≡ true
   overlaps a i d e l =
       let t = (one_of (IsAct (λ m. event_at last k calls m) last) a ys acts i).told (not b) d in
@@ -466,8 +469,8 @@ module _ (threads : ℕ) (calls : List CallRecord) (history : IsHistory threads 
           let from = count_from b finally til (is_there there) since us zs ys turns pairs due in
           let f = c.fewer in let zero_more : also since ≡ 0 = ap also e in let m = long in let s = short in omega (arith, from, f, zero_more, m, s)
 
--- If some calls in a history are a count (they are too many for any order), no order explains the history with its
--- quota and leaves these final keys.
+-- If some calls in a history are a count (too many calls on a key for any order), no order explains the history with
+-- its quota and leaves these final keys.
 pub count_refutes : (h : HistoryValue) (keys : List ℕ) (k : ℕ) (there : Presence) (left : Option Presence) (was : Presence) (since til : Option ℕ)
     (counted : List CallRecord) → IsHistory h.opening.threads h.calls → has_key k h.opening.keys ≡ is_there there
     → IfSome left (λ (l : Presence). has_key k keys ≡ is_there l) → IsCountOf h.calls k there left was since til counted → IsUnexplained h keys
@@ -509,7 +512,7 @@ filter_as_records p (x ∷ xs) = let r = filter_as_records p xs in elim (cases_B
   | inr f ↦ rw f r
 ]
 
--- If all tests in `is_count` succeed, the calls are a count: they are too many for any order.
+-- If all tests in `is_count` succeed, the calls are a count: there are too many of them for any order.
 pub is_count_if : (calls : List StreamCall) (there : Presence) (left : Option Presence) (c : Count) (counted : List StreamCall) → counted ≡ c.calls.items
     → c.backs.items ≡ filter (λ (x : StreamCall). turns_in c.key.0 (other c.was) c.since c.until (record_of x)) calls
     → All (λ (x : StreamCall). IsOf (records calls) c.key.0 (record_of x)) counted
@@ -536,8 +539,7 @@ is_count_if calls there left c counted listed backs known begin until opens clos
       backs = same;
     }
 
--- If some calls on a key are a count (they are too many for any order), no order explains the calls on the key, with
--- any quota.
+-- If some calls on a key are a count (too many calls for any order), no order explains the key's calls, with any quota.
 pub count_has_none : (threads key : ℕ) (there : Presence) (left : Option Presence) (was : Presence) (since til : Option ℕ) (counted calls : List CallRecord)
     → IsHistory threads calls → IsCountOf calls key there left was since til counted → HaveNone threads key there left calls
 count_has_none threads key there left was since til counted calls history c quota keys leaves =

@@ -1,5 +1,5 @@
--- The ends of pending changes. The code stores them in a heap, and contracts describe them as a list in increasing
--- order.
+-- Proofs about the ends of pending changes. The code stores these moments in a heap, and contracts describe them as a
+-- list in increasing order.
 use Rattle.std.proofs.Common.{◌≡◌, ℕ, suc, ◌+◌, ◌-◌, ◌<◌, ◌≤◌, List, [], ◌∷◌, Bool, true, false, inl, inr, refl, sym, ap, ◌∙◌, arith, subst, length}
 use Rattle.std.specs.Prelude.{◌==◌, nat_lt, slice_index_or, slice_get, if◌then◌else◌, Option, Some, None, All, MatchOption}
 use Rattle.std.specs.BinaryHeap.{IsUpperBound}
@@ -87,7 +87,7 @@ pub same_length : (xs : List (Reverse ℕ)) → length (increasing_of xs) ≡ le
 same_length [] = refl
 same_length (x ∷ xs) = length_in x.0 (increasing_of xs) ∙ ap suc (same_length xs)
 
--- The list of a heap's ends does not depend on the order in which the heap stores them.
+-- The increasing list of the ends in a heap does not depend on the heap's internal order.
 pub reordered : (xs ys : List (Reverse ℕ)) → IsPermutation xs ys → increasing_of ys ≡ increasing_of xs
 reordered xs ys p = same_increasing (increasing_of ys) (increasing_of xs) (increasing ys) (increasing xs)
     (λ d. counted d ys ∙ sum_by-IsPermutation (λ (x : Reverse ℕ). counts d x.0) xs ys p ∙ sym (counted d xs))
@@ -101,7 +101,7 @@ none_in_heap x (y ∷ ys) h =
     not_less : (a b : ℕ) → is_lt (nat_cmp a b) ≡ false → b ≤ a
     not_less a b e = elim (cases_Bool (nat_lt a b)) [ inl t ↦ absurd (true≢false (rw t at e)) | inr f ↦ not_lower_number a b f ]
 
--- The top of the heap is the earliest end.
+-- If x is the top of the heap `old`, x is the earliest end, and the other ends are those in the heap `new`.
 pub popped : (x : Reverse ℕ) (old new : List (Reverse ℕ)) → IsPermutation old (x ∷ new) → IsUpperBound later_first x new
     → (increasing_of old ≡ x.0 ∷ increasing_of new) × (nearest x.0 (increasing_of new) ≡ x.0)
 popped x old new p top =
@@ -111,7 +111,7 @@ popped x old new p top =
       first_nearest x.0 (increasing_of new) none,
     )
 
--- All ends are later than m + 1 if and only if the top of the heap is.
+-- All ends in a heap are later than m + 1 if and only if the top of the heap is later than m + 1.
 pub due_told : (m e : ℕ) (x : Reverse ℕ) (xs : List (Reverse ℕ)) → 0 < length xs → x ≡ slice_index_or xs 0 x → IsUpperBound later_first x xs → e ≡ x.0 - 1
     → nat_lt m e ≡ (not_before (suc (suc m)) (increasing_of xs) == length (increasing_of xs))
 due_told m e x [] low is top less = absurd (omega (arith, low))
@@ -161,7 +161,7 @@ first_popped end moment old new (Some e) first all early is =
     let h : Some e ≡ Some end = subst (λ (xs : List ℕ). slice_get xs 0 ≡ Some end) is.0 first in let same : end ≡ e = cc in
     (is.0, subst (λ (n : ℕ). n < moment) same early, subst (λ (n : ℕ). All (λ (o : ℕ). n ≤ o) old) same all)
 
--- ---- Lemmas about the loop in which one pending change takes effect after another
+-- ---- Lemmas about the loop that makes pending changes take effect, one after another
 
 pub put_turned : (m t end : ℕ) (b : Bool) (ps ks rest : List ℕ) → b ≡ false → ps ≡ end ∷ rest → nearest end rest ≡ end
     → turned_if m (at b t ps ks) (options (at b t ps ks)) ≡ Some (at true m rest ks)
@@ -194,8 +194,8 @@ one_fewer m true t ps (x ∷ xs) g e =
     omega (arith, l, n)
 one_fewer m b t ps ks g e = no_state g e _
 
--- If the event is not possible in the current state, the rule lets one change take effect and continues from the new
--- state.
+-- If the event v is not possible in the key's state s, the judge's rule makes one pending change take effect, and
+-- continues from the new state g.
 pub settles_on : (m : ℕ) (v : Event) (s g : State) → fits (suc m) v s ≡ false → turned_if m s (options s) ≡ Some g
     → settled (open_changes s) m v (Some s) ≡ settled (open_changes g) m v (Some g)
 settles_on m v s g f e =

@@ -1,4 +1,4 @@
--- The events of a key, and the calls that start or end at them.
+-- Proofs about the events of a key: the starts and ends of the calls on this key.
 use Rattle.std.proofs.Common.{◌≡◌, ◌≢◌, ◌⊎◌, ℕ, zero, suc, ◌<◌, ◌≤◌, List, [], ◌∷◌, Bool, true, false, inl, inr, refl, sym, ap, ◌∙◌, arith}
 use Rattle.std.proofs.Common.{subst, length, get_or}
 use Rattle.std.specs.Prelude.{◌==◌, if◌then◌else◌, Option, Some, None, AllPairs, IfSome, filter}
@@ -106,7 +106,7 @@ pub opens_so : (there : Bool) (k : ℕ) → has_key k (if there then k ∷ [] el
 opens_so true k = rw (equal_test k k refl) refl
 opens_so false k = refl
 
--- States that a call neither starts nor ends at moment m, or is not on key k.
+-- States that the call x neither starts nor ends at moment m, or is not a call on key k.
 abbrev pub IsSilent : ℕ → ℕ → CallRecord → Type 0
 IsSilent k m x = ((key_of x.call).0 == k) ≡ true → ((x.begun == m) ≡ false) × (ends_at m x.ended ≡ false)
 
@@ -124,7 +124,8 @@ pub event_none : (last k m : ℕ) (xs : List CallRecord) → AllByRecursion (IsS
 event_none last k m [] a = refl
 event_none last k m (x ∷ xs) a = passed_over last k m x xs a.0 ∙ event_none last k m xs a.1
 
--- The calls that satisfy a test cause the same event at moment m as all calls, if the other calls cause no event then.
+-- If the calls that fail a test cause no event of the key at moment m, the other calls cause the same event at m as all
+-- calls.
 pub event_filter : (last k m : ℕ) (test : CallRecord → Bool) (xs : List CallRecord)
     → AllByRecursion (λ (x : CallRecord). test x ≡ false → IsSilent k m x) xs → event_at last k (filter test xs) m ≡ event_at last k xs m
 event_filter last k m test [] a = refl

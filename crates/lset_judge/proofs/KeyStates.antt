@@ -1,4 +1,4 @@
--- The judge's states of all keys after an event of one key.
+-- Proofs about the judge's stored states of all keys, after an event of one key.
 use Rattle.std.proofs.Common.{◌≡◌, ℕ, ◌+◌, ◌<◌, List, [], ◌∷◌, true, false, inl, inr, refl, sym, ap, ◌∙◌, subst, length, get_or, take, Bool}
 use Rattle.std.specs.Prelude.{◌==◌, ◌||◌, Option, Some, None, is_some}
 use Rattle.std.specs.List.{list_any}
@@ -36,7 +36,8 @@ each_more P xs i low before here k has = elim (cases_Bool (has_key k (take i xs)
   ]
 ]
 
--- After the loop has stored one more opening key, the states are correct for the opening keys up to this one.
+-- If the stored states are correct for the first i opening keys, and the loop stores the state of the next opening key,
+-- then the states are correct for the first i + 1 opening keys.
 pub seen_more : {A : Type 0} (see : Option KeyState → A) (opens : Bool → A) (m n : States) (keys : List ℕ) (i : ℕ) (w : KeyState) → i < length keys
     → see (Some w) ≡ opens true → UpdatesBy nat_eq (nat_eq (get_or keys i 0)) m n (Some w) → ((k : ℕ) → see (get nat_eq m k) ≡ opens (has_key k (take i keys)))
     → (k : ℕ) → see (get nat_eq n k) ≡ opens (has_key k (take (i + 1) keys))

@@ -1,4 +1,4 @@
--- Finding a pending call by its end or by its thread in a hash table that is indexed by ends.
+-- Proofs about finding a pending call, by its end or its thread, in a hash table that is indexed by the ends of calls.
 use Rattle.std.proofs.Common.{◌≡◌, ◌≢◌, ℕ, ◌<◌, ◌≤◌, Bool, true, false, List, [], ◌∷◌, refl, sym, ap, ◌∙◌, arith, subst, inl, inr, length, get_or, map, cond}
 use Rattle.std.specs.Prelude.{◌==◌, nat_lt, if◌then◌else◌, All, Contains, Option, Some, None, IfSome, MatchOption, is_some, not}
 use Rattle.std.specs.Bool.{nat_eq}
@@ -31,7 +31,7 @@ first_of_all x xs = (0, omega arith, refl)
 map_back : {X Y : Type 0} (P : X → Type 0) (f : Y → X) (ys : List Y) → All P (map f ys) → All (λ y. P (f y)) ys
 map_back P f ys all i d low = subst P (get_or-map f ys i d (f d) low) (all i (f d) (let l = length-map ys f in omega (arith, l, low)))
 
--- ---- Lemmas about deciding whether a call ends at a moment
+-- ---- Lemmas about the test whether a call in the table ends at a moment
 
 abbrev pub found : ℕ → Entries → Bool
 found b es = is_some (lookup (nat_eq b) es)
@@ -108,7 +108,7 @@ module _ (last : ℕ → ℕ) (thread begun : ℕ) (es : Entries) (known : All (
   free_other other only ne = free_by (λ i d inside own is.
       absurd (ne (ap (λ (x : StreamCall). x.thread) (sym (only i d inside (sym is))) ∙ own)))
 
--- If the table has a call at the thread's last end, and this end is later than `begun`, the thread has a pending call.
+-- If the table has a call of the thread that ends after `begun`, the thread has a pending call at the moment `begun`.
 not_free : (thread begun end : ℕ) (other : StreamCall) (es : Entries) → Contains es (end, other) → other.thread ≡ thread → begun < end
     → All (Free thread begun) (map pending_at es) → ⊥
 not_free thread begun end other es has own later free =
@@ -139,7 +139,8 @@ module _ {S : Type 0} (last : ℕ → ℕ) (thread begun : ℕ) (m : HashMap ℕ
 
 -- ---- Lemmas about removing a call that ends
 
--- If no call in the table has the earliest end, this end can be removed from the heap.
+-- If no call in the table ends at the earliest end in the heap, this end can be removed from the heap: the heap still
+-- contains the ends of all calls.
 pub held_without : (end : ℕ) (ends rest : List ℕ) (es : Entries) → ends ≡ end ∷ rest → found end es ≡ false
     → All (λ (e : ℕ × StreamCall). Contains ends e.0) es → All (λ (e : ℕ × StreamCall). Contains rest e.0) es
 held_without end ends rest es is none held i d low =
@@ -243,7 +244,7 @@ pub many_with : (old now : Entries) (p : Pending) (before : Option StreamCall) �
 many_with old now p None e is apart = IsPermutation-map pending_at ((p.end, p.call) ∷ old) now is
 many_with old now p (Some c) e is apart = absurd (some_ends p.end old (sym (ap is_some e)) apart)
 
--- The stored last end of each thread is still correct after call p was inserted.
+-- The stored last end of each thread is still correct after the pending call p is inserted.
 module _ (es : Entries) (last more : ℕ → ℕ) (p : Pending)
     (free : All (λ (q : Pending). q.call.thread ≢ p.call.thread) (map pending_at es))
     (known : All (λ (e : ℕ × StreamCall). last e.1.thread ≡ e.0) es)

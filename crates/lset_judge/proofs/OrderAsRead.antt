@@ -1,5 +1,5 @@
--- Proof: an order that explains the calls also explains the calls as the judge reads them, with the replies that it
--- reads.
+-- Proof: if an order explains the calls, it also explains the calls as the judge reads them, with the replies that the
+-- judge reads.
 use Rattle.std.proofs.Common.{◌≡◌, ◌≢◌, ℕ, ◌<◌, ◌≤◌, true, List, [], ◌∷◌, ◌++◌, refl, sym, arith, subst, length, get_or, ap, ◌∙◌, map, take, drop}
 use Rattle.std.proofs.Common.{◌+◌, inl, inr, ◌⊎◌, Bool, false}
 use Rattle.std.specs.Prelude.{Option, Some, None, IfSome, IsSomeAnd, ◌==◌, nat_lt, if◌then◌else◌, All, Contains as Has}
@@ -31,7 +31,8 @@ use Rattle.lset_judge.specs.Reading.{call_as, reply_as, call_if, end_as, read_as
 
 -- ---- The judge accepts the next call of a history
 
--- A call that has ended did not end when a later call starts or ends.
+-- If call y does not end when call x starts, then the end of y by `until_if` (after all moments if y has no end) is not
+-- the start of x either.
 apart_of : (y x : CallRecord) → IsBefore x → IfSome y.ended (λ (d : ℕ × Reply). d.0 ≢ x.begun) → (o : Option (ℕ × Reply)) → y.ended ≡ o
     → (until_if behind_all y.begun o ≢ x.begun)
 apart_of y x before alone None is q = let b = before.0 in omega (arith, b, q)
@@ -72,7 +73,7 @@ may_come threads opening calls s x is history begins before plain =
     let may = may_follow_at threads calls [] x history in
     comes calls s.moment s.pending x is.pending begins may.call.ends_later before plain (λ n low. may.follows n no_call low)
 
--- ---- The calls in a history, as the judge reads them, are calls that it decides
+-- ---- The judge can decide all calls of a history as it reads them
 
 end_if : (P : ℕ → Type 0) (c : Call) (o : Option (ℕ × Reply)) → IfSome o (λ (e : ℕ × Reply). P e.0) → IfSome (end_as c o) (λ (e : ℕ × Reply). P e.0)
 end_if P c None h = tt
@@ -133,7 +134,7 @@ read_plain x = of x.call x.ended
     of c None = tt
     of c (Some e) = plain_as c e.1
 
--- ---- The judge accepts each call in a history, as it reads the call, if the calls come ordered by start
+-- ---- The judge accepts each call of a history, as it reads the call, if the calls are ordered by start
 
 pub next_may : (threads : ℕ) (opening : List ℕ) (xs : List CallRecord) (i : ℕ) (d : CallRecord) (s : Stream) (x : CallRecord) → IsHistory threads xs
     → i < length xs → x ≡ read_as (get_or xs i d) → IsStreamOf threads opening (map read_as (take i xs)) s
@@ -197,8 +198,8 @@ ceiling_other k (y ∷ ys) e = elim (cases_Bool (nat_lt y k)) [
 abbrev Fits : ℕ → SetState → ℕ → Call → Reply → Type 0
 Fits quota s t c r = (reply_to quota s t (call_as c r) ≡ reply_as c r) × (after_call s t (call_as c r) (reply_as c r) ≡ after_call s t c r)
 
--- If the sequential set replies r to call c, it replies to the call as read with the reply as read. The set is the same
--- afterwards.
+-- If r is the reply of the sequential set to call c, then the reply as the judge reads it is the reply to the call as
+-- the judge reads it. The set is the same after both calls.
 add_fits : (quota : ℕ) (s : SetState) (t : ℕ) (k : Key) (b c : Bool) → has_key k.0 s.keys ≡ b → (count_of s t == quota) ≡ c
     → Fits quota s t (Add k) (reply_to quota s t (Add k))
 add_fits quota s t k true c h f = rw h (rw h refl, refl)
@@ -363,7 +364,7 @@ read_explains o cs order keys e = record {
   increasing = e.increasing;
 }
 
--- ---- A call that the judge decides is read unchanged
+-- ---- The judge reads a call unchanged if it can decide this call
 
 plain_call : (c : Call) (r : Reply) → is_plain c r ≡ true → (call_as c r ≡ c) × (reply_as c r ≡ r)
 plain_call (Add k) True e = (refl, refl)

@@ -1,5 +1,5 @@
--- Proof: if the judge's rule succeeds for each key, some order explains the calls. The proof builds such an order call
--- by call.
+-- Proof: if each key passes the judge's rule (the test of one key's calls), some order explains the calls. The proof
+-- builds such an order call by call.
 use Rattle.std.proofs.Common.{◌≡◌, ◌≢◌, ℕ, zero, suc, ◌<◌, ◌≤◌, ◌⊎◌, List, [], ◌∷◌, ◌++◌, Bool, true, false, inl, inr, refl, sym, ap, ◌∙◌, arith}
 use Rattle.std.proofs.Common.{subst, length, get_or, map}
 use Rattle.std.specs.Prelude.{◌==◌, not, nat_lt, Option, Some, None, is_some, All, AllPairs, Contains, IfSome, IsSomeAnd}
@@ -56,7 +56,7 @@ module _ (threads : ℕ) (calls : List CallRecord) (history : IsHistory threads 
     pub replies : All (λ (p : Placed). IfSome (x_ p.call).ended (λ (e : ℕ × Reply). e.1 ≡ p.reply)) o
     pub ended : (n : ℕ) (e : ℕ × Reply) → n < length calls → (x_ n).ended ≡ Some e → e.0 ≤ m → IsPlaced n o
 
-  -- ---- Lemmas about appending one more call to the order that the proof builds
+  -- ---- Lemmas about appending a call to the order that the proof builds
   pub place : (m : ℕ) (o : List Placed) (n : ℕ) (r : Reply) → Built m o → n < length calls → (x_ n).begun ≤ m → (IsPlaced n o → ⊥)
       → reply_to quota (set o) (x_ n).thread (x_ n).call ≡ r → IfSome (x_ n).ended (λ (e : ℕ × Reply). e.1 ≡ r)
       → Built m (o ++ put n r ∷ [])
@@ -86,7 +86,7 @@ module _ (threads : ℕ) (calls : List CallRecord) (history : IsHistory threads 
   set_put : (o : List Placed) (n : ℕ) (r : Reply) → set (o ++ put n r ∷ []) ≡ after_call (set o) (x_ n).thread (x_ n).call r
   set_put o n r = ap (set_left start) (map_push (answered calls) o (put n r)) ∙ left_push start (map (answered calls) o) (answered calls (put n r))
 
-  -- ---- The invariant: how the rule's state of a key relates to the order that the proof has built so far
+  -- ---- The invariant: how a key's state by the judge's rule relates to the order that the proof has built so far
   pub record OpenList (w : Bool) (k m : ℕ) (xs : List ℕ) (o : List Placed) : Type 0 where
     pub open_call : (u : ℕ) → has_key u xs ≡ true → (n : ℕ) × (n < length calls) × (key n ≡ k) × (kind (x_ n) ≡ changes w)
         × (until last (x_ n) ≡ u) × ((x_ n).begun ≤ m) × (IsPlaced n o → ⊥)
@@ -174,7 +174,7 @@ module _ (threads : ℕ) (calls : List CallRecord) (history : IsHistory threads 
         ))
   ]
 
-  -- ---- The order that the proof builds can be extended with all reads of a key that saw its current state
+  -- ---- All reads of a key that saw its current state can be appended to the order that the proof builds
   sweepable : (k m n : ℕ) (s : State) (o : List Placed)
       → ((w : Bool) × (key n ≡ k) × (kind (x_ n) ≡ sees w) × ((x_ n).begun ≤ m) × (IsPlaced n o → ⊥) × (same w s.there ≡ true))
       ⊎ ((w : Bool) → key n ≡ k → kind (x_ n) ≡ sees w → (x_ n).begun ≤ m → (IsPlaced n o → ⊥) → same w s.there ≡ false)
@@ -228,7 +228,7 @@ module _ (threads : ℕ) (calls : List CallRecord) (history : IsHistory threads 
         )
       ]
 
-  -- ---- Lemmas about appending a change that takes effect to the order that the proof builds
+  -- ---- Lemmas about appending a change to the order that the proof builds, when the change takes effect
   list_taken : (w : Bool) (k m u : ℕ) (xs : List ℕ) (o : List Placed) (n : ℕ) (r : Reply) → n < length calls → until last (x_ n) ≡ u
       → OpenList w k m xs o → OpenList w k m (take_out u xs) (o ++ put n r ∷ [])
   list_taken w k m u xs o n r low at_end l = record {
@@ -301,7 +301,8 @@ module _ (threads : ℕ) (calls : List CallRecord) (history : IsHistory threads 
       lists false false n low is at_end l =
           list_put false k m ks o n True (λ _ f. let g : changes true ≡ changes false = sym is ∙ f in cc) (l.lists false)
 
-  -- The rule has let changes of key k take effect until the event v is possible. The order contains these changes.
+  -- States that the judge's rule has made changes of key k take effect until the event v is possible, and that the
+  -- order o contains these changes.
   pub record Settled (k m : ℕ) (v : Event) (t : State) (o : List Placed) : Type 0 where
     pub moved : Moved k m t o
     pub finds : fits (suc m) v t ≡ true
@@ -329,8 +330,8 @@ module _ (threads : ℕ) (calls : List CallRecord) (history : IsHistory threads 
   none_at_zero : (m : ℕ) (v : Event) (g : State) → fits (suc m) v g ≡ false → settled 0 m v (Some g) ≡ None
   none_at_zero m v g f = rw f refl
 
-  -- The rule lets one change take effect. The proof first appends all reads that saw the key's current state to the
-  -- order, then the change.
+  -- If the judge's rule makes one change of key k take effect, the order can be extended: first by all reads that saw
+  -- the key's current state, then by the change.
   turn_now : (k m : ℕ) (g t : State) (o : List Placed) → turned_if m g (options g) ≡ Some t → Built m o → Link k m g o → Moved k m t o
   turn_now k m g t o is built l = by (options g) refl is
     where
@@ -358,10 +359,10 @@ module _ (threads : ℕ) (calls : List CallRecord) (history : IsHistory threads 
     ]
   ]
 
-  -- ---- All keys at moment m. Each key k has the state `was k` now, and the event `v k` is at the next moment
+  -- ---- All keys at moment m. Each key k is in the state `was k` now, and has the event `v k` at the next moment
   module _ (m : ℕ) (v : ℕ → Event) (was : ℕ → State) (live : (k : ℕ) → is_some (stepped m (v k) (Some (was k))) ≡ true) where
-    -- States that the rule finds the same state for the next event from state s of key k as from the state of k at
-    -- moment m.
+    -- States that the judge's rule finds the same state for the next event `v k` from the state s as from the state
+    -- `was k`.
     abbrev Lives : ℕ → State → Type 0
     Lives k s = found m (v k) s ≡ found m (v k) (was k)
 
@@ -529,8 +530,8 @@ module _ (threads : ℕ) (calls : List CallRecord) (history : IsHistory threads 
       lists true = list_past true k m v s.puts o e built (l.lists true)
       lists false = list_past false k m v s.takes o e built (l.lists false)
 
-  -- If the event at the next moment is possible in the current state of its key, the call that ends at this moment is
-  -- in the order.
+  -- If the next event is possible in the key's state s, the order o already contains the completed call that ends at
+  -- this event.
   ended_placed : (k m : ℕ) (s : State) (o : List Placed) → Link k m s o → fits (suc m) (ev k (suc m)) s ≡ true
       → Swept (length calls) k m s o → (n : ℕ) (e : ℕ × Reply) → n < length calls → key n ≡ k → (x_ n).ended ≡ Some e → e.0 ≡ suc m
       → (IsPlaced n o → ⊥) → ⊥
@@ -654,7 +655,7 @@ module _ (threads : ℕ) (calls : List CallRecord) (history : IsHistory threads 
         let all = meet last (λ k. leaves (left k)) was live first.0 first.1 (λ k. (first.2 k).1) in
         (all.order, all.built, λ k. let a = all.each k in a.1.there ∙ same_is (left k) a.0.there a.2)
 
-  -- ---- The order linearizes the history if it contains each completed call
+  -- ---- If the order contains each completed call, it linearizes the history
   contains_placed : (n : ℕ) (r : Reply) (ps : List Placed) → All (λ (p : Placed). p.call ≡ n → p.reply ≡ r) ps → IsPlaced n ps
       → Contains ps (put n r)
   contains_placed n r [] h i = absurd i

@@ -1,4 +1,4 @@
--- The pending calls as the code stores them: a few in a vector, the others in a hash table.
+-- Proofs about the pending calls as the code stores them: a few in a vector, the others in a hash table.
 use Rattle.std.proofs.Common.{◌≡◌, ◌≢◌, ℕ, ◌<◌, ◌≤◌, true, List, [], ◌∷◌, ◌++◌, refl, sym, arith, subst, length, get_or, append_assoc}
 use Rattle.std.specs.Prelude.{min, All, Option, Some, None, Result, Ok, Err, OnOk, MatchOption, is_some, swap_remove}
 use Rattle.std.specs.List.Sorted.{IsPermutation}

@@ -1,4 +1,4 @@
--- The order of the calls so far, and the reply of the call that is appended next.
+-- Proofs about the order of the calls so far, and about the reply of the next call in this order.
 use Rattle.std.proofs.Common.{◌≡◌, ℕ, zero, suc, ◌<◌, ◌⊎◌, List, [], ◌∷◌, ◌++◌, Bool, true, false, inl, inr, refl, sym, arith}
 use Rattle.std.proofs.Common.{subst, length, get_or}
 use Rattle.std.specs.Prelude.{◌==◌, ◌||◌, not, nat_lt, Option, Some, None, All, IfSome}
@@ -30,7 +30,7 @@ pub left_push : (s : SetState) (xs : List Answered) (a : Answered)
 left_push s [] a = refl
 left_push s (x ∷ xs) a = left_push (after_call s x.thread x.call x.reply) xs a
 
--- States that call n is in the order.
+-- States that the order contains call n.
 abbrev pub IsPlaced : ℕ → List Placed → Type 0
 IsPlaced n [] = ⊥
 IsPlaced n (p ∷ ps) = (p.call ≡ n) ⊎ IsPlaced n ps

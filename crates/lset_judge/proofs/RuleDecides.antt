@@ -1,4 +1,5 @@
--- Proof: some order explains a history that the judge decides if and only if the rule succeeds for each key.
+-- Proof: some order explains a history that the judge decides if and only if each key passes the judge's rule (the test
+-- of one key's calls).
 use Rattle.std.proofs.Common.{◌≡◌, ◌≢◌, ℕ, ◌+◌, List, [], ◌∷◌, ◌++◌, true, inl, inr, refl, sym, ap, ◌∙◌, arith, subst, get_or, map, Bool}
 use Rattle.std.specs.Prelude.{◌==◌, ◌&&◌, if◌then◌else◌, Option, Some, None, All, AllPairs, IfSome, set, sum_by, cond, Contains, length, ◌<◌, ◌≤◌, false}
 use Rattle.std.specs.List.Sorted.{IsStrictlyIncreasing}
@@ -31,9 +32,9 @@ use Rattle.lset_judge.specs.Rule.{may_leave}
 use Rattle.lset_judge.proofs.TimelineFromOrder.{rule_refutes}
 use Rattle.lset_judge.proofs.OrderFromRule.{order_found, linearizes}
 
--- ---- If a thread's quota covers all its `add`s, it is not used up before the last of them is in the order
+-- ---- If a thread's quota covers all its `add`s, no `add` of the thread finds the quota used up
 
--- Returns how many keys a call adds for a thread: 1 or 0. `own` says whether the call is made by this thread.
+-- Returns how many keys a call adds for a thread: 1 or 0. `own` is true if the thread makes this call.
 
 abbrev adds : Bool → Call → Reply → ℕ
 adds own (Add j) True = if own then 1 else 0
@@ -72,7 +73,7 @@ added_push : (t : ℕ) (xs : List Answered) (a : Answered) → added t (xs ++ a 
 added_push t [] a = omega arith
 added_push t (x ∷ xs) a = let rest = added_push t xs a in omega (arith, rest)
 
--- ---- If each call has a weight, distinct calls weigh at most as much as all calls
+-- ---- If each call has a weight, distinct calls together weigh at most as much as all calls
 
 abbrev tally : (CallRecord → ℕ) → List CallRecord → List Placed → ℕ
 tally f calls [] = 0
@@ -183,8 +184,8 @@ within xs ys h k c = has_from k ys (sym (h k) ∙ has_true k xs c)
 same_keys : (xs ys : List ℕ) → IncreasesFrom 0 xs → IncreasesFrom 0 ys → ((k : ℕ) → has_key k xs ≡ has_key k ys) → xs ≡ ys
 same_keys xs ys r s h = same_increasing 0 0 xs ys r s (within xs ys h) (within ys xs (λ k. sym (h k)))
 
--- If the rule succeeds for each key, some order explains the history and leaves these keys. The judge must decide the
--- history.
+-- If each key passes the judge's rule (the test of one key's calls), some order explains the history and leaves exactly
+-- the keys k with `left k` true. The judge must be able to decide the history.
 pub explained_so : (last : ℕ) (h : HistoryValue) (left : ℕ → Bool) → latest_moment h.calls ≤ last → IsHistory h.opening.threads h.calls
     → IsStrictlyIncreasing h.opening.keys → IsJudged h
     → ((k : ℕ) → may_leave (event_at last k h.calls) (has_key k h.opening.keys) (left k) last ≡ true)
@@ -209,7 +210,7 @@ explained last h keys upto history opens judged increasing each =
     let so = explained_so last h (λ k. has_key k keys) upto history opens judged each in
     subst (IsExplained h) (same_keys so.0 keys so.2 (increases_from_increasing keys increasing) so.3) so.1
 
--- If the rule fails for a key, no order explains the history and leaves these keys.
+-- If a key fails the judge's rule (the test of one key's calls), no order explains the history and leaves these keys.
 pub unexplained : (last : ℕ) (h : HistoryValue) (keys : List ℕ) → latest_moment h.calls ≤ last → IsHistory h.opening.threads h.calls → (k : ℕ)
     → rule_explains last h keys k ≡ false → IsUnexplained h keys
 unexplained last h keys upto history k fails order e = true≢false (sym (rule_refutes last h keys order upto history e k) ∙ fails)

@@ -1,5 +1,5 @@
--- Proof: the judge's rule does at least as well as any correct timeline, which says when the changes of a key take
--- effect. The rule has at least as many pending changes left as the timeline, and they end at least as late.
+-- Proof: the judge's rule does at least as well as any correct timeline (a choice of the moments when the changes of a
+-- key take effect). The rule has at least as many pending changes left as the timeline, and they end at least as late.
 use Rattle.std.proofs.Common.{◌≡◌, ℕ, suc, ◌+◌, ◌<◌, ◌≤◌, List, [], ◌∷◌, true, inl, inr, refl, arith, length, zero, sym, ap, ◌⊎◌, Bool, false, ◌∙◌, subst}
 use Rattle.std.specs.Prelude.{◌==◌, nat_lt, if◌then◌else◌, Option, Some, None, is_some, not}
 use Rattle.std.proofs.lemmas.Bool.{cases_Bool, true≢false, not-true, not-false, or_cases, or_parts}
@@ -9,7 +9,7 @@ use Rattle.lset_words.proofs.Numbers.{same_number, below_or_not, if_below, if_no
 use Rattle.lset_judge.specs.Rule.{not_before, put_in, take_out, nearest, Event, State, settled, begins, ends, looks, leaves, same, changes_to, options, fits}
 use Rattle.lset_judge.specs.Rule.{entering, enters, turned_by, turned_if, open_changes, opened}
 
--- ---- Lemmas about how many moments in a list are d or later when one moment is inserted or removed
+-- ---- How many moments of a list are d or later, after a moment is inserted or removed
 
 abbrev pub counts : ℕ → ℕ → ℕ
 counts d x = if nat_lt x d then 0 else 1
@@ -68,8 +68,8 @@ none_nearer d x (y ∷ ys) l =
     let o = counts_one d x (omega (arith, l)) in
     let rest = none_nearer d y ys (omega (arith, l)) in omega (arith, o, rest)
 
--- A longer list that has at least as many moments from d on as a shorter one still does so after its earliest moment is
--- removed.
+-- Suppose that a list is longer than ss and, for each d, has at least as many moments from d on as ss. After its
+-- earliest moment is removed, the list still has at least as many moments from d on as ss.
 pub still_no_fewer : (ss : List ℕ) (x : ℕ) (xs : List ℕ) → ((d : ℕ) → not_before d ss ≤ not_before d (x ∷ xs))
     → length ss < length (x ∷ xs) → (d : ℕ) → not_before d ss ≤ not_before d (take_out (nearest x xs) (x ∷ xs))
 still_no_fewer ss x xs less longer d =
@@ -81,7 +81,7 @@ still_no_fewer ss x xs less longer d =
           omega (arith, t, o, all, most, longer))
     ]
 
--- ---- A rule that has failed stays failed
+-- ---- Once the judge's rule has failed, it stays failed
 
 pub settled_none : (n m : ℕ) (v : Event) → settled n m v None ≡ None
 settled_none zero m v = refl
@@ -100,17 +100,17 @@ once b = if b then 1 else 0
 abbrev pub at : Bool → ℕ → List ℕ → List ℕ → State
 at b t ps ks = record { there = b; turned = t; puts = ps; takes = ks }
 
--- States that, of the pending changes that would change the rule's state of the key, the timeline (state s) has fewer
--- left than the rule (state g).
+-- Compares the pending changes that would change the key's state g by the judge's rule: states that the timeline's
+-- state s has fewer of them left than g.
 abbrev pub IsFurther : State → State → Type 0
 IsFurther g s = length (changes_to (not g.there) s) < length (options g)
 
 abbrev NoFewer : List ℕ → List ℕ → Type 0
 NoFewer ss gs = (d : ℕ) → not_before d ss ≤ not_before d gs
 
--- The rule's state g of a key does at least as well as the state s of a correct timeline (which says when each change
--- takes effect), after the event at moment m: it has at least as many pending changes left, and they end at least as
--- late.
+-- Compares two states of a key after the event at moment m: g by the judge's rule, and s by a correct timeline (a
+-- choice of the moments when changes take effect). States that g has at least as many pending changes left as s, and
+-- that they end at least as late.
 pub record Leads (m : ℕ) (g s : State) : Type 0 where
   pub lists : (w : Bool) → NoFewer (changes_to w s) (changes_to w g)
   pub balance : length g.puts + once g.there + length s.takes ≡ length s.puts + once s.there + length g.takes
@@ -123,7 +123,7 @@ fewer ss gs h = let a = h 0 in let b = all_from_zero ss in let c = all_from_zero
 less_taken : (e : ℕ) (ss gs : List ℕ) → has_key e ss ≡ true → NoFewer ss gs → NoFewer (take_out e ss) gs
 less_taken e ss gs h f d = let t = taken d e ss h in let a = f d in omega (arith, t, a)
 
--- ---- Lemmas about a change that takes effect in a timeline (which says when each change takes effect)
+-- ---- Lemmas about a change that takes effect in a timeline (a choice of the moments when changes take effect)
 pub timeline_turns : (b c : Bool) (m gt st e : ℕ) (gp gk sp sk : List ℕ) → Leads m (at b gt gp gk) (at c st sp sk)
     → has_key e (options (at c st sp sk)) ≡ true → Leads m (at b gt gp gk) (turned_by m e (at c st sp sk))
 timeline_turns b true m gt st e gp gk sp sk l h =
@@ -157,8 +157,8 @@ timeline_turns b false m gt st e gp gk sp sk l h =
     further true y = let f = fewer sp gp (l.lists true) in omega (arith, y, f)
     further false y = let t = taken_length e sp h in let f = fewer sp gp (l.lists true) in omega (arith, t, f)
 
--- The rule has let one change take effect. Its new state still does at least as well as the timeline (which says when
--- each change takes effect).
+-- States that the judge's rule makes one change take effect in its state g, and that the new state is still at least as
+-- good as the state s by a timeline (a choice of the moments when changes take effect).
 pub record Turns (m : ℕ) (g s : State) : Type 0 where
   pub state : State
   pub is : turned_if m g (options g) ≡ Some state
@@ -190,8 +190,8 @@ rule_turns false m t (x ∷ xs) gk s l f =
     lists false = l.lists false
 rule_turns b m t gp gk s l f = absurd (omega (arith, f))
 
--- If the key is present according to the rule and absent according to the timeline, or the reverse, then of the pending
--- changes that would change the rule's state of the key, the timeline has fewer left.
+-- Suppose that the key is present by the judge's rule and absent by the timeline, or the reverse. Then the timeline has
+-- fewer pending changes left that would change the key's state by the rule.
 apart : (b c : Bool) (m gt st : ℕ) (gp gk sp sk : List ℕ) → Leads m (at b gt gp gk) (at c st sp sk) → (b ≡ c → ⊥)
     → IsFurther (at b gt gp gk) (at c st sp sk)
 apart true false m gt st gp gk sp sk l n = let y = l.balance in let f = fewer sp gp (l.lists true) in omega (arith, y, f)
@@ -229,8 +229,8 @@ asked m (looks w since) g s l t f =
     ]
 asked m v g s l t f = absurd (true≢false f)
 
--- The rule has found a state for the event. This state still does at least as well as the timeline (which says when
--- each change takes effect).
+-- States that the judge's rule finds a state for the event v, and that this state is still at least as good as the
+-- state s by a timeline (a choice of the moments when changes take effect).
 pub record Settles (n m : ℕ) (v : Event) (g s : State) : Type 0 where
   pub state : State
   pub is : settled n m v (Some g) ≡ Some state
@@ -264,7 +264,7 @@ more w (begins u end) ss gs h = elim (cases_Bool (same w u)) [
 ]
 more w v ss gs h = h
 
--- A change that starts becomes pending both for the rule and for the timeline.
+-- A change that starts lengthens the list of pending changes by 1 both for the judge's rule and for the timeline.
 alike : (w : Bool) (v : Event) (ss gs : List ℕ) → length (entering w v gs) + length ss ≡ length (entering w v ss) + length gs
 alike w (begins u end) ss gs = elim (cases_Bool (same w u)) [
   | inl t ↦ rw t (let a = length_in end ss in let b = length_in end gs in omega (arith, a, b))

@@ -1,5 +1,5 @@
--- The events of the recorded calls between the starts of two calls: those before the next end of a pending call, at
--- this end, and at the next start.
+-- Proofs about the events of the recorded calls between the starts of two calls: before the next end of a pending call,
+-- at this end, and at the next start.
 use Rattle.std.proofs.Common.{◌≡◌, ◌≢◌, ℕ, suc, ◌+◌, ◌-◌, ◌<◌, ◌≤◌, List, [], ◌∷◌, ◌++◌, refl, sym, ap, ◌∙◌, arith, subst}
 use Rattle.std.proofs.Common.{◌⊎◌, Bool, zero, inl, inr, length, get_or}
 use Rattle.std.specs.Prelude.{◌==◌, if◌then◌else◌, Option, Some, None, IfSome, All, AllPairs, Contains}
@@ -35,7 +35,7 @@ same_some o a b p q = cc
 pub until_end : (last begun : ℕ) (o : Option (ℕ × Reply)) (e : ℕ × Reply) → o ≡ Some e → until_if last begun o ≡ e.0
 until_end last begun o e s = ap (until_if last begun) s
 
--- ---- Lemmas about adding one more call
+-- ---- Lemmas about adding a call to a history
 
 pub event_before : (last k j : ℕ) (xs : List CallRecord) (x : CallRecord) → j < x.begun → IfSome x.ended (λ (e : ℕ × Reply). x.begun < e.0)
     → event_at last k (xs ++ x ∷ []) j ≡ event_at last k xs j
@@ -46,7 +46,8 @@ event_before last k j [] x low later = passed_over last k j x [] (λ t. (
 ))
 event_before last k j (y ∷ ys) x low later = one_before last k j y (ys ++ x ∷ []) ys (event_before last k j ys x low later)
 
--- No other event happens at the moment at which a call starts, and the start is an event of the call's key.
+-- If no other call starts or ends when the new call x starts, then the event of key k at this moment is the start of x
+-- if x is on k, else `idle`.
 pub event_begun : (last k : ℕ) (xs : List CallRecord) (x : CallRecord)
     → AllByRecursion (λ (y : CallRecord). (y.begun ≢ x.begun) × IfSome y.ended (λ (e : ℕ × Reply). e.0 ≢ x.begun)) xs
     → event_at last k (xs ++ x ∷ []) x.begun
@@ -58,7 +59,7 @@ event_begun last k [] x a = elim (cases_Bool ((key_of x.call).0 == k)) [
 event_begun last k (y ∷ ys) x a =
     passed_over last k x.begun y (ys ++ x ∷ []) (λ t. (unequal_test y.begun x.begun a.0.0, ends_not x.begun y.ended a.0.1)) ∙ event_begun last k ys x a.1
 
--- ---- Lemmas about applying the judge's rule to the event of a moment
+-- ---- Lemmas about applying the judge's rule to the event at a moment
 
 module _ (opening : List ℕ) (calls : List CallRecord) where
   abbrev event : ℕ → ℕ → Event
@@ -72,8 +73,8 @@ module _ (opening : List ℕ) (calls : List CallRecord) where
         ap (λ (u : Event). stepped n u (state_after (event k) (has_key k opening) n)) is
         ∙ ap (stepped n w) (quiet_until (event k) (has_key k opening) (n - m) m n (omega (arith, up)) (λ j l h. quiet j l h k) ∙ so)
 
-    -- If the rule has not failed by moment m, has failed by moment i, and nothing happens from m to n, then i is after
-    -- n.
+    -- If key k passes the judge's rule up to moment m, has failed it by moment i, and has no event after m up to n,
+    -- then i is after n.
     not_yet : (k i : ℕ) (s : State) → state_after (event k) (has_key k opening) m ≡ Some s → state_after (event k) (has_key k opening) i ≡ None
         → suc n ≤ i
     not_yet k i s so fails = elim (below_or_not i (suc n)) [
@@ -167,7 +168,7 @@ module _ (threads : ℕ) (calls : List CallRecord) (history : IsHistory threads 
           let u : d.end ≡ e.end.0 = until_end behind_all (call e.number).begun (call e.number).ended e.end e.ended in
           omega (arith, f, g, u, a))
 
-  -- A pending call whose end is below `behind_all` has the same end in the history.
+  -- If the end of pending call n is below `behind_all`, the call has ended in the history, with the same end.
   ended_at : (n : ℕ) → n < length calls → (pending_of (call n)).end < behind_all → (e : ℕ × Reply) × ((call n).ended ≡ Some e) × (e.0 ≡ (pending_of (call n)).end)
   ended_at n low early = elim (none_or_some (call n).ended) [
     | inl e ↦ absurd (let u : (pending_of (call n)).end ≡ behind_all + (call n).begun = ap (until_if behind_all (call n).begun) e in omega (arith, u, early))
@@ -236,7 +237,7 @@ module _ (threads : ℕ) (calls : List CallRecord) (history : IsHistory threads 
       all_apart : AllPairs (λ (p q : Pending). p.end ≢ q.end) (next ∷ rest)
       all_apart = ends_moved pending (next ∷ rest) is are.apart
 
-      -- When the pending call with the earliest end has ended, the other calls are still pending.
+      -- Just after the earliest end of a pending call, the pending calls are the other calls in the list.
       pub without_next : ArePending calls next.end rest
       without_next = record {
         known = rest_of (λ (p : Pending). (n : ℕ) × (n < length calls) × (p ≡ pending_of (call_numbered calls n))) are.known;
@@ -257,7 +258,7 @@ module _ (threads : ℕ) (calls : List CallRecord) (history : IsHistory threads 
             omega (arith, up, differs);
       }
 
--- If a call can come next, it still can after some pending calls have ended.
+-- If call x can be the next call of a stream, it still can after some pending calls have ended.
 pub may_still : (old new : List Pending) (m n : ℕ) (x : CallRecord) → MayCome old m x → All (Contains old) new → n < x.begun → MayCome new n x
 may_still old new m n x may some begins = record {
   begins = begins;

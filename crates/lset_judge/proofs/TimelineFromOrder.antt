@@ -1,4 +1,5 @@
--- Proof: if an order explains a history, each key has a correct timeline, which says when its changes take effect.
+-- Proof: if an order explains a history, each key has a correct timeline (a choice of the moments when its changes take
+-- effect).
 use Rattle.std.proofs.Common.{◌≡◌, ◌≢◌, ℕ, zero, suc, ◌+◌, ◌<◌, ◌≤◌, List, [], ◌∷◌, Bool, true, false, inl, inr, refl, sym, ap, ◌∙◌, arith}
 use Rattle.std.proofs.Common.{subst, length, get_or, map}
 use Rattle.std.specs.Prelude.{◌==◌, if◌then◌else◌, Option, Some, None, All, AllPairs, Contains, IfSome, IsSomeAnd}
@@ -27,7 +28,7 @@ use Rattle.lset_judge.proofs.EventLemmas.{kind, until, begun_below, end_below, B
 use Rattle.lset_history.proofs.Keys.{has_with, has_with_other, has_without, has_without_other}
 use Rattle.lset_judge.proofs.TimelineOfKey.{In, Act, act, suits, becomes, TakeTurns, Apart, IsAct, AreEvents, Lists, Ready, succeeds, one_of}
 
--- ---- The effect that a call with its reply has on a key
+-- ---- The effect of a call with its reply on a key
 
 abbrev pub does : ℕ → Call → Reply → Kind
 does k c r = if (key_of c).0 == k then kind_of c r else nothing
@@ -161,7 +162,7 @@ module _ (threads : ℕ) (calls : List CallRecord) (history : IsHistory threads 
         ])
   ]
 
-  -- ---- Lemmas about a single key and an order that linearizes the history
+  -- ---- Lemmas about a single key, and about an order that linearizes the history
   module _ (k : ℕ) where
     abbrev ev : ℕ → Event
     ev m = event_at last k calls m
@@ -223,7 +224,7 @@ module _ (threads : ℕ) (calls : List CallRecord) (history : IsHistory threads 
       not_left = λ i w e. never_left (ev i) i w e (told last k i calls);
     }
 
-    -- ---- The acts (effects of calls on the key), in an order of the calls
+    -- ---- The acts in an order of the calls. An act is the effect of a call on the key.
     all_map : (Q : Act → Type 0) (ps : List Placed) → All (λ p. Q (act_of p)) ps → AllByRecursion Q (map act_of ps)
     all_map Q ps h = recursion_from_All Q (map act_of ps) (All-map Q act_of ps h)
 
@@ -261,7 +262,7 @@ module _ (threads : ℕ) (calls : List CallRecord) (history : IsHistory threads 
         (one.0, subst (λ b. TakeTurns left b (map act_of ps)) one.1 (turns_map quota left ps next l.1 e))
 
     module _ (quota : ℕ) (start : SetState) (order : List Placed) (l : Linearizes quota start calls order) where
-      -- In the order, a completed call has the same reply as in the history.
+      -- A completed call has the same reply in the order as in the history.
       same_reply : (i : ℕ) (d : Placed) (e : ℕ × Reply) → i < length order → (x_ (get_or order i d).call).ended ≡ Some e
           → (get_or order i d).reply ≡ e.1
       same_reply i d e low s =
@@ -305,7 +306,7 @@ module _ (threads : ℕ) (calls : List CallRecord) (history : IsHistory threads 
                 is ∙ ap (λ q. begin_event q (until last (x_ p.call))) kd;
           })
 
-      -- The order contains the act (the effect) of each completed call on the key.
+      -- For each completed call on the key, the order contains an act: the effect of the call, with its start and end.
       pub stands : (n : ℕ) (e : ℕ × Reply) → n < length calls → (x_ n).ended ≡ Some e → (key_of (x_ n).call).0 ≡ k
           → In (act (x_ n).begun e.0 (kind (x_ n))) (map act_of order)
       stands n e known s own =
@@ -355,7 +356,7 @@ module _ (threads : ℕ) (calls : List CallRecord) (history : IsHistory threads 
             once = tt;
           })
 
--- If an order explains the history, the judge's rule succeeds for each key.
+-- If an order explains the history, each key passes the judge's rule (the test of one key's calls).
 pub rule_refutes : (last : ℕ) (h : HistoryValue) (keys : List ℕ) (order : List Placed) → latest_moment h.calls ≤ last
     → IsHistory h.opening.threads h.calls → Explains h order keys → RulePasses last h keys
 rule_refutes last h keys order upto history e k =

@@ -1,5 +1,5 @@
--- Proof: if the acts on one key (the effects of its calls) have an order, the key has a correct timeline, which says
--- when each change takes effect.
+-- Proof: if the effects of a key's calls (the acts) have an order, the key has a correct timeline (a choice of the
+-- moments when its changes take effect).
 use Rattle.std.proofs.Common.{◌≡◌, ◌≢◌, ℕ, zero, suc, ◌<◌, ◌≤◌, ◌⊎◌, List, [], ◌∷◌, Bool, true, false, inl, inr, refl, sym, ap, ◌∙◌, arith}
 use Rattle.std.proofs.Common.{subst, length}
 use Rattle.std.specs.Prelude.{◌==◌, ◌||◌, not, nat_lt, Some, is_some}
@@ -38,7 +38,7 @@ has_tail u x xs h = elim (cases_Bool (x == u)) [ inl e ↦ rw e refl | inr e ↦
 pub has_split : (u x : ℕ) (xs : List ℕ) → has_key u (x ∷ xs) ≡ true → (x ≡ u) ⊎ (has_key u xs ≡ true)
 has_split u x xs h = elim (cases_Bool (x == u)) [ inl e ↦ inl (same_number x u e) | inr e ↦ inr (rw e at h) ]
 
--- ---- Lemmas about inserting a moment into a list, and removing one
+-- ---- Lemmas about inserting a moment into a list, and about removing a moment from a list
 pub has_put : (u e : ℕ) (xs : List ℕ) → has_key u (put_in e xs) ≡ has_key u (e ∷ xs)
 has_put u e [] = refl
 has_put u e (x ∷ xs) = elim (cases_Bool (nat_lt e x)) [
@@ -111,7 +111,7 @@ all_late d (x ∷ xs) h =
     let rest = all_late d xs (λ u i. h u (has_tail u x xs i)) in
     omega (arith, o, rest)
 
--- ---- The acts (effects of calls) on one key, in an order
+-- ---- The acts on one key, in an order. An act is the effect of a call.
 
 pub record Act : Type 0 where
   pub begun : ℕ
@@ -132,7 +132,8 @@ abbrev pub TakeTurns : Bool → Bool → List Act → Type 0
 TakeTurns left b [] = b ≡ left
 TakeTurns left b (a ∷ ys) = suits b a.does × TakeTurns left (becomes b a.does) ys
 
--- Act p (the effect of a call) can come before act r: r does not end before p starts.
+-- States that act p (the effect of a call) can be before act r in an order: r ends after p starts. The two acts have
+-- different ends.
 pub record Apart (p r : Act) : Type 0 where
   pub in_time : p.begun < r.until
   pub other : p.until ≢ r.until
@@ -143,7 +144,7 @@ pub record IsAct (ev : ℕ → Event) (last : ℕ) (a : Act) : Type 0 where
   pub ends_later : a.begun < a.until
   pub told : (w : Bool) → a.does ≡ changes w → ev a.begun ≡ begins w a.until
 
--- Each change starts at one moment only, and no event of the key is `leaves`.
+-- States that changes with different starts have different ends, and that no event of the key is `leaves`.
 pub record AreEvents (ev : ℕ → Event) : Type 0 where
   pub once : (i j : ℕ) (v w : Bool) (u : ℕ) → ev i ≡ begins v u → ev j ≡ begins w u → i ≡ j
   pub not_left : (i : ℕ) (w : Bool) → ev i ≡ leaves w → ⊥
@@ -166,8 +167,8 @@ same_self true b e = e
 same_self false b e = rw e refl
 
 module _ (ev : ℕ → Event) (last : ℕ) (left : Bool) (are : AreEvents ev) where
-  -- How one of the two lists of pending changes relates to the events so far and to the acts that have not taken
-  -- effect.
+  -- Relates a list xs of pending changes (to the state w) to the events up to moment m and to the acts ys, the effects
+  -- of calls that have not taken effect.
   pub record Lists (w : Bool) (m : ℕ) (xs : List ℕ) (ys : List Act) : Type 0 where
     pub from_event : (u : ℕ) → has_key u xs ≡ true → (i : ℕ) × (i ≤ m) × (ev i ≡ begins w u)
     pub needed : (u : ℕ) → has_key u xs ≡ true → u ≤ last → (i : ℕ) × In (act i u (changes w)) ys
@@ -183,7 +184,7 @@ module _ (ev : ℕ → Event) (last : ℕ) (left : Bool) (are : AreEvents ev) wh
     pub looks_to_come : (j : ℕ) (w : Bool) (i : ℕ) → ev j ≡ looks w i → m < j → j ≤ last
         → In (act i j (sees w)) ys ⊎ ((i ≤ m) × ((s.there ≡ w) ⊎ (i ≤ s.turned)))
 
-  -- ---- Lemmas about the next act in the order, which takes effect
+  -- ---- Lemmas about the next act in the order (the effect of a call) when it takes effect
   not_first : (p a : Act) (ys : List Act) → In a (p ∷ ys) → (p ≡ a → ⊥) → In a ys
   not_first p a ys (inl e) n = absurd (n e)
   not_first p a ys (inr i) n = i
@@ -277,7 +278,7 @@ module _ (ev : ℕ → Event) (last : ℕ) (left : Bool) (are : AreEvents ev) wh
       lists false true to r = lists_taken true m ps p ys r.pairs.0 (r.lists true)
       lists false false to r = lists_kept false m ks p ys (λ e. true≢false (changes_apart true false (sym to ∙ e))) (r.lists false)
 
-  -- ---- Lemmas about an event before which no further act takes effect: the next act starts later
+  -- ---- Lemmas about an event when no further act takes effect before it, since the next act starts later
   abbrev Waits : ℕ → List Act → Type 0
   Waits m [] = Unit {0}
   Waits m (p ∷ ys) = m < p.begun
@@ -360,7 +361,7 @@ module _ (ev : ℕ → Event) (last : ℕ) (left : Bool) (are : AreEvents ev) wh
       lists true = lists_past true m v s s.puts ys e r (r.lists true)
       lists false = lists_past false m v s s.takes ys e r (r.lists false)
 
-  -- When a change ends, the event is possible in the key's state.
+  -- When a change ends, no pending change to the same state ends by now, so the event is possible in the key's state.
   none_due : (w : Bool) (m : ℕ) (xs : List ℕ) (ys : List Act) → suc m ≤ last → Waits m ys → AllByRecursion (IsAct ev last) ys → Pairs Apart ys
       → Lists w m xs ys → not_before (suc (suc m)) xs ≡ length xs
   none_due w m xs ys low waits acts pairs l = all_late (suc (suc m)) xs (λ u h. elim (below_or_not u (suc (suc m))) [
@@ -385,7 +386,7 @@ module _ (ev : ℕ → Event) (last : ℕ) (left : Bool) (are : AreEvents ev) wh
       is_not t i l = grind (arith, nat_tests)
   event_fits m v s ys e low waits r = refl
 
-  -- ---- The timeline (which says when each change takes effect) compared with the judge's rule
+  -- ---- Compares the judge's rule with the timeline (a choice of the moments when changes take effect)
   place : (m : ℕ) (p : Act) (ys : List Act) (g s : State) → p.begun ≤ m → Leads m g s → Ready m s (p ∷ ys) → (k : Kind) → p.does ≡ k
       → (t : State) × Leads m g t × Ready m t ys
   place m p ys g s begun l r (changes w) d =
@@ -409,8 +410,8 @@ module _ (ev : ℕ → Event) (last : ℕ) (left : Bool) (are : AreEvents ev) wh
   ]
 
   module _ (b : Bool) (first : List Act) (ready : Ready 0 (opened b) first) where
-    -- Up to each moment, the judge's rule succeeds, and has at least as many pending changes left as the timeline
-    -- (which says when each change takes effect).
+    -- Up to each moment, the key passes the judge's rule, and the rule has at least as many pending changes left as the
+    -- timeline (a choice of the moments when changes take effect).
     goes_on : (m : ℕ) → m ≤ last → (g s : State) × (ys : List Act) × (state_after ev b m ≡ Some g) × Leads m g s × Ready m s ys
     goes_on zero low = (opened b, opened b, first, refl, leads_at_first b, ready)
     goes_on (suc m) low =
@@ -429,8 +430,8 @@ module _ (ev : ℕ → Event) (last : ℕ) (left : Bool) (are : AreEvents ev) wh
     none_left s [] r w = r.take_turns
     none_left s (p ∷ ys) r w = absurd (let low = r.acts.0.inside in omega (arith, low, w))
 
-    -- If a key has a correct timeline (which says when each change takes effect), the judge's rule succeeds for this
-    -- key.
+    -- If a key has a correct timeline (a choice of the moments when changes take effect), the key passes the judge's
+    -- rule (the test of its calls).
     pub succeeds : may_leave ev b left last ≡ true
     succeeds =
         let was = goes_on last (omega arith) in let now = place_now last was.0 was.2 was.1 was.4 was.5 in

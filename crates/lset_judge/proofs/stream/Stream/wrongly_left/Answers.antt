@@ -19,14 +19,16 @@ use Rattle.lset_judge.specs.Stream.{state_or, state_for}
 use Rattle.lset_judge.proofs.KeyStates.{there_again}
 use Rattle.lset_judge.proofs.stream.Stream.wrongly_left.Goals as goal
 
--- The loop has visited one more key, and its final state is possible.
+-- If no visited key has an impossible final state, and the next key's final state is possible, then the final states of
+-- all keys up to the next one are possible.
 right_more : (keys : List ℕ) (xs : List (Bor ℕ × Bor KeyState)) (x : Bor ℕ × Bor KeyState) (wrong : Option ℕ) (Q : ℕ → Type 0)
     → MatchOption wrong (All (λ p. may_be_left (has_key p.0.now keys) (state_of p.1.now) ≡ true) xs) Q → may_be_left (has_key x.0.now keys) (state_of x.1.now) ≡ true
     → MatchOption wrong (All (λ p. may_be_left (has_key p.0.now keys) (state_of p.1.now) ≡ true) (xs ++ x ∷ [])) Q
 right_more keys xs x None Q all here = All-push (λ (p : Bor ℕ × Bor KeyState). may_be_left (has_key p.0.now keys) (state_of p.1.now) ≡ true) xs x all here
 right_more keys xs x (Some k) Q h here = h
 
--- If the final states of two keys are impossible, the loop keeps the smaller key.
+-- If P holds for `key`, and for the key `wrong` if there is one, then P holds for `smallest`, which is one of these
+-- keys.
 wrong_more : (P : ℕ → Type 0) (A : Type 0) (wrong : Option ℕ) (key smallest : ℕ) → (smallest ≡ key) ⊎ (wrong ≡ Some smallest) → P key → MatchOption wrong A P → P smallest
 wrong_more P A wrong key smallest (inl e) here before = subst P (sym e) here
 wrong_more P A None key smallest (inr e) here before = absurd (cc)
