@@ -198,8 +198,8 @@ ceiling_other k (y ∷ ys) e = elim (cases_Bool (nat_lt y k)) [
 abbrev Fits : ℕ → SetState → ℕ → Call → Reply → Type 0
 Fits quota s t c r = (reply_to quota s t (call_as c r) ≡ reply_as c r) × (after_call s t (call_as c r) (reply_as c r) ≡ after_call s t c r)
 
--- If r is the reply of the sequential set to call c, then the reply as the judge reads it is the reply to the call as
--- the judge reads it. The set is the same after both calls.
+-- If r is the reply of the sequential set to `add k`, then the reply that the judge reads is the reply of the set to
+-- the call that the judge reads. The set is the same after both calls.
 add_fits : (quota : ℕ) (s : SetState) (t : ℕ) (k : Key) (b c : Bool) → has_key k.0 s.keys ≡ b → (count_of s t == quota) ≡ c
     → Fits quota s t (Add k) (reply_to quota s t (Add k))
 add_fits quota s t k true c h f = rw h (rw h refl, refl)

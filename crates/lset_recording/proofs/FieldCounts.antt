@@ -1,4 +1,4 @@
--- How many fields the lines of each kind have. A line with another number of fields is refused.
+-- Proofs about the number of fields in each kind of line. A line with another number of fields is refused.
 use Rattle.std.proofs.Common.{◌≡◌, ℕ, ◌<◌, ◌&&◌, Bool, true, false, cond, List, [], ◌∷◌, length, Result, Err, refl, ap, ◌∙◌, arith, codes}
 use Rattle.std.specs.Str.{bytes_eq}
 use Rattle.std.proofs.lemmas.Bool.{and_right}
@@ -17,7 +17,7 @@ many_pieces : (s : Section) (a b c : List ℕ) (more : List (List ℕ)) → firs
 many_pieces section.Title a b c more = refl
 many_pieces s a b c more = refl
 
--- Proof by cases: the first field of the line is `call`, or it is not.
+-- Reading a line depends on its first field: the line can be a call only if this field is `call`.
 call_word : (w : Bool) (a b c : List ℕ) (more : List (List ℕ)) → bytes_eq a (codes "call") ≡ w
     → first_of One wrong.Line call_kinds (a ∷ b ∷ c ∷ more)
     ≡ cond w (first_of One wrong.Line call_kinds (codes "call" ∷ b ∷ c ∷ more)) (Err wrong.Line)

@@ -1,4 +1,4 @@
--- Proof that the reader's state stays correct from line to line.
+-- Proof: the reader's state stays correct from line to line.
 use Rattle.std.proofs.Common.{◌≡◌, ℕ, ◌+◌, ◌-◌, ◌<◌, ◌^◌, true, List, [], ◌∷◌, ◌++◌, length, min, Option, Some, None, refl, sym, ap, subst, ◌∙◌}
 use Rattle.std.proofs.Common.{arith}
 use Rattle.std.specs.Prelude.{nat_lt, slice_get}
@@ -37,7 +37,7 @@ keys_more keys key are above low =
       few = omega (arith, long, few, low);
     }
 
--- ---- Lemmas about reading one more line
+-- ---- Lemmas about reading the next line
 
 first_none : (s : Section) (k : ℕ) (o : Option Judge) → Comes s (told.Opening k) → IsFirst s o → o ≡ None
 first_none part.Opening k o comes first = first
@@ -48,8 +48,8 @@ no_calls : (opening more : List ℕ) (calls : List CallRecord) (o : Option Judge
 no_calls opening more calls None none kept = kept
 no_calls opening more calls (Some s) none kept = absurd cc
 
--- If an opening key can come next, the opening keys still increase with this key appended, and the reader has no judge
--- yet.
+-- If an opening key can be the next line and is greater than the last opening key, the opening keys still increase
+-- after it is appended, and the reader has no judge yet.
 pub opening_parts : (s : SoFar) (k : ℕ) (j : Judging) → IsJudging s j → Comes s.section (told.Opening k) → k < 2 ^ 32
     → is_above j.opening.items k ≡ true
     → (is_above s.told.opening k ≡ true) × AreKeys (s.told.opening ++ k ∷ [])

@@ -1,4 +1,4 @@
--- Proof that a line and what it says determine each other, for each kind of line in a recording.
+-- Proof: for each kind of line in a recording, the text of the line and its content determine each other.
 use Rattle.std.proofs.Common.{◌≡◌, subst, ℕ, ◌<◌, ◌≤◌, ◌^◌, Bool, true, false, Result, length, List, [], ◌∷◌, Option, Some, None, Ok, Err, refl, arith, codes, cond}
 use Rattle.std.specs.Prelude.{IfSome, nat_lt}
 use Rattle.std.specs.Fmt.{decimal}
@@ -31,7 +31,7 @@ use Rattle.lset_recording.specs.Texts.{end_pieces, call_pieces, title}
 use Rattle.lset_recording.specs.Reading.{kinds, from_calls, opening_kind, open_kind, true_kind, false_kind, key_kind, end_kind, cut_kind}
 use Rattle.lset_recording.specs.Reading.{Comes, IsFormed, line_told, line_behind_title}
 
--- Returns the fields of the line that says this.
+-- Returns the fields of the line with this content.
 abbrev pub line_pieces : Line → List (List ℕ)
 line_pieces told.Title = title ∷ []
 line_pieces (told.Opening k) = codes "opening" ∷ decimal k ∷ []
@@ -128,7 +128,7 @@ kinds_known section.Keys =
     known_in section.Keys (key_kind ∷ end_kind ∷ []) (key_known, (end_known, tt)) ((λ t. tt), ((λ t. tt), tt))
 kinds_known s = tt
 
--- ---- Lemmas about what a line says
+-- ---- Lemmas about the content of a line
 
 short_line : {A E : Type 0} (b : Bool) (e : E) (r : Result A E) (x : A) → cond b (Err e) r ≡ Ok x → r ≡ Ok x
 short_line true e r x is = absurd cc

@@ -1,4 +1,4 @@
--- A call can follow the earlier calls of a history if and only if the judge accepts it after these calls.
+-- Proof: a call can follow the earlier calls of a history if and only if the judge accepts it after these calls.
 use Rattle.std.proofs.Common.{◌≡◌, ℕ, ◌+◌, ◌<◌, ◌≤◌, inl, inr, true, Result, Ok, Err, List, [], ◌∷◌, ◌++◌, length, Option, Some, None, sym, ap, subst}
 use Rattle.std.proofs.Common.{arith, length-append}
 use Rattle.std.specs.Prelude.{IfSome, IfOk}
@@ -16,7 +16,7 @@ use Rattle.lset_judge.proofs.OrderAsRead.{comes}
 use Rattle.lset_recording.specs.Texts.{all_threads}
 use Rattle.lset_recording.specs.Kept.{IsLatest, IsJudgeKept}
 
--- ---- A call that can follow in a history can also come next in a stream
+-- ---- If a call can follow the earlier calls in a history, the judge accepts it after these calls
 
 begun_after : (calls : List CallRecord) (moment : ℕ) → IsLatest calls moment → (x : CallRecord) → MayFollow all_threads calls x → moment < x.begun
 begun_after calls moment (inl none) x follows = let some = follows.call.counted in omega (arith, none, some)
@@ -35,7 +35,8 @@ may_come calls moment pending are latest x before plain follows =
 
 -- ---- Lemmas about the judge of the calls so far
 
--- After the judge has accepted a call, the judge's moment is the start of this call.
+-- If the judge has accepted call x after the other calls, x can follow these calls in a history, and the judge's state
+-- is correct for the calls with x.
 pub one_more : (opening : List ℕ) (calls : List CallRecord) (x : CallRecord) (s t : Judge) → IsJudgeKept opening calls (Some s)
     → (x.thread < all_threads → IsJudgeOf all_threads opening calls s → IsJudgeOf all_threads opening (calls ++ x ∷ []) t)
     → x.thread < all_threads → moment_of t.stream ≡ x.begun
@@ -53,7 +54,7 @@ one_more opening calls x s t kept added of_thread at =
         let low = begun_after calls (moment_of s.stream) kept.1 x follows in
         omega (arith, long, so_far, low, at)
 
--- A new judge has judged no calls.
+-- A new judge is in the correct state for no calls.
 pub opened : {E : Type 0} (opening : List ℕ) (o : Option Judge) (r : Result Judge E) → o ≡ None
     → IfOk r (λ s. (threads : ℕ) → IsJudgeOf threads opening [] s) → IfOk r (λ s. moment_of s.stream ≡ 0)
     → IfOk r (λ s. (calls : List CallRecord) → IsJudgeKept opening calls o → IsJudgeKept opening calls (Some s))

@@ -1,4 +1,4 @@
--- Reading a number up to a space, digit by digit.
+-- Proofs about reading a number up to the next space, digit by digit.
 use Rattle.std.proofs.Common.{◌≡◌, ℕ, zero, suc, ◌+◌, ◌-◌, ◌*◌, ◌^◌, ◌<◌, ◌≤◌, true, inl, inr, List, ◌∷◌, ◌++◌, length, min, get_or, take, drop, refl, sym, ap, ◌∙◌, arith, leb, take-append-drop, eq-or-lt_of_le}
 use Rattle.std.specs.Fmt.{decimal}
 use Rattle.std.specs.Char.{is_ascii_digit}
@@ -9,7 +9,7 @@ use Rattle.std.proofs.lemmas.Int.Digits.{digits_value-lt}
 use Rattle.std.proofs.lemmas.List.{take_rest, drop_more, get_or-take, length-take-le}
 use Rattle.lset_text.proofs.NumberLaws.{value_more, digit_more, is_spelled, number_ok}
 
--- The loop invariant: `value` is the value of the first `count` bytes, which are digits.
+-- Loop invariant: the first `count` bytes of the text are digits, and `value` is the value of these digits.
 pub record AreDigits (text : List ℕ) (count value : ℕ) : Type 0 where
   pub few : count ≤ length text
   pub spelled : value ≡ digits_value 10 (take count text)
@@ -31,7 +31,7 @@ one_more_digit text i value digit low is_digit is are =
 pub digit_few : (b : ℕ) → is_ascii_digit b ≡ true → b - 48 ≤ 9
 digit_few b digit = let high = leb-true b 57 (and_parts (leb 48 b) (leb b 57) digit).1 in omega (arith, high)
 
--- A number of at most `most` digits is below 10^most.
+-- The value of at most `most` digits is below 10^most.
 below : (text : List ℕ) (i value most : ℕ) → i ≤ most → AreDigits text i value → value < 10 ^ most
 below text i value most low are =
     let long = length-take-le i text are.few in

@@ -1,4 +1,4 @@
--- How the reader's state changes with the bytes and the lines of a text.
+-- Proofs about how the bytes and the lines of a text change the reader's state.
 use Rattle.std.proofs.Common.{◌≡◌, ◌≢◌, ℕ, zero, suc, ◌+◌, ◌<◌, ◌≤◌, inl, inr, Bool, true, false, eqb, List, [], ◌∷◌, ◌++◌, length, refl, sym, ap, subst, ◌∙◌}
 use Rattle.std.proofs.Common.{append_assoc, append-nil, arith, length-append, Result, Ok, Err, cond}
 use Rattle.std.specs.Prelude.{◌==◌, IfOk, IfErr, Option, Some, None}
@@ -85,8 +85,8 @@ line_of_piece bytes done line more n at =
 
 -- ---- Lemmas about the bytes read so far
 
--- States where the reader is in a text: the complete lines have led to state `s`, and `held` are the bytes of the next
--- line.
+-- States that the reader has read `bytes`: their complete lines led to the state s, line n is next, and `held` are the
+-- bytes of line n read so far.
 pub record StandsAt (bytes held : List ℕ) (n : ℕ) (s : SoFar) : Type 0 where
   pub lacks : Lacks 10 held
   pub goes : (more : List ℕ) (read : Result Recording LineFault) → Reads n s (cut_at 10 (held ++ more)) read → Says (bytes ++ more) read
@@ -158,7 +158,8 @@ module _ (bytes held : List ℕ) (n : ℕ) (s : SoFar) (at : StandsAt bytes held
       (subst (λ (ps : List (List ℕ)). Reads n s ps read)
       (sym (ap (cut_at 10) (append-nil held) ∙ slice_split_none (λ b. eqb b 10) held at.lacks)) ends))
 
--- The bytes of an incomplete line are stored, or the line is noted as too long.
+-- When more bytes of an incomplete line are read, the reader has stored all bytes of the line, or has noted that the
+-- line is too long.
 pub held_on : (long : Bool) (held kept new more : List ℕ) → IsHeld held kept long → new ≡ kept ++ more → IsHeld (held ++ more) new long
 held_on true held kept new more is now = omega (arith, is, length-append held more)
 held_on false held kept new more is now = ap (λ (t : List ℕ). t ++ more) is ∙ sym now
@@ -168,7 +169,7 @@ pub held_full : (long : Bool) (held kept more : List ℕ) → IsHeld held kept l
 held_full true held kept more is full = omega (arith, is, length-append held more)
 held_full false held kept more is full = let long = ap length is in omega (arith, long, full, length-append held more)
 
--- ---- Lemmas about a complete line within a piece
+-- ---- Lemmas about a complete line within a piece of the text
 
 pub nothing_held : (bytes : List ℕ) (r : RecordingReader) (is : IsRead bytes r) → r.is_long ≡ false → r.line.items ≡ [] → [] ≡ is.held
 nothing_held bytes r is short none = sym (subst (IsHeld is.held r.line.items) short is.line ∙ none)
@@ -179,13 +180,14 @@ whole_line bytes line r is lacks short none =
     subst (λ (held : List ℕ). StandsAt (bytes ++ line) (held ++ line) r.judging.number is.told) (sym (nothing_held bytes r is short none))
     (held_more bytes is.held line r.judging.number is.told (stands bytes r is) lacks)
 
--- ---- Lemmas about the line of a completed call within a piece
+-- ---- Lemmas about the line of a completed call within a piece of the text
 
--- States that the line is read as this call, in each section that allows calls.
+-- States that the line is read as the call x in each section of a recording that allows calls.
 abbrev pub Tells : List ℕ → StreamCall → Type 0
 Tells line x = (p : Section) → takes_calls p ≡ true → line_told p line ≡ Ok (told.Call x)
 
--- After a line with a call, the reader is at the beginning of a line, in a section that allows calls.
+-- After the reader has accepted the line of a call, it is at the start of a line, in a section of the recording that
+-- allows calls.
 pub call_read : (bytes line : List ℕ) (r q : RecordingReader) (x : StreamCall) → IsRead bytes r → r.line.items ≡ [] → r.is_long ≡ false
     → takes_calls r.judging.section ≡ true → Tells line x
     → ((s : SoFar) → IsJudging s r.judging → Comes s.section (told.Call x) → GoesOn s.told (told.Call x)
@@ -259,9 +261,9 @@ module _ (r : RecordingReader) where
   line_of_end (Ok answer) line = tt
   line_of_end (Err e) line = λ bytes is. line ∙ is.counted
 
--- ---- Lemmas about the lines within a piece
+-- ---- Lemmas about the lines within a piece of the text
 
--- If a text has an error in its first lines, it has the same error however it continues.
+-- If the first lines of a text have an error, the text has the same error however it continues.
 pub refused_on : (bytes done line more : List ℕ) (e : LineFault) → IsRefusedAt (bytes ++ done ++ line ++ 10 ∷ []) e
     → IsRefusedAt (bytes ++ (done ++ (line ++ 10 ∷ more))) e
 refused_on bytes done line more e refused other rest =
@@ -270,7 +272,7 @@ refused_on bytes done line more e refused other rest =
     regrouped : (bytes ++ done ++ line ++ 10 ∷ []) ++ (more ++ rest) ≡ (bytes ++ (done ++ (line ++ 10 ∷ more))) ++ rest
     regrouped = simp append_assoc
 
--- ---- Lemmas about the state after an error
+-- ---- Lemmas about the reader after an error
 
 pub none_failed : (failed : Option LineFault) (e : LineFault) → failed ≡ None → failed ≡ Some e → ⊥
 none_failed failed e none some = cc

@@ -1,4 +1,4 @@
--- Proof that if bytes are read as a recording, they are the text of this recording.
+-- Proof: if bytes are read as a recording, they are the text of this recording.
 use Rattle.std.proofs.Common.{◌≡◌, ℕ, ◌+◌, inl, inr, Bool, true, false, cond, List, [], ◌∷◌, ◌++◌, map, Ok, refl, sym, ap, subst, ◌∙◌}
 use Rattle.std.proofs.Common.{append_assoc, append-nil}
 use Rattle.std.proofs.lemmas.List.{map_push}
@@ -22,7 +22,7 @@ so_far c = title ∷ opening_lines c.opening ++ map call_line c.calls ++ map key
 abbrev lines_at : SoFar → List (List ℕ)
 lines_at s = cond (is_title s.section) [] (cond (is_done s.section) (lines s.told) (so_far s.told))
 
--- States which parts of a recording are still empty in this section.
+-- States which parts of a recording are still empty while the reader is in this section.
 abbrev Reaches : Section → Recording → Type 0
 Reaches part.Title c = (c.opening ≡ []) × (c.calls ≡ []) × (c.keys ≡ []) × (c.cut_off ≡ false)
 Reaches part.Opening c = (c.calls ≡ []) × (c.keys ≡ []) × (c.cut_off ≡ false)
@@ -30,7 +30,7 @@ Reaches part.Calls c = (c.keys ≡ []) × (c.cut_off ≡ false)
 Reaches part.Keys c = c.cut_off ≡ false
 Reaches part.Done c = Unit {0}
 
--- States which parts of a recording are still empty before this line.
+-- States which parts of the recording so far are still empty when this line is read.
 abbrev Finds : Line → Recording → Type 0
 Finds told.Title c = Reaches part.Title c
 Finds (told.Opening k) c = Reaches part.Opening c
@@ -51,7 +51,7 @@ behind_all o c k y = simp append_assoc refl
 behind_end : (o c k : List (List ℕ)) (y : List ℕ) → o ++ c ++ k ++ y ∷ [] ≡ (o ++ c ++ k) ++ y ∷ []
 behind_end o c k y = simp append_assoc refl
 
--- Returns the lines of the text before this line.
+-- Returns the lines of the text before the line l.
 abbrev above : Line → Recording → List (List ℕ)
 above told.Title c = []
 above l c = so_far c
@@ -106,7 +106,7 @@ lines_above part.Keys c told.Title comes = absurd comes
 lines_above part.Done c l comes = absurd comes
 lines_above s c l comes = refl
 
--- If the reader accepts a line, the text of its recording so far grows by this line.
+-- If the reader accepts a line, the text of the recording so far gets this line as its last line.
 one_line : (s t : SoFar) (x : List ℕ) → Reaches s.section s.told → IsTaken s x t → Reaches t.section t.told × (lines_at t ≡ lines_at s ++ x ∷ [])
 one_line s t x reached taken =
     let l = taken.0 in

@@ -1,4 +1,4 @@
--- The invariant of a recording reader's state: what the reader knows after some bytes of the text.
+-- The invariant of a reader of a recording: the state of the reader after some bytes of the text.
 use Rattle.std.specs.Prelude.{◌≡◌, ◌≢◌, ℕ, ◌+◌, ◌<◌, ◌≤◌, ◌^◌, ◌⊎◌, Bool, true, false, List, [], ◌++◌, length, Option, Some, None, Contains, ◌==◌, not, count_by}
 use Rattle.std.specs.Prelude.{Result, Err}
 use Rattle.std.specs.List.Sorted.{IsStrictlyIncreasing}
@@ -19,18 +19,18 @@ use Rattle.lset_recording.specs.declared.reader.RecordingReader.{RecordingReader
 use Rattle.lset_recording.specs.Texts.{Recording, IsRecording, all_threads}
 use Rattle.lset_recording.specs.Reading.{SoFar, Reads, Says, first_line, is_done, is_title, IsVerdictOnRecording}
 
--- States that the moment is the start of one of these calls, or 0.
+-- States that `moment` is the start of one of these calls, or 0.
 abbrev pub IsLatest : List CallRecord → ℕ → Type 0
 IsLatest calls moment = (moment ≡ 0) ⊎ ((x : CallRecord) × Contains calls x × (moment ≡ x.begun))
 
--- States that the judge has judged exactly these calls, that the judge's moment is the start of one of them or 0, and
--- that there are at most as many calls as this moment. Before the first call, the reader has no judge.
+-- States that the judge has judged exactly these calls, that its current moment is the start of one of them or 0, and
+-- that the number of calls is at most this moment. Before the first call, the reader has no judge (None).
 abbrev pub IsJudgeKept : List ℕ → List CallRecord → Option Judge → Type 0
 IsJudgeKept opening calls None = calls ≡ []
 IsJudgeKept opening calls (Some j) =
     IsJudgeOf all_threads opening calls j × IsLatest calls (moment_of j.stream) × (length calls ≤ moment_of j.stream)
 
--- States that the keys increase strictly. Therefore, a key k above all of them has at most k keys below it, and there
+-- States that the keys increase strictly, that each greater key k has at most k of these keys below it, and that there
 -- are at most 2^32 keys.
 pub record AreKeys (keys : List ℕ) : Type 0 where
   pub increase : IsStrictlyIncreasing keys
@@ -45,7 +45,7 @@ count_if false = 0
 abbrev pub lines_of : SoFar → ℕ
 lines_of s = count_if (not (is_title s.section)) + length s.told.opening + length s.told.calls + length s.told.keys + count_if (is_done s.section)
 
--- States that the fields of the reader's state agree with the recording that it has read so far.
+-- States that the stored fields of a reader agree with the recording c, which the reader has read so far.
 pub record IsKept (c : Recording) (j : Judging) : Type 0 where
   pub opening : j.opening.items ≡ c.opening
   pub opens : AreKeys c.opening
@@ -55,7 +55,7 @@ pub record IsKept (c : Recording) (j : Judging) : Type 0 where
   pub left : AreKeys c.keys
   pub cut_off : j.cut_off ≡ c.cut_off
 
--- States that the reader has no judge yet, if it is in a section before the calls.
+-- States that the reader has no judge yet if it is in a section of the recording before the calls.
 abbrev pub IsFirst : Section → Option Judge → Type 0
 IsFirst part.Title judge = judge ≡ None
 IsFirst part.Opening judge = judge ≡ None
@@ -63,16 +63,15 @@ IsFirst part.Calls judge = Unit {0}
 IsFirst part.Keys judge = Unit {0}
 IsFirst part.Done judge = Unit {0}
 
--- States that the reader's state `j` is right after the accepted lines `s`: section, recording and number of the next
--- line.
+-- States that the reader's state j is correct after lines that led to the state s: its section, its recording and the
+-- number of the next line.
 pub record IsJudging (s : SoFar) (j : Judging) : Type 0 where
   pub kept : IsKept s.told j
   pub section : j.section ≡ s.section
   pub first : IsFirst s.section j.judge
   pub number : j.number ≡ first_line + lines_of s
 
--- States that the reader has stored the bytes of the line that has no newline yet, or has noted that there are too
--- many.
+-- States that the reader has stored all bytes of the incomplete line (false), or that this line is too long (true).
 abbrev pub IsHeld : List ℕ → List ℕ → Bool → Type 0
 IsHeld held kept false = held ≡ kept
 IsHeld held kept true = LONGEST_LINE < length held
@@ -81,8 +80,8 @@ IsHeld held kept true = LONGEST_LINE < length held
 abbrev pub newlines : List ℕ → ℕ
 newlines bytes = count_by (λ (b : ℕ). b == 10) bytes
 
--- States that the reader's state is right after these bytes: however the text continues, reading the rest from this
--- state has the same result as reading the whole text.
+-- States that the reader r is in a correct state after these bytes: however the text continues, reading the rest from
+-- this state has the same result as reading the whole text.
 pub record IsRead (bytes : List ℕ) (r : RecordingReader) : Type 0 where
   pub told : SoFar
   pub judging : IsJudging told r.judging
@@ -94,21 +93,20 @@ pub record IsRead (bytes : List ℕ) (r : RecordingReader) : Type 0 where
   pub counted : r.judging.number ≡ first_line + newlines bytes
   pub sound : r.failed ≡ None
 
--- States that line number `line` ends in `piece`, the bytes that are passed to the reader after `bytes`: its newline is
--- in the piece.
+-- States that line number `line` ends in `piece`, the next bytes of the text after `bytes`: its newline is in `piece`.
 abbrev pub IsLineOf : List ℕ → List ℕ → ℕ → Type 0
 IsLineOf bytes piece line = (first_line + newlines bytes ≤ line) × (line < first_line + newlines (bytes ++ piece))
 
--- States that the reader has returned this error before.
+-- States that the reader r has returned the error e before.
 abbrev pub HasFailed : RecordingReader → LineFault → Type 0
 HasFailed r e = r.failed ≡ Some e
 
--- States that every text that begins with these bytes has this error. Nothing is stated about a failed allocation.
+-- States that every text that begins with these bytes has the error e, unless e is a failed allocation.
 abbrev pub IsRefusedAt : List ℕ → LineFault → Type 0
 IsRefusedAt bytes e = e.cause ≢ wrong.Memory → (more : List ℕ) → Says (bytes ++ more) (Err e)
 
--- States that the reader's answer on a recording is right: the verdict, the number of calls, and whether the recording
--- was cut off.
+-- States that the reader's answer on the recording c is correct: the verdict, the number of calls, and whether the
+-- recording was cut off.
 pub record IsAnswered (c : Recording) (answer : RecordingAnswer) : Type 0 where
   pub recording : IsRecording c
   pub verdict : IsVerdictOnRecording c answer.verdict

@@ -1,4 +1,4 @@
--- How the text of a recording is read, line by line. The result is the recording, or the first error.
+-- Defines how the text of a recording is read, line by line. The result is the recording, or the first error.
 use Rattle.std.specs.Prelude.{◌≡◌, ℕ, ◌+◌, ◌<◌, ◌^◌, nat_lt, Bool, true, false, List, [], ◌∷◌, ◌++◌, length, codes, Option, Some, None, ◌⊎◌, IfSome}
 use Rattle.std.specs.Prelude.{Result, Ok, Err, if◌then◌else◌}
 use Rattle.std.specs.Str.{bytes_eq}
@@ -39,11 +39,11 @@ opening_kind = (opening_form, λ t. told.Opening t.1.0)
 abbrev pub moment : Piece
 moment = piece.number 1 LAST_MOMENT
 
--- The field `-`, in place of the end or reply that a pending call does not have.
+-- The field `-`. A pending call has this field instead of an end and instead of a reply.
 abbrev pub none : Piece
 none = piece.word dash
 
--- Returns the value of a call's line: `t` has the thread, name, key and start of the call, `end` its end.
+-- Returns the call in a line. `t` contains the thread, name, key and start of the call, and `end` its end and reply.
 abbrev pub call_told : {X : Type 0} → ℕ × (CallWord × (ℕ × (ℕ × X))) → Option (ℕ × Reply) → RecordingLine
 call_told t end = told.Call (record {
   thread = t.0;
@@ -52,11 +52,13 @@ call_told t end = told.Call (record {
   ended = end;
 })
 
--- Returns the form of a call's line. `end` is the form of the last fields, for the call's end and reply.
+-- Returns the form (the sequence of fields) of a call's line. `end` is the form of its last fields: the call's end and
+-- reply.
 abbrev pub call_form : Form → Form
 call_form end = piece.word (codes "call") ∷ piece.any ∷ piece.call ∷ piece.any ∷ moment ∷ end
 
--- The line of a pending call. `true_kind` and `false_kind` are the lines of a call that returned true or false.
+-- The kind of line for a pending call. `true_kind` and `false_kind` are the kinds for calls that returned true or
+-- false.
 abbrev pub open_kind : LineKind RecordingLine
 open_kind = (call_form (none ∷ none ∷ []), λ t. call_told t.1 None)
 
@@ -75,8 +77,9 @@ end_kind = (piece.word (codes "end") ∷ [], λ t. told.End)
 abbrev pub cut_kind : LineKind RecordingLine
 cut_kind = (piece.word (codes "cut") ∷ [], λ t. told.Cut)
 
--- The kinds of lines that can still come once the reader has reached the final keys (`from_keys`) or the calls
--- (`from_calls`). Sections have a fixed order, and each can be empty. A recording that was cut off has no final keys.
+-- The kinds of lines that are allowed once the reader has reached the final keys (`from_keys`) or the calls
+-- (`from_calls`). The sections of a recording have a fixed order, and each can be empty. A recording that was cut off
+-- has no final keys.
 abbrev pub from_keys : List (LineKind RecordingLine)
 from_keys = key_kind ∷ end_kind ∷ []
 
@@ -86,7 +89,7 @@ call_kinds = open_kind ∷ true_kind ∷ false_kind ∷ []
 abbrev pub from_calls : List (LineKind RecordingLine)
 from_calls = call_kinds ++ cut_kind ∷ from_keys
 
--- Returns the kinds of lines that can come next if the reader is in this section.
+-- Returns the kinds of lines that can be next if the reader is in this section of the recording.
 abbrev pub kinds : Section → List (LineKind RecordingLine)
 kinds section.Title = []
 kinds section.Opening = opening_kind ∷ from_calls
@@ -105,19 +108,19 @@ is_title section.Done = false
 abbrev pub title_told : List ℕ → Result RecordingLine Cause
 title_told line = if bytes_eq line title then Ok told.Title else Err wrong.Header
 
--- Reads a line after the title, in section `s`. A line with more than `LONGEST_LINE` bytes is refused.
+-- Reads a line after the title, in section s of the recording. A line with more than `LONGEST_LINE` bytes is an error.
 abbrev pub line_behind_title : Section → List ℕ → Result RecordingLine Cause
 line_behind_title s line = if nat_lt LONGEST_LINE (length line) then Err wrong.Line else line_in One wrong.Line (kinds s) line
 
--- Reads a line, if the reader is in section `s`.
+-- Reads a line in section s of the recording.
 abbrev pub line_told : Section → List ℕ → Result RecordingLine Cause
 line_told s line = if is_title s then title_told line else line_behind_title s line
 
--- Returns the cause of the error if a line in this section has too many bytes.
+-- Returns the cause to report if a line in this section of the recording is too long.
 abbrev pub cause_if_long : Section → Cause
 cause_if_long s = if is_title s then wrong.Header else wrong.Line
 
--- ---- How a line extends the lines before it
+-- ---- How a line extends the recording read so far
 
 abbrev pub section_after : RecordingLine → Section
 section_after told.Title = section.Opening
@@ -135,7 +138,7 @@ with_line c (told.Key k) = record c { keys = c.keys ++ k ∷ [] }
 with_line c told.End = c
 with_line c told.Cut = record c { cut_off = true }
 
--- What the reader knows after some lines: the section that it is in, and the recording so far.
+-- The state of reading after some lines: the section that the reader is in, and the recording so far.
 pub record SoFar : Type 0 where
   pub section : Section
   pub told : Recording
@@ -149,8 +152,8 @@ nothing_told = record {
   told = record { opening = []; calls = []; keys = []; cut_off = false };
 }
 
--- States that a line agrees with the recording so far: keys must increase, and the calls must form a history, ordered
--- by start.
+-- States that a line does not contradict the recording so far: keys must increase, and the calls must be a history,
+-- ordered by start.
 abbrev pub GoesOn : Recording → RecordingLine → Type 0
 GoesOn c told.Title = Unit {0}
 GoesOn c (told.Opening k) = is_above c.opening k ≡ true
@@ -159,13 +162,13 @@ GoesOn c (told.Key k) = is_above c.keys k ≡ true
 GoesOn c told.End = Unit {0}
 GoesOn c told.Cut = Unit {0}
 
--- Returns the cause of the error if a line does not agree with the recording so far.
+-- Returns the cause to report if a line contradicts the recording so far.
 abbrev pub cause_of : RecordingLine → Cause
 cause_of (told.Call x) = wrong.History
 cause_of l = wrong.Opening
 
--- States that a line's numbers are in range, and that its call, if completed, is not a `ceiling` and returned true or
--- false.
+-- States that the numbers in a line are in range. If the line is a completed call, also states that the call is not a
+-- `ceiling` and returned true or false.
 abbrev pub IsFormed : RecordingLine → Type 0
 IsFormed told.Title = Unit {0}
 IsFormed (told.Opening k) = k < 2 ^ 32
@@ -175,7 +178,7 @@ IsFormed (told.Key k) = k < 2 ^ 32
 IsFormed told.End = Unit {0}
 IsFormed told.Cut = Unit {0}
 
--- States that a line of this kind can come next if the reader is in this section.
+-- States that a line of this kind can be next if the reader is in this section of the recording.
 abbrev pub Comes : Section → RecordingLine → Type 0
 Comes section.Title told.Title = Unit {0}
 Comes section.Title l = ⊥
@@ -189,18 +192,18 @@ Comes section.Keys told.End = Unit {0}
 Comes section.Keys l = ⊥
 Comes section.Done l = ⊥
 
--- States that the reader accepts a line in state `s`, and is in state `t` after it.
+-- States that a reader in state s accepts a line, and is in state t after this line.
 abbrev pub IsTaken : SoFar → List ℕ → SoFar → Type 0
 IsTaken s line t = (l : RecordingLine) × (line_told s.section line ≡ Ok l) × GoesOn s.told l × (t ≡ with_told s l)
 
--- States that the reader refuses a line in state `s` with this cause.
+-- States that a reader in state s refuses a line with this cause.
 abbrev pub IsRefused : SoFar → List ℕ → Cause → Type 0
 IsRefused s line cause = (line_told s.section line ≡ Err cause)
     ⊎ ((l : RecordingLine) × (line_told s.section line ≡ Ok l) × (GoesOn s.told l → ⊥) × (cause ≡ cause_of l))
 
 -- ---- Reading whole texts
 
--- Returns whether the text can end here, after a line `end` or `cut`.
+-- Returns whether the text can end here: the last line was `end` or `cut`.
 abbrev pub is_done : Section → Bool
 is_done section.Title = false
 is_done section.Opening = false
@@ -208,18 +211,20 @@ is_done section.Calls = false
 is_done section.Keys = false
 is_done section.Done = true
 
--- Returns the cause of the error if the text ends after a line and the reader is in this section.
+-- Returns the cause to report if the text ends while the reader is in this section of the recording.
 abbrev pub cause_at_end : Section → Cause
 cause_at_end s = if is_title s then wrong.Header else wrong.NotEnded
 
--- Returns the result if the text ends here. The last argument has the bytes after the last newline, and must be empty.
+-- Returns the result of reading if the text ends here. The last argument contains the bytes after the last newline,
+-- which must be none.
 abbrev pub ending : ℕ → SoFar → List ℕ → Result Recording LineFault
 ending line s [] = if is_done s.section then Ok s.told else Err (fault line (cause_at_end s.section))
 ending line s (b ∷ bs) = Err (fault line wrong.NotEnded)
 
--- States that reading the rest of a text has the result `read`. The rest is given by its complete lines and, as the
--- last part, the bytes after the last newline. `line` is the number of the first of these lines, and `s` is the
--- reader's state before it. Either every line is accepted, or the first refused line is the error.
+-- States that reading the rest of a text has the result `read`. The rest is a list: first its complete lines, then, as
+-- the last item, the bytes after the last newline. `line` is the number of the first line in the list, and `s` is the
+-- reader's state before this line. Either the reader accepts every line, or the first line that it refuses is the
+-- error.
 abbrev pub Reads : ℕ → SoFar → List (List ℕ) → Result Recording LineFault → Type 0
 Reads line s [] read = ⊥
 Reads line s (rest ∷ []) read = read ≡ ending line s rest
@@ -227,7 +232,7 @@ Reads line s (x ∷ y ∷ more) read =
     ((next : SoFar) × IsTaken s x next × Reads (line + 1) next (y ∷ more) read)
     ⊎ ((cause : Cause) × IsRefused s x cause × (read ≡ Err (fault line cause)))
 
--- The number of a text's first line.
+-- The number of the first line in a text.
 abbrev pub first_line : ℕ
 first_line = 1
 
@@ -235,20 +240,22 @@ first_line = 1
 abbrev pub Says : List ℕ → Result Recording LineFault → Type 0
 Says bytes read = Reads first_line nothing_told (cut_at 10 bytes) read
 
--- States that a recording has only one text: if bytes are read as a recording, they are the text of this recording.
+-- States the lemma: if bytes are read as a recording, they are the text of this recording. Therefore each recording has
+-- only one text.
 abbrev pub RecordingsAreRead : Type 0
 RecordingsAreRead = (bytes : List ℕ) (c : Recording) → Says bytes (Ok c) → bytes ≡ recording_text c
 
--- States that the verdict is right for a whole recording or, if the flag is true, for a recording that was cut off.
+-- States that the verdict is correct. The flag is true if the recording was cut off, so that its final keys are
+-- unknown.
 abbrev pub IsVerdictIf : Bool → Recording → Verdict → Type 0
 IsVerdictIf true c verdict = IsVerdictCutOff all_threads c.opening c.calls verdict
 IsVerdictIf false c verdict = IsVerdict all_threads c.opening c.calls c.keys verdict
 
--- States that the verdict on a recording is right. If the recording was cut off, its final keys are unknown.
+-- States that the verdict on a recording is correct. If the recording was cut off, its final keys are unknown.
 abbrev pub IsVerdictOnRecording : Recording → Verdict → Type 0
 IsVerdictOnRecording c verdict = IsVerdictIf c.cut_off c verdict
 
--- ---- Which lines a section allows
+-- ---- The lines that a section of a recording allows
 
 abbrev pub takes_opening : Section → Bool
 takes_opening section.Title = false
@@ -264,7 +271,7 @@ takes_calls section.Calls = true
 takes_calls section.Keys = false
 takes_calls section.Done = false
 
--- Returns whether a final key or the end of the text can come next if the reader is in this section.
+-- Returns whether the next line can be a final key or the line `end` if the reader is in this section of the recording.
 abbrev pub takes_keys : Section → Bool
 takes_keys section.Title = false
 takes_keys section.Opening = true

@@ -14,7 +14,7 @@ use Rattle.lset_judge.specs.Verdict.{IsPlain}
 use Rattle.lset_judge.specs.Stream.{IsBefore}
 
 pub record Recording : Type 0 where
-  -- The opening keys. The next fields are the calls, and the keys of the set after all calls.
+  -- The keys of the set when it was opened. `calls` are the calls, and `keys` are the keys of the set after all calls.
   pub opening : List ℕ
   pub calls : List CallRecord
   pub keys : List ℕ
@@ -25,7 +25,7 @@ pub record Recording : Type 0 where
 abbrev pub all_threads : ℕ
 all_threads = 2 ^ 32
 
--- States what a recording must satisfy: the opening keys and the final keys increase strictly, the calls are a history
+-- States that c is a valid recording: its opening keys and its final keys increase strictly, its calls are a history
 -- with moments below 2^63, no completed call is a `ceiling`, and each completed call returned true or false.
 pub record IsRecording (c : Recording) : Type 0 where
   pub opening : IsStrictlyIncreasing c.opening
@@ -40,11 +40,11 @@ pub record IsRecording (c : Recording) : Type 0 where
 abbrev pub title : List ℕ
 title = codes "listset-calls 1"
 
--- The field `-`, in place of the end or reply that a pending call does not have.
+-- The field `-`. A pending call has this field instead of an end and instead of a reply.
 abbrev pub dash : List ℕ
 dash = codes "-"
 
--- Returns the fields for the end and the reply of a call. A pending call has `-` twice.
+-- Returns the fields for the end and the reply of a call. For a pending call, both fields are `-`.
 abbrev pub end_pieces : Option (ℕ × Reply) → List (List ℕ)
 end_pieces None = dash ∷ dash ∷ []
 end_pieces (Some end) = decimal end.0 ∷ reply_text end.1 ∷ []
@@ -58,7 +58,7 @@ call_line x = line_of (call_pieces x)
 abbrev pub key_line : ℕ → List ℕ
 key_line key = number_line (codes "key") key
 
--- Returns the last line of the text, `cut` if the recording was cut off.
+-- Returns the last line of the text: `cut` if the recording was cut off, else `end`.
 abbrev pub end_line : Bool → List ℕ
 end_line cut_off = if cut_off then codes "cut" else codes "end"
 

@@ -4,7 +4,7 @@ use crate::recording_lines::Section;
 use lset_judge::Judge;
 use std::alloc::Global;
 
-/// What a reader knows after some lines of a recording.
+/// The state of a reader after some lines of a recording.
 #[derive(Drop)]
 pub(crate) struct Judging {
     pub(crate) alloc: Global,

@@ -1,6 +1,6 @@
-//! A fast path for the lines of completed calls, which are most lines of a long recording. Each function reads such a
-//! line in one pass. For any other line, valid or not, the result is `None`, and the caller reads the line in the
-//! general way.
+//! A fast path for the lines of completed calls. Most lines of a long recording are such lines. Each function reads a
+//! line in one pass. For any other line, valid or not, it returns `None`, and the caller reads the line in the general
+//! way.
 
 ghost use Rattle.std.specs.Prelude.{◌≡◌, ◌≤◌, ◌++◌, ◌∷◌, IfSome, List, ℕ, Ok, true, codes};
 ghost use Rattle.std.specs.Fmt.{decimal};
@@ -19,8 +19,8 @@ use lset_words::{Key, Reply};
 /// The maximum number of digits that `digits_before` reads. A number of 19 digits is below 2^64.
 const MOST_DIGITS: usize = 19;
 
-/// Returns the number at the start of a text, and the bytes after the space that follows it. Returns `None` if the text
-/// does not start with a number and a space.
+/// Returns the number at the start of a text, and the bytes after the next space. Returns `None` if the text does not
+/// start with a number and a space.
 #[inline(always)]
 fn digits_before(text: &[u8]) -> Option<(u64, &[u8])>
     ensures { IfSome result (λ p. text.now ≡ decimal p.0 ++ 32 ∷ p.1.now) }
@@ -35,15 +35,16 @@ fn digits_before(text: &[u8]) -> Option<(u64, &[u8])>
     if i == text.len() || text[i] != b' ' {
         return None;
     }
-    // A number has a digit, and does not begin with 0 unless it is 0. (A space is below the digit 0.)
+    // The digits before the space are not a valid number if there are none, or if a number other than 0 begins with 0.
+    // (The code of a space is below the code of the digit 0.)
     if text[0] <= b'0' && i != 1 {
         return None;
     }
     Some((value, &text[i + 1..]))
 }
 
-/// Returns the thread or key at the start of a text, and the bytes after the space that follows it. Returns `None` if
-/// the text does not start with a number below 2^32 and a space.
+/// Returns the thread or key at the start of a text, and the bytes after the next space. Returns `None` if the text
+/// does not start with a number below 2^32 and a space.
 #[inline(always)]
 fn number_before(text: &[u8]) -> Option<(u32, &[u8])>
     ensures { IfSome result (λ p. (text.now ≡ decimal p.0 ++ 32 ∷ p.1.now) × (p.0 ≤ max_number)) }
@@ -55,8 +56,8 @@ fn number_before(text: &[u8]) -> Option<(u32, &[u8])>
     Some((value as u32, rest))
 }
 
-/// Returns the moment at the start of a text, and the bytes after the space that follows it. Returns `None` if the text
-/// does not start with a moment and a space.
+/// Returns the moment at the start of a text, and the bytes after the next space. Returns `None` if the text does not
+/// start with a moment and a space.
 #[inline(always)]
 fn moment_before(text: &[u8]) -> Option<(u64, &[u8])>
     ensures { IfSome result (λ p. (text.now ≡ decimal p.0 ++ 32 ∷ p.1.now) × (1 ≤ p.0) × (p.0 ≤ LAST_MOMENT)) }
@@ -68,8 +69,8 @@ fn moment_before(text: &[u8]) -> Option<(u64, &[u8])>
     Some((value, rest))
 }
 
-/// Returns the name of a call at the start of a text, and the bytes after the space that follows it. Returns `None` for
-/// any other text.
+/// Returns the name of a call at the start of a text, and the bytes after the next space. Returns `None` if the text
+/// does not start with a name of a call and a space.
 #[inline(always)]
 fn word_before(text: &[u8]) -> Option<(CallWord, &[u8])>
     ensures { IfSome result (λ p. (text.now ≡ call_word_text p.0 ++ 32 ∷ p.1.now) × HasWord One p.0) }
@@ -93,8 +94,8 @@ fn word_before(text: &[u8]) -> Option<(CallWord, &[u8])>
     }
 }
 
-/// Returns the reply `true` or `false` at the start of a text, and the bytes after it. Returns `None` for any other
-/// text.
+/// Returns the reply `true` or `false` at the start of a text, and the bytes after the reply. Returns `None` for any
+/// other text.
 fn reply_before(text: &[u8]) -> Option<(Reply, &[u8])>
     ensures { IfSome result (λ p. (text.now ≡ reply_text p.0 ++ p.1.now) × (is_truth p.0 ≡ true)) }
 {
@@ -116,7 +117,8 @@ fn behind_call(line: &[u8]) -> Option<&[u8]>
 }
 
 /// Reads a completed call from the start of a text. Returns the call and the bytes after its reply. Returns `None` for
-/// anything else, which can still be a valid line. The reader must be in a section that allows calls.
+/// any other text, which can still start with a valid line. The reader must be in a section of the recording that
+/// allows calls.
 #[inline(always)]
 pub(crate) fn quick_call(text: &[u8]) -> Option<(StreamCall, &[u8])>
     ensures { IfSome result (λ p. (line : List ℕ) × (text.now ≡ line ++ p.1.now)
@@ -138,9 +140,9 @@ pub(crate) fn quick_call(text: &[u8]) -> Option<(StreamCall, &[u8])>
     Some((call, rest))
 }
 
-/// Reads a line with a completed call from the start of a text. Returns the call and the bytes after the newline.
-/// Returns `None` for anything else, which can still be a valid line. The reader must be in a section that allows
-/// calls.
+/// Reads the line of a completed call from the start of a text. Returns the call and the bytes after the newline.
+/// Returns `None` for any other text, which can still start with a valid line. The reader must be in a section of the
+/// recording that allows calls.
 pub(crate) fn quick_line(text: &[u8]) -> Option<(StreamCall, &[u8])>
     ensures { IfSome result (λ p. (line : List ℕ) × (text.now ≡ line ++ 10 ∷ p.1.now)
         × ((section : Section) → takes_calls section ≡ true → line_told section line ≡ Ok (Call p.0))) }

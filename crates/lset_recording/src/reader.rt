@@ -22,22 +22,24 @@ fn next_line(bytes: &[u8]) -> Option<(&[u8], &[u8])>
     Some((&bytes[..at], &bytes[at + 1..]))
 }
 
-/// A reader of a recording. Its caller passes the text in pieces of any length, and the reader judges the calls as they
-/// come. It stores the keys, the pending calls, at most one completed call on each key, and at most `LONGEST_LINE`
-/// bytes of an incomplete line. Its memory grows with the numbers of keys, threads and pending calls, but not with the
-/// number of calls. The first line of a recording is `listset-calls 1`. (This project's own format.)
+/// Reads a recording and judges its calls. The caller passes the text in pieces of any length; each call is judged as
+/// soon as its line is complete. A reader stores the keys, the pending calls, at most one completed call on each key,
+/// and at most `LONGEST_LINE` bytes of an incomplete line. Its memory grows with the numbers of keys, threads and
+/// pending calls, but not with the number of calls. The first line of a recording is `listset-calls 1`. (The format is
+/// this project's own.)
 #[derive(Drop)]
 pub struct RecordingReader {
     judging: Judging,
     line: ArrayVec<u8, LONGEST_LINE>,
-    // Whether the incomplete line has more bytes than `line` can store.
+    // Whether the incomplete line is longer than `LONGEST_LINE` bytes, so that `line` cannot store it.
     is_long: bool,
     // The error that `feed` has returned, if any.
     failed: Option<LineFault>,
 }
 
 impl RecordingReader {
-    /// Returns a reader that has not read anything yet. Does not allocate; later calls use `alloc`.
+    /// Returns a reader that has not read anything yet. Does not allocate. Later calls of its functions allocate with
+    /// `alloc`.
     pub fn new(alloc: Global) -> RecordingReader
         ensures { IsRead [] result }
     {
@@ -55,14 +57,14 @@ impl RecordingReader {
         LineFault::at(self.judging.number(), cause)
     }
 
-    /// Returns whether the reader is at the start of a line, and therefore has stored no bytes.
+    /// Returns whether the reader has stored no bytes of an incomplete line: it is at the start of a line.
     fn holds_none(&self) -> bool
         ensures { IsTrue result → (self.now.line.items ≡ []) × (self.now.is_long ≡ false) }
     {
         !self.is_long && self.line.as_slice().is_empty()
     }
 
-    /// Stores bytes of a line whose newline is yet to come. If the line gets too long, notes that instead.
+    /// Stores bytes of a line that has no newline yet. If the line is too long, notes only this.
     fn hold(&mut self, bytes: &[u8])
         requires { Lacks 10 bytes.now }
         ensures read { (before : List ℕ) → IsRead before self.old → IsRead (before ++ bytes.now) self.new }
@@ -74,7 +76,7 @@ impl RecordingReader {
         }
     }
 
-    /// Reads a newline, which completes the line whose bytes are stored.
+    /// Reads a newline, which completes the line that is stored.
     fn newline_in(&mut self) -> Result<(), LineFault>
         ensures taken { OnOk result ((bytes : List ℕ) → IsRead bytes self.old → IsRead (bytes ++ 10 ∷ []) self.new) }
         ensures refused { IfErr result (λ fault. (bytes : List ℕ) → IsRead bytes self.old → IsRefusedAt (bytes ++ 10 ∷ []) fault) }
@@ -92,8 +94,8 @@ impl RecordingReader {
         }
     }
 
-    /// Reads a whole line, without its newline, directly from the piece, without copying it. The reader must not have
-    /// stored any bytes of the line.
+    /// Reads a complete line, without its newline, without copying it. The reader must not have stored any bytes of
+    /// this line.
     fn whole_line_in(&mut self, line: &[u8]) -> Result<(), LineFault>
         requires lacks { Lacks 10 line.now }
         requires none { self.old.line.items ≡ [] }
@@ -109,7 +111,7 @@ impl RecordingReader {
         }
     }
 
-    /// Completes a line: reads its remaining bytes, given without the newline.
+    /// Completes a line: reads its remaining bytes, without the newline.
     fn line_in(&mut self, line: &[u8]) -> Result<(), LineFault>
         requires { Lacks 10 line.now }
         ensures taken { OnOk result ((bytes : List ℕ) → IsRead bytes self.old → IsRead (bytes ++ line.now ++ 10 ∷ []) self.new) }
@@ -124,8 +126,8 @@ impl RecordingReader {
         self.newline_in()
     }
 
-    /// Reads consecutive lines with completed calls from the start of a piece, up to the first other line. Returns the
-    /// remaining bytes. The reader must be at the start of a line, in a section that allows calls.
+    /// Reads lines of completed calls from the start of a piece of the text, up to the first other line. Returns the
+    /// remaining bytes. The reader must be at the start of a line, in a section of the recording that allows calls.
     fn quick_calls_in<'a>(&mut self, piece: &'a [u8]) -> Result<&'a [u8], LineFault>
         requires none { self.old.line.items ≡ [] }
         requires short { self.old.is_long ≡ false }
@@ -145,8 +147,8 @@ impl RecordingReader {
         Ok(rest)
     }
 
-    /// Reads lines with completed calls from the start of a piece, if the reader is at the start of a line and its
-    /// section allows calls. Returns the remaining bytes.
+    /// Reads lines of completed calls from the start of a piece of the text. Reads nothing unless the reader is at the
+    /// start of a line, in a section of the recording that allows calls. Returns the remaining bytes.
     fn calls_in<'a>(&mut self, piece: &'a [u8]) -> Result<&'a [u8], LineFault>
         ensures taken { IfOk result (λ rest. (done : List ℕ) × (piece.now ≡ done ++ rest.now)
             × ((bytes : List ℕ) → IsRead bytes self.old → IsRead (bytes ++ done) self.new)) }
@@ -207,8 +209,8 @@ impl RecordingReader {
         }
     }
 
-    /// Ends the text here, and returns the verdict and the counts, or the error if the text cannot end here. `finish`
-    /// calls this function only if `feed` has returned no error.
+    /// Ends the text here. Returns the verdict and the counts, or the error if the text cannot end here. `finish` calls
+    /// this function only if `feed` has returned no error.
     fn end(self) -> Result<RecordingAnswer, LineFault>
         ensures said { IfOk result (λ answer. (bytes : List ℕ) → IsRead bytes self
             → (c : Recording) × Says bytes (Ok c) × IsAnswered c answer) }
@@ -246,8 +248,8 @@ impl RecordingReader {
     }
 }
 
-/// Lemma: if bytes are read as a recording, they are the text of this recording. Hence each recording has only one
-/// text. The function does nothing.
+/// States a lemma: if bytes are read as a recording, they are the text of this recording. Therefore each recording has
+/// only one text. This function does nothing at run time.
 #[tactic(auto, using(crate::proofs::TextFound::text_found))]
 pub fn recordings_are_read()
     ensures { RecordingsAreRead }

@@ -1,4 +1,4 @@
-//! What a reader does with the lines of a recording: it passes the calls to a judge and stores the keys.
+//! Processes the lines of a recording: passes the calls to a judge and stores the keys.
 
 ghost use Rattle.std.specs.Prelude.{◌≡◌, ◌≢◌, ◌+◌, ◌++◌, ◌∷◌, [], true, false, Ok, Err, None, Some, IfOk, IfErr, OnOk, OnErr, List, ℕ, is_some};
 ghost use Rattle.std.specs.List.Sorted.{IsStrictlyIncreasing};
@@ -16,24 +16,25 @@ use lset_judge::{Judge, StreamCall, StreamFault, Verdict};
 use lset_text::{Cause, LineFault, is_above};
 use std::alloc::{AllocError, Global};
 
-/// The number of the title line, which is the first.
+/// The number of the title line, which is the first line.
 const FIRST_LINE: u64 = 1;
 
 /// The verdict on a recording, with the number of its calls.
 #[derive(Debug, Drop)]
 pub struct RecordingAnswer {
-    /// Whether the recorded calls are linearizable (some order explains them) and, if not, why.
+    /// Whether the recorded calls are linearizable (some order explains them and leaves the final keys). If they are
+    /// not, the reason.
     pub verdict: Verdict,
     /// The number of calls in the recording.
     pub calls: u64,
-    /// The number of calls that overlap another call which changes their key.
+    /// The number of calls that overlap another call that changes the same key.
     pub overlapped: u64,
     /// Whether the recording was cut off, so that its final keys are unknown.
     pub cut_off: bool,
 }
 
-/// Returns `judge` or, if it is `None`, a new judge for a set that opens with these keys. If an allocation fails,
-/// returns `AllocError`.
+/// Returns `judge`. If it is `None`, returns a new judge for a set that opens with the keys `opening`. If an allocation
+/// fails, returns `AllocError`.
 #[tactic(auto, using(crate::proofs::NextCalls::opened))]
 fn or_opened(alloc: Global, judge: Option<Judge>, opening: &[u32]) -> Result<Judge, AllocError>
     requires { IsStrictlyIncreasing opening.now }
@@ -45,7 +46,7 @@ fn or_opened(alloc: Global, judge: Option<Judge>, opening: &[u32]) -> Result<Jud
     }
 }
 
-/// Returns the cause to report for a call that the judge refuses: `History`, or `Memory` if an allocation failed.
+/// Returns the cause to report if the judge refuses a call: `Memory` if an allocation failed, else `History`.
 fn cause_of_fault(fault: StreamFault) -> Cause
     ensures memory { result ≢ Cause.Memory → fault ≢ StreamFault.Memory }
     ensures other { result ≢ Cause.Memory → result ≡ Cause.History }
@@ -60,7 +61,7 @@ fn cause_of_fault(fault: StreamFault) -> Cause
     }
 }
 
-/// Passes a call to the judge. Returns `History` if the call cannot follow the calls before it, `Memory` if an
+/// Passes a call to the judge. Returns `History` if the call cannot follow the earlier calls, and `Memory` if an
 /// allocation fails.
 fn add_call(judge: &mut Judge, call: StreamCall) -> Result<(), Cause>
     requires { IsFormed (Line.Call call) }
@@ -76,8 +77,8 @@ fn add_call(judge: &mut Judge, call: StreamCall) -> Result<(), Cause>
     }
 }
 
-/// Appends a key to strictly increasing keys. Returns `Opening` if the key is not above the last one, `Memory` if an
-/// allocation fails.
+/// Appends a key to strictly increasing keys. Returns `Opening` if the key is not greater than the last one, and
+/// `Memory` if an allocation fails.
 fn add_key(keys: &mut Vec<u32>, key: u32) -> Result<(), Cause>
     requires { IsStrictlyIncreasing keys.old.items }
     ensures increase { IsStrictlyIncreasing keys.new.items }
@@ -157,7 +158,8 @@ impl Judging {
         Ok(())
     }
 
-    /// Adds what a line says to the recording so far. If the line does not agree with the recording, returns the cause.
+    /// Adds the content of a line to the recording so far. If the line contradicts the recording so far, returns the
+    /// cause.
     #[inline(always)]
     fn keep(&mut self, line: Line) -> Result<(), Cause>
         requires { IsFormed line }
@@ -179,8 +181,8 @@ impl Judging {
         }
     }
 
-    /// Accepts a line whose kind is allowed in the current section. If the line does not agree with the recording so
-    /// far, returns the cause.
+    /// Accepts a line of a kind that the current section of the recording allows. If the line contradicts the recording
+    /// so far, returns the cause.
     #[inline(always)]
     pub(crate) fn put(&mut self, line: Line) -> Result<(), Cause>
         requires { IsFormed line }
@@ -203,7 +205,7 @@ impl Judging {
         self.number
     }
 
-    /// Reads a line, without its newline. If the line is refused, returns the cause.
+    /// Reads a line, without its newline. If the line is wrong, returns the cause.
     pub(crate) fn read_line(&mut self, line: &[u8]) -> Result<(), Cause>
         ensures taken { OnOk result ((s : SoFar) → IsJudging s self.old
             → (t : SoFar) × IsTaken s line.now t × IsJudging t self.new × (self.new.number ≡ self.old.number + 1)) }
@@ -215,14 +217,14 @@ impl Judging {
         self.put(line)
     }
 
-    /// Returns whether the line of a call can come next.
+    /// Returns whether the next line can be the line of a call.
     pub(crate) fn takes_calls(&self) -> bool
         ensures { result ≡ takes_calls self.now.section }
     {
         self.section.takes_calls()
     }
 
-    /// Returns the cause of the error if the next line has too many bytes.
+    /// Returns the cause to report if the next line is too long.
     pub(crate) fn cause_if_long(&self) -> Cause
         ensures { result ≡ cause_if_long self.now.section }
     {
@@ -233,7 +235,7 @@ impl Judging {
         }
     }
 
-    /// Returns the cause of the error if the text ends here, although its last line is neither `end` nor `cut`.
+    /// Returns the cause to report if the text ends here, although its last line is neither `end` nor `cut`.
     fn cause_at_end(&self) -> Cause
         ensures { result ≡ cause_at_end self.now.section }
     {

@@ -26,11 +26,11 @@ use lset_words::{Key, Reply};
 /// The maximum length of a line after the title, in bytes without the newline.
 pub const LONGEST_LINE: usize = 128;
 
-/// The title: the first line of a recording, without its newline.
+/// The title of every recording: its first line, without the newline.
 const TITLE: &[u8] = b"listset-calls 1";
 
-/// A section of a recording, named after its lines. A reader is in section `Opening` after the title, and in `Done`
-/// after the last line.
+/// A section of a recording. It has the name of its lines: for example, the lines of `Calls` are calls. A reader is in
+/// section `Opening` after the title, and in `Done` after the last line.
 #[derive(Clone, Copy)]
 pub enum Section {
     Title,
@@ -40,8 +40,8 @@ pub enum Section {
     Done,
 }
 
-/// What a line of a recording says: the title, an opening key, a call, a final key, the end, or that the recording was
-/// cut off.
+/// The content of a line of a recording: the title, an opening key, a call, a final key, the end, or that the recording
+/// was cut off.
 #[derive(Clone, Copy)]
 pub enum Line {
     Title,
@@ -53,7 +53,7 @@ pub enum Line {
 }
 
 impl Line {
-    /// Returns the section that a reader is in after this line.
+    /// Returns the section of the recording that the reader is in after this line.
     pub fn section(self) -> Section
         ensures { result ≡ section_after self }
     {
@@ -92,7 +92,7 @@ impl Section {
     }
 }
 
-/// The fields of a call's line, from the thread to the start of the call.
+/// The fields of a call's line, from the thread of the call to its start.
 #[derive(Clone, Copy)]
 struct CallPieces<'a> {
     thread: &'a [u8],
@@ -172,7 +172,7 @@ fn ended_call(pieces: CallPieces<'_>, end: &[u8], reply: &[u8]) -> Result<Line, 
     }
 }
 
-/// Reads the line of a call from the field of its thread and the bytes after this field.
+/// Reads the line of a call from the field with its thread, and the bytes after this field.
 fn call(thread: &[u8], rest: &[u8]) -> Result<Line, Cause>
     ensures { result ≡ first_of One Cause.Line call_kinds (codes "call" ∷ thread.now ∷ cut_at 32 rest.now) }
 {
@@ -241,7 +241,7 @@ fn line_in(section: Section, line: &[u8]) -> Result<Line, Cause>
     call(second, rest)
 }
 
-/// Reads the first line of a recording, which must be the title. Otherwise returns `Header`.
+/// Reads the first line of a recording, which must be the title. Returns `Header` for any other line.
 fn title_told(line: &[u8]) -> Result<Line, Cause>
     ensures { result ≡ title_told line.now }
 {
@@ -252,13 +252,13 @@ fn title_told(line: &[u8]) -> Result<Line, Cause>
     }
 }
 
-/// Reads a line, without its newline, if the reader is in this section. Does not allocate.
+/// Reads a line, without its newline, in this section of the recording. Does not allocate.
 ///
 /// # Errors
 ///
 /// Returns `Header` if the first line is not the title. For a later line, returns `Line` if the line has more than
-/// `LONGEST_LINE` bytes or is of no kind that can come next, and `Number` if a field that must be a number is not one
-/// or is out of range.
+/// `LONGEST_LINE` bytes, or its kind is not allowed here. Returns `Number` if a field that must be a number is not a
+/// number or is out of range.
 pub fn line_told(section: Section, line: &[u8]) -> Result<Line, Cause>
     ensures { result ≡ line_told section line.now }
 {

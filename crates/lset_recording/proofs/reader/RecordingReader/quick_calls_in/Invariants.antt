@@ -3,8 +3,8 @@ use Rattle.lset_recording.specs.Reading.{takes_calls}
 use Rattle.lset_recording.specs.Kept.{IsRead}
 use Rattle.lset_recording.proofs.reader.RecordingReader.quick_calls_in.Given as goal
 
--- Loop invariant: the reader has read some whole lines from the beginning of the piece, and `rest` contains the
--- remaining bytes.
+-- Loop invariant: the reader has read some complete lines from the start of `piece`, and `rest` contains the remaining
+-- bytes of `piece`.
 abbrev pub invariant-loop-call : goal.invariant-loop-call
 invariant-loop-call l =
     (done : List ℕ) × (l.piece ≡ done ++ l.rest)
