@@ -1,5 +1,5 @@
--- How many nodes are ahead of a walk: those with greater keys than the node it has reached. Since keys increase along a
--- walk, this bounds the number of its remaining steps.
+-- Proofs about the nodes ahead of a walk: the nodes with greater keys than the node that the walk has reached. Since
+-- keys increase along a walk, the number of these nodes bounds the number of its remaining steps.
 use Rattle.std.specs.Prelude.{◌≡◌, ℕ, ◌+◌, ◌<◌, ◌≤◌, if◌then◌else◌, nat_lt}
 use Rattle.std.proofs.Common.{arith, inl, inr, ap, zero, suc}
 use Rattle.lset_words.proofs.Numbers.{same_or_not, below_or_not, if_below, if_not_below}

@@ -1,5 +1,5 @@
--- Proof that a call ends if its thread runs alone and each of its steps ends the call or decreases a bound on the steps
--- that remain.
+-- Proof: a call that runs alone ends if each of its steps either ends it or decreases a bound on the number of its
+-- remaining steps.
 use Rattle.std.specs.Prelude.{◌≡◌, ℕ, ◌<◌, ◌≤◌, ◌⊎◌, if◌then◌else◌, ◌==◌, length, refl}
 use Rattle.std.proofs.Common.{arith, inl, inr, sym, ◌∙◌, ap, subst, zero, suc}
 use Rattle.lset_words.proofs.Numbers.{if_same, if_other}
@@ -11,7 +11,7 @@ use Rattle.lset_steps.specs.Laws.{Lawful}
 use Rattle.lset_steps.proofs.MoreEvents.{state_agree}
 use Rattle.lset_progress.specs.Progress.{IsPending, Answers, EndsAlone}
 
--- Returns the events of a run, with a step of thread t as the event after moment k.
+-- Returns the events es, but with a step of thread t as the event after moment k.
 abbrev pub then_go : (ℕ → Event) → ℕ → ℕ → ℕ → Event
 then_go es k t j = if j == k then Go t else es j
 
@@ -40,15 +40,15 @@ module _ (T : Table) (op : Opening) (es : ℕ → Event) (k t : ℕ) where
     ];
   }
 
--- What is known about a thread's pending call if it ends within a number of steps. The arguments are the sizes of the
--- list, its state, the thread, and this number.
+-- A predicate of a thread's pending call: within n more steps, the call ends. The arguments are the sizes of the list,
+-- its state, the thread, and n.
 abbrev pub Stages : Type 1
 Stages = Sizes → State → ℕ → ℕ → Type 0
 
 pub record Nears (T : Table) (Stage : Stages) : Type 0 where
   pub some : (sz : Sizes) (s : State) (t : ℕ) → Stage sz s t 0 → ⊥
   pub pending : (sz : Sizes) (s : State) (t n : ℕ) → Stage sz s t n → IsPending s t
-  -- Each step that thread t makes ends its call or decreases the number of steps that remain.
+  -- Each step of thread t ends its call or decreases the number of remaining steps by 1.
   pub steps : (op : Opening) (es : ℕ → Event) (k t n : ℕ) → Run T op es (suc k) → es k ≡ Go t → t < op.threads
       → Stage (sizes op) (state_at T op es k) t (suc n)
       → Answers T (state_at T op es k) t ⊎ Stage (sizes op) (after T (state_at T op es k) (Go t)) t n

@@ -1,5 +1,5 @@
--- Proof that in a fair run of LazyList, some call ends even if only `ceiling` calls are pending. As long as no call
--- that takes locks is pending, no node of the chain is marked and no word changes, so each `ceiling` ends.
+-- Proof: in a fair run of LazyList, some call ends even if only `ceiling` calls are pending. While only `ceiling` calls
+-- are pending, no node of the chain is marked and no word changes. Therefore each `ceiling` ends.
 use Rattle.std.specs.Prelude.{◌≡◌, ◌≢◌, ℕ, ◌+◌, ◌-◌, ◌<◌, ◌≤◌, ◌⊎◌, Bool, true, false, if◌then◌else◌, List, slice_index, refl}
 use Rattle.std.proofs.Common.{arith, inl, inr, sym, ◌∙◌, ap, subst, zero, suc}
 use Rattle.lset_words.proofs.Numbers.{same_or_not, if_same, if_other}
@@ -121,7 +121,7 @@ module _ (op : Opening) (es : ℕ → Event) (fair : IsFair lazy op es) (t : ℕ
       en.0)
       ∙ (lazy_lawful.steps op (suc k) k t es (fair.run (suc k)) (omega arith) ee).same_call
 
-  -- The case that the thread makes a step of its `ceiling`.
+  -- The case that the next event is a step of the `ceiling`.
   mine : (m k : ℕ) → ((j : ℕ) → Waits j m → Ends j) → Waits k (suc m) → es k ≡ Go t → NoneCounts k op.threads → Ends k
   mine m k again w ee none =
       let row = row_at k (suc m) w in
@@ -154,7 +154,8 @@ module _ (op : Opening) (es : ℕ → Event) (fair : IsFair lazy op es) (t : ℕ
         }))
       ]
 
-  -- The case of another thread's event: the words stay the same, and so does the number of remaining steps.
+  -- The case that the next event belongs to another thread: no word changes, and neither does the number of remaining
+  -- steps of the `ceiling`.
   stays : (k m : ℕ) → Waits k m → (state_at lazy op es (suc k)).words ≡ (state_at lazy op es k).words
       → local_of (state_at lazy op es (suc k)) t ≡ local_of (state_at lazy op es k) t → Waits (suc k) m
   stays k m w words same = record {

@@ -1,5 +1,5 @@
--- A `ceiling` of LockFreeList that never ends although every other thread is idle. The run is written out: after 27
--- events, five steps of the `ceiling` lead back to the same state.
+-- Proof: a `ceiling` of LockFreeList can run forever although every other thread is idle. The proof is a run that is
+-- written out: after 27 events, five steps of the `ceiling` lead back to the same state.
 use Rattle.std.specs.Prelude.{◌≡◌, ◌≢◌, ℕ, ◌<◌, List, [], ◌∷◌, length, refl}
 use Rattle.std.proofs.Common.{arith, sym, subst, zero, suc}
 use Rattle.lset_words.specs.declared.Call.TheVariants.{Add, Remove, Ceiling}
@@ -10,8 +10,8 @@ use Rattle.lset_lock_free.specs.LockFree.{lock_free}
 use Rattle.lset_progress.proofs.WrittenRuns.{op, run, is_run, is_after, state_after, never_ends_alone}
 use Rattle.lset_progress.specs.Progress.{IsPending, IsCeiling, EndsAlone, SomeCeilingNeverEnds}
 
--- The run up to the loop. Thread 0 adds 5 and is about to link 3 before it. Thread 1 marks the node of 5, but fails to
--- unlink it, since thread 0 has linked 3. Then thread 0 begins a `ceiling` of 4 and makes its first five steps.
+-- The events before the loop. Thread 0 adds 5 and is about to link 3 before it. Thread 1 marks the node of 5, but fails
+-- to unlink it, since thread 0 has linked 3. Then thread 0 begins a `ceiling` of 4 and makes its first five steps.
 abbrev events : List Event
 events = Begin 0 (Add (record { 0 = 5 })) ∷ Go 0 ∷ Go 0 ∷ Go 0 ∷ Go 0 ∷ Go 0 ∷ Go 0
     ∷ Begin 0 (Add (record { 0 = 3 })) ∷ Go 0 ∷ Go 0 ∷ Go 0 ∷ Go 0 ∷ Go 0

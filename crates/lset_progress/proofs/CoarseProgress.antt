@@ -1,5 +1,5 @@
--- Progress of CoarseList: what each row does to the number of steps that remain. It follows that a call ends if it runs
--- alone, and that the list is free from livelock and deadlock.
+-- Proof of progress for CoarseList: how each row of its step table changes the number of remaining steps. It follows
+-- that a call ends if it runs alone, and that the list is free from livelock and deadlock.
 use Rattle.std.specs.Prelude.{◌≡◌, ℕ, ◌+◌, ◌*◌, ◌/◌, ◌<◌, nat_le, Bool, false, List, [], ◌∷◌, refl, slice_index}
 use Rattle.std.proofs.Common.{arith, inl, subst}
 use Rattle.lset_words.proofs.Numbers.{if_other}
@@ -26,14 +26,14 @@ use Rattle.lset_progress.proofs.Rest.{rest, few_by, fewer}
 use Rattle.lset_progress.proofs.RowsWithLocks.{Shape, Loads, RowOf, within, Only, at_row, goes, on, takes, timed, unlocks, writes}
 use Rattle.lset_progress.proofs.Standing.{Standing, stands}
 
--- Returns how many steps remain after the next one. The list has a number for each row of the step table, starting with
--- row 0.
+-- Returns how many steps of a call remain after its next step. The list contains this number for each row of the step
+-- table, from row 0 on.
 abbrev left : ℕ → (ℕ → ℕ) → Local → ℕ
 left size key l = slice_index (0 ∷ (2 * size + 2) ∷ (2 * size + 1) ∷ (2 * ahead key size (key l.curr) + 4)
     ∷ (2 * ahead key size (key l.curr) + 3) ∷ 3 ∷ 2 ∷ 1 ∷ 2 ∷ 1 ∷ 0 ∷ []) l.pc
 
--- What the general proofs need to know about CoarseList. A thread holds the lock from row 2 of the step table on, and
--- is past its decision at rows 5 to 10.
+-- The facts about CoarseList that the general proofs of progress use. A thread can hold the lock from row 2 of the step
+-- table on, and its call has decided what to change from row 5 to row 10.
 abbrev shape : Shape
 shape = record {
   may = λ l x. (x ≡ 0) × Only (nat_le 2 l.pc);
@@ -55,7 +55,7 @@ module _ {sz : Sizes} {ws : List ℕ} {used : ℕ → ℕ} {t : ℕ} {vs : ℕ �
   abbrev Row : Local → Type 0
   Row k = RowOf shape size coarse sz ws t (coarse_steps sz) k
 
-  -- States that row n of the step table loads a word and leads to state k.
+  -- States that row n of the step table loads a word and leads to the private state k.
   abbrev To : ℕ → Local → Type 0
   To n k = Loads shape size ws (record l { pc = n }) (continued k)
 

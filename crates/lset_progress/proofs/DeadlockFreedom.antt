@@ -1,6 +1,6 @@
--- Proof that freedom from livelock implies freedom from deadlock. If a thread's next step is not a failed attempt to
--- take a lock, this remains true until another thread makes a counted step. Therefore, in a fair run, counted steps are
--- made again and again.
+-- Proof: freedom from livelock implies freedom from deadlock. If a thread's next step is not a failed attempt to take a
+-- lock, this remains true until another thread makes a counted step (a step that is not such an attempt). Therefore, in
+-- a fair run, counted steps are made again and again.
 use Rattle.std.specs.Prelude.{◌≡◌, ◌≢◌, ℕ, ◌+◌, ◌-◌, ◌/◌, ◌%◌, ◌<◌, ◌≤◌, ◌⊎◌, true, false, List, Option, Some, None}
 use Rattle.std.specs.Prelude.{if◌then◌else◌, ◌==◌, nat_lt, slice_index, slice_set, refl}
 use Rattle.std.proofs.Common.{arith, inl, inr, sym, ◌∙◌, ap, subst, zero, suc}
@@ -68,8 +68,8 @@ module _ (T : Table) (law : Lawful T) (S : Shape) (most : Sizes → ℕ) (shows 
   abbrev count : State → Event → ℕ
   count = moves calls T
 
-  -- States that after moment k, some call ends or at least m more counted steps (not failed attempts to take a lock)
-  -- are made.
+  -- States that in some number of events after moment k, a counted step ends its call, or at least m counted steps are
+  -- made. A counted step is not a failed attempt to take a lock.
   abbrev Gather : ℕ → ℕ → Type 0
   Gather m k = (n : ℕ) × (SomeEnds (moves calls T) T op es k n ⊎ (m ≤ steps_among (moves calls T) T op es k n))
 
@@ -82,13 +82,13 @@ module _ (T : Table) (law : Lawful T) (S : Shape) (most : Sizes → ℕ) (shows 
     ],
   )
 
-  -- States that thread t has a pending call whose steps are counted.
+  -- States that thread t has a pending call, and that the steps of this call are counted.
   record Busy (k t : ℕ) : Type 0 where
     in_threads : t < op.threads
     pending : IsPending (state_at T op es k) t
     meant : calls (local_of (state_at T op es k) t).call ≡ 1
 
-  -- A counted step ends its call, or the thread still has a pending call whose steps are counted.
+  -- A counted step of thread v ends its call, or v still has a pending call with counted steps.
   module _ (m : ℕ) (again : (k t : ℕ) → Busy k t → Gather m k) (k v : ℕ) (ee : es k ≡ Go v) (b : Busy k v)
       (weighs : moves calls T (state_at T op es k) (Go v) ≡ 1) where
     abbrev L : Local
@@ -145,8 +145,8 @@ module _ (T : Table) (law : Lawful T) (S : Shape) (most : Sizes → ℕ) (shows 
       → moves calls T s (Go v) ≡ unless_failed s.words (T.next (local_of s v)) n
   weight_of s v n e = ap (unless_failed s.words (T.next (local_of s v))) e
 
-  -- The next step of thread u is not a failed attempt to take a lock, and u has not made this step yet. Each event
-  -- until then is a counted step, or does not change this.
+  -- Thread u is ready: its next step, which it has not made yet, is not a failed attempt to take a lock. Every other
+  -- event before this step is a counted step, or u is still ready after it.
   module _ (m : ℕ) (again : (k t : ℕ) → Busy k t → Gather m k) (u : ℕ) where
     record Ready (k : ℕ) : Type 0 where
       busy : Busy k u

@@ -1,4 +1,4 @@
--- Proofs by cases: a property of the state after a test or after a decision holds if it holds for each outcome.
+-- Proofs by cases: a property holds after a test or a decision of a call if it holds for each outcome.
 use Rattle.std.specs.Prelude.{◌≡◌, ◌≢◌, ℕ, ◌<◌, ◌≤◌, ◌⊎◌, Bool, true, false, Option, Some, None, if◌then◌else◌, ◌==◌, nat_lt}
 use Rattle.std.specs.Prelude.{refl}
 use Rattle.std.proofs.Common.{inl, inr, sym, subst}
@@ -24,8 +24,8 @@ by_below P a b {x} {y} this other = elim (below_or_not a b) [
   | inr g ↦ subst P (sym (if_not_below a b g x y)) (other g)
 ]
 
--- A decision has three outcomes: the call continues at the row that adds, at the row that removes, or with a reply at
--- the row that leaves.
+-- A decision of a call has three outcomes. The call continues at the row of the step table that adds a key, at the row
+-- that removes a key, or, with its reply, at the row for calls that change nothing.
 module _ (P : Local → Type 0) (a d u c : ℕ) (l : Local) (adds : P (goes_to a None l)) (removes : P (goes_to d None l))
     (leaves : (r : Reply) → P (goes_to u (Some r) l)) where
   by_call : (call : Call) (found room : Bool) → P (decided a d u call found room c l)

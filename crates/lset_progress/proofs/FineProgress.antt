@@ -1,5 +1,5 @@
--- Progress of FineList: what each row does to the number of steps that remain. It follows that a call ends if it runs
--- alone, and that the list is free from livelock and deadlock.
+-- Proof of progress for FineList: how each row of its step table changes the number of remaining steps. It follows that
+-- a call ends if it runs alone, and that the list is free from livelock and deadlock.
 use Rattle.std.specs.Prelude.{◌≡◌, ℕ, ◌+◌, ◌*◌, ◌/◌, ◌<◌, ◌||◌, Bool, false, List, [], ◌∷◌, refl, slice_index}
 use Rattle.std.proofs.Common.{arith, inl, inr, subst}
 use Rattle.lset_words.proofs.Numbers.{if_other}
@@ -27,8 +27,8 @@ use Rattle.lset_progress.proofs.RowsWithLocks.{Shape, Loads, RowOf, NodeLocks, w
 use Rattle.lset_progress.proofs.RowsWithLocks.{writes, no_lock, pred_only, gave_pred, gave_curr, after_pred}
 use Rattle.lset_progress.proofs.Standing.{Standing, stands}
 
--- Returns how many steps remain after the next one. The list has a number for each row of the step table, starting with
--- row 0.
+-- Returns how many steps of a call remain after its next step. The list contains this number for each row of the step
+-- table, from row 0 on.
 abbrev left : ℕ → (ℕ → ℕ) → Local → ℕ
 left size key l = slice_index (0 ∷ (4 * size + 1) ∷ (4 * size) ∷ (4 * ahead key size (key l.curr) + 6)
     ∷ (4 * ahead key size (key l.curr) + 5) ∷ (4 * ahead key size (key l.curr) + 4)
@@ -55,11 +55,11 @@ module _ {sz : Sizes} {ws : List ℕ} {used : ℕ → ℕ} {t : ℕ} {vs : ℕ �
   abbrev Row : Local → Type 0
   Row k = RowOf shape size fine sz ws t (fine_steps sz) k
 
-  -- States that row n of the step table loads a word and leads to state k.
+  -- States that row n of the step table loads a word and leads to the private state k.
   abbrev To : ℕ → Local → Type 0
   To n k = Loads shape size ws (record l { pc = n }) (continued k)
 
-  -- Moving from pred to curr decreases the number of nodes with greater keys.
+  -- The number of nodes with greater keys is smaller for curr than for pred, the node before curr.
   curr_less : Behind V t (target l.call) l.pred l.curr → rest size ws l.curr < rest size ws l.pred
   curr_less b =
       let follows : node_link ws l.pred ≡ 2 * l.curr = b.follows in

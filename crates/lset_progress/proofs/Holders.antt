@@ -1,5 +1,5 @@
--- Proof that a thread that holds a lock has a pending call, at a row at which it can hold this lock. Therefore no
--- thread waits for itself, and the holder of a lock can always make another step.
+-- Proof: a thread that holds a lock has a pending call, and the call is at a row of the step table that allows this
+-- lock. Therefore no thread waits for itself, and the holder of a lock can always make another step.
 use Rattle.std.specs.Prelude.{◌≡◌, ◌≢◌, ℕ, ◌+◌, ◌<◌, ◌≤◌, ◌⊎◌, if◌then◌else◌, ◌==◌, slice_index, length, refl}
 use Rattle.std.proofs.Common.{arith, inl, inr, sym, ◌∙◌, ap, subst, zero, suc}
 use Rattle.lset_words.proofs.Numbers.{same_or_not, if_same, if_other}
@@ -16,8 +16,8 @@ use Rattle.lset_steps.proofs.LockWords.{lock_word}
 use Rattle.lset_steps.proofs.Discipline.{put_same, put_other}
 use Rattle.lset_progress.specs.Progress.{NoOtherHolds}
 
--- If a thread holds a lock after a store, it held the lock before the store, and the store was to another word. The
--- next lemma states the same for an exchange.
+-- If thread u holds lock x after a store, u held lock x before the store, and the store was to another word. The next
+-- lemma is about an exchange: u held lock x before, or the exchange gave x to u.
 pub after_store : (x t u old w v : ℕ) → held x t old (Store w v) ≡ u + 1 → (old ≡ u + 1) × (w ≢ x)
 after_store x t u old w v e = elim (same_or_not w x) [
   | inl y ↦ absurd (let z : 0 ≡ u + 1 = sym (if_same w x y 0 old) ∙ e in omega arith)
@@ -44,7 +44,8 @@ others_keep x t u old (Exchange w o v) d e = elim (after_try x t u old w o v e) 
   | inr z ↦ absurd (d z.2)
 ]
 
--- What the proof of a list must show: which locks a thread can hold, depending on its private state (`May`).
+-- The facts about a list that its proof must show, for a choice of the locks that a thread can hold in each private
+-- state (`May`).
 pub record MayHold (T : Table) (May : Local → ℕ → Type 0) : Type 0 where
   pub rests : (l : Local) (x : ℕ) → l.pc ≡ 0 → May l x → ⊥
   pub steps : (op : Opening) (last k t x : ℕ) (es : ℕ → Event) → Run T op es last → k < last → es k ≡ Go t → t < op.threads
@@ -69,7 +70,7 @@ module _ (T : Table) (law : Lawful T) (May : Local → ℕ → Type 0) (may : Ma
   Known k = (u : ℕ) → slice_index (state_at T op es k).words x ≡ u + 1
       → (u < op.threads) × May (local_of (state_at T op es k) u) x
 
-  -- After each event, it is still true that only pending calls hold locks, and only locks that `May` allows.
+  -- If lock x is held only by a thread that can hold it by `May`, this remains true after the next event.
   known_after : (k : ℕ) → k < last → (e : Event) → es k ≡ e → Enabled (state_at T op es k) e → Known k → Known (suc k)
   known_after k l (Begin t call) ee en i u h =
       let old : slice_index (state_at T op es k).words x ≡ u + 1 = sym (word_next k l (Begin t call) ee) ∙ h in
@@ -124,7 +125,7 @@ module _ (T : Table) (law : Lawful T) (May : Local → ℕ → Type 0) (may : Ma
   holder_known zero l = opens_free
   holder_known (suc k) l = known_after k (omega arith) (es k) refl (r.enabled k (omega arith)) (holder_known k (omega arith))
 
--- If no other thread holds a lock, and t cannot hold it in its private state, the lock is free.
+-- A number is 0 or u + 1 for some u: a lock word is 0 if the lock is free, or u + 1 if thread u holds it.
 pub one_or_more : (x : ℕ) → (x ≡ 0) ⊎ ((u : ℕ) × (x ≡ u + 1))
 one_or_more zero = inl refl
 one_or_more (suc u) = inr (u, omega arith)
@@ -145,7 +146,7 @@ module _ (T : Table) (law : Lawful T) (May : Local → ℕ → Type 0) (may : Ma
         ])
   ]
 
--- A step of thread t cannot make any other thread the holder of a lock.
+-- A step of thread t cannot make another thread the holder of a lock.
 module _ (T : Table) (law : Lawful T) (op : Opening) (es : ℕ → Event) (k t : ℕ) (r : Run T op es (suc k)) (ee : es k ≡ Go t) where
   word_after : (x : ℕ) → IsLockWord x → x < word_count (sizes op)
       → slice_index (after T (state_at T op es k) (Go t)).words x

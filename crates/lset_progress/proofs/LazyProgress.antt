@@ -1,5 +1,5 @@
--- Progress of LazyList: what each row does to the number of steps that remain. A call that runs alone passes validation
--- at its second walk at the latest, and meets no marked node.
+-- Proof of progress for LazyList: how each row of its step table changes the number of remaining steps. If a call runs
+-- alone, at most its first walk fails validation, and no walk finds a marked node.
 use Rattle.std.specs.Prelude.{◌≡◌, ◌≢◌, ℕ, ◌+◌, ◌*◌, ◌/◌, ◌%◌, ◌<◌, ◌≤◌, ◌⊎◌, ◌||◌, Bool, true, false, Option, Some, None, if◌then◌else◌, ◌==◌}
 use Rattle.std.specs.Prelude.{is_some, List, [], ◌∷◌, slice_index, refl}
 use Rattle.std.proofs.Common.{arith, get_or, inl, inr, sym, ◌∙◌, ap, subst}
@@ -48,8 +48,7 @@ use Rattle.lset_progress.proofs.Windows.{counted_or_not}
 pub follows : Discipline lazy true At
 follows = discipline_of lazy (node_locks true) At lazy_follows
 
--- What a thread knows when it is about to unlink a marked node (row 12 of the step table), and what it knows in a
--- `ceiling`.
+-- The facts about a thread that is about to unlink a marked node (row 12 of the step table), and about a `ceiling`.
 what_stands : {q t : ℕ} {vs : ℕ → View} {first now : ℕ} {v : View} {done : Bool} {l : Local} → At q t vs first now v done l
     → Stands v t l
 what_stands at = record { takes_out = λ h. (grind arith, grind arith); ceiling = λ h. grind arith }
@@ -81,9 +80,9 @@ lazy_marks = record {
   takes_at = takes_out_at;
 }
 
--- The number of steps that one more walk from the head adds. `left` returns how many steps of a walk that will pass
--- validation remain after the next one: a number for each row of the step table. A call without a reply releases both
--- locks and walks again.
+-- The number of steps of an additional walk from the head. `left` returns how many steps remain after the next one in a
+-- walk that will pass validation, for each row of the step table. A call without a reply releases both locks and walks
+-- again.
 abbrev round : ℕ → ℕ
 round size = 2 * size + 7
 
@@ -100,9 +99,9 @@ left size key l = get_or (0 ∷ (2 * size + 6) ∷ (2 * ahead key size (key l.cu
     ∷ (2 * ahead key size (key l.curr) + 8) ∷ 8 ∷ 7 ∷ 6 ∷ 5 ∷ 4 ∷ 3 ∷ 2 ∷ 3 ∷ 2 ∷ (1 + then_again size l.reply)
     ∷ (then_again size l.reply) ∷ []) l.pc (reads_left size key l)
 
--- What the general proofs need to know about LazyList. The walk is valid, which means that validation will succeed, if
--- pred is in the chain, curr is the next node, and neither is marked when both are locked. After its decision, a thread
--- that releases its locks has a reply. While a `ceiling` walks, no node of the chain is marked.
+-- The facts about LazyList that the general proofs of progress use. A walk is `valid` (validation will succeed) if pred
+-- is in the chain, curr is the next node, and neither is marked when both are locked. After its decision, a thread that
+-- releases its locks has a reply. While a `ceiling` walks, no node of the chain is marked.
 abbrev pub shape : Shape
 shape = record {
   may = NodeLocks (within 5 14) (within 6 13);
@@ -136,14 +135,14 @@ module _ {sz : Sizes} {ws : List ℕ} {used : ℕ → ℕ} {t : ℕ} {vs : ℕ �
   abbrev Row : Local → Type 0
   Row k = RowOf shape size lazy sz ws t (lazy_steps sz) k
 
-  -- States that row n of the step table loads a word and leads to state k.
+  -- States that row n of the step table loads a word and leads to the private state k.
   abbrev To : ℕ → Local → Type 0
   To n k = Loads shape size ws (record l { pc = n }) (continued k)
 
   user : (a : ℕ) → node_key ws a < target l.call → a ≢ 1
   user a lt = inner true sz ws used h.memory a (target l.call) lt h.registers.low
 
-  -- Moving from pred to curr decreases the number of nodes with greater keys.
+  -- The number of nodes with greater keys is smaller for curr than for pred, the node before curr.
   curr_less : Found V (target l.call) l.pred l.curr l.ckey → rest size ws l.curr < rest size ws l.pred
   curr_less f =
       let below : node_key ws l.pred < target l.call = f.spot.below in
@@ -152,15 +151,15 @@ module _ {sz : Sizes} {ws : List ℕ} {used : ℕ → ℕ} {t : ℕ} {vs : ℕ �
       ahead_less (node_key ws) size (node_key ws l.pred) l.curr (inside true sz ws used h.memory l.curr f.spot.curr_published)
       (omega arith)
 
-  -- The links from the head that the walk has followed lead to curr.
+  -- If the links from the head lead to pred, and the next node is curr, the links lead to curr.
   comes : Path (node_link ws) 0 l.pred × (node_link ws l.pred / 2 ≡ l.curr) → node_key ws l.pred < target l.call
       → Path (node_link ws) 0 l.curr
   comes v below = path_on (node_link ws) 0 l.pred l.curr v.0 (user l.pred below) v.1
 
   module _ (few : rest size ws l.curr < size) (pred : l.pred < node_count sz) (curr : l.curr < node_count sz)
       (round_few : then_again size l.reply ≤ 2 * size + 7) where
-    -- States that row 14 of the step table releases the last lock, and that the call ends with reply r or, without a
-    -- reply, starts again.
+    -- States that row 14 of the step table releases the last lock. The call then ends with the reply r or, if there is
+    -- no reply, starts again.
     abbrev Last : Option Reply → Type 0
     Last r = Stores shape size ws (record l { pc = 14 }) (lock_index l.pred) ws (released r (record l { pc = 14 }))
 
@@ -173,7 +172,7 @@ module _ {sz : Sizes} {ws : List ℕ} {used : ℕ → ℕ} {t : ℕ} {vs : ℕ �
       | inr z ↦ subst Last (sym z.1) (stops (λ x o m. gave_pred o m))
     ]
 
-    -- What a row of a `contains` or a `ceiling` does to the number of steps that remain.
+    -- Each row of a `contains` or a `ceiling` has the required effect on the number of remaining steps.
     read : (n : ℕ) {f : Fed} → IsReadRow n → Reads (round size) size (node_key ws) ws (record l { pc = n }) f
         → Loads shape size ws (record l { pc = n }) f
     read n {f} row a = reads_then shape size (node_key ws) ws (reads_at size (node_key ws) ws) (record l { pc = n }) f row a

@@ -1,6 +1,6 @@
--- Two runs, written out, in which two threads hinder each other forever. In the first, two adds do so in a broken list
--- without locks, which is therefore not lock-free. In the second, an add and a remove do so in a broken list with
--- locks, which is therefore not free from livelock and deadlock.
+-- Proofs by two runs that are written out. In each run, two threads hinder each other forever. The first run has two
+-- adds in a broken list without locks, which is therefore not lock-free. The second run has an add and a remove in a
+-- broken list with locks, which is therefore free neither from livelock nor from deadlock.
 use Rattle.std.specs.Prelude.{◌≡◌, ℕ, ◌<◌, Bool, List, [], ◌∷◌, refl}
 use Rattle.std.proofs.Common.{arith, zero, suc}
 use Rattle.lset_words.specs.declared.Call.TheVariants.{Add, Remove}
@@ -11,25 +11,25 @@ use Rattle.lset_progress.specs.DeadlockFreedom.{IsDeadlockFree, moves}
 use Rattle.lset_progress.specs.Wrong.{claiming, yielding, NotLivelockFree, NotLockFree}
 use Rattle.lset_progress.proofs.WrittenRuns.{turn, rounds_never_end, rounds_are_fair}
 
--- The run up to the loop: both threads have walked to the head and the tail, and have written their numbers, thread 1
--- last.
+-- The events before the loop: both threads have walked to the head and the tail, and have written their numbers into
+-- the head's lock word, thread 1 last.
 abbrev claims : List Event
 claims = Begin 0 (Add (record { 0 = 3 })) ∷ Go 0 ∷ Go 0 ∷ Go 0 ∷ Begin 1 (Add (record { 0 = 5 })) ∷ Go 1 ∷ Go 1 ∷ Go 1 ∷ Go 0
     ∷ Go 1 ∷ []
 
--- The events of the loop: each thread reads the other's number, and writes its own again.
+-- In the loop, each thread reads the other thread's number, and writes its own number again.
 pub claiming_is_not_lock_free : NotLockFree claiming
 claiming_is_not_lock_free reads most law = rounds_never_end claiming claims (Go 0) (Go 0 ∷ Go 1 ∷ Go 1 ∷ []) refl refl refl refl
     (steps_of reads) refl most law
 
--- The run up to the loop: thread 0 has added 5. Then thread 0, which adds 3, and thread 1, which removes 5, have both
--- walked to the head and the node of 5.
+-- The events before the loop: thread 0 has added 5. Then thread 0, which adds 3, and thread 1, which removes 5, have
+-- both walked to the head and the node of 5.
 abbrev yields : List Event
 yields = Begin 0 (Add (record { 0 = 5 })) ∷ Go 0 ∷ Go 0 ∷ Go 0 ∷ Go 0 ∷ Go 0 ∷ Go 0 ∷ Go 0 ∷ Go 0 ∷ Go 0 ∷ Go 0 ∷ Go 0 ∷ Go 0
     ∷ Begin 0 (Add (record { 0 = 3 })) ∷ Go 0 ∷ Go 0 ∷ Begin 1 (Remove (record { 0 = 5 })) ∷ Go 1 ∷ Go 1 ∷ []
 
--- The events of the loop: each thread takes its first lock, sees that the second is taken, releases the first, and
--- walks to the same nodes again.
+-- The events of the loop: each thread locks its first node, reads that its second node is locked, releases the first
+-- lock, and walks to the same nodes again.
 abbrev gives_back : List Event
 gives_back = Go 1 ∷ Go 0 ∷ Go 1 ∷ Go 0 ∷ Go 1 ∷ Go 0 ∷ Go 0 ∷ Go 1 ∷ Go 1 ∷ []
 

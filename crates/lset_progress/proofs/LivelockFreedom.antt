@@ -1,6 +1,6 @@
--- Proof that a list with locks is free from livelock. Only a call that has decided what to do writes a word other than
--- a lock, and at most 5 of its steps remain then. Between two such writes, each thread makes at most as many steps as a
--- call that runs alone. A potential, computed from both numbers, decreases with each counted step.
+-- Proof: a list with locks is free from livelock. Only a call that has decided what to change writes a word other than
+-- a lock, and the call then has at most 5 steps left. Between two such writes, each thread makes at most as many steps
+-- as a call that runs alone. A potential, computed from both numbers, decreases with each counted step.
 use Rattle.std.specs.Prelude.{◌≡◌, ◌≢◌, ℕ, ◌+◌, ◌*◌, ◌%◌, ◌<◌, ◌≤◌, ◌⊎◌, List, if◌then◌else◌, ◌==◌, nat_lt, true, false, refl}
 use Rattle.std.specs.Prelude.{slice_index, slice_set}
 use Rattle.std.proofs.Common.{arith, inl, inr, sym, ◌∙◌, ap, subst, suc}
@@ -30,9 +30,9 @@ is_lock_test x (inr (i, e)) =
     if_other x 0 (omega arith) true (if nat_lt x 5 then false else if x % 3 == 2 then true else false)
     ∙ if_not_below x 5 (omega arith) false (if x % 3 == 2 then true else false) ∙ if_same (x % 3) 2 (omega arith) true false
 
--- What the proof of a list must show about the calls whose steps are counted: they include every call that holds a lock
--- or changes the list; all other calls only read. If a counted step is not a failed attempt to take a lock, the words
--- are as this step needs them (`calm`).
+-- The facts about counted calls that the proof of a list must show. Every call that holds a lock or changes the list is
+-- counted, and all other calls only read. If a step of a counted call is not a failed attempt to take a lock, the words
+-- satisfy `calm`, the requirement of this step.
 pub record Counts (T : Table) (S : Shape) (calls : Call → ℕ) : Type 0 where
   pub one_or_none : (c : Call) → (calls c ≡ 0) ⊎ (calls c ≡ 1)
   pub late : (op : Opening) (last k t : ℕ) (es : ℕ → Event) → Run T op es last → k ≤ last → t < op.threads
@@ -54,12 +54,12 @@ module _ (T : Table) (law : Lawful T) (S : Shape) (most : Sizes → ℕ) (shows 
   abbrev Fits : Sizes → List ℕ → ℕ → Local → Type 0
   Fits sz ws m l = (most sz ≤ m) ⊎ ((l.pc ≢ 0) × (calls l.call ≡ 1) × Timed S (node_count sz) ws m l)
 
-  -- States that m steps are enough for what the thread does after its decision: 5 steps, or the remaining ones if it
-  -- has decided.
+  -- States that m steps are enough for a thread's steps after its decision what to change: m is at least 5, or the
+  -- thread has decided and has at most m steps left.
   abbrev Owes : ℕ → Local → Type 0
   Owes m l = (5 ≤ m) ⊎ LateBy S m l
 
-  -- Returns by how much one write can increase the total number of steps that the threads need.
+  -- Returns the maximum increase, by one write, of the total number of steps that the threads need.
   abbrev price : Sizes → ℕ
   price sz = sz.threads * most sz
 
@@ -70,7 +70,8 @@ module _ (T : Table) (law : Lawful T) (S : Shape) (most : Sizes → ℕ) (shows 
     owes : (u : ℕ) → u < sz.threads → Owes (stores u) (local_of s u)
     within : price sz * total stores sz.threads + total time sz.threads ≤ p
 
-  -- If, after an event, the same numbers of steps are still enough for all threads, the potential has not increased.
+  -- If, after an event, the same numbers of steps are still enough for all threads, the bound p on the potential still
+  -- holds.
   same_phase : (sz : Sizes) (s s' : State) (p : ℕ) (f : Phase sz s p)
       → ((u : ℕ) → u < sz.threads → Fits sz s'.words (f.time u) (local_of s' u) × Owes (f.stores u) (local_of s' u))
       → Phase sz s' p
@@ -95,8 +96,8 @@ module _ (T : Table) (law : Lawful T) (S : Shape) (most : Sizes → ℕ) (shows 
         (sym (put_other s t u (T.begin c (local_of s t)) y)) (f.times u un, f.owes u un)
   ])
 
-  -- A counted step (not a failed attempt to take a lock) decreases the potential by one, unless it ends its call. No
-  -- other step increases the potential.
+  -- A counted step (not a failed attempt to take a lock) decreases the potential by one, unless the step ends its call.
+  -- No other step increases the potential.
   module _ (op : Opening) (last k : ℕ) (es : ℕ → Event) (r : Run T op es last) (below : k < last) (t : ℕ) (ee : es k ≡ Go t)
       (en : Enabled (state_at T op es k) (Go t)) (p : ℕ) (f : Phase (sizes op) (state_at T op es k) p) where
     abbrev s : State
@@ -210,11 +211,11 @@ module _ (T : Table) (law : Lawful T) (S : Shape) (most : Sizes → ℕ) (shows 
           ]),
         )
 
-      -- The case of a counted step, with n more steps that are enough for the call.
+      -- The case of a counted step. After it, n steps are enough for the rest of the call.
       module _ (one : calls L.call ≡ 1) (n : ℕ) (is : f.time t ≡ suc n)
           (time : Timed S (node_count (sizes op)) s.words (suc n) L) where
         -- Returns, for each thread, a number of steps that is enough after a write: n for thread t, and the maximum for
-        -- all others.
+        -- all other threads.
         abbrev again : ℕ → ℕ
         again = put (λ u. most (sizes op)) t n
 
@@ -242,7 +243,8 @@ module _ (T : Table) (law : Lawful T) (S : Shape) (most : Sizes → ℕ) (shows 
                 (subst (λ m. Owes m (local_of s u)) (sym (others u y)) (f.owes u un))
           ]
 
-          -- If keys and links do not change, the potential decreases by the thread's own step.
+          -- If the step changes no key and no link, the potential decreases by 1, since thread t has one step fewer
+          -- left.
           quiet : Kept → Later
           quiet same =
               let fewer : total (put f.time t n) op.threads + 1 ≤ total f.time op.threads =
@@ -268,7 +270,8 @@ module _ (T : Table) (law : Lawful T) (S : Shape) (most : Sizes → ℕ) (shows 
                 },
               )
 
-          -- If the thread has decided, the potential decreases by one of its 5 steps after the decision.
+          -- If the thread has decided what to change, the potential decreases, since the thread has made one of its 5
+          -- steps after the decision.
           stores_on : LateBy S 5 L → (m : ℕ) → f.stores t ≡ suc m → S.left 0 (λ a. 0) L < suc m → Later
           stores_on x m e few =
               let fewer : total (put f.stores t m) op.threads + 1 ≤ total f.stores op.threads =
@@ -392,7 +395,7 @@ module _ (T : Table) (law : Lawful T) (S : Shape) (most : Sizes → ℕ) (shows 
       (λ j p l f. one_event op (k + n) es r j p l f (es j) refl (r.enabled j l)) (none_left op (k + n) es r (some (sizes op)))
       n k (lock_window most (sizes op)) (omega arith) (starts op (k + n) es r k) h
 
--- If no step requires anything of the words (`calm`), the steps of all calls can be counted.
+-- If no step has a requirement on the words (`calm` always holds), the steps of all calls can be counted.
 pub each_counts : (T : Table) (S : Shape) → ((ws : List ℕ) (l : Local) → S.calm ws l) → Counts T S (λ call. 1)
 each_counts T S calm = record {
   one_or_none = λ call. inr refl;

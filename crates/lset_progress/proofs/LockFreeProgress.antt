@@ -1,5 +1,5 @@
--- Progress of LockFreeList: what each row does to the number of steps that remain. It follows that a call ends if it
--- runs alone, whatever state the other threads are in.
+-- Proof of progress for LockFreeList: how each row of its step table changes the number of remaining steps. It follows
+-- that a call ends if it runs alone, whatever state the other threads are in.
 use Rattle.std.specs.Prelude.{◌≡◌, ◌≢◌, ℕ, ◌+◌, ◌*◌, ◌/◌, ◌%◌, ◌<◌, ◌≤◌, ◌⊎◌, Bool, true, Some, None, List, [], ◌∷◌, refl}
 use Rattle.std.specs.Prelude.{if◌then◌else◌, ◌==◌, nat_lt, slice_index, slice_set}
 use Rattle.std.proofs.Common.{arith, get_or, inl, inr, sym, ◌∙◌, ap, subst, suc}
@@ -41,8 +41,8 @@ use Rattle.lset_progress.proofs.ReadProgress.{from_24, from_25}
 use Rattle.lset_progress.proofs.RowsWithLocks.{Shape, TimedBy, Then, Any, Only, at_row, no_time, again, on, stops}
 use Rattle.lset_progress.proofs.Standing.{Standing, stands}
 
--- The number of steps that one more walk from the head adds. `left` returns how many steps remain after the next one if
--- all exchanges succeed: a number for each row of the step table. If an exchange fails, the call walks again.
+-- The number of steps of an additional walk from the head. `left` returns how many steps remain after the next one if
+-- all exchanges succeed, for each row of the step table. If an exchange fails, the call walks again.
 abbrev pub round : ℕ → ℕ
 round size = 2 * size + 2
 
@@ -70,7 +70,7 @@ outside link l other along = record {
   along = along;
 }
 
--- Below row 23 of the step table and outside rows 2 to 9, nothing is required of the walk.
+-- At rows of the step table below 23, except rows 2 to 9, nothing is required of the walk.
 low_read : (link : ℕ → ℕ) (l : Local) → (2 ≤ l.pc → l.pc ≤ 9 → ⊥) → l.pc < 23 → Along link l → Valid link l
 low_read link l other low a = outside link l other (λ h. absurd (omega arith))
 
@@ -88,8 +88,8 @@ at_pred link l row follows =
       along = λ h. absurd (omega arith);
     }
 
--- What the general proofs need to know about LockFreeList. No thread holds a lock. While a `ceiling` walks, no node of
--- the chain is marked.
+-- The facts about LockFreeList that the general proofs of progress use. No thread holds a lock. While a `ceiling`
+-- walks, no node of the chain is marked.
 abbrev pub shape : Shape
 shape = record {
   may = λ l x. ⊥;
@@ -112,8 +112,8 @@ reads_at size key ws l =
     (λ x m. m, λ z. z, λ z. omega arith, refl, λ v. v.along (omega arith), high_read link _ (λ c d. omega arith), λ c. c)
     l.pc
 
--- States that the call ends within n steps if it runs alone: the exchanges of its walk will succeed, or n is enough for
--- one more walk.
+-- States that the call ends within n steps if it runs alone: either the exchanges of its walk will succeed, or n is
+-- also enough for one additional walk.
 abbrev pub Timed : ℕ → (ℕ → ℕ) → List ℕ → ℕ → Local → Type 0
 Timed size key ws n l = TimedBy shape size key (node_link ws) n l
 
@@ -141,7 +141,8 @@ module _ {sz : Sizes} {ws : List ℕ} {used : ℕ → ℕ} {t : ℕ} {vs : ℕ �
   abbrev size : ℕ
   size = node_count sz
 
-  -- States that the step from state k to the words ws' has the outcome f, and preserves what the general proofs need.
+  -- States that the step from the private state k to the words ws' has the outcome f, and preserves the facts that the
+  -- general proofs use.
   abbrev After : Local → List ℕ → Fed → Type 0
   After k ws' f = Then shape size key ws k Any key ws' f
       × (((r : Reply) × (f.answer ≡ Some r)) ⊎ ((23 ≤ k.pc → Plain ws) → 23 ≤ f.local.pc → Plain ws'))
@@ -153,8 +154,8 @@ module _ {sz : Sizes} {ws : List ℕ} {used : ℕ → ℕ} {t : ℕ} {vs : ℕ �
   abbrev From : ℕ → List ℕ → Fed → Type 0
   From n ws' f = After (record l { pc = n }) ws' f
 
-  -- The case of a step to a row below 23 of the step table. The lemmas after it have the cases of a step that starts
-  -- again from the head, and of a step that ends the call.
+  -- The case of a step to a row below 23 of the step table. The next lemmas are the cases of a step that starts again
+  -- from the head, and of a step that ends the call.
   to : {k k' : Local} {ws' : List ℕ} → Only (nat_lt 0 k'.pc) → k'.pc < 23 → (Valid (node_link ws) k → Valid (node_link ws') k')
       → left size key k' < left size key k → After k ws' (continued k')
   to busy low valid less = (on (λ x o m. m) busy (λ z. z) valid less, inr (λ c high. absurd (omega arith)))
@@ -283,7 +284,7 @@ module _ {sz : Sizes} {ws : List ℕ} {used : ℕ → ℕ} {t : ℕ} {vs : ℕ �
     both : {A B : Type 0} → A → B → A × B
     both a b = (a, b)
 
-    -- What a row of a `contains` or a `ceiling` does to the number of steps that remain.
+    -- Each row of a `contains` or a `ceiling` has the required effect on the number of remaining steps.
     read : (n : ℕ) {f : Fed} → IsReadRow n → Reads (round size) size key ws (record l { pc = n }) f → From n ws f
     read n {f} row a = (
       reads_then shape size key ws (reads_at size key ws) (record l { pc = n }) f row a,
@@ -351,7 +352,7 @@ module _ {sz : Sizes} {ws : List ℕ} {used : ℕ → ℕ} {t : ℕ} {vs : ℕ �
   row_of : Row l
   row_of = row (few_by size key l.curr h.registers.curr) h.at
 
--- A moment of a run, and a thread with a pending call at this moment.
+-- Lemmas about a thread t with a pending call at moment k of a run.
 module _ (op : Opening) (last k : ℕ) (es : ℕ → Event) (r : Run lock_free op es last) (upto : k ≤ last) (key : ℕ → ℕ)
     (agrees : SameKeys key (views lock_free op es k)) (t : ℕ) (tn : t < op.threads) where
   abbrev S : State

@@ -1,5 +1,5 @@
--- How a step of LockFreeList that does not end its call can change the nodes. Only the step that ends an `add` links a
--- node.
+-- Proof: how a step of LockFreeList that does not end its call can change the nodes. Only the step that ends an `add`
+-- links a node.
 use Rattle.std.specs.Prelude.{◌≡◌, ◌≢◌, ℕ, ◌<◌, ◌≤◌, ◌⊎◌, Bool, true, false, Option, Some, None, ◌||◌, refl}
 use Rattle.std.proofs.Common.{arith, inl, inr, sym, ◌∙◌, ap, subst, suc}
 use Rattle.lset_words.proofs.Numbers.{same_or_not}
@@ -31,7 +31,7 @@ use Rattle.lset_progress.specs.Progress.{IsCeiling, Answers}
 use Rattle.lset_progress.proofs.Rest.{SameKeys}
 use Rattle.lset_progress.proofs.HeadPlain.{the_step, words_are, the_move}
 
--- What is true at each moment of a run.
+-- The invariant of LockFreeList at moment k of a run.
 abbrev pub Known : Opening → ℕ → (ℕ → Event) → Type 1
 Known op k es = Inv true At (sizes op) (views lock_free op es) k (state_at lock_free op es k)
     (λ u. begun_at (log_of lock_free op es) u k) (λ u. has_changed (log_of lock_free op es) u k)
@@ -42,8 +42,8 @@ keeps = discipline_of lock_free (no_locks true) At lock_free_follows
 pub known : (op : Opening) (last k : ℕ) (es : ℕ → Event) → Run lock_free op es last → k ≤ last → Known op k es
 known op last k es r l = inv_at lock_free true At keeps op es last r k l
 
--- What a step can do to the nodes of the list: nothing, mark a node (then a `remove` continues at row 10), or unlink a
--- marked node.
+-- The possible changes of the nodes by a step: none, a node is marked (a `remove` then continues at row 10 of the step
+-- table), or a marked node is unlinked.
 pub data Stepped (v w : View) (l' : Local) : Type 0 where
   still : Quiet v w → Stepped v w l'
   marks : (b k : ℕ) → Marks v w b k → l'.pc ≡ 10 → Stepped v w l'
@@ -57,7 +57,7 @@ keys_on key (unlinks pred curr q) h a p = let p' = q.published_from a p in h a p
 not_both : {done : Bool} → done ≡ true → done ≡ false → ⊥
 not_both y n = let z : true ≡ false = sym y ∙ n in cc
 
--- What a thread knows about its call. Rows of the step table that do the same are combined.
+-- The facts about a thread's call, by the row of the step table. Rows with the same facts are combined.
 pub data Place (v : View) (done : Bool) (l : Local) : Type 0 where
   idle : l.pc ≡ 0 → Place v done l
   begins : l.pc ≡ 1 → done ≡ false → Place v done l

@@ -1,6 +1,6 @@
--- Proof that LockFreeList is lock-free. As long as no call ends, no node is added, so each thread marks at most one
+-- Proof: LockFreeList is lock-free. As long as no call ends, no node is added. Therefore each thread marks at most one
 -- node, and each node is unlinked at most once. Between two such exchanges, each thread makes at most the steps of its
--- current walk and of one more. A potential, computed from these numbers, decreases with each counted step.
+-- current walk and of one additional walk. A potential, computed from these numbers, decreases with each counted step.
 use Rattle.std.specs.Prelude.{◌≡◌, ◌≢◌, ℕ, ◌+◌, ◌*◌, ◌%◌, ◌<◌, ◌≤◌, ◌⊎◌, Bool, true, List, if◌then◌else◌, ◌==◌, refl}
 use Rattle.std.proofs.Common.{arith, inl, inr, sym, ◌∙◌, ap, subst, suc}
 use Rattle.lset_words.proofs.Numbers.{same_or_not, if_same, if_other}
@@ -33,20 +33,21 @@ use Rattle.lset_progress.proofs.RowsWithLocks.{no_time, timed_more}
 use Rattle.lset_progress.proofs.StepTotals.{total, total_less, total_all, total_at, total_step, one_price, put, put_this, put_that}
 use Rattle.lset_progress.proofs.Windows.{Then, some_ends, counted_or_not}
 
--- States that m steps are enough for a thread: the rest of its counted call and, if other threads have changed the
--- nodes of its walk, one more walk. If the thread has no such call, m must be the maximum of a whole call.
+-- States that m steps are enough for a thread: for the rest of its counted call and, if other threads have changed the
+-- nodes of its walk, for one additional walk. If the thread has no counted call, m must be at least the maximum for a
+-- whole call.
 abbrev Fits : Bool → Sizes → (ℕ → ℕ) → List ℕ → ℕ → Local → Type 0
 Fits reads sz key ws m l = (lock_free_steps sz ≤ m)
     ⊎ ((l.pc ≢ 0) × (counted reads l.call ≡ 1) × Timed (node_count sz) key ws m l)
 
--- Returns by how much one successful exchange can increase the total number of steps that the threads need.
+-- Returns the maximum increase, by one successful exchange, of the total number of steps that the threads need.
 abbrev price : Sizes → ℕ
 price sz = sz.threads * round (node_count sz)
 
 record Phase (reads : Bool) (sz : Sizes) (s : State) (p : ℕ) : Type 0 where
   key : ℕ → ℕ
-  -- `time` is a number of steps that is enough for each thread, `may_mark` is 1 for each thread that can still mark a
-  -- node, and `may_leave` is 1 for each node that can still be unlinked.
+  -- For each thread, `time` is a number of steps that is enough for it, and `may_mark` is 1 if it can still mark a
+  -- node. For each node, `may_leave` is 1 if it can still be unlinked.
   time : ℕ → ℕ
   may_mark : ℕ → ℕ
   may_leave : ℕ → ℕ
@@ -90,7 +91,7 @@ module _ (reads : Bool) (sz : Sizes) (s s' : State) (done : Bool) (l : Local) (x
     ],
   )
 
--- If the step changes nodes of the list, one more walk of the thread is enough.
+-- If the step changes nodes of the list, the steps of one additional walk have to be added.
 fits_later : (reads : Bool) (sz : Sizes) (key : ℕ → ℕ) (ws ws' : List ℕ) (m : ℕ) (l : Local) → Fits reads sz key ws m l
     → Fits reads sz key ws' (m + round (node_count sz)) l
 fits_later reads sz key ws ws' m l (inl h) = inl (omega arith)
@@ -150,7 +151,7 @@ module _ (reads : Bool) (op : Opening) (last k : ℕ) (es : ℕ → Event) (r : 
     within = f.within;
   }
 
--- A counted step decreases the potential by one, unless it ends its call. No other step increases the potential.
+-- A counted step decreases the potential by one, unless the step ends its call. No other step increases the potential.
 module _ (reads : Bool) (op : Opening) (last k : ℕ) (es : ℕ → Event) (r : Run lock_free op es last) (below : k < last) (t : ℕ)
     (en : Enabled (state_at lock_free op es k) (Go t)) (p : ℕ) (f : Phase reads (sizes op) (state_at lock_free op es k) p) where
   abbrev S : State
@@ -180,7 +181,8 @@ module _ (reads : Bool) (op : Opening) (last k : ℕ) (es : ℕ → Event) (r : 
   abbrev EndsNow : Type 0
   EndsNow = Answers lock_free S t × (counted reads (local_of S t).call ≡ 1)
 
-  -- A number of steps that is enough for thread t after its step: one less than before, if the step is counted.
+  -- A number of steps that is enough for thread t after its step. If the step is counted, this is one step fewer than
+  -- before.
   record Own : Type 0 where
     left_now : ℕ
     less : left_now + counted reads (local_of S t).call ≤ f.time t
@@ -225,7 +227,8 @@ module _ (reads : Bool) (op : Opening) (last k : ℕ) (es : ℕ → Event) (r : 
   Later = (p' : ℕ) × (p' + counted reads (local_of S t).call ≤ p) × Phase reads (sizes op) S' p'
 
   module _ (o : Own) (x : Stepped V W (local_of S' t)) (marked : (local_of S t).pc ≢ 10) where
-    -- Returns the numbers of steps that are enough after the step. For all threads but t, `more` is added.
+    -- Returns, for each thread, a number of steps that is enough after the step of thread t. For the other threads,
+    -- `more` steps are added.
     abbrev time_then : ℕ → ℕ → ℕ
     time_then more u = if u == t then o.left_now else f.time u + more
 
@@ -260,7 +263,8 @@ module _ (reads : Bool) (op : Opening) (last k : ℕ) (es : ℕ → Event) (r : 
     disturbed : (u : ℕ) → u < op.threads → u ≢ t → Fits reads (sizes op) f.key S'.words (f.time u + round size) (local_of S u)
     disturbed u un d = fits_later reads (sizes op) f.key S.words S'.words (f.time u) (local_of S u) (f.times u un)
 
-    -- How the potential after the step follows from how many nodes can still be marked and unlinked.
+    -- Computes the bound on the potential after the step from three numbers: `more` additional steps for each other
+    -- thread, and how many nodes can still be marked (`mark`) and unlinked (`leave`).
     later : (more : ℕ) (mark leave : ℕ → ℕ)
         → price (sizes op) * (total leave size + total mark op.threads) + total (time_then more) op.threads
         + counted reads (local_of S t).call ≤ p
@@ -295,8 +299,8 @@ module _ (reads : Bool) (op : Opening) (last k : ℕ) (es : ℕ → Event) (r : 
         markers_then
         (λ a an ia. f.nodes a an (quiet_keeps W V (quiet-ordered V W i.memory.ordered q) (quiet_back V W q) a ia))
 
-    -- A successful exchange pays for the additional walks: one thread fewer can mark a node, or one node fewer can be
-    -- unlinked.
+    -- A successful exchange makes up for the additional walks: one thread fewer can still mark a node, or one node
+    -- fewer can still be unlinked.
     disturbs : (mark leave : ℕ → ℕ) → total leave size + total mark op.threads + 1 ≤ total f.may_leave size + total f.may_mark
         op.threads
         → ((u : ℕ) → u < op.threads → (local_of S' u).pc ≢ 10 → mark u ≡ 1)

@@ -1,5 +1,6 @@
--- Proof, for a list that marks nodes under two locks: a thread that has marked a node holds the node's lock until it
--- has unlinked the node. Therefore a node of the chain is marked only while some thread is between these two steps.
+-- Proof, for a list that marks nodes while it holds two locks: a thread that has marked a node holds the node's lock
+-- until it has unlinked the node. Therefore a node of the chain is marked only while some thread is between these two
+-- steps.
 use Rattle.std.specs.Prelude.{◌≡◌, ◌≢◌, ℕ, ◌+◌, ◌*◌, ◌/◌, ◌%◌, ◌<◌, ◌≤◌, Bool, true, false, Option, Some, List, refl}
 use Rattle.std.specs.Prelude.{◌⊎◌, slice_index, slice_set}
 use Rattle.std.proofs.Common.{arith, inl, inr, sym, ◌∙◌, ap, subst, zero, suc}
@@ -37,18 +38,18 @@ pub record TakesOut (threads : ℕ) (locals : ℕ → Local) (b : ℕ) : Type 0 
   pub row : (locals by).pc ≡ 12
   pub node : (locals by).curr ≡ b
 
--- States that for each marked node of the chain, some thread is about to unlink it.
+-- States that for each marked node of the chain, some thread is about to unlink this node.
 abbrev pub Marked : ℕ → List ℕ → (ℕ → Local) → Type 0
 Marked threads ws locals = (b : ℕ) → Path (node_link ws) 0 b → node_link ws b % 2 ≡ 1 → TakesOut threads locals b
 
--- What a thread knows when it is about to unlink a node (row 12 of the step table), and that only a `ceiling` is at row
--- 23 or later.
+-- The facts about a thread that is about to unlink a node (row 12 of the step table). Also states that only a `ceiling`
+-- is at row 23 or later.
 pub record Stands (v : View) (t : ℕ) (l : Local) : Type 0 where
   pub takes_out : l.pc ≡ 12 → Between v t (target l.call) l.pred l.curr × (v.link l.curr ≡ 2 * l.succ + 1)
   pub ceiling : 23 ≤ l.pc → l.call ≡ Ceiling (key_of l.call)
 
--- What the proof of a list must show about its step table: row 11 marks curr while both locks are held, row 12 unlinks
--- curr, and only a `ceiling` is at row 23 or later.
+-- The facts about its step table that the proof of a list must show: row 11 marks curr while the thread holds both
+-- locks, row 12 unlinks curr, and only a `ceiling` is at row 23 or later.
 pub record Marking (T : Table) (At : Outline) : Type 1 where
   pub lists : T.marks ≡ true
   pub stands : (q t : ℕ) (vs : ℕ → View) (first now : ℕ) (v : View) (done : Bool) (l : Local) → At q t vs first now v done l
@@ -59,7 +60,7 @@ pub record Marking (T : Table) (At : Outline) : Type 1 where
   pub takes_at : (l : Local) (seen : ℕ) (k : Key) → T.effect l seen ≡ Some (k, false) → l.pc ≡ 11
 
 module _ (T : Table) (At : Outline) (follows : Discipline T T.marks At) (rows : Marking T At) where
-  -- What is true at each moment of a run.
+  -- The invariant of the list at moment k of a run.
   abbrev Known : Opening → ℕ → (ℕ → Event) → Type 1
   Known op k es = Inv T.marks At (sizes op) (views T op es) k (state_at T op es k) (λ u. begun_at (log_of T op es) u k)
       (λ u. has_changed (log_of T op es) u k)
@@ -114,7 +115,7 @@ module _ (T : Table) (At : Outline) (follows : Discipline T T.marks At) (rows : 
     abbrev After : ℕ → Type 0
     After b = TakesOut op.threads (local_of (after T S (Go t))) b
 
-    -- The step of thread t at row 12 of the step table removes its node from the chain.
+    -- If thread t is at row 12 of the step table, its step removes its node from the chain.
     is_out : L.pc ≡ 12 → Path W.link 0 L.curr → ⊥
     is_out e p =
         let x = (rows.stands _ _ _ _ _ _ _ _ (i.threads t tn).at).takes_out e in
@@ -150,7 +151,8 @@ module _ (T : Table) (At : Outline) (follows : Discipline T T.marks At) (rows : 
         subst (λ z. node_key step.words' L.curr < node_key step.words' z) (sym next) (omega arith) in
         gap W memory.ordered L.pred L.curr at (in_chain_of W L.curr p) b.walk.inner (omega arith) hi
 
-    -- The case of a node that was marked before the step: the thread that was about to unlink it still is.
+    -- The case of a node that was marked before the step: the thread that was about to unlink the node still is about
+    -- to do so.
     as_before : (b : ℕ) → Path W.link 0 b → W.link b % 2 ≡ 1 → V.published b → W.link b ≡ V.link b → After b
     as_before b p odd published same =
         let x = before b (path_of V b (keeping.back b published (in_chain_of W b p))) (omega arith) in
@@ -165,7 +167,7 @@ module _ (T : Table) (At : Outline) (follows : Discipline T T.marks At) (rows : 
           }
         ]
 
-    -- The case of a node that the step marks: its thread is about to unlink the node.
+    -- The case of a node that the step marks: the thread that makes this step is about to unlink the node.
     as_now : (b : ℕ) → L.pc ≡ 11 → V.link b % 2 ≡ 0 → W.link b % 2 ≡ 1 → After b
     as_now b e even odd =
         let acts : T.next L ≡ Store (link_index L.curr) (2 * L.succ + 1) = (rows.marks L e).0 in

@@ -1,5 +1,5 @@
--- Progress of OptimisticList: what each row does to the number of steps that remain. A call that runs alone passes
--- validation at its second attempt at the latest.
+-- Proof of progress for OptimisticList: how each row of its step table changes the number of remaining steps. If a call
+-- runs alone, at most its first validation fails.
 use Rattle.std.specs.Prelude.{◌≡◌, ◌≢◌, ℕ, ◌+◌, ◌*◌, ◌/◌, ◌%◌, ◌<◌, ◌≤◌, ◌||◌, Bool, false, Option, Some, None, is_some, List, []}
 use Rattle.std.specs.Prelude.{◌∷◌, refl, slice_index}
 use Rattle.std.proofs.Common.{arith, inl, inr, sym, subst}
@@ -31,9 +31,9 @@ use Rattle.lset_progress.proofs.RowsWithLocks.{Shape, Loads, Stores, RowOf, Node
 use Rattle.lset_progress.proofs.RowsWithLocks.{gave_pred, gave_curr, after_pred, again, goes, on, takes, timed, unlocks, writes}
 use Rattle.lset_progress.proofs.Standing.{Standing, stands}
 
--- The number of steps that one more walk from the head adds. `left` returns how many steps of a walk that will pass
--- validation remain after the next one: a number for each row of the step table. A call without a reply releases both
--- locks and walks again.
+-- The number of steps of an additional walk from the head. `left` returns how many steps remain after the next one in a
+-- walk that will pass validation, for each row of the step table. A call without a reply releases both locks and walks
+-- again.
 abbrev round : ℕ → ℕ
 round size = 4 * size + 4
 
@@ -51,9 +51,9 @@ left size key l = slice_index (0 ∷ (4 * size + 3) ∷ (2 * ahead key size (key
     ∷ (2 * ahead key size (key l.node) + 5) ∷ (2 * ahead key size (key l.node) + 6) ∷ 5 ∷ 4 ∷ 3 ∷ 2 ∷ 3 ∷ 2
     ∷ (1 + then_again size l.reply) ∷ (then_again size l.reply) ∷ []) l.pc
 
--- What the general proofs need to know about OptimisticList. The walk is valid, which means that validation will
--- succeed, if pred is in the chain, curr is the next node, and the second walk will reach pred. After its decision, a
--- thread that releases its locks has a reply.
+-- The facts about OptimisticList that the general proofs of progress use. A walk is `valid` (validation will succeed)
+-- if pred is in the chain, curr is the next node, and the second walk will reach pred. After its decision, a thread
+-- that releases its locks has a reply.
 abbrev shape : Shape
 shape = record {
   may = NodeLocks (within 5 14) (within 6 15);
@@ -77,7 +77,7 @@ module _ {sz : Sizes} {ws : List ℕ} {used : ℕ → ℕ} {t : ℕ} {vs : ℕ �
   abbrev Row : Local → Type 0
   Row k = RowOf shape size optimistic sz ws t (optimistic_steps sz) k
 
-  -- States that row n of the step table loads a word and leads to state k.
+  -- States that row n of the step table loads a word and leads to the private state k.
   abbrev To : ℕ → Local → Type 0
   To n k = Loads shape size ws (record l { pc = n }) (continued k)
 
@@ -87,7 +87,7 @@ module _ {sz : Sizes} {ws : List ℕ} {used : ℕ → ℕ} {t : ℕ} {vs : ℕ �
   even : (a : ℕ) → V.published a → node_link ws a ≡ 2 * (node_link ws a / 2)
   even a p = let z : node_link ws a % 2 ≡ 0 = h.memory.marked a p in omega arith
 
-  -- Moving from pred to curr decreases the number of nodes with greater keys.
+  -- The number of nodes with greater keys is smaller for curr than for pred, the node before curr.
   curr_less : Found V (target l.call) l.pred l.curr l.ckey → rest size ws l.curr < rest size ws l.pred
   curr_less f =
       let below : node_key ws l.pred < target l.call = f.spot.below in
@@ -98,8 +98,8 @@ module _ {sz : Sizes} {ws : List ℕ} {used : ℕ → ℕ} {t : ℕ} {vs : ℕ �
 
   module _ (few : rest size ws l.curr < size) (few_node : rest size ws l.node < size) (head : rest size ws 0 < size)
       (pred : l.pred < node_count sz) (curr : l.curr < node_count sz) (round_few : then_again size l.reply ≤ 4 * size + 4) where
-    -- States that row 15 of the step table releases the last lock, and that the call ends with reply r or, without a
-    -- reply, starts again.
+    -- States that row 15 of the step table releases the last lock. The call then ends with the reply r or, if there is
+    -- no reply, starts again.
     abbrev Last : Option Reply → Type 0
     Last r = Stores shape size ws (record l { pc = 15 }) (lock_index l.curr) ws
         (record { local = at_end r (record l { pc = 15 }); answer = r })

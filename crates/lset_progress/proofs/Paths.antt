@@ -1,9 +1,11 @@
--- Paths along the links of nodes. Unlike segments, paths are defined without a view of the list.
+-- Proofs about paths along the links of nodes. A path is defined by the links alone, without a view (the nodes and
+-- keys) of the list.
 use Rattle.std.specs.Prelude.{◌≡◌, ◌≢◌, ℕ, ◌/◌, ◌<◌, ◌≤◌, List, [], ◌∷◌}
 use Rattle.std.proofs.Common.{arith, sym, ap, subst, refl}
 use Rattle.lset_steps.specs.Chain.{View, Segment, InChain, IsOrdered}
 
--- States that the links lead from node i through exactly the nodes ns, none of them the tail, to node j.
+-- States that the links lead from node i to node j through exactly the nodes ns, and that the tail is not one of these
+-- nodes.
 abbrev pub Leads : (ℕ → ℕ) → ℕ → List ℕ → ℕ → Type 0
 Leads link i [] j = i ≡ j
 Leads link i (a ∷ ns) j = (i ≢ 1) × Leads link (link i / 2) ns j
@@ -38,7 +40,7 @@ leads_up v ord i j (a ∷ ns) m p =
 pub path_up : (v : View) → IsOrdered v → (i j : ℕ) → v.published i → Path v.link i j → v.key i ≤ v.key j
 path_up v ord i j m p = leads_up v ord i j p.0 m p.1
 
--- A path from the head is a piece of the chain.
+-- A path from the head is a part of the chain.
 segment_of : (v : View) (i j : ℕ) (ns : List ℕ) → Leads v.link i ns j → (bs : List ℕ) × Segment v i bs j
 segment_of v i j [] p = ([], p)
 segment_of v i j (a ∷ ns) p = let q = segment_of v (v.link i / 2) j ns p.1 in (i ∷ q.0, (refl, p.0, q.1))

@@ -1,5 +1,5 @@
--- The laws of progress of a list with locks, from what each of its rows does: a call ends if it runs alone, and some
--- thread can always make a step that is not a failed attempt to take a lock.
+-- Proof of the laws of progress for a list with locks, from the facts about each row of its step table: a call ends if
+-- it runs alone, and some thread can always make a step that is not a failed attempt to take a lock.
 use Rattle.std.specs.Prelude.{◌≡◌, ◌≢◌, ℕ, ◌+◌, ◌<◌, ◌≤◌, ◌⊎◌, List, slice_index, length, Some, refl}
 use Rattle.std.proofs.Common.{arith, inl, inr, sym, ◌∙◌, ap, subst, zero, suc}
 use Rattle.lset_words.proofs.Numbers.{same_or_not}
@@ -33,12 +33,12 @@ pub record Shows (T : Table) (S : Shape) (most : Sizes → ℕ) : Type 0 where
   pub calm_alone : (op : Opening) (last k t : ℕ) (es : ℕ → Event) → Run T op es last → k ≤ last
       → NoOtherHolds (sizes op) (state_at T op es k) t → S.calm (state_at T op es k).words (local_of (state_at T op es k) t)
 
--- Returns the value that an exchange expects to see. For any other action, returns `other`.
+-- Returns the value that an exchange expects in the word. For any other action, returns `other`.
 abbrev expected : Action → ℕ → ℕ
 expected (Exchange x old new) other = old
 expected a other = other
 
--- States that the action is not an attempt to take a lock, or that the lock is free.
+-- States that the action is not an attempt to take a lock, or that this lock is free.
 abbrev pub IsFree : List ℕ → Action → Type 0
 IsFree ws (Load w) = Unit {0}
 IsFree ws (Store w v) = Unit {0}
@@ -52,7 +52,7 @@ module _ (S : Shape) (T : Table) (sz : Sizes) (ws : List ℕ) (t : ℕ) (l : Loc
   abbrev Row : Action → Type 0
   Row a = RowBy S size T sz ws t l a
 
-  -- If thread t holds a lock after its step, it may hold this lock in its new private state.
+  -- If thread t holds a lock after its step, `may` allows this lock in the thread's new private state.
   may_after : (x : ℕ) → (slice_index ws x ≡ t + 1 → S.may l x) → (a : Action) → Row a → held x t (slice_index ws x) a ≡ t + 1
       → S.may (T.feed l (seen_by ws a)).local x
   may_after x before (Load w) row h = row.keeps x tt (before h)
@@ -113,7 +113,7 @@ module _ (T : Table) (law : Lawful T) (S : Shape) (most : Sizes → ℕ) (shows 
         may_after S T _ _ t _ x before (T.next _) (shows.rows op last k t es r (omega arith) tn en.1).by now;
   }
 
-  -- A moment of a run, and a thread with a pending call at this moment.
+  -- Lemmas about a thread t with a pending call at moment k of a run.
   module _ (op : Opening) (last k t : ℕ) (es : ℕ → Event) (r : Run T op es last) (upto : k ≤ last) (tn : t < op.threads)
       (busy : IsPending (state_at T op es k) t) where
     abbrev s : State
@@ -169,7 +169,8 @@ module _ (T : Table) (law : Lawful T) (S : Shape) (most : Sizes → ℕ) (shows 
   calls_end op k t es r tn busy others = ends_alone T law Stage nears op t tn (most (sizes op)) k es r
       (others, busy, (shows.rows op k k t es r (omega arith) tn busy).time)
 
-  -- No deadlock: a thread that waits for a lock holds only locks of nodes that are earlier in the list.
+  -- Proof that there is no deadlock: a thread that waits for a lock holds only locks of nodes that are earlier in the
+  -- list.
   module _ (calls : Call → ℕ) (op : Opening) (k : ℕ) (es : ℕ → Event) (r : Run T op es k)
       (holds : (u x : ℕ) → u < op.threads → S.may (local_of (state_at T op es k) u) x
       → calls (local_of (state_at T op es k) u).call ≡ 1) where
@@ -218,8 +219,8 @@ module _ (T : Table) (law : Lawful T) (S : Shape) (most : Sizes → ℕ) (shows 
     abbrev SomeMeant : Type 0
     SomeMeant = (u : ℕ) × (u < op.threads) × Meant u × GetsOn T now u
 
-    -- If a thread waits for a lock whose holder waits too, the holder waits for the lock of a later node in the list.
-    -- By induction, some holder does not wait.
+    -- If a thread waits for a lock and the holder of this lock also waits, the holder waits for the lock of a later
+    -- node in the list. By induction, some holder does not wait.
     climbs : (n u w : ℕ) → Waits u w → rank_of w < n → SomeMeant
     climbs zero u w y less = absurd (omega arith)
     climbs (suc n) u w y less =

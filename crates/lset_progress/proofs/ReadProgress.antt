@@ -1,5 +1,5 @@
--- Progress of a `contains` or a `ceiling` without locks that runs alone. If no node of the chain is marked, a `ceiling`
--- starts again at most once.
+-- Proof of progress for a `contains` or a `ceiling` without locks that runs alone. If no node of the chain is marked, a
+-- `ceiling` starts again at most once.
 use Rattle.std.specs.Prelude.{◌≡◌, ◌≢◌, ℕ, ◌+◌, ◌*◌, ◌/◌, ◌%◌, ◌<◌, ◌≤◌, ◌⊎◌, nat_lt, Bool, Some, List, refl, if◌then◌else◌, ◌==◌}
 use Rattle.std.proofs.Common.{arith, inl, inr, suc}
 use Rattle.lset_words.specs.declared.Reply.{Reply}
@@ -27,7 +27,8 @@ use Rattle.lset_progress.proofs.Standing.{Standing}
 abbrev pub Plain : List ℕ → Type 0
 Plain ws = (b : ℕ) → Path (node_link ws) 0 b → node_link ws b % 2 ≡ 0
 
--- Returns how many steps of a `contains` or a `ceiling` remain after the next one, depending on its row.
+-- Returns how many steps of a `contains` or a `ceiling` remain after the next one, depending on its row of the step
+-- table.
 abbrev pub reads_left : ℕ → (ℕ → ℕ) → Local → ℕ
 reads_left size key l =
     if l.pc == 20 then 2 * ahead key size (key l.curr)
@@ -36,15 +37,18 @@ reads_left size key l =
     else if l.pc == 24 then 2 * ahead key size (key l.curr) + 1
     else 0
 
--- States that curr of a `ceiling` is in the chain, since its walk has followed the links from the head.
+-- States that the node curr of a `ceiling` is in the chain, since the walk of the `ceiling` has followed the links from
+-- the head.
 abbrev pub Along : (ℕ → ℕ) → Local → Type 0
 Along link l = When (nat_lt 22 l.pc) (Path link 0 l.curr)
 
--- States that n steps are enough for the rest of a walk in the chain, or for the rest of any walk and one more walk.
+-- States that n steps are enough for the rest of a walk in the chain, or for the rest of any walk and one additional
+-- walk.
 abbrev pub ReadTimed : ℕ → ℕ → (ℕ → ℕ) → List ℕ → ℕ → Local → Type 0
 ReadTimed round size key ws n l = (Along (node_link ws) l × (reads_left size key l < n)) ⊎ (reads_left size key l + round < n)
 
--- States that a step of a `contains` or a `ceiling` leads to another of their rows, with fewer steps remaining.
+-- States that a step of a `contains` or a `ceiling` leads to another row of these calls in the step table, with fewer
+-- steps remaining.
 module _ (round size : ℕ) (key : ℕ → ℕ) (ws : List ℕ) where
   pub record ReadGoes (l l' : Local) : Type 0 where
     pub row : IsReadRow l'.pc
@@ -79,7 +83,7 @@ module _ {marks : Bool} {At : Outline} {sz : Sizes} {ws : List ℕ} {used : ℕ 
   abbrev Row : ℕ → Type 0
   Row n = From n (read_fed (record l { pc = n }) (seen_by ws (read_action (record l { pc = n }))))
 
-  -- A walk never stops before the tail, and the next node has a greater key.
+  -- The walk has not reached the tail, and the next node has a greater key than curr.
   goes_less : At20 vs first now (key_of l.call).0 l.curr
       → (l.curr ≢ 1) × (rest_by size key (node_link ws l.curr / 2) < rest_by size key l.curr)
   goes_less a =
@@ -134,7 +138,8 @@ module _ {marks : Bool} {At : Outline} {sz : Sizes} {ws : List ℕ} {used : ℕ 
     ];
   }))
 
--- At the rows of its `contains` and `ceiling`, what the proof of a list says (`Shape`) agrees with what this file says.
+-- At the rows of a `contains` or a `ceiling` in the step table, the facts in `Shape` about the list agree with the
+-- definitions in this file.
 module _ (S : Shape) (size : ℕ) (key : ℕ → ℕ) (ws : List ℕ) where
   abbrev pub ReadsAt : Local → Type 0
   ReadsAt l = ((x : ℕ) → S.may l x → ⊥) × (S.late l → ⊥) × (l.pc ≢ 0) × (S.left size key l ≡ reads_left size key l)

@@ -1,5 +1,6 @@
--- What the proof of a list with locks must show about each row: which locks the thread holds after the row, and how
--- many steps of its call remain. The laws of progress follow from this (see ProgressWithLocks).
+-- The facts about each row of the step table that the proof of a list with locks must show: the locks that the thread
+-- holds after the row, and how many steps of its call remain. The laws of progress follow from these facts (see
+-- ProgressWithLocks).
 use Rattle.std.specs.Prelude.{◌≡◌, ◌≢◌, ℕ, ◌+◌, ◌-◌, ◌/◌, ◌<◌, ◌≤◌, ◌⊎◌, ◌&&◌, nat_le, nat_lt, Bool, true, false, MatchBool}
 use Rattle.std.specs.Prelude.{Some, None, List, slice_index, slice_set}
 use Rattle.std.proofs.Common.{arith, inl, inr, subst, sym, ap, suc, refl}
@@ -18,7 +19,7 @@ use Rattle.lset_progress.proofs.Rest.{rest}
 pub at_row : (P : Local → Type 0) (l : Local) (n : ℕ) → l.pc ≡ n → P (record l { pc = n }) → P l
 at_row P l n e x = subst (λ p. P (record l { pc = p })) (sym e) x
 
--- Returns whether n is from a to b.
+-- Returns whether a ≤ n and n ≤ b.
 abbrev pub within : ℕ → ℕ → ℕ → Bool
 within a b n = nat_le a n && nat_le n b
 
@@ -28,13 +29,13 @@ When b A = MatchBool b A (Unit {0})
 abbrev pub Only : Bool → Type 0
 Only b = MatchBool b (Unit {0}) ⊥
 
--- States that x is a lock that the thread can hold: pred's lock at the rows P of the step table, or curr's lock at the
--- rows C.
+-- States that x is a lock that the thread can hold in its private state l: the lock of pred at the rows P of the step
+-- table, or the lock of curr at the rows C.
 abbrev pub NodeLocks : (ℕ → Bool) → (ℕ → Bool) → Local → ℕ → Type 0
 NodeLocks P C l x = ((x ≡ lock_index l.pred) × Only (P l.pc)) ⊎ ((x ≡ lock_index l.curr) × Only (C l.pc))
 
--- A thread that holds no lock satisfies all conditions on the locks that it holds. The next lemmas are about a thread
--- that holds only pred's lock, and a thread that releases one of its two locks.
+-- A thread that can hold no lock satisfies every condition on the locks that it can hold. The next lemmas are about a
+-- thread that can hold only the lock of pred, and about a thread that releases one of its two locks.
 pub no_lock : {A B C : Type 0} → (A × ⊥) ⊎ (B × ⊥) → C
 no_lock (inl p) = absurd p.1
 no_lock (inr c) = absurd c.1
@@ -51,8 +52,8 @@ pub gave_curr : {A B C : Type 0} {x w : ℕ} → x ≢ w → A ⊎ ((x ≡ w) ×
 gave_curr d (inl p) = inl p
 gave_curr d (inr c) = absurd (d c.0)
 
--- Returns the rank of a lock: how many nodes have greater keys than its node. Locks are taken in the order of
--- decreasing rank.
+-- Returns the rank of a lock: the number of nodes with greater keys than the lock's node. Threads take locks in the
+-- order of decreasing rank.
 abbrev pub rank : ℕ → List ℕ → ℕ → ℕ
 rank size ws w = rest size ws (w / 3 - 1)
 
@@ -63,16 +64,17 @@ ranked size ws a b x e less =
     let there : x / 3 - 1 ≡ b = omega arith in
     subst (λ i. rest size ws i < rank size ws x) (sym here) (subst (λ i. rest size ws a < rest size ws i) (sym there) less)
 
--- A thread that holds only pred's lock attempts to take the lock of curr, which has a lower rank.
+-- The lock of curr has a lower rank (number of nodes with greater keys) than the lock of pred, the only lock that the
+-- thread can hold.
 pub after_pred : {A : Type 0} (size : ℕ) (ws : List ℕ) (curr pred x : ℕ) → rest size ws curr < rest size ws pred
     → ((x ≡ lock_index pred) × Unit {0}) ⊎ (A × ⊥) → rank size ws (lock_index curr) < rank size ws x
 after_pred size ws curr pred x less (inl p) = ranked size ws curr pred x p.0 less
 after_pred size ws curr pred x less (inr c) = absurd c.1
 
--- What the general proofs need to know about a list. `may`: the locks that a thread can hold. `late`: the call has
--- decided, and takes no more locks. `calm`: what the thread's next step requires of the words. `valid`: the walk will
--- succeed, in terms of the links. `left`: how many steps of such a walk remain after the next one, from the number of
--- nodes and their keys. `round`: the steps of one more walk.
+-- The facts about a list that the general proofs of progress use. `may`: the locks that a thread can hold. `late`: the
+-- call has decided what to change, and takes no more locks. `calm`: the requirement of the thread's next step on the
+-- words. `valid`: the walk will succeed, by the links. `left`: how many steps of such a walk remain after the next one,
+-- by the number of nodes and their keys. `round`: the number of steps of an additional walk.
 pub record Shape : Type 1 where
   pub may : Local → ℕ → Type 0
   pub late : Local → Type 0
@@ -81,7 +83,7 @@ pub record Shape : Type 1 where
   pub left : ℕ → (ℕ → ℕ) → Local → ℕ
   pub round : ℕ → ℕ
 
--- States that the call has decided, and that fewer than n of its steps remain, whatever the words are.
+-- States that the call has decided what to change, and that at most n of its steps remain, whatever the words are.
 abbrev pub LateBy : Shape → ℕ → Local → Type 0
 LateBy S n l = S.late l × (S.left 0 (λ a. 0) l < n)
 
@@ -89,8 +91,8 @@ abbrev pub Any : ℕ → Type 0
 Any x = Unit {0}
 
 module _ (S : Shape) (size : ℕ) where
-  -- States that the call ends within n steps. They are enough for the rest of a walk that will succeed, or for the rest
-  -- of any walk and one more walk.
+  -- States that the call ends within n steps. These steps are enough for the rest of a walk that will succeed, or for
+  -- the rest of any walk and one additional walk.
   abbrev pub TimedBy : (ℕ → ℕ) → (ℕ → ℕ) → ℕ → Local → Type 0
   TimedBy key link n l = (S.valid link l × (S.left size key l < n)) ⊎ (S.left size key l + S.round size < n)
 
@@ -110,14 +112,15 @@ module _ (S : Shape) (size : ℕ) where
   no_time key link l (inl v) = let h : S.left size key l < 0 = v.1 in omega arith
   no_time key link l (inr h) = omega arith
 
-  -- States what a step that does not end its call does. The step leads from l and ws to l' and ws'. A walk that would
-  -- succeed before the step still does, and any other walk starts again.
+  -- States that a step from the private state l to l' does not end its call, and brings the end closer: if the call was
+  -- sure to end within n + 1 steps before the step, it is sure to end within n steps after it.
   pub record Goes (key : ℕ → ℕ) (ws : List ℕ) (l : Local) (key' : ℕ → ℕ) (ws' : List ℕ) (l' : Local) : Type 0 where
     pub busy : l'.pc ≢ 0
     pub late : S.late l → LateBy S (S.left 0 (λ a. 0) l) l'
     pub near : S.calm ws l → (n : ℕ) → TimedBy key (node_link ws) (suc n) l → TimedBy key' (node_link ws') n l'
 
-  -- States what a step with outcome f does. The thread can still hold only those locks that are in O.
+  -- States that a step with the outcome f ends its call or brings the end of the call closer (`Goes`). Of the locks in
+  -- O, the thread can hold those that it could hold before.
   pub record Then (key : ℕ → ℕ) (ws : List ℕ) (l : Local) (O : ℕ → Type 0) (key' : ℕ → ℕ) (ws' : List ℕ) (f : Fed) : Type 0 where
     pub keeps : (x : ℕ) → O x → S.may l x → S.may f.local x
     pub then : ((r : Reply) × (f.answer ≡ Some r)) ⊎ Goes key ws l key' ws' f.local
@@ -129,8 +132,8 @@ module _ (S : Shape) (size : ℕ) where
   Stores ws l w ws' f = Then (node_key ws) ws l (λ x. x ≢ w) (node_key ws') ws' f
 
   module _ (T : Table) (sz : Sizes) (ws : List ℕ) (t : ℕ) (l : Local) where
-    -- States what an attempt to take a lock does. The lock has a lower rank than all locks that the thread can hold. If
-    -- the attempt fails, the thread repeats it.
+    -- States that the step is an attempt to take lock w. This lock has a lower rank than all locks that the thread can
+    -- hold. If the attempt fails, the thread repeats it.
     pub record Tries (w from to : ℕ) : Type 0 where
       pub is_lock : IsLockWord w
       pub inside : w < word_count sz
@@ -142,7 +145,8 @@ module _ (S : Shape) (size : ℕ) where
       pub mine : S.may (T.feed l 0).local w
       pub missed : (seen : ℕ) → seen ≢ 0 → (T.feed l seen).local ≡ l
 
-    -- States what a row may do. In particular, the thread writes a word other than a lock only after its decision.
+    -- States that a row of the step table makes an allowed step. In particular, the thread writes a word other than a
+    -- lock only after its decision what to change.
     abbrev pub RowBy : Action → Type 0
     RowBy (Load w) = Loads ws l (T.feed l (slice_index ws w))
     RowBy (Store w v) = (Stores ws l w (slice_set ws w v) (T.feed l v) × LateBy S 5 l)
@@ -163,7 +167,7 @@ some_row n h = let low : 0 < n = lower_number 0 n (only_true (nat_lt 0 n) h) in 
 module _ {S : Shape} {size : ℕ} {key : ℕ → ℕ} {ws : List ℕ} {l : Local} {O : ℕ → Type 0} {key' : ℕ → ℕ} {ws' : List ℕ}
     {l' : Local}
     (keeps : (x : ℕ) → O x → S.may l x → S.may l' x) where
-  -- The case of a step that leads to another row.
+  -- The case of a step that leads to another row of the step table.
   pub goes : Only (nat_lt 0 l'.pc) → (S.late l → LateBy S (S.left 0 (λ a. 0) l) l')
       → (S.valid (node_link ws) l → S.valid (node_link ws') l') → S.left size key' l' < S.left size key l
       → Then S size key ws l O key' ws' (record { local = l'; answer = None })
@@ -179,12 +183,12 @@ module _ {S : Shape} {size : ℕ} {key : ℕ → ℕ} {ws : List ℕ} {l : Local
     });
   }
 
-  -- The case of a step that leads to another row, before the decision.
+  -- The case of a step that leads to another row of the step table, before the call has decided what to change.
   pub on : Only (nat_lt 0 l'.pc) → (S.late l → ⊥) → (S.valid (node_link ws) l → S.valid (node_link ws') l')
       → S.left size key' l' < S.left size key l → Then S size key ws l O key' ws' (record { local = l'; answer = None })
   on busy early valid less = goes busy (λ h. absurd (early h)) valid less
 
-  -- The case of a step after which the call starts again from the head. A walk that will succeed makes no such step.
+  -- The case of a step to the start of a new walk from the head. A walk that will succeed makes no such step.
   pub again : Only (nat_lt 0 l'.pc) → (S.late l → ⊥) → (S.valid (node_link ws) l → ⊥) → S.valid (node_link ws') l'
       → S.left size key' l' < S.left size key l + S.round size
       → Then S size key ws l O key' ws' (record { local = l'; answer = None })
@@ -203,11 +207,12 @@ module _ {S : Shape} {size : ℕ} {key : ℕ → ℕ} {ws : List ℕ} {l : Local
   pub stops : {r : Reply} → Then S size key ws l O key' ws' (record { local = l'; answer = Some r })
   stops {r} = record { keeps = keeps; then = inl (r, refl) }
 
--- The case of a store that releases lock w.
+-- The case of a store that releases a lock.
 pub unlocks : {A B C : Type 0} → B → C → A ⊎ (B × C)
 unlocks is_lock stores = inr (is_lock, stores)
 
--- What the proof of a list must show about one row: the number of steps that remain, and what the step does.
+-- The facts about one row of the step table that the proof of a list must show: the number of remaining steps, and that
+-- the row makes an allowed step.
 pub record RowOf (S : Shape) (size : ℕ) (T : Table) (sz : Sizes) (ws : List ℕ) (t most : ℕ) (l : Local) : Type 0 where
   pub time : Timed S size ws most l
   pub by : RowBy S size T sz ws t l (T.next l)

@@ -1,4 +1,4 @@
--- Sums over all threads, or over all nodes below n.
+-- Proofs about sums over all threads, or over all nodes.
 use Rattle.std.specs.Prelude.{◌≡◌, ◌≢◌, ℕ, ◌+◌, ◌*◌, ◌<◌, ◌≤◌, ◌==◌, if◌then◌else◌, refl}
 use Rattle.std.proofs.Common.{arith, inl, inr, ap, zero, suc}
 use Rattle.lset_words.proofs.Numbers.{same_or_not, if_same, if_other}
@@ -26,7 +26,8 @@ total_most b c (suc n) d h =
     let m : suc n * d ≡ d + n * d = grind arith in
     omega arith
 
--- Bounds the sum after a step that decreases one number by at least x and increases every other by at most d.
+-- If a step decreases one of n numbers by at least x and increases every other number by at most d, the sum decreases
+-- by at least x - n * d.
 pub total_step : (b c : ℕ → ℕ) (n u d x : ℕ) → u < n → c u + x ≤ b u → ((v : ℕ) → v < n → v ≢ u → c v ≤ b v + d)
     → total c n + x ≤ total b n + n * d
 total_step b c zero u d x l e h = absurd (omega arith)
@@ -42,7 +43,7 @@ total_step b c (suc n) u d x l e h =
           omega arith)
     ]
 
--- The sum decreases by at least 1 if a step decreases one number by at least 1 and changes no other.
+-- If a step decreases one number by at least 1 and changes no other number, the sum decreases by at least 1.
 pub total_less : (b c : ℕ → ℕ) (n u : ℕ) → u < n → c u + 1 ≤ b u → ((v : ℕ) → v ≢ u → c v ≡ b v) → total c n + 1 ≤ total b n
 total_less b c n u l e h =
     let x : total c n + 1 ≤ total b n + n * 0 =
@@ -57,7 +58,7 @@ one_price (suc c) a b l =
     let y : suc c * b ≡ c * b + b = grind arith in
     omega arith
 
--- Returns the function b with the value n at u.
+-- Returns the function b, changed to have the value n at u.
 abbrev pub put : (ℕ → ℕ) → ℕ → ℕ → ℕ → ℕ
 put b u n t = if t == u then n else b t
 

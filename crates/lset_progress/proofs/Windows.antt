@@ -1,5 +1,5 @@
--- Proof by a potential: if each counted step decreases it by one, unless the step ends its call, and no other event
--- increases it, then among sufficiently many counted steps one ends its call.
+-- Proof by a potential. If each counted step decreases the potential by one or ends its call, and no other event
+-- increases the potential, then among sufficiently many counted steps at least one ends its call.
 use Rattle.std.specs.Prelude.{◌≡◌, ℕ, ◌+◌, ◌<◌, ◌≤◌, ◌⊎◌, Bool, true, false, refl}
 use Rattle.std.proofs.Common.{arith, inl, inr, subst, zero, suc}
 use Rattle.lset_words.specs.declared.Call.{Call}
@@ -31,8 +31,8 @@ ends_later {k = k} {n = n} e = record {
 }
 
 module _ (T : Table) (count : State → Event → ℕ) (op : Opening) (es : ℕ → Event) (Phase : State → ℕ → Type 0) where
-  -- States that event e is a counted step that ends its call, or that the potential decreases by at least what e counts
-  -- (1 for a counted step, else 0).
+  -- States that event e is a counted step that ends its call, or that the potential does not increase and, if e is a
+  -- counted step, decreases by at least 1.
   abbrev pub Then : ℕ → ℕ → Event → Type 0
   Then k p e = ((t : ℕ) × (e ≡ Go t) × Answers T (state_at T op es k) t × (count (state_at T op es k) e ≡ 1))
       ⊎ ((p' : ℕ) × (p' + count (state_at T op es k) e ≤ p) × Phase (after T (state_at T op es k) e) p')

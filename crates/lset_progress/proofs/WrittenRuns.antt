@@ -1,5 +1,5 @@
--- Runs that are written out: some events from the opening state, then a loop of events that repeats forever. Properties
--- of such a run can be computed.
+-- Proofs about runs that are written out: some events from the opening state, then a loop of events that repeats
+-- forever. Properties of such a run can be computed.
 use Rattle.std.specs.Prelude.{◌≡◌, ℕ, ◌+◌, ◌*◌, ◌<◌, ◌≤◌, ◌==◌, ◌&&◌, nat_lt, not, is_some, Bool, true, false, Some, List}
 use Rattle.std.specs.Prelude.{[], ◌∷◌, length, refl}
 use Rattle.std.proofs.Common.{arith, inl, inr, sym, ◌∙◌, ap, subst, zero, suc}
@@ -18,7 +18,7 @@ both : (a b : Bool) → (a && b) ≡ true → (a ≡ true) × (b ≡ true)
 both true b e = (refl, e)
 both false b e = absurd cc
 
--- The opening of these runs: no keys, and two threads with two slots each.
+-- The opening of the runs that are written out: no keys, and two threads with two slots each.
 abbrev pub op : Opening
 op = empty 2 2
 
@@ -57,7 +57,7 @@ abbrev pub all_so : Test → Table → State → List Event → Bool
 all_so test T s [] = true
 all_so test T s (e ∷ es) = test s e && all_so test T (after T s e) es
 
--- Returns the event after moment j of the run: first the events of the third list, then the loop of e and es forever.
+-- Returns event number j of a run: first the events of the third list, then the events e and es in a loop forever.
 abbrev pub turn : Event → List Event → List Event → ℕ → Event
 turn e es [] zero = e
 turn e es [] (suc j) = turn e es es j
@@ -86,7 +86,8 @@ module _ (T : Table) (e : Event) (es : List Event) where
   at_first test (x ∷ r) s so zero l = (both (test s x) (all_so test T (after T s x) r) so).0
   at_first test (x ∷ r) s so (suc j) l = at_first test r _ (both (test s x) (all_so test T _ r) so).1 j (omega arith)
 
-  -- If the loop leads back to its first state, and a test passes at each of its events once, the test passes forever.
+  -- If the loop leads back to its first state, and the test succeeds for each event of one round, then the test
+  -- succeeds forever.
   module _ (test : Test) (S0 : State) (round_so : all_so test T S0 (e ∷ es) ≡ true) (back : state_after T S0 (e ∷ es) ≡ S0) where
     split : (test S0 e ≡ true) × (all_so test T (after T S0 e) es ≡ true)
     split = both (test S0 e) (all_so test T (after T S0 e) es) round_so
@@ -153,8 +154,8 @@ module _ (T : Table) (events : List Event) (e : Event) (es : List Event) (led : 
     no_reply j r l = replies T (state_at T op run j) (run j) r (subst (λ s. is_silent T s (run j) ≡ true) (sym (is_at j))
         (behind T e es (is_silent T) S0 silent back events (opening op) refl j l))
 
-    -- If each event of the loop is a counted step and none ends a call, no number of counted steps is enough for a call
-    -- to end.
+    -- If each event of the loop is a counted step, and no event of the loop ends a call, then no number of counted
+    -- steps is enough for a call to end.
     module _ (count : State → Event → ℕ) (counts : all_so (is_one count) T S0 (e ∷ es) ≡ true) where
       all_count : (n k : ℕ) → m ≤ k → steps_among count T op run k n ≡ n
       all_count zero k l = refl
@@ -171,7 +172,7 @@ module _ (T : Table) (events : List Event) (e : Event) (es : List Event) (led : 
           let x : SomeEnds count T op run m (most (sizes op)) = law op m (most _) run (runs_on (m + most _)) (omega arith) in
           no_reply x.at x.ends.0 x.from (ap (λ z. (told T (state_at T op run x.at) z).answer) x.own ∙ x.ends.1)
 
-    -- If, in addition, each thread makes a step in the loop, the run is fair, and the list is not free from deadlock.
+    -- If each thread also makes a step in the loop, the run is fair, and the list is not free from deadlock.
     module _ (calls : Call → ℕ) (turns : (t : ℕ) → t < 2 → (d : ℕ) × (turn e es [] d ≡ Go t)) where
       is_fair : IsFair T op run
       is_fair = record {

@@ -1,4 +1,4 @@
--- Proof that the laws of progress are false for the broken lists. Each proof is a run that is written out.
+-- Proof: the laws of progress are false for the broken lists. Each proof is a run that is written out.
 use Rattle.std.specs.Prelude.{◌≡◌, ℕ, ◌<◌, List, [], ◌∷◌, length, slice_index, refl}
 use Rattle.std.proofs.Common.{arith, inl, inr, sym, ◌∙◌, ap, subst, zero, suc}
 use Rattle.lset_words.specs.declared.Call.TheVariants.{Add, Remove}
@@ -15,8 +15,8 @@ use Rattle.lset_progress.proofs.WrittenRuns.{op, run, is_run, is_after, state_af
 two_values : (n a b : ℕ) → (a ≡ b → ⊥) → n ≡ a → n ≡ b → ⊥
 two_values n a b d e f = d (sym e ∙ f)
 
--- The run up to the loop: thread 1 marks the node of 5, thread 0 is about to unlink the node, but thread 1 unlinks it
--- first. Then thread 0 repeats its attempt forever.
+-- The events before the loop: thread 1 marks the node of 5, thread 0 is about to unlink this node, but thread 1 unlinks
+-- it first. Then thread 0 repeats its attempt forever.
 abbrev spins : List Event
 spins = Begin 0 (Add (record { 0 = 5 })) ∷ Go 0 ∷ Go 0 ∷ Go 0 ∷ Go 0 ∷ Go 0 ∷ Go 0 ∷ Begin 1
     (Remove (record { 0 = 5 })) ∷ Go 1 ∷ Go 1
@@ -37,9 +37,9 @@ pub spinning_is_not_lock_free : NotLockFree spinning
 spinning_is_not_lock_free reads most law = rounds_never_end spinning spins (Go 0) [] refl refl refl refl
     (steps_of reads) refl most law
 
--- The run up to the loop: thread 0 has walked to the head and the tail, and thread 1 adds 7 between them. Thread 0's
--- validation fails, it keeps the lock of the head, and its next walk leads to the head again, whose lock it waits for
--- forever.
+-- The events before the loop: thread 0 has walked to the head and the tail, and thread 1 adds 7 between them. The
+-- validation of thread 0 fails, and thread 0 keeps the lock of the head. Its next walk leads to the head again, and it
+-- waits forever for the lock of the head.
 abbrev keeps : List Event
 keeps = Begin 0 (Add (record { 0 = 5 })) ∷ Go 0 ∷ Go 0 ∷ Begin 1
     (Add (record { 0 = 7 })) ∷ Go 1 ∷ Go 1 ∷ Go 1 ∷ Go 1 ∷ Go 1 ∷ Go 1
@@ -74,8 +74,8 @@ keeping_is_refused most law =
     (subst (λ s. IsPending s 0) (sym is) (λ z. omega arith)) (subst (λ s. NoOtherHolds (sizes op) s 0) (sym is) others) in
     never_ends_alone keeping 0 keeping_state 0 refl refl (most _) (subst (λ s. EndsAlone keeping s 0 (most (sizes op))) is e)
 
--- The run up to the deadlock: both threads are at the head and the node of 5. Thread 0, which adds 3, holds the lock of
--- the head. Thread 1, which removes 5, holds the lock of the node of 5.
+-- The events before the deadlock: both threads are at the head and the node of 5. Thread 0, which adds 3, holds the
+-- lock of the head. Thread 1, which removes 5, holds the lock of the node of 5.
 abbrev crosses : List Event
 crosses = Begin 0 (Add (record { 0 = 5 })) ∷ Go 0 ∷ Go 0 ∷ Go 0 ∷ Go 0 ∷ Go 0 ∷ Go 0 ∷ Go 0 ∷ Go 0 ∷ Go 0 ∷ Go 0 ∷ Go 0
     ∷ Begin 0 (Add (record { 0 = 3 })) ∷ Go 0 ∷ Go 0 ∷ Go 0 ∷ Begin 1 (Remove (record { 0 = 5 })) ∷ Go 1 ∷ Go 1 ∷ Go 1 ∷ []

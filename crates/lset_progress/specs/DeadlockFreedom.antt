@@ -1,7 +1,7 @@
--- Freedom from deadlock, as Herlihy and Shavit define it: in a fair run, in which every thread with a pending call
--- makes another step later, calls end again and again. This follows from two laws that hold in every run: some thread
--- can make a step that is not a failed attempt to take a lock (SomeThreadGetsOn), and among sufficiently many such
--- steps, one ends its call (IsLivelockFree).
+-- Freedom from deadlock, as Herlihy and Shavit define it: in a fair run (every thread with a pending call makes another
+-- step later), calls end again and again. This follows from two laws that hold in every run: some thread can make a
+-- step that is not a failed attempt to take a lock (SomeThreadGetsOn), and among sufficiently many such steps, at least
+-- one ends its call (IsLivelockFree).
 use Rattle.std.specs.Prelude.{◌≡◌, ℕ, ◌+◌, ◌*◌, ◌%◌, ◌<◌, ◌≤◌, nat_lt, ◌==◌, if◌then◌else◌, Bool, true, false, List, slice_index}
 use Rattle.lset_words.specs.declared.Call.{Call}
 use Rattle.lset_words.specs.Words.{Sizes, Opening}
@@ -12,7 +12,7 @@ use Rattle.lset_steps.specs.declared.Event.TheVariants.{Begin, Go}
 use Rattle.lset_steps.specs.Steps.{Table, State, Run, state_at, local_of}
 use Rattle.lset_progress.specs.Progress.{IsPending, SomeEnds, EndsAmong}
 
--- Returns whether word x is a lock: word 0, or the lock word of a node.
+-- Returns whether word x is a lock: word 0 (the lock of CoarseList), or the lock word of a node.
 abbrev pub is_lock_word : ℕ → Bool
 is_lock_word x = if x == 0 then true else if nat_lt x 5 then false else if x % 3 == 2 then true else false
 
@@ -22,36 +22,36 @@ unless_failed ws (Load w) n = n
 unless_failed ws (Store w v) n = n
 unless_failed ws (Exchange w old new) n = if slice_index ws w == old then n else if is_lock_word w then 0 else n
 
--- Returns 1 if the event is a counted step, else 0. A step is counted if `calls` is 1 for its call and the step is not
--- a failed attempt to take a lock.
+-- Returns 1 if the event is a counted step, else 0. A step of a call is counted if `calls` is 1 for the call and the
+-- step is not a failed attempt to take a lock.
 abbrev pub moves : (Call → ℕ) → Table → State → Event → ℕ
 moves calls T s (Begin t call) = 0
 moves calls T s (Go t) = unless_failed s.words (T.next (local_of s t)) (calls (local_of s t).call)
 
 -- [Livelock freedom]: states that among any `most` successive counted steps, at least one ends its call, whichever
--- threads make the steps and whatever else happens in between. A step is counted if `calls` is 1 for its call and the
--- step is not a failed attempt to take a lock.
+-- threads make the steps and whatever other events happen in between. A step of a call is counted if `calls` is 1 for
+-- the call and the step is not a failed attempt to take a lock.
 abbrev pub IsLivelockFree : (Call → ℕ) → Table → (Sizes → ℕ) → Type 0
 IsLivelockFree calls T most = EndsAmong (moves calls T) T most
 
 abbrev pub each_call : Call → ℕ
 each_call call = 1
 
--- [Fair run]: states that the events are an infinite run in which every thread with a pending call makes another step
+-- [Fair run]: states that the events are an infinite run, and that every thread with a pending call makes another step
 -- later.
 pub record IsFair (T : Table) (op : Opening) (es : ℕ → Event) : Type 0 where
   pub run : (n : ℕ) → Run T op es n
   pub goes_on : (k t : ℕ) → t < op.threads → IsPending (state_at T op es k) t → (j : ℕ) × (k ≤ j) × (es j ≡ Go t)
 
--- [Deadlock freedom]: states that in a fair run, if a call is pending for which `calls` is 1, then such a call ends
--- later (minimal progress).
+-- [Deadlock freedom]: states that in a fair run, if a call with `calls` equal to 1 is pending, then a call with `calls`
+-- equal to 1 ends later (minimal progress).
 abbrev pub IsDeadlockFree : (Call → ℕ) → Table → Type 0
 IsDeadlockFree calls T = (op : Opening) (k t : ℕ) (es : ℕ → Event) → IsFair T op es → t < op.threads
     → IsPending (state_at T op es k) t → calls (local_of (state_at T op es k) t).call ≡ 1
     → (n : ℕ) × SomeEnds (moves calls T) T op es k n
 
--- Returns a bound for n threads on the number of counted steps until a call ends. After a call has decided what to do,
--- it makes at most 5 steps. Between two such steps of any threads, each thread makes at most `most` steps, the maximum
--- for a call that runs alone.
+-- Returns the maximum number of counted steps of n threads until a call ends. A step is counted if it is not a failed
+-- attempt to take a lock. After a call has decided what to change, it makes at most 5 steps. Between two such steps of
+-- any threads, each thread makes at most `most` steps, the maximum for a call that runs alone.
 abbrev pub lock_window : (Sizes → ℕ) → Sizes → ℕ
 lock_window most sz = sz.threads * most sz * (5 * sz.threads + 1)

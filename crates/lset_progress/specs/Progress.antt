@@ -1,4 +1,5 @@
--- Laws of progress, in Herlihy and Shavit's terms: when calls end, at each moment of each run and under every schedule.
+-- Laws of progress, in Herlihy and Shavit's terms: each law states when calls end, in every run, at each of its
+-- moments, under every schedule.
 use Rattle.std.specs.Prelude.{◌≡◌, ◌≢◌, ℕ, zero, suc, ◌+◌, ◌*◌, ◌%◌, ◌<◌, ◌≤◌, ◌⊎◌, Bool, true, false, Some, slice_index}
 use Rattle.lset_words.specs.declared.Call.{Call}
 use Rattle.lset_words.specs.declared.Call.TheVariants as call
@@ -29,7 +30,8 @@ NoOtherHolds sz s t = (u x : ℕ) → u < sz.threads → u ≢ t → Holds sz s 
 abbrev pub Answers : Table → State → ℕ → Type 0
 Answers T s t = (reply : Reply) × ((told T s (Go t)).answer ≡ Some reply)
 
--- [Ends alone]: states that if only thread t makes steps, its call ends within n steps.
+-- [Calls end alone]: states, for a list with locks, that a call ends within `most` steps if its thread runs alone and
+-- no other thread holds a lock (solo termination).
 abbrev pub EndsAlone : Table → State → ℕ → ℕ → Type 0
 EndsAlone T s t zero = ⊥
 EndsAlone T s t (suc n) = Enabled s (Go t) × (Answers T s t ⊎ EndsAlone T (after T s (Go t)) t n)
@@ -49,16 +51,16 @@ abbrev pub NoMarkInChain : View → Type 0
 NoMarkInChain v = (b : ℕ) → InChain v b → v.link b % 2 ≡ 0
 
 -- [Calls end unhindered]: states, for a list without locks, that a call ends within `most` steps if its thread runs
--- alone, whatever state the other threads are in (obstruction freedom). For a `ceiling`, the chain must not contain a
--- marked node: a `ceiling` starts again at a marked node, and does not unlink it.
+-- alone, whatever state the other threads are in (obstruction freedom). For a `ceiling`, no node in the chain may be
+-- marked: a `ceiling` starts again at a marked node, and does not unlink it.
 abbrev pub CallsEndUnhindered : Table → (Sizes → ℕ) → Type 0
 CallsEndUnhindered T most = (op : Opening) (k t : ℕ) (es : ℕ → Event) → Run T op es k → t < op.threads
     → IsPending (state_at T op es k) t
     → (IsCeiling (local_of (state_at T op es k) t).call → NoMarkInChain (views T op es k))
     → EndsAlone T (state_at T op es k) t (most (sizes op))
 
--- [A ceiling that never ends]: states that at some moment of some run a `ceiling` is pending and all other threads are
--- idle, and that the `ceiling` does not end, however many steps its thread makes alone.
+-- [A ceiling that never ends]: states that at some moment of some run a `ceiling` is pending, all other threads are
+-- idle, and the `ceiling` does not end, however many steps its thread makes alone.
 pub record SomeCeilingNeverEnds (T : Table) : Type 0 where
   pub opening : Opening
   pub events : ℕ → Event
@@ -71,20 +73,20 @@ pub record SomeCeilingNeverEnds (T : Table) : Type 0 where
   pub others_idle : (u : ℕ) → u < opening.threads → u ≢ thread → (local_of (state_at T opening events moment) u).pc ≡ 0
   pub never : (n : ℕ) → EndsAlone T (state_at T opening events moment) thread n → ⊥
 
--- States that thread t has a pending call, and that its next step is not a failed attempt to take a lock.
+-- States that thread t has a pending call, and that the call's next step is not a failed attempt to take a lock.
 pub record GetsOn (T : Table) (s : State) (t : ℕ) : Type 0 where
   pub enabled : Enabled s (Go t)
   pub tries : (x old new : ℕ) → IsLockWord x → T.next (local_of s t) ≡ Exchange x old new → slice_index s.words x ≡ old
 
--- [Some thread gets on]: states that whenever a call is pending, the next step of some pending call is not a failed
+-- [Some thread gets on]: states that whenever a call is pending, some pending call has a next step that is not a failed
 -- attempt to take a lock.
 abbrev pub SomeThreadGetsOn : Table → Type 0
 SomeThreadGetsOn T = (op : Opening) (k t : ℕ) (es : ℕ → Event) → Run T op es k → t < op.threads
     → IsPending (state_at T op es k) t
     → (u : ℕ) × (u < op.threads) × GetsOn T (state_at T op es k) u
 
--- Returns 1 if the steps of this call are counted, else 0. Steps of `add` and `remove` are counted, steps of `contains`
--- if `reads` is true, and steps of `ceiling` never.
+-- Returns 1 if the steps of this call are counted, else 0. The steps of an `add` or a `remove` are counted. The steps
+-- of a `contains` are counted if `reads` is true. The steps of a `ceiling` are not counted.
 abbrev pub counted : Bool → Call → ℕ
 counted reads (call.Add k) = 1
 counted reads (call.Remove k) = 1
@@ -96,12 +98,13 @@ abbrev pub steps_of : Bool → State → Event → ℕ
 steps_of reads s (Begin t call) = 0
 steps_of reads s (Go t) = counted reads (local_of s t).call
 
--- Returns how many of the n events from moment k on are counted steps. `count` is 1 for a counted step, else 0.
+-- Returns how many of the n events after moment k are counted steps. `count` returns 1 for a counted step, else 0.
 abbrev pub steps_among : (State → Event → ℕ) → Table → Opening → (ℕ → Event) → ℕ → ℕ → ℕ
 steps_among count T op es k zero = 0
 steps_among count T op es k (suc n) = count (state_at T op es k) (es k) + steps_among count T op es (suc k) n
 
--- States that one of the n events from moment k on is a counted step that ends its call.
+-- States that one of the n events after moment k is a counted step that ends its call. `count` returns 1 for a counted
+-- step, else 0.
 pub record SomeEnds (count : State → Event → ℕ) (T : Table) (op : Opening) (es : ℕ → Event) (k n : ℕ) : Type 0 where
   pub at : ℕ
   pub from : k ≤ at
@@ -111,14 +114,15 @@ pub record SomeEnds (count : State → Event → ℕ) (T : Table) (op : Opening)
   pub counts : count (state_at T op es at) (es at) ≡ 1
   pub ends : Answers T (state_at T op es at) thread
 
--- States that among any `most` successive counted steps of a run, at least one ends its call.
+-- States that among any `most` successive counted steps of a run, at least one ends its call. `count` returns 1 for a
+-- counted step, else 0.
 abbrev pub EndsAmong : (State → Event → ℕ) → Table → (Sizes → ℕ) → Type 0
 EndsAmong count T most = (op : Opening) (k n : ℕ) (es : ℕ → Event) → Run T op es (k + n)
     → most (sizes op) ≤ steps_among count T op es k n → SomeEnds count T op es k n
 
 -- [Lock freedom]: states that among any `most` successive steps of `add` and `remove`, at least one ends its call,
--- whichever threads make the steps and whatever else happens in between. The same is required of steps of `add`,
--- `remove` and `contains`.
+-- whichever threads make the steps and whatever other events happen in between. The same is required of the steps of
+-- `add`, `remove` and `contains`.
 abbrev pub IsLockFree : Table → (Sizes → ℕ) → Type 0
 IsLockFree T most = (reads : Bool) → EndsAmong (steps_of reads) T most
 
@@ -136,9 +140,9 @@ optimistic_steps sz = 8 * node_count sz + 9
 abbrev pub lock_free_steps : Sizes → ℕ
 lock_free_steps sz = 4 * node_count sz + 5
 
--- A bound on the number of counted steps until a call of LockFreeList ends: the steps of each thread's pending call
--- and, for each successful exchange that ends no call, one more walk of each thread. Few exchanges are of this kind:
--- each thread marks at most one node, and each node is unlinked at most once.
+-- The maximum number of counted steps until a call of LockFreeList ends: the steps of each thread's pending call and,
+-- for each successful exchange that ends no call, one additional walk of each thread. Few exchanges are of this kind,
+-- since each thread marks at most one node, and each node is unlinked at most once.
 abbrev pub lock_free_window : Sizes → ℕ
 lock_free_window sz =
     sz.threads * (2 * node_count sz + 2) * (node_count sz + sz.threads) + sz.threads * lock_free_steps sz

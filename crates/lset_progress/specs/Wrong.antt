@@ -1,4 +1,4 @@
--- [Wrong machines]: broken lists, each with one or two wrong rows, for which a law of progress is false.
+-- [Wrong machines]: broken lists. Each has one or two wrong rows in its step table, and breaks a law of progress.
 use Rattle.std.specs.Prelude.{ℕ, ◌+◌, ◌*◌, if◌then◌else◌, ◌==◌, Bool, Option, Some, None}
 use Rattle.lset_words.specs.declared.Call.{Call}
 use Rattle.lset_words.specs.declared.Call.TheVariants as call
@@ -30,9 +30,9 @@ spinning = record {
   effect = lock_free.effect;
 }
 
--- A broken LockFreeList. An `add` that has decided to add its key writes its thread's number into pred's lock word (row
--- 11 of the step table), and continues only if it then reads its own number in this word (row 12). Otherwise it writes
--- the number again.
+-- A broken LockFreeList. Before an `add` links its node, it writes its thread's number into the lock word of the node
+-- before (row 11 of the step table). It continues only if it then reads its own number in this word (row 12). Otherwise
+-- it writes the number again.
 abbrev pub claims_first : Fed → Fed
 claims_first f = record { local = if f.local.pc == 5 then record f.local { pc = 11 } else f.local; answer = f.answer }
 
@@ -58,8 +58,8 @@ claiming = record {
   effect = lock_free.effect;
 }
 
--- A broken OptimisticList. If validation fails, the call keeps pred's lock: it skips row 14 of the step table and
--- continues at row 15.
+-- A broken OptimisticList. If validation fails, the call does not release the lock of pred: it skips row 14 of the step
+-- table and continues at row 15.
 abbrev pub keeps_pred : Option Reply → Local → Local
 keeps_pred None l = record l { pc = 15 }
 keeps_pred (Some r) l = l
@@ -100,9 +100,9 @@ crossed = record {
   effect = lazy.effect;
 }
 
--- A broken LazyList. A `remove` locks curr before pred, while an `add` locks pred before curr. A thread reads its
--- second lock (row 16) before it attempts to take this lock. If the lock is taken, the thread releases its first lock
--- (row 15) and starts again.
+-- A broken LazyList. A `remove` locks curr before pred, while an `add` locks pred before curr. Before a thread attempts
+-- to take its second lock, it reads whether this lock is free (row 16 of the step table). If the lock is taken, the
+-- thread releases its first lock (row 15) and starts again.
 abbrev pub looks_first : Fed → Fed
 looks_first f = record { local = if f.local.pc == 5 then record f.local { pc = 16 } else f.local; answer = f.answer }
 
@@ -128,8 +128,8 @@ yielding = record {
   effect = lazy.effect;
 }
 
--- States that `CallsEndAlone` is false for this machine, whatever number of steps is allowed. The negations of three
--- more laws follow.
+-- States that the law `CallsEndAlone` is false for the broken list T, whatever number of steps is allowed. The next
+-- definitions state this for three other laws.
 abbrev pub NoCallsEndAlone : Table → Type 0
 NoCallsEndAlone T = (most : Sizes → ℕ) → CallsEndAlone T most → ⊥
 

@@ -1,8 +1,8 @@
-//! Progress of the five lists, as laws of the runs of their step machines. Each law is the contract of a function that
-//! does nothing. The laws hold for every schedule, except that freedom from deadlock assumes a fair one.
+//! Progress of the five lists, as laws about the runs of their step tables. Each law is the contract of a function that
+//! does nothing. The laws hold for every schedule, except that freedom from deadlock assumes a fair schedule.
 //!
-//! In the bounds, N is the number of nodes: the head, the tail, one for each slot of each thread, and one for each
-//! opening key.
+//! In the bounds, N is the number of nodes: the head, the tail, one node for each slot of each thread, and one node for
+//! each opening key.
 #![tactic(auto)]
 
 ghost use Rattle.std.specs.Prelude.{Bool};
@@ -53,8 +53,8 @@ pub fn fine_calls_end_alone()
 {}
 
 /// Theorem: if no other thread holds a lock of an OptimisticList, a call that runs alone ends within `8N + 9` steps.
-/// The call starts again at most once, since validation fails only if another thread has changed what the call read.
-/// (Solo termination, of Herlihy and Shavit's optimistic list.)
+/// The call starts again at most once, since validation fails only if another thread has changed nodes that the call
+/// read. (Solo termination, of Herlihy and Shavit's optimistic list.)
 #[tactic(auto, using(crate::proofs::OptimisticProgress::optimistic_calls_end))]
 pub fn optimistic_calls_end_alone()
     ensures { CallsEndAlone optimistic optimistic_steps }
@@ -163,8 +163,8 @@ pub fn some_lazy_call_gets_on()
 {}
 
 /// Theorem: among any `n(4N + 15)(5n + 1)` successive steps of `add` and `remove` by the n threads of a LazyList, not
-/// counting failed attempts to take a lock, at least one ends its call, whatever else happens in between. The same is
-/// true of steps of `add`, `remove` and `contains`. (Freedom from livelock.)
+/// counting failed attempts to take a lock, at least one ends its call, whatever other events happen in between. The
+/// same is true of the steps of `add`, `remove` and `contains`. (Freedom from livelock.)
 pub fn lazy_list_is_livelock_free()
     ensures { (reads : Bool) → IsLivelockFree (counted reads) lazy (lock_window lazy_steps) }
 {}
@@ -186,16 +186,17 @@ pub fn a_spinning_walk_is_refused()
     ensures { NoCallsEndUnhindered spinning }
 {}
 
-/// Lemma: the theorem `lock_free_list_is_lock_free` does not hold for a broken LockFreeList whose walk repeats a failed
-/// attempt to unlink a marked node, whether or not the steps of `contains` are counted.
+/// Lemma: the theorem `lock_free_list_is_lock_free` does not hold for a broken LockFreeList. After a failed attempt to
+/// unlink a marked node, its walk repeats the attempt. The theorem is false whether or not the steps of `contains` are
+/// counted.
 #[tactic(auto, using(crate::proofs::WrongMachines::spinning_is_not_lock_free))]
 pub fn a_spinning_walk_is_not_lock_free()
     ensures { NotLockFree spinning }
 {}
 
-/// Lemma: the theorem `lock_free_list_is_lock_free` does not hold for a broken LockFreeList in which two calls of `add`
-/// can hinder each other forever. Before an `add` links its node, it writes its thread's number into the lock word of
-/// the previous node, and continues only if it then reads its own number in this word.
+/// Lemma: the theorem `lock_free_list_is_lock_free` does not hold for a broken LockFreeList: two calls of `add` can
+/// hinder each other forever. Before an `add` links its node, it writes its thread's number into the lock word of the
+/// previous node, and continues only if it then reads its own number in this word.
 #[tactic(auto, using(crate::proofs::Livelock::claiming_is_not_lock_free))]
 pub fn two_that_claim_a_place_are_not_lock_free()
     ensures { NotLockFree claiming }
@@ -208,16 +209,16 @@ pub fn a_kept_lock_is_refused()
     ensures { NoCallsEndAlone keeping }
 {}
 
-/// Lemma: the theorem `some_lazy_call_gets_on` does not hold for a broken LazyList whose `remove` takes its two locks
-/// in the opposite order.
+/// Lemma: the theorem `some_lazy_call_gets_on` does not hold for a broken LazyList. Its `add` and its `remove` lock the
+/// two nodes in opposite orders.
 #[tactic(auto, using(crate::proofs::WrongMachines::crossed_is_refused))]
 pub fn crossed_locks_are_refused()
     ensures { SomeThreadGetsOn crossed → ⊥ }
 {}
 
-/// Lemma: a broken LazyList is free neither from livelock nor from deadlock. Its `remove` takes its two locks in the
-/// opposite order, and a thread that finds its second lock taken releases the first and starts again. In a fair run,
-/// two threads can repeat this forever.
+/// Lemma: a broken LazyList is free neither from livelock nor from deadlock. Its `add` and its `remove` lock the two
+/// nodes in opposite orders, and a thread that cannot lock its second node releases the first and starts again. In a
+/// fair run, two threads can repeat this forever.
 pub fn two_that_yield_are_not_deadlock_free()
     ensures bounded { (reads : Bool) → NotLivelockFree (counted reads) yielding }
     ensures fair { (reads : Bool) → IsDeadlockFree (counted reads) yielding → ⊥ }
