@@ -1,4 +1,4 @@
--- What a caller knows about its own call after each step of the call.
+-- Proofs about the view of a seat (its knowledge of the run) after each step of its call.
 use Rattle.std.proofs.Common.{◌≡◌, ℕ, ◌+◌, List, [], ◌∷◌, ◌++◌, length, Option, Some, None, MatchOption, ◌<◌, refl, sym, ap, ◌∙◌}
 use Rattle.std.proofs.Common.{subst, append-nil, append_assoc, length-append, false}
 use Rattle.lset_words.specs.declared.Call.{Call}
@@ -21,8 +21,8 @@ use Rattle.lset_rule.specs.Calls.{IsMid, Makes, Goes, Starts, gone_view, begun_v
 use Rattle.lset_rule.proofs.MovesKeepRule.{IsAt, begun_at, stands_at}
 use Rattle.lset_rule.proofs.RecordsOfRuns.{starts_more}
 
--- States what a caller knows after a step with result f: the call has ended if f has a reply, and is still pending
--- otherwise.
+-- States how call c has changed the view of its seat from v to w after a step with the outcome f. If f has a reply, the
+-- call has ended with this reply. Otherwise the call is still pending.
 abbrev pub Comes : Table → Call → View → Fed → View → Type 0
 Comes m c v f w = (w.local ≡ f.local) × MatchOption f.answer (IsMid c v w × Stands m w) (λ r. Makes m c v r w)
 
@@ -68,7 +68,7 @@ by_answer m c v b log l (Some r) mid on st =
       stands = st;
     }
 
--- `Comes` holds after any step of a pending call: the call is still pending, or has ended with a reply.
+-- After any step of a pending call c, the call has ended with a reply or is still pending, as `Comes` states.
 pub comes : (m : Table) (c : Call) (v b : View) (log : List Event) (n : ℕ) (w : View) (f : Fed) → IsMid c v b →
     StartsWith log b.seen → w ≡ gone_view m log n b → Stands m w → f ≡ m.feed b.local n → Comes m c v f w
 comes m c v b log n w f mid on is st fed = let f' : Fed = m.feed b.local n in let w' : View = gone_view m log n b in
@@ -121,8 +121,8 @@ reached_first m law c low v l st idle is =
     occurs m v (v.seen ++ Begin v.thread c ∷ []) l (subst (IsAt m v.shape (v.seen ++ Begin v.thread c ∷ []) v.thread) (sym is)
     (begun_at m law v st c low idle))
 
--- The registers after the start of a call depend only on the thread's slots (nodes for keys that it adds), and not on
--- its other registers.
+-- The registers after the start of a call depend on the thread's slots (nodes for keys that it adds), but on no other
+-- registers of the thread.
 pub begun_from_slots : (m : Table) → Lawful m → (c : Call) (v : View) (s : OwnSlots) (r l : Local) → s ≡ slots_of v.local →
     r ≡ resting s → l ≡ m.begin c r → l ≡ m.begin c v.local
 begun_from_slots m law c v s r l same rest is = is ∙ (ap (m.begin c) (rest ∙ ap resting same) ∙ sym (law.begins c v.local).alike)

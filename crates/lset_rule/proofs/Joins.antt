@@ -1,5 +1,5 @@
--- Proof: splitting and joining seats, and issuing and taking receipts, preserve the rule (the invariant of the shared
--- words and all seats).
+-- Proof: splitting and joining seats, and issuing and using receipts, preserve the invariant of the shared words and
+-- all seats.
 use Rattle.std.proofs.Common.{◌≡◌, ◌≢◌, ◌⊎◌, inl, inr, ⊎_elim, ℕ, ◌+◌, ◌<◌, ◌≤◌, ◌==◌, Bool, true, false, cond, List}
 use Rattle.std.proofs.Common.{[], ◌∷◌, ◌++◌, length, set, nat_le, Option, None, refl, sym, ap, ◌∙◌, subst, arith, rules, tests}
 use Rattle.std.proofs.Common.{append-nil, eq-eqb, ne_eqb}
@@ -30,8 +30,7 @@ use Rattle.lset_rule.proofs.ViewsFit.{is_in, set_there, stands_else, stands_stil
 use Rattle.lset_rule.proofs.MovesKeepRule.{M}
 use Rattle.lset_words.specs.Words.{Opening}
 
--- If no thread in view v (what a seat knows) makes these events, and each thread in view w is also in v, no thread in w
--- makes them.
+-- If no thread of view v made these events, and v has each thread of view w, then no thread of w made these events.
 quiet_less : (v w : View) → ((t : ℕ) → HasThread w t → HasThread v t) → (es : List Event) → IsQuiet v es → IsQuiet w es
 quiet_less v w less [] q = tt
 quiet_less v w less (e ∷ es) q = (λ h. q.0 (less (thread_of e) h), quiet_less v w less es q.1)
@@ -88,7 +87,8 @@ asides_join ends t r (o ∷ os) ps apart a b = (
   asides_join ends t r os ps (λ u h. apart u (inr h)) a.3 b,
 )
 
--- The spare threads stay idle if the record is replaced by another one with the same calls for these threads.
+-- The spare threads of a seat stay idle if the seat's record r is replaced by a record r' with the same calls of these
+-- threads.
 asides_in : (ends : ℕ → Here) (t t' : ℕ) (r r' : Past) (os : List SpareThread) →
     ((u : ℕ) → HasAside os u → (u ≢ t') × (calls_of u r' ≡ calls_of u r)) → AreIdle ends t r os → AreIdle ends t' r' os
 asides_in ends t t' r r' [] same a = tt
@@ -104,7 +104,7 @@ not_own w t r [] a h = h
 not_own w t r (o ∷ os) a h = ⊎_elim (λ e. a.0 (sym e)) (λ x. not_own w t r os a.3 x) h
 
 module _ (m : Table) where
-  -- If a view (what a seat knows) loses threads, it still matches the events.
+  -- If a view (a seat's knowledge of the run) loses threads, it still matches the events.
   fits_less : (k : Opening) (log : List Event) (so so' : ℕ → ℕ) (i j : ℕ) (v w : View) (f : MatchesLog m k log so i v) →
       w.shape ≡ v.shape → w.seen ≡ v.seen → StartsWith log w.ours → StartsWith log w.theirs
       → ((t : ℕ) → HasThread w t → HasThread v t) → Stands m w → ((t : ℕ) → HasThread w t → so' t ≡ j) → MatchesLog m k log so' j w
@@ -124,7 +124,7 @@ module _ (m : Table) where
   fits_seat k log so so' j v same f =
       fits_less k log so so' j j v v f refl refl f.ours f.theirs (λ t h. h) f.stands (λ t h. same t (f.seat t h) h)
 
-  -- ---- Lemmas about splitting a seat, which is the right to call as one thread
+  -- ---- Lemmas about splitting a seat. A seat is the right to call as one thread
   module _ (v0 : View) (o : SpareThread) (os : List SpareThread) where
     abbrev V : View
     V = record v0 { spent = false; under = None; past = Fresh v0.thread; others = o ∷ os }
@@ -195,8 +195,8 @@ module _ (m : Table) where
   splits k id v o os sp idle fresh there = subst (λ (z : View). Splits (Holds m k) id z (left_view z) (right_view z))
       (λ i. record v { spent = sym sp i; under = sym idle i; past = sym fresh i; others = sym there i }) (splits_at v o os k id)
 
-  -- View v (what a seat knows) after it has learned of more events, up to the list `to`. Threads of other views make
-  -- these additional events.
+  -- Lemmas about view v (a seat's knowledge of the run) after it has learned of more events, up to the end of the list
+  -- `to`. Threads of other seats made these additional events.
   module _ (k : Opening) (log : List Event) (so : ℕ → ℕ) (i : ℕ) (v : View) (f : MatchesLog m k log so i v) (ran : IsRunOf m k log) (to : List Event) (begins : StartsWith log to) (le : length v.seen ≤ length to) where
     more : (d : List Event) × (to ≡ v.seen ++ d) × (f.rest ≡ d ++ begins.0)
     more = prefixes v.seen to f.rest begins.0 (sym f.is ∙ begins.1) le
@@ -207,8 +207,8 @@ module _ (m : Table) where
     still_there : (t : ℕ) → HasThread v t → at_end m v.shape to t ≡ at_end m v.shape v.seen t
     still_there t h = ap (λ l. at_end m v.shape l t) more.1 ∙ still_quiet m v.shape v v.seen more.0 t h quiet.0
 
-    -- After a view (what a seat knows) has learned of the events `to`, it still matches all events. The two lists that
-    -- it keeps after a join can be any prefixes of the events.
+    -- After a view (a seat's knowledge of the run) has learned of the events `to`, it still matches all events. The two
+    -- lists that it keeps after a join can be any prefixes of the events.
     sees : (mine theirs : List Event) → StartsWith log mine → StartsWith log theirs →
         MatchesLog m k log so i (record v { seen = to; ours = mine; theirs = theirs })
     sees mine theirs ours other = record {
@@ -234,7 +234,7 @@ module _ (m : Table) where
       theirs = other;
     }
 
-  -- ---- Lemmas about joining two seats. Their views (what the seats know) are v and w
+  -- ---- Lemmas about joining two seats with the views v and w (the knowledge of the seats about the run)
   module _ (k : Opening) (log : List Event) (so so' : ℕ → ℕ) (i j : ℕ) (apart : j ≢ i) (v w : View) (f : MatchesLog m k log so i v) (g : MatchesLog m k log so j w) (v_idle : v.under ≡ None) (w_idle : w.under ≡ None) (ran : IsRunOf m k log) where
     abbrev J : View
     J = joined v w
@@ -248,7 +248,8 @@ module _ (m : Table) where
     abbrev F : Stands m (record v { seen = J.seen })
     F = (sees k log so i v f ran J.seen lo.begins lo.first v.ours v.theirs f.ours f.theirs).stands
 
-    -- View w (what a seat knows), if it has seen the same events as the joined view.
+    -- View w (a seat's knowledge of the run) is still correct after it has learned of all events that the joined view
+    -- has seen.
     abbrev S : Stands m (record w { seen = J.seen; shape = v.shape })
     S = subst (λ z. Stands m (record w { seen = J.seen; shape = z })) (g.shape ∙ sym f.shape)
         (sees k log so j w g ran J.seen lo.begins lo.second w.ours w.theirs g.ours g.theirs).stands
@@ -313,7 +314,8 @@ module _ (m : Table) where
   other_there s id other v w apart there = ⊎_elim (λ (t : (other ≡ id) × (v ≡ w)). absurd (apart t.0))
       (λ (t : (other ≢ id) × (get_elem? s.views other ≡ some w)). t.1) (at_set s.views id other v w there)
 
-  -- The views (what the seats know) after a join: view `id` has changed, and view `other` is spent.
+  -- After a join, every view is correct: view `id` has changed to v, view `other` is spent, and all other views are
+  -- unchanged.
   takes_in : (k : Opening) (log : List Event) (so : ℕ → ℕ) (s : St) (id other : ℕ) (v : View) → MatchesLog m k log so id v →
       ((j : ℕ) (x : View) → j ≢ other → j ≢ id → get_elem? s.views j ≡ some x → Fits m k log so j x)
       → (j : ℕ) (x : View) → get_elem? (set (set s.views id v) other nobody) j ≡ some x → Fits m k log so j x

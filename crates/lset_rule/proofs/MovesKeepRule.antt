@@ -1,5 +1,4 @@
--- Proof: the start of a call, and a step of a call, preserve the rule (the invariant of the shared words and all
--- seats).
+-- Proof: the start of a call and each step of a call preserve the invariant of the shared words and all seats.
 use Rattle.std.proofs.Common.{◌≡◌, ◌≢◌, inl, inr, ℕ, ◌+◌, ◌<◌, ◌≤◌, false, List, [], ◌∷◌, ◌++◌, length, set, slice_index}
 use Rattle.std.proofs.Common.{slice_set, Option, Some, None, refl, sym, ap, ◌∙◌, subst, arith, append-nil, append_assoc, length-append}
 use mathlib.Core.Option.{some}
@@ -30,23 +29,24 @@ use Rattle.lset_rule.specs.Calls.{gone_view, begun_view, record_after, Goes, Sta
 use Rattle.lset_rule.proofs.RecordsOfRuns.{still_quiet, quiet_append, starts_more, asides_stay, before_more, after_calls, after_calls_other}
 use Rattle.lset_rule.proofs.RecordsOfRuns.{after_root, after_apart, after_in, after_in_order, after_before, BegunBy, begun_by, after_in_time}
 
--- States that after the run of these events, thread t has a pending call and the registers `l`.
+-- States that after the run of these events, thread t has a pending call and the registers l.
 abbrev pub IsAt : Table → Opening → List Event → ℕ → Local → Type 0
 IsAt m k es t l = UnderWay m k (event_at es) (length es) t × (local_of (end_of m k es) t ≡ l)
 
--- Returns view v (what a seat knows) after event e. The seat's own thread makes this event, which changes its
--- registers, pending call and record.
+-- Returns view v (a seat's knowledge of the run) after event e of the seat's own thread, with new registers, a new
+-- pending call and a new record.
 abbrev pub later : View → List Event → Event → Local → Option PendingCall → Past → View
 later v log e l u r = record v { local = l; under = u; past = r; seen = log ++ e ∷ [] }
 
 module _ (m : Table) where
-  -- Later events do not change the state of the threads in a view (what a seat knows), because threads in other views
-  -- make them.
+  -- The state of each thread of a view is the same after all events as after the events that the view has seen, because
+  -- threads of other views made the later events.
   pub still : (k : Opening) (log : List Event) (so : ℕ → ℕ) (j : ℕ) (v : View) (f : MatchesLog m k log so j v) (t : ℕ) → HasThread v t →
       at_end m k log t ≡ at_end m k v.seen t
   still k log so j v f t h = ap (λ l. at_end m k l t) f.is ∙ still_quiet m k v v.seen f.rest t h f.quiet
 
-  -- A view (what a seat knows) still matches the events after one more event if another view's thread makes this event.
+  -- A view (a seat's knowledge of the run) still matches the events after event e is appended, if a thread of another
+  -- view made e.
   pub others_fit : (k : Opening) (log : List Event) (so : ℕ → ℕ) (j : ℕ) (v : View) (e : Event) → ¬ (HasThread v (thread_of e)) →
       MatchesLog m k log so j v → MatchesLog m k (log ++ e ∷ []) so j v
   others_fit k log so j v e other f = record {
@@ -158,8 +158,8 @@ module _ (m : Table) where
       pub is_at : IsAt m v.shape h.log v.thread v.local
       is_at = (record { run = h.ran; thread = small; open_call = busy }, local_stood)
 
-      -- The seat with view v makes the step at the current row of its call. The rule (the invariant of the shared words
-      -- and all seats) still holds.
+      -- After the seat with view v has made the step at the current row of its call, the invariant of the shared words
+      -- and all seats still holds.
       pub steps : let a = m.next v.local in
           let n = slice_index s.words (word_named a) in
           let w = gone_view m h.log (found a n) v in
@@ -222,8 +222,8 @@ module _ (m : Table) where
 abbrev pub M : Type 0
 M = Me (Unit {0}) View
 
--- The step at the current row of a seat's call preserves the rule (the invariant of the shared words and all seats),
--- whether it is a load, a store or a compare-and-exchange.
+-- The step at the current row of a call preserves the invariant of the shared words and all seats, whether the step is
+-- a load, a store or a compare-and-exchange.
 pub goes_on : (m : Table) (law : Lawful m) (slots id : ℕ) (me : M) (k : Opening) (a : Action) → a ≡ m.next me.0.local →
     me.0.shape ≡ k → IsOpen me.0
     → Allows (Holds m k) slots id me (word_named a) (left a) (λ n me'. Goes m me.0 (found a n) me'.0 × (me'.1 ≡ me.1))
@@ -238,8 +238,7 @@ goes_on m law slots id me k a acts shape is_open = let v : View = me.0 in
       (r.0, refl),
     ))
 
--- The step at the first row of a call preserves the rule (the invariant of the shared words and all seats). The call
--- starts with this step.
+-- The first step of a call preserves the invariant of the shared words and all seats. The call starts with this step.
 pub goes_first : (m : Table) (law : Lawful m) (slots id : ℕ) (me : M) (k : Opening) (c : Call) → target c < tail_word →
     (a : Action) → a ≡ m.next (m.begin c me.0.local) → me.0.shape ≡ k → IsIdle me.0
     → Allows (Holds m k) slots id me (word_named a) (left a) (λ n me'. Starts m c me.0 (found a n) me'.0 × (me'.1 ≡ me.1))
@@ -307,7 +306,7 @@ module _ (m : Table) (law : Lawful m) (v : View) (st : Stands m v) where
     ap (λ (x : Here). x.local) st.own,
   )
 
-  -- After the start of call c and before its first step, the seat's own thread has these registers.
+  -- After the start of call c and before its first step, the seat's own thread has the registers `m.begin c v.local`.
   pub begun_at : (c : Call) → target c < tail_word → IsIdle v → IsAt m v.shape (v.seen ++ Begin v.thread c ∷ []) v.thread
       (m.begin c v.local)
   begun_at c low is_idle =
@@ -326,7 +325,7 @@ module _ (m : Table) (law : Lawful m) (v : View) (st : Stands m v) where
         is,
       )
 
--- The word that the step at a row accesses is a word of the set.
+-- The next step of a thread with a pending call accesses one of the words of the set.
 in_table : (m : Table) → Lawful m → (k : Opening) (es : List Event) (t : ℕ) (l : Local) → IsAt m k es t l →
     word_named (m.next l) < word_count (sizes k)
 in_table m law k es t l at =

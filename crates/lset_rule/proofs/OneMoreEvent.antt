@@ -1,4 +1,4 @@
--- How one more event of a run changes the state of each thread.
+-- Proofs about appending an event to a run: how the event changes the state of each thread.
 use Rattle.std.proofs.Common.{◌≡◌, ◌≢◌, ⊎_elim, ℕ, zero, suc, ◌+◌, ◌<◌, ◌≤◌, ◌==◌, Bool, true, false, List, [], ◌∷◌, ◌++◌, length}
 use Rattle.std.proofs.Common.{Option, Some, None, refl, sym, ap, ◌∙◌, subst, arith, slice_index, slice_set, get_or-set_other}
 use Rattle.std.proofs.Common.{get_or-set_same, if◌then◌else◌, length-append}
@@ -32,13 +32,13 @@ pick_yes b x y e = rw e refl
 pick_not : {A : Type 0} (b : Bool) (x y : A) → b ≡ false → (if b then x else y) ≡ y
 pick_not b x y e = rw e refl
 
--- Returns the value that an action leaves in a word whose value was n before.
+-- Returns the value of a word after an action, if the value was n before.
 abbrev pub left : Action → ℕ → ℕ
 left (Load w) n = n
 left (Store w v) n = v
 left (Exchange w old new) n = either (n == old) new n
 
--- Returns the value that an action sees in a word whose value was n before.
+-- Returns the value that an action sees in a word, if the value was n before.
 abbrev pub found : Action → ℕ → ℕ
 found (Load w) n = n
 found (Store w v) n = v
@@ -77,7 +77,7 @@ done_agree f g t (suc k) h = ap (λ e. done_next (suc k) e t (under_at g t k) (d
     ∙ (ap (λ u. done_next (suc k) (f k) t u (done_at g t k)) (under_agree f g t k (λ j l. h j (omega arith)))
     ∙ ap (λ d. done_next (suc k) (f k) t (under_at f t k) d) (done_agree f g t k (λ j l. h j (omega arith))))
 
--- ---- Lemmas about the state of a thread after one more event of a run
+-- ---- Lemmas about the state of a thread after an event is appended to a run
 module _ (T : Table) (op : Opening) (es : ℕ → Event) (k t : ℕ) where
   at_begin : (c : Call) → es k ≡ Begin t c → t < length (state_at T op es k).locals
       → here_at T op es t (suc k) ≡ begins T (here_at T op es t k) c (suc k)
@@ -136,8 +136,8 @@ module _ (T : Table) (op : Opening) (es : ℕ → Event) (k t : ℕ) where
       let d = other_done s (es k) (under_at (log_of T op es) t k) (done_at (log_of T op es) t k) ne in
       λ i. here (l i) (u i) (d i)
 
--- States that a thread's registers match its pending call: they are at row 0 if no call is pending, otherwise at
--- another row and with the same call.
+-- States that a thread's registers match its pending call. If no call is pending, they are at row 0 of the step table.
+-- Otherwise they are at another row and contain the same call.
 abbrev pub Tied : Option PendingCall → Local → Type 0
 Tied None l = l.pc ≡ 0
 Tied (Some u) l = (l.pc ≢ 0) × (l.call ≡ u.call)
@@ -275,7 +275,7 @@ run_of_first T k es rest r = record {
       )) (r.enabled j (omega arith));
 }
 
--- The state at the end of a run has the properties that the list's law guarantees for each state in a run.
+-- The last state of a run has the properties that the list's laws guarantee for each state of a run.
 module _ (T : Table) (law : Lawful T) (k : Opening) (es : List Event) (r : IsRunOf T k es) where
   pub end_laws : StateLaws T.marks (sizes k) (end_of T k es)
   end_laws = law.states k (length es) (length es) (event_at es) r (omega arith)

@@ -1,4 +1,4 @@
--- The calls of each thread in a seat's record, compared with the calls that the thread has made in the run.
+-- Proofs that compare the calls of each thread in a seat's record with the calls that the thread has made in the run.
 use Rattle.std.proofs.Common.{◌≡◌, ◌≢◌, ◌⊎◌, inl, inr, ℕ, zero, suc, ◌<◌, ◌≤◌, ◌==◌, Bool, true, false, if◌then◌else◌, cond, List, [], ◌∷◌}
 use Rattle.std.proofs.Common.{◌++◌, Option, Some, None, refl, sym, ap, ◌∙◌, subst, arith, eq-eqb, ne_eqb, append-nil, append_assoc}
 use Rattle.lset_words.specs.declared.Reply.{Reply}
@@ -84,13 +84,14 @@ pub begun_by : (log : Log) (t n : ℕ) → BegunBy (under_at log t n) n
 begun_by log t zero = tt
 begun_by log t (suc n) = begun_next (log n) t n (under_at log t n) (begun_by log t n)
 
--- Returns the calls that a record's own thread made, without those in records merged into it.
+-- Returns the calls that the own thread of a seat made, without the calls in records that were merged into the seat's
+-- record.
 abbrev pub own_calls : Past → List OwnCall
 own_calls (Fresh t) = []
 own_calls (Called' p r c) = own_calls r ++ c ∷ []
 own_calls (Gathered' p r q g) = own_calls r
 
--- States that a record of thread u was merged into the record.
+-- States that a record of thread u was merged into the seat's record.
 abbrev pub HasGathered : ℕ → Past → Type 0
 HasGathered u (Fresh t) = ⊥
 HasGathered u (Called' p r c) = HasGathered u r
@@ -109,7 +110,8 @@ none_of_another u (Called' p r c) out =
 none_of_another u (Gathered' p r q g) out = λ i. none_of_another u r (λ h. out (inl h)) i
     ++ none_of_another u g (λ h. out (inr h)) i
 
--- After a step of the record's own thread, the record has exactly the calls that this thread has completed.
+-- After a step of a seat's own thread t, the calls of t in the seat's record are its earlier calls and the call that
+-- the step ended, if any.
 pub after_calls : (t : ℕ) (r : Past) (a : Option Reply) (u : Option PendingCall) (n : ℕ) → root r ≡ t → calls_of t r
     ++ ending a u n ≡ calls_of t (record_after r a u n)
 after_calls t r (Some x) (Some u) n is = ap (λ b. calls_of t r ++ cond b (own u x n ∷ []) []) (sym (eq-eqb t (root r) (sym is)))

@@ -1,4 +1,4 @@
--- The facts about an interpreted call before and after each of its steps.
+-- Proofs about an interpreted call before and after each of its steps.
 use Rattle.std.proofs.Common.{◌≡◌, Some, None, sym, ap, ◌∙◌}
 use Rattle.atomic_table.specs.Seated.{TableId}
 use Rattle.lset_words.specs.declared.Call.{Call}
@@ -13,7 +13,7 @@ use Rattle.lset_rule.specs.Seats.{TableSeat, IsSeat, MayCall, HasCalled}
 use Rattle.lset_rule.specs.RowSteps.{MayStep, HasStepped}
 use Rattle.lset_rule.proofs.CallKnows.{Comes, is_mid, mid_open, reached, comes_next, made}
 
--- States that call c started from seat s, that its last step had the result f, and that the seat is now s'.
+-- States that call c started from the seat s, that its last step had the outcome f, and that the seat is now s'.
 abbrev pub Reached : Table → Call → TableSeat → Fed → TableSeat → Type 0
 Reached m c s f s' = Comes m c s.me.0 f s'.me.0 × IsSeat s s'
 

@@ -1,4 +1,4 @@
--- Proof: when a set has been opened, the rule (the invariant of the shared words and all seats) holds.
+-- Proof: when a set has been opened, the invariant of the shared words and all seats holds.
 use Rattle.std.proofs.Common.{◌≡◌, ◌≢◌, inl, inr, ⊎_elim, ℕ, zero, suc, ◌+◌, ◌-◌, ◌<◌, ◌≤◌, List, [], ◌∷◌, length, None}
 use Rattle.std.proofs.Common.{refl, sym, ap, ◌∙◌, subst, arith}
 use mathlib.Core.Option.{some, some-injective, some-ne-none}
@@ -21,11 +21,11 @@ use Rattle.lset_rule.specs.Runs.{here, at_end, IsRunOf, StartsWith}
 use Rattle.lset_rule.specs.Rule.{Holds, MatchesLog, opener, asides_from, left_view, right_view}
 use Rattle.lset_rule.specs.Views.{Stands, HasThread, HasAside, AreIdle, IsIdle}
 
--- Returns what a seat of thread t knows (its view) if it was just split off and has made no calls.
+-- Returns the view of a seat (its knowledge of the run) of thread t that was just split off and has made no calls.
 abbrev pub fresh : Opening → ℕ → View
 fresh k t = record (opener k) { thread = t; local = idle k.quota t; others = []; past = Fresh t }
 
--- Returns what the first seat knows (its view) after the threads below t have been split off.
+-- Returns the view of the first seat (its knowledge of the run) after the threads below t have been split off.
 abbrev pub spare : Opening → ℕ → View
 spare k t = record (opener k) { others = asides_from k t (k.threads - 1 - t) }
 
@@ -141,7 +141,7 @@ spare_all k =
     let e : k.threads - 1 ≡ k.threads - 1 - 0 = omega arith in
     ap (λ n. record (opener k) { others = asides_from k 0 n }) e
 
--- A new seat has no pending call, its view (what it knows) is correct, and it has one thread.
+-- A new seat has no pending call, its view (its knowledge of the run) is correct, and it has one thread.
 pub new_seat : (m : Table) (k : Opening) (t : ℕ) (me : T.Me (Unit {0}) View) → Opens k → t < k.threads → me ≡ (fresh k t, []) →
     (slots : OwnSlots) → slots ≡ slots_of (idle k.quota t)
     → IsIdle me.0 × Stands m me.0 × (slots ≡ slots_of me.0.local) × (1 ≡ length me.0.others + 1) × (me.1 ≡ [])

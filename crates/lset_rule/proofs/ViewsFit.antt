@@ -1,5 +1,5 @@
--- Lemmas about changing or adding a view (what a seat knows) in a table of views: what is then true of each view, and
--- which view has each thread.
+-- Lemmas about changing a view (a seat's knowledge of the run) in a list of views, or adding one: the facts about each
+-- view after it, and which view has each thread.
 use Rattle.std.proofs.Common.{◌≡◌, ◌≢◌, ⊎_elim, ℕ, zero, suc, ◌<◌, true, false, List, [], ◌∷◌, ◌++◌, length, set, refl, sym, ap, ◌∙◌, subst}
 use Rattle.std.proofs.lemmas.Bool.{false≢true}
 use mathlib.Core.Option.{some, some-injective, some-ne-none}
@@ -16,7 +16,7 @@ use Rattle.lset_rule.specs.Runs.{StartsWith, end_of, IsRunOf}
 use Rattle.lset_rule.specs.Rule.{Holds, MatchesLog, StandsIn}
 use Rattle.lset_rule.specs.Views.{HasThread}
 
--- Lemmas about changing or adding an entry of a list in which each entry j satisfies P j.
+-- Lemmas about a list: if each entry j satisfies P j, this remains true when an entry is changed or added.
 module _ {A : Type 0} (P : ℕ → A → Type 0) where
   abbrev pub Each : List A → Type 0
   Each l = (j : ℕ) (x : A) → get_elem? l j ≡ some x → P j x
@@ -43,8 +43,8 @@ module _ {A : Type 0} where
   set_twice (x ∷ xs) zero a b = refl
   set_twice (x ∷ xs) (suc i) a b = ap (λ l. x ∷ l) (set_twice xs i a b)
 
--- Thread t is still in view j (what a seat knows) after another view has changed, after view j has changed but kept the
--- thread, and after a view has been added.
+-- Thread t is still in view j (a seat's knowledge of the run) after another view has changed, after view j has changed
+-- but kept the thread, and after a view has been added.
 pub stands_else : (views : List View) (id j t : ℕ) (w : View) → j ≢ id → StandsIn views j t → StandsIn (set views id w) j t
 stands_else views id j t w ne st = (st.0, set_else views id j w ne ∙ st.1, st.2, st.3)
 
@@ -68,8 +68,8 @@ pub stands_last : (views : List View) (t : ℕ) (w : View) → w.spent ≡ false
     StandsIn (views ++ w ∷ []) (length views) t
 stands_last views t w alive has = (w, at_last views w (length views) refl, alive, has)
 
--- What the rule (the invariant) states about view j (what a seat knows): if the view is in use, it matches the events,
--- and what it has seen is a prefix of them.
+-- The invariant of the shared words and all seats, for view j (a seat's knowledge of the run) alone: if the view is in
+-- use, it matches the events, and the events that it has seen are a prefix of all events.
 abbrev pub Fits : Table → Opening → List Event → (ℕ → ℕ) → ℕ → View → Type 0
 Fits m k log so j v = (v.spent ≡ false → MatchesLog m k log so j v) × StartsWith log v.seen
 
@@ -86,7 +86,8 @@ St = table.State (Unit {0}) View
 pub each_fits : (m : Table) (k : Opening) (s : St) (h : Holds m k s) → Each (Fits m k h.log h.seat_of) s.views
 each_fits m k s h j x is = (h.each j x is, h.known j x is)
 
--- The rule (the invariant) holds if the words are those at the end of a run, and each view satisfies `Fits`.
+-- The invariant of the shared words and all seats holds if the words are the words at the end of a run, and each view
+-- satisfies `Fits`.
 abbrev pub holding : (m : Table) (k : Opening) (s : St) (log : List Event) → IsRunOf m k log → s.words ≡ (end_of m k log).words →
     (so : ℕ → ℕ) → Each (Fits m k log so) s.views → ((t : ℕ) → t < k.threads → StandsIn s.views (so t) t) → Holds m k s
 holding m k s log ran words so all placed = record {

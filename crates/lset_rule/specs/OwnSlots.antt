@@ -1,4 +1,4 @@
--- The slots of a thread (nodes for keys that it can add), and what else it keeps between two calls.
+-- The slots of a thread (nodes for keys that it can add), and the other state that the thread keeps between two calls.
 use Rattle.lset_steps.specs.declared.Local.{Local}
 use Rattle.lset_steps.specs.Steps.{idle}
 use Rattle.lset_rule.specs.declared.slots.OwnSlots.{OwnSlots}

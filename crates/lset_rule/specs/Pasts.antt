@@ -1,4 +1,4 @@
--- The record of a seat: its completed calls, and the records of the seats merged into it (gathered), oldest first.
+-- The record of a seat: its completed calls, and the records of the seats that were merged into it, oldest first.
 use Rattle.std.specs.Prelude.{◌≡◌, ℕ, ◌⊎◌, ◌<◌, ◌==◌, List, [], ◌∷◌, ◌++◌, cond}
 use denote.Bor.{Bor}
 use Rattle.lset_rule.specs.declared.view.OwnCall.{OwnCall}
@@ -10,48 +10,49 @@ nowhere = record { now = tt; ref_ptr = (0, 0) }
 abbrev pub called : Past → OwnCall → Past
 called r c = Called' nowhere r c
 
--- Appends to the record r the record g of a seat that is merged into its seat (gathered).
+-- Appends to the record r of a seat the record g of another seat that is merged into this seat.
 abbrev pub gathered : Past → Past → Past
 gathered r g = Gathered' nowhere r nowhere g
 
--- Returns the thread that made a record's own calls.
+-- Returns the thread that a record of calls belongs to: the own thread of its seat.
 abbrev pub root : Past → ℕ
 root (Fresh t) = t
 root (Called' p r c) = root r
 root (Gathered' p r q g) = root r
 
--- Returns the calls of thread u in a record and in the records merged into it, in order.
+-- Returns the calls of thread u in a seat's record and in the records that were merged into it, in their order.
 abbrev pub calls_of : ℕ → Past → List OwnCall
 calls_of u (Fresh t) = []
 calls_of u (Called' p r c) = calls_of u r ++ cond (u == root r) (c ∷ []) []
 calls_of u (Gathered' p r q g) = calls_of u r ++ calls_of u g
 
--- States that all calls in a record, including those of records merged into it, started and ended before event n.
+-- States that all calls in a seat's record, including those in records that were merged into it, started and ended
+-- before event n.
 abbrev pub Before : ℕ → Past → Type 0
 Before n (Fresh t) = Unit {0}
 Before n (Called' p r c) = Before n r × (c.ended < n) × (c.begun < n)
 Before n (Gathered' p r q g) = Before n r × Before n g
 
--- States that all calls in the records merged into a record started and ended before event n.
+-- States that all calls in the records that were merged into a seat's record started and ended before event n.
 abbrev pub GatheredBefore : ℕ → Past → Type 0
 GatheredBefore n (Fresh t) = Unit {0}
 GatheredBefore n (Called' p r c) = GatheredBefore n r
 GatheredBefore n (Gathered' p r q g) = GatheredBefore n r × Before n g
 
--- States that each own call in a record started after all calls in the records that were merged into it before this
--- call.
+-- States that each call of a seat's own thread started after all calls in the records that were merged into the seat's
+-- record before this call.
 abbrev pub InOrder : Past → Type 0
 InOrder (Fresh t) = Unit {0}
 InOrder (Called' p r c) = InOrder r × GatheredBefore c.begun r
 InOrder (Gathered' p r q g) = InOrder r × InOrder g
 
--- States that a record belongs to thread u, or that a record of u was merged into it.
+-- States that a seat's record belongs to thread u, or that a record of thread u was merged into it.
 abbrev pub IsIn : ℕ → Past → Type 0
 IsIn u (Fresh t) = u ≡ t
 IsIn u (Called' p r c) = IsIn u r
 IsIn u (Gathered' p r q g) = IsIn u r ⊎ IsIn u g
 
--- States that a record and the records merged into it all belong to different threads.
+-- States that a seat's record and all records that were merged into it belong to different threads.
 abbrev pub Apart : Past → Type 0
 Apart (Fresh t) = Unit {0}
 Apart (Called' p r c) = Apart r

@@ -1,7 +1,7 @@
--- The invariant of a list on shared words (its rule), which holds between any two moves: some list of events is a run
--- that ends with the words in memory, and what each seat knows (its view) matches these events. The definitions after
--- `Holds` are the views after moves that are no events: opening a set, splitting a seat, joining two seats, the load
--- that completes a join, issuing a receipt, and taking a receipt.
+-- The invariant of a list on shared words (the code calls it the rule). It holds between any two steps: some list of
+-- events is a run that ends with the words in memory, and the view of each seat (its knowledge of the run) matches
+-- these events. The definitions after `Holds` are the views after actions that are no events: opening a set, splitting
+-- a seat, joining two seats, the load that completes a join, issuing a receipt, and using a receipt.
 use Rattle.std.specs.Prelude.{◌≡◌, ℕ, zero, suc, ◌+◌, ◌-◌, ◌<◌, ◌≤◌, true, false, List, [], ◌∷◌, ◌++◌, length, None, cond, nat_le}
 use mathlib.Core.Option.{some}
 use lib.ListN.{get_elem?}
@@ -18,14 +18,14 @@ use Rattle.lset_rule.specs.Runs.{StartsWith, end_of, IsRunOf}
 use Rattle.lset_rule.specs.Views.{HasThread, Stands}
 use Rattle.lset_words.specs.Words.{Opening}
 
--- States that no thread in view v (what a seat knows) made any of the events.
+-- States that no thread of the seat with view v made any of the events.
 abbrev pub IsQuiet : View → List Event → Type 0
 IsQuiet v [] = Unit {0}
 IsQuiet v (e ∷ es) = ¬ (HasThread v (thread_of e)) × IsQuiet v es
 
--- View j (what a seat knows) matches the events of all threads. It has seen a prefix of these events, and only threads
--- in other views made the later events. No other view has any of its threads. The lists `ours` and `theirs`, which it
--- keeps after joining another view, are also prefixes of all events.
+-- States that v, the view of seat j (its knowledge of the run), matches the events of all threads. The view has seen a
+-- prefix of these events, and only threads of other seats made the later events. No other seat has any of its threads.
+-- The lists `ours` and `theirs`, which the view keeps after a join, are also prefixes of all events.
 pub record MatchesLog (m : Table) (k : Opening) (log : List Event) (seat_of : ℕ → ℕ) (j : ℕ) (v : View) : Type 0 where
   pub shape : v.shape ≡ k
   pub rest : List Event
@@ -36,14 +36,14 @@ pub record MatchesLog (m : Table) (k : Opening) (log : List Event) (seat_of : �
   pub ours : StartsWith log v.ours
   pub theirs : StartsWith log v.theirs
 
--- States that view j (what a seat knows) is in use and that thread t is one of its threads.
+-- States that view j (a seat's knowledge of the run) is in use, and that thread t belongs to its seat.
 abbrev pub StandsIn : List View → ℕ → ℕ → Type 0
 StandsIn views j t = (v : View) × (get_elem? views j ≡ some v) × (v.spent ≡ false) × HasThread v t
 
--- The invariant (rule): some run ends with the words in memory, and what each seat knows (its view) matches the events
--- of this run. Each thread belongs to exactly one seat. If a seat is dropped, its view remains. A spent view (of a
--- receipt or of a seat merged into another) has no threads, but the events that it has seen are a prefix of the run,
--- too.
+-- The invariant: some run ends with the words in memory, and the view of each seat (its knowledge of the run) matches
+-- the events of this run. Each thread belongs to exactly one seat. If a seat is dropped, its view remains. A spent view
+-- (of a receipt, or of a seat that was merged into another seat) has no threads, but the events that it has seen are
+-- also a prefix of the run.
 pub record Holds (m : Table) (k : Opening) (s : table.State (Unit {0}) View) : Type 0 where
   pub log : List Event
   pub ran : IsRunOf m k log
@@ -53,8 +53,8 @@ pub record Holds (m : Table) (k : Opening) (s : table.State (Unit {0}) View) : T
   pub placed : (t : ℕ) → t < k.threads → StandsIn s.views (seat_of t) t
   pub known : (j : ℕ) (v : View) → get_elem? s.views j ≡ some v → StartsWith log v.seen
 
--- Returns the spare threads of the first seat: n idle threads, numbered from t. At first, one seat has all threads of
--- the set. The last thread is the one that the seat calls as, the others are spare.
+-- Returns the spare threads of the first seat: n idle threads, numbered from t. The first seat has all threads of the
+-- set: it calls as the last thread, and all other threads are spare.
 abbrev pub asides_from : Opening → ℕ → ℕ → List SpareThread
 asides_from k t zero = []
 asides_from k t (suc n) = record { thread = t; local = idle k.quota t } ∷ asides_from k (t + 1) n
@@ -73,8 +73,8 @@ opener k = record {
   theirs = [];
 }
 
--- What the seats know (their views) after a split. The old seat loses its first spare thread. The new seat calls as
--- this thread, with an empty record, and has seen the same events as the old seat.
+-- The views of two seats (their knowledge of the run) after a split. The old seat loses its first spare thread. The new
+-- seat calls as this thread, has an empty record, and has seen the same events as the old seat.
 abbrev head_aside : View → List SpareThread → View
 head_aside v [] = record v { spent = true }
 head_aside v (o ∷ os) = record v {
@@ -97,9 +97,9 @@ left_view v = record v { others = tail_asides v.others }
 abbrev pub right_view : View → View
 right_view v = head_aside v v.others
 
--- What the seats know (their views) after they are joined. The first seat also gets the threads and the record of the
--- second. It has then seen the longer of the two lists of events, and keeps both lists until its next load. The view of
--- the second seat is spent.
+-- The views of two seats (their knowledge of the run) after they are joined. The first seat also gets the threads and
+-- the record of the second seat. The first seat has then seen the longer of the two lists of events, and keeps both
+-- lists until its next load. The view of the second seat is spent.
 abbrev pub longer : List Event → List Event → List Event
 longer xs ys = cond (nat_le (length xs) (length ys)) ys xs
 
@@ -118,13 +118,13 @@ joined v w = record v {
 abbrev pub nobody : View
 nobody = record (opener (record { threads = 0; quota = 0; keys = [] })) { spent = true }
 
--- What a seat and its new receipt know (their views). The view of the seat does not change. The receipt is a view
--- without threads that has seen the same events.
+-- The view of a new receipt. It has no threads, and has seen the same events as the seat that issued the receipt. The
+-- view of this seat does not change.
 abbrev pub without_thread : View → View
 without_thread v = record v { spent = true }
 
--- What a seat knows (its view) after taking a receipt. It has then seen the longer of the two lists of events, and
--- keeps both lists until its next load. The receipt is spent.
+-- The view of a seat (its knowledge of the run) after it uses a receipt. The seat has then seen the longer of the two
+-- lists of events (its own and the receipt's), and keeps both lists until its next load. The receipt is spent.
 abbrev pub informed : View → View → View
 informed v w = record v {
   seen = longer v.seen w.seen;
@@ -132,8 +132,8 @@ informed v w = record v {
   theirs = w.seen;
 }
 
--- The load after joining two seats or taking a receipt. It shows that the two kept lists of events are prefixes of the
--- events that the seat has seen. The lists are then dropped.
+-- The effect of the first load after a seat joins another seat or uses a receipt. The load shows that the two lists of
+-- events that the seat keeps are prefixes of the events that it has seen. The seat then drops both lists.
 abbrev pub learned : Table → Step (Unit {0}) → Me (Unit {0}) View → ℕ → Me (Unit {0}) View → Type 0
 learned m st me n me' =
     (me'.0 ≡ record me.0 { ours = []; theirs = [] }) × Stands m me'.0

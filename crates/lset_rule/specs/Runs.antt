@@ -1,5 +1,5 @@
--- The run of a list of events, computed from the opening state one event at a time: the state after the last event, and
--- for each thread its registers, its pending call and its completed calls. Events are numbered from 1.
+-- The run of a list of events, computed from the opening state one event at a time. It consists of the state after the
+-- last event and, for each thread, its registers, its pending call and its completed calls. Events are numbered from 1.
 use Rattle.std.specs.Prelude.{◌≡◌, ℕ, zero, suc, ◌+◌, ◌==◌, if◌then◌else◌, List, [], ◌∷◌, ◌++◌, length, Option, Some, None}
 use Rattle.lset_words.specs.declared.Reply.{Reply}
 use Rattle.lset_words.specs.declared.history.CallRecord.{CallRecord}
@@ -15,7 +15,7 @@ use Rattle.lset_words.specs.Words.{Opening}
 abbrev pub StartsWith : List Event → List Event → Type 0
 StartsWith log seen = (rest : List Event) × (log ≡ seen ++ rest)
 
--- A thread at some moment: its registers, its pending call and its completed calls.
+-- The state of a thread at some moment: its registers, its pending call and its completed calls.
 pub record Here : Type 0 where
   pub local : Local
   pub under : Option PendingCall
@@ -24,24 +24,24 @@ pub record Here : Type 0 where
 abbrev pub here : Local → Option PendingCall → List OwnCall → Here
 here l u d = record { local = l; under = u; done = d }
 
--- Returns the completed call that results if event n ends the pending call u with reply r.
+-- Returns the completed call when event n ends the pending call u with the reply r.
 abbrev pub own : PendingCall → Reply → ℕ → OwnCall
 own u r n = record { call = u.call; reply = r; begun = u.begun; ended = n }
 
--- Returns the pending call of a thread after one of its steps, or None if the step returned a reply.
+-- Returns the pending call of a thread after one of its steps. Returns None if the step ended the call with a reply.
 abbrev pub under_after : Option Reply → Option PendingCall → Option PendingCall
 under_after (Some r) u = None
 under_after None None = None
 under_after None (Some u) = Some (record u { steps = u.steps + 1 })
 
--- Returns the call that event n ends, as a list. The list is empty if the event ends no call.
+-- Returns the list with only the call that event n ends, or the empty list if the event ends no call.
 abbrev pub ending : Option Reply → Option PendingCall → ℕ → List OwnCall
 ending (Some r) (Some u) n = own u r n ∷ []
 ending (Some r) None n = []
 ending None u n = []
 
--- `under_next` returns the pending call of thread t after event n, computed from the one before. `done_next` does the
--- same for its completed calls.
+-- `under_next` returns the pending call of thread t after event n; its last argument is the pending call before the
+-- event. `done_next` returns the completed calls of thread t after event n.
 abbrev pub under_next : ℕ → Entry → ℕ → Option PendingCall → Option PendingCall
 under_next n (began u c) t before = if u == t then Some (record { call = c; begun = n; steps = 0 }) else before
 under_next n (stepped u change answer) t before = if u == t then under_after answer before else before
@@ -64,8 +64,9 @@ done_at log t (suc k) = done_next (suc k) (log k) t (under_at log t k) (done_at 
 abbrev pub here_at : Table → Opening → (ℕ → Event) → ℕ → ℕ → Here
 here_at T op es t k = here (local_of (state_at T op es k) t) (under_at (log_of T op es) t k) (done_at (log_of T op es) t k)
 
--- The run of a list of events from this opening: `log_by` is its log, `end_of` its last state, and `at_end` the state
--- of a thread at its end. `IsRunOf` states that each event was enabled when it occurred.
+-- `log_by` returns the log of a run, which is computed from its opening and its list of events. `end_of` returns the
+-- last state of the run, and `at_end` the last state of a thread. `IsRunOf` states that each event was enabled when it
+-- occurred.
 abbrev pub log_by : Table → Opening → List Event → Log
 log_by T k es = log_of T k (event_at es)
 
@@ -78,6 +79,6 @@ at_end T k es t = here_at T k (event_at es) t (length es)
 abbrev pub IsRunOf : Table → Opening → List Event → Type 0
 IsRunOf T k es = Run T k (event_at es) (length es)
 
--- Returns the history (all calls with start, end and reply) of the run of these events.
+-- Returns the history of the run of these events: all calls with their starts, ends and replies.
 abbrev pub history_of : Table → Opening → List Event → List CallRecord
 history_of T k es = history_at (log_by T k es) (length es)

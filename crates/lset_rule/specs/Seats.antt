@@ -1,4 +1,5 @@
--- The seat of a call: what a call requires of its seat (the right to call as one thread), and how the call changes it.
+-- The seat of a call (the right to call as one thread): the requirements of a call on its seat, and how the call
+-- changes the seat.
 use Rattle.std.specs.Prelude.{◌≡◌}
 use Rattle.atomic_table.specs.declared.shared.Seat.{Seat}
 use Rattle.atomic_table.specs.Seated.{TableId}
@@ -12,28 +13,28 @@ use Rattle.lset_rule.specs.OwnSlots.{slots_of}
 use Rattle.lset_rule.specs.Views.{IsIdle, Stands}
 use Rattle.lset_rule.specs.Calls.{Makes}
 
--- A seat: the right to call as one thread, together with its view (what the seat knows).
+-- A seat: the right to call as one thread, together with its view (its knowledge of the run).
 abbrev pub TableSeat : Type 0
 TableSeat = Seat (Unit {0}) View
 
--- States that seat s belongs to the shared words z, and that z has as many words as a set that opens with k.
+-- States that the seat s belongs to the shared words z, and that z has as many words as a set with the opening k.
 abbrev pub IsOf : TableId → Opening → TableSeat → Type 0
 IsOf z k s = (s.table_id ≡ z) × (s.me.0.shape ≡ k) × (z.words ≡ word_count (sizes k))
 
--- States that s and s' are the same seat at two moments. What the seat knows (its view) can differ.
+-- States that s and s' are the same seat at two moments. The view of the seat (its knowledge of the run) can differ.
 abbrev pub IsSeat : TableSeat → TableSeat → Type 0
 IsSeat s s' = (s'.table_id ≡ s.table_id) × (s'.id ≡ s.id) × (s'.me.1 ≡ s.me.1)
 
--- What a call requires of seat s: s belongs to the shared words z, and its thread has no pending call and the slots
--- `own` (nodes for keys that it adds).
+-- The requirements of a call on its seat s: s belongs to the shared words z, and its thread has no pending call and has
+-- the slots `own` (nodes for keys that it adds).
 pub record MayCall (m : Table) (z : TableId) (k : Opening) (own : OwnSlots) (s : TableSeat) : Type 0 where
   pub place : IsOf z k s
   pub idle : IsIdle s.me.0
   pub stands : Stands m s.me.0
   pub slots : own ≡ slots_of s.me.0.local
 
--- Call c changed the seat from s to s', and exactly this call with its reply was added to the seat's record. `answer`
--- has the thread's slots (nodes for keys that it adds) after the call, and the reply.
+-- States that call c changed its seat from s to s', and that only this call with its reply was added to the seat's
+-- record. `answer` contains the thread's slots (nodes for keys that it adds) after the call, and the reply.
 pub record HasCalled (m : Table) (c : Call) (s : TableSeat) (answer : OwnSlots × Reply) (s' : TableSeat) : Type 0 where
   pub place : IsSeat s s'
   pub slots : answer.0 ≡ slots_of s'.me.0.local

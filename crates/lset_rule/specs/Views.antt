@@ -1,5 +1,5 @@
--- What must be true of a single view, whatever the shared words and the other seats are. The view of a seat is what the
--- seat knows: the events that it has seen, and the state of each of its threads after these events.
+-- The conditions on a single view, whatever the shared words and the other seats are. The view of a seat is its
+-- knowledge of the run: the events that the seat has seen, and the state of each of its threads after these events.
 use Rattle.std.specs.Prelude.{◌≡◌, ◌≢◌, ◌⊎◌, ℕ, ◌+◌, ◌<◌, false, List, [], ◌∷◌, length, Option, Some, None}
 use Rattle.lset_rule.specs.declared.view.PendingCall.{PendingCall}
 use Rattle.lset_rule.specs.declared.view.SpareThread.{SpareThread}
@@ -17,42 +17,43 @@ HasAside (o ∷ os) t = (t ≡ o.thread) ⊎ HasAside os t
 abbrev pub HasThread : View → ℕ → Type 0
 HasThread v t = (t ≡ v.thread) ⊎ HasAside v.others t
 
--- States that a seat's spare threads are idle, distinct and different from t, and that each has completed exactly its
--- calls in the record r. `ends` is the state of each thread.
+-- States that the spare threads of a seat are idle, distinct and different from t, and that the record r contains
+-- exactly the calls that each of them has completed. `ends` returns the state of a thread.
 abbrev pub AreIdle : (ℕ → Here) → ℕ → Past → List SpareThread → Type 0
 AreIdle ends t r [] = Unit {0}
 AreIdle ends t r (o ∷ os) = (o.thread ≢ t) × (ends o.thread ≡ here o.local None (calls_of o.thread r))
     × (¬ (HasAside os o.thread)) × AreIdle ends t r os
 
--- States that each call in record r ended before the pending call started.
+-- States that each call in the record r ended before the pending call started.
 abbrev pub InTime : Option PendingCall → Past → Type 0
 InTime None r = Unit {0}
 InTime (Some u) r = Before u.begun r
 
--- The view (what a seat knows) is correct: its information about its threads is true after the events that it has seen.
+-- States that the view v (a seat's knowledge of the run) is correct: its information about its threads is true after
+-- the events that it has seen.
 pub record Stands (m : Table) (v : View) : Type 0 where
-  -- The events seen are a run. After this run, the seat's own thread has the registers, the pending call and the
-  -- completed calls that the view stores.
+  -- The events that the view has seen are a run. After this run, the seat's own thread has the registers, the pending
+  -- call and the completed calls that the view stores.
   pub ran : IsRunOf m v.shape v.seen
   pub own : at_end m v.shape v.seen v.thread ≡ here v.local v.under (calls_of v.thread v.past)
   -- Each spare thread is idle, and has the registers that the view stores.
   pub others : AreIdle (at_end m v.shape v.seen) v.thread v.past v.others
   pub in_range : (t : ℕ) → HasThread v t → t < v.shape.threads
-  -- The record belongs to the seat's own thread. Each of its other threads has at most one record in it, and no record
-  -- is from a thread of another seat.
+  -- The record belongs to the seat's own thread. Each thread has at most one record in it, and belongs to this seat.
   pub of_thread : root v.past ≡ v.thread
   pub apart : Apart v.past
   pub named : (u : ℕ) → IsIn u v.past → HasThread v u
-  -- Each call of the seat itself started after all calls in the records that were merged into it before this call.
+  -- Each call of a record's own thread started after all calls in the records that were merged into this record before
+  -- the call.
   pub ordered : InOrder v.past
-  -- All calls in the record have ended, and they ended before the pending call started.
+  -- All calls in the record have ended. They ended before the seat's pending call started.
   pub ended : Before (length v.seen + 1) v.past
   pub before : InTime v.under v.past
 
--- States that view v (what a seat knows) is in use, and that the seat's own thread has a pending call.
+-- States that the view v (a seat's knowledge of the run) is in use, and that the seat's own thread has a pending call.
 abbrev pub IsOpen : View → Type 0
 IsOpen v = (v.spent ≡ false) × ((u : PendingCall) × (v.under ≡ Some u))
 
--- States that view v (what a seat knows) is in use, and that the seat's own thread has no pending call.
+-- States that the view v (a seat's knowledge of the run) is in use, and that the seat's own thread has no pending call.
 abbrev pub IsIdle : View → Type 0
 IsIdle v = (v.spent ≡ false) × (v.under ≡ None)

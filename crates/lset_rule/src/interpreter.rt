@@ -14,8 +14,8 @@ use std::marker::Brand;
 
 /// Expands to the code between two steps of a call: returns the reply if the call has ended, otherwise pauses.
 ///
-/// A macro, because a pause can block. If a function that can block were called here, the compiled code would not jump
-/// straight to the code of the next row.
+/// This is a macro because a pause can block. If the interpreter called a function that can block here, the compiled
+/// code would not jump straight to the code of the next row.
 macro_rules! ends_or_pauses {
     ($last:expr, $pause:expr) => {
         if let Some(reply) = $last.fed.answer {
@@ -33,12 +33,12 @@ macro_rules! ends_or_pauses {
 ///
 /// `place` is an idle seat (the right to call as one thread) on the words `table`. `slots` are the thread's slots, as
 /// the thread's last call returned them. After each step that does not end the call, the interpreter calls
-/// `pause.failed` if the step has failed, and `pause.moved` otherwise. It also calls `pause.moved` when the call takes
-/// a lock that it has waited for, and never calls `pause.taken`.
+/// `pause.failed` if the step has failed, and `pause.moved` otherwise. It also calls `pause.moved` when the call gets a
+/// lock that it has waited for. It never calls `pause.taken`.
 ///
 /// Returns the thread's slots after the call, and the reply. The call started after all events that the seat had seen,
 /// and has been added to the seat's record. Returns `None` if the call has not ended after these rounds. The call is
-/// then still pending and keeps its locks, and the seat can make no other call.
+/// then still pending and keeps its locks, and the seat cannot make another call.
 pub fn interpret_within<M: Machine, P: Pause, N: Rounds>(
     table: &Words<M>,
     place: &mut TableSeat,
@@ -72,8 +72,8 @@ pub fn interpret_within<M: Machine, P: Pause, N: Rounds>(
     Some((OwnSlots::of(&last.fed.local), reply))
 }
 
-/// Makes a whole `contains` of `key` step by step, without blocking. `M` is a list whose walk reaches each node at most
-/// once (`OpenReads`), because the list marks nodes before it unlinks them.
+/// Makes a whole `contains` of `key` step by step, without blocking. `M` is a list that marks nodes before it unlinks
+/// them. Therefore its walk reaches each node at most once (`OpenReads`).
 ///
 /// `place` is an idle seat (the right to call as one thread) on the words `table`, and `slots` are the thread's slots,
 /// as the thread's last call returned them. Returns the thread's slots after the call, and the reply.

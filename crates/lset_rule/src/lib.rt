@@ -1,10 +1,10 @@
-//! The invariant of a list on shared words, called its rule. It holds between any two steps, for every list
+//! The invariant of a list on shared words (the code calls it the rule). It holds between any two steps, for every list
 //! (`lset_steps::Machine`): some list of events is a run that ends with the words in memory, and each seat has seen a
 //! prefix of these events. A seat is the right to call as one thread.
 //!
-//! Module `rule` has the invariant, `view` what a seat knows, `word_steps` the single steps of a call, `pause` the code
-//! between two steps, and `interpreter` whole calls. Read the definitions in specs/ in this order: `Pasts`, `Runs`,
-//! `Views`, `Rule`, `Calls`, `Seats`.
+//! Module `rule` contains the invariant, `view` the knowledge of a seat, `word_steps` the single steps of a call,
+//! `pause` the code between two steps, and `interpreter` whole calls. Read the definitions in specs/ in this order:
+//! `Pasts`, `Runs`, `Views`, `Rule`, `Calls`, `Seats`.
 #![tactic(auto)]
 
 mod interpreter;

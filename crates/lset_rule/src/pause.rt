@@ -1,4 +1,4 @@
-//! Pauses between two steps of a call.
+//! The code that runs between two steps of a call.
 
 use crossbeam_utils::Backoff;
 use std::cell::Cell;
@@ -6,18 +6,17 @@ use std::cell::Cell;
 /// The code that a call runs between two of its steps. No contract depends on this code: it cannot access the words or
 /// the seat, and affects only how long a call lasts.
 ///
-/// Each outcome of a step has its own function, because the kit reads a byte after each call of a function that can
-/// yield. If only `failed` yields, no byte is read after other steps.
+/// Each outcome of a step has its own function, because the compiled code reads a byte after each call of a function
+/// that can yield the processor. If only `failed` can yield, no byte is read after other steps.
 pub trait Pause {
     /// Called after a step that succeeded without ending the call. `thread` is the number of the calling thread.
     fn moved(&self, thread: u32);
 
-    /// Called after a step that failed without ending the call. Such a step is a compare-and-exchange that found
-    /// another value than the expected one, for example because a lock is held. `thread` is the number of the calling
-    /// thread.
+    /// Called after a step that failed without ending the call. Such a step is a compare-and-exchange that did not find
+    /// the expected value, for example because a lock is held. `thread` is the number of the calling thread.
     fn failed(&self, thread: u32);
 
-    /// Called instead of `moved` when a call takes a lock that it has waited for. The loops of the four lists with
+    /// Called instead of `moved` when a call gets a lock that it has waited for. Only the loops of the four lists with
     /// locks call this function. The interpreter (`interpret_within`) calls `moved` instead. `thread` is the number of
     /// the calling thread.
     fn taken(&self, thread: u32) {
@@ -25,13 +24,13 @@ pub trait Pause {
     }
 }
 
-/// The maximum number of `Backoff::spin` calls after a failed step. At 16, a thread executes 1,024 pause instructions.
-/// In that time the holder of a lock makes many calls, and the cache line of the lock stays with the holder's
-/// processor.
+/// The maximum number of `Backoff::spin` calls after a failed step. With 16 calls, a thread executes 1,024 pause
+/// instructions. In that time the holder of a lock makes many calls, and the cache line of the lock stays with the
+/// holder's processor.
 const MOST_WAITS: u32 = 16;
 
 /// A pause that waits after each failed exchange with `Backoff` of `crossbeam_utils`. Each wait is twice as long as the
-/// previous one, up to a limit. Once the limit is reached, the pause also yields the processor. When the call takes a
+/// previous wait, up to a limit. Once the limit is reached, the pause also yields the processor. When the call gets a
 /// lock, the waits become short again. Each call has its own `Spin`.
 #[derive(Drop)]
 pub struct Spin {
@@ -40,7 +39,7 @@ pub struct Spin {
 }
 
 impl Spin {
-    /// Returns a pause for a new call, in which no step has failed yet.
+    /// Returns a pause for a new call, which has no failed steps yet.
     pub fn new() -> Spin {
         Spin {
             backoff: Backoff::new(),

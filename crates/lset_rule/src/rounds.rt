@@ -1,24 +1,26 @@
-//! How many rounds the loop of a call can make: a bounded number, or one with no practical bound.
+//! Bounds on the rounds of a call's loops: a given number, or a number that no call reaches in practice.
 ghost use Rattle.std.specs.Prelude.{◌≡◌, Some};
 
 use crate::slots::OwnSlots;
 use lset_words::Reply;
 use std::sync::Wait;
 
-/// A bound on the rounds of each loop of a call. A loop gives up after this many rounds.
+/// A bound on the rounds of each loop of a call. If a loop has not ended after this many rounds, it stops and the call
+/// has no reply.
 pub trait Rounds {
     /// The maximum number of rounds of a loop.
     const MOST: u64;
 }
 
-/// The bound for calls that need no practical bound: 2^64 - 1 rounds.
+/// A bound that no call reaches in practice: 2^64 - 1 rounds.
 pub struct Countless;
 
 impl Rounds for Countless {
     const MOST: u64 = u64::MAX;
 }
 
-/// Returns the result of a call that can make [`Countless`] rounds (2^64 - 1). Waits forever if `answer` is `None`.
+/// Returns the result `answer` of a call that can make [`Countless`] rounds (2^64 - 1). Waits forever if `answer` is
+/// `None`.
 #[inline(always)]
 pub fn or_wait_forever<R: Wait>(rt: &R, answer: Option<(OwnSlots, Reply)>) -> (OwnSlots, Reply)
     ensures { answer ≡ Some result }

@@ -1,4 +1,4 @@
-//! Makes the next step of an interpreted call, by the compiled code for its row of the step table.
+//! Makes the next step of an interpreted call, with code that is compiled for the call's row of the step table.
 ghost use Rattle.std.specs.Prelude.{◌≡◌};
 ghost use Rattle.lset_rule.specs.RowSteps.{HasStepped, MayStep};
 
@@ -13,7 +13,7 @@ pub(crate) struct Stepped {
     pub failed: bool,
 }
 
-/// Returns whether a step was a failed exchange, given its action and the value that it saw.
+/// Returns whether a step with this action that saw the value `seen` was a failed exchange.
 #[inline(always)]
 pub(crate) fn has_failed(action: Action, seen: u64) -> bool {
     match action {
@@ -42,9 +42,9 @@ fn row_step<M: Machine, const PC: u8>(
     }
 }
 
-/// Makes the next step of a call at a row that has no arm in [`one_step`]. `SITE` differs at each call site, and only
-/// keeps this function from being inlined: the compiler inlines a function that has a single call site. Inlined here,
-/// it would force the registers into memory at every step.
+/// Makes the next step of a call at a row without a match arm in [`one_step`]. Each call site passes another number
+/// `SITE`. The numbers only prevent inlining, since the compiler inlines a function that has a single call site. If
+/// this function were inlined, the registers would be written to memory at every step.
 fn other_step<M: Machine, const SITE: u8>(
     table: &Words<M>,
     place: &mut TableSeat,
@@ -61,11 +61,11 @@ fn other_step<M: Machine, const SITE: u8>(
     }
 }
 
-/// Makes the next step of a call, by the compiled code for its row of the step table.
+/// Makes the next step of a call, with code that is compiled for the call's row of the step table.
 ///
 /// `place` is a seat on the words `table` with a pending call, and `local` is the state of its thread. Each call site
-/// passes its own number `SITE`. Each row of the five lists' step tables has an arm. Rows of other tables work without
-/// an arm, but their steps are slower.
+/// passes its own number `SITE`. Each row of the five lists' step tables has a match arm. A row of another table can be
+/// without a match arm; its step is then slower.
 #[inline(always)]
 pub(crate) fn one_step<M: Machine, const SITE: u8>(
     table: &Words<M>,

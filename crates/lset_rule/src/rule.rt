@@ -1,5 +1,4 @@
-//! The rule (the invariant of the shared words and all seats), and what each move adds to the knowledge of a seat (its
-//! view).
+//! The invariant of the shared words and all seats, and how each action changes a view (a seat's knowledge of the run).
 ghost use Rattle.lset_words.specs.declared.Call.{Call};
 ghost use Rattle.lset_words.specs.declared.Call.TheVariants.{Contains};
 ghost use Rattle.lset_rule.specs.Rule.{Holds, opener, left_view, right_view, joined, nobody, learned, without_thread, informed};
@@ -11,8 +10,8 @@ use lset_steps::Machine;
 use std::marker::{Brand, PhantomData};
 
 /// The invariant of the shared words of a list `M`: the events of all threads so far are a run of `M` that ends with
-/// these words, and what each seat knows (its view) matches this run. When the set is opened, a single seat has all
-/// threads.
+/// these words, and the view of each seat (its knowledge of the run) matches this run. When the set is opened, a single
+/// seat has all threads.
 pub struct Follows<M> {
     machine: PhantomData<M>,
 }
@@ -23,7 +22,7 @@ impl<M: Machine> TableRule<(), View, Opened> for Follows<M> {
     ghost first = { opener };
 }
 
-/// The call that a first step starts, as a type. A caller passes `Brand`, and proves which call `Brand` means.
+/// The call that starts with a first step, as a type. A caller passes `Brand`, and proves which call `Brand` means.
 pub trait Asking {
     ghost call: { Call };
 }
@@ -32,7 +31,7 @@ impl Asking for Brand {
     ghost call = { Contains (record { 0 = 0 }) };
 }
 
-/// What a seat learns from a step of its call that is not the first.
+/// How a later step of a call (not its first) changes the view of its seat (the seat's knowledge of the run).
 pub struct Step<M> {
     machine: PhantomData<M>,
 }
@@ -41,7 +40,8 @@ impl<M: Machine> Play<(), View> for Step<M> {
     ghost then = { onward M.table };
 }
 
-/// What a seat learns from the first step of a call. The call starts with this step.
+/// How the first step of a call changes the view of its seat (the seat's knowledge of the run). The call starts with
+/// this step.
 pub struct FirstStep<M, J> {
     machine: PhantomData<M>,
     asking: PhantomData<J>,
@@ -51,7 +51,8 @@ impl<M: Machine, J: Asking> Play<(), View> for FirstStep<M, J> {
     ghost then = { starting M.table J.call };
 }
 
-/// What both seats know (their views) after a split: a spare thread of the old seat becomes the thread of a new seat.
+/// The views of both seats (their knowledge of the run) after a split: a spare thread of the old seat becomes the
+/// thread of a new seat.
 pub struct SplitSeat;
 
 impl Split<View> for SplitSeat {
@@ -60,8 +61,8 @@ impl Split<View> for SplitSeat {
     ghost right = { right_view };
 }
 
-/// What a seat knows (its view) after another seat was merged into it (gathered): it also has the other seat's threads
-/// and record.
+/// The view of a seat (its knowledge of the run) after another seat was merged into it: the seat now also has the other
+/// seat's threads and record.
 pub struct JoinSeats;
 
 impl Join<View> for JoinSeats {
@@ -70,8 +71,9 @@ impl Join<View> for JoinSeats {
     ghost spent = { nobody };
 }
 
-/// What a seat and a receipt know (their views) after the seat issues the receipt or the receipt is copied. The seat's
-/// view does not change. The receipt has seen the same events, and has no threads.
+/// The views of a seat and a receipt (their knowledge of the run) after the seat issues the receipt, or after the
+/// receipt is copied. The seat's view does not change. The receipt has seen the same events as the seat, and has no
+/// threads.
 pub struct GiveReceipt;
 
 impl Split<View> for GiveReceipt {
@@ -80,8 +82,8 @@ impl Split<View> for GiveReceipt {
     ghost right = { without_thread };
 }
 
-/// What a seat knows (its view) after it has taken a receipt: it has seen all events that the seat or the receipt had
-/// seen.
+/// The view of a seat (its knowledge of the run) after it uses a receipt: the seat has then seen all events that the
+/// seat or the receipt had seen.
 pub struct TakeReceipt;
 
 impl Join<View> for TakeReceipt {
@@ -90,8 +92,8 @@ impl Join<View> for TakeReceipt {
     ghost spent = { nobody };
 }
 
-/// What a seat learns from its first load after another seat was merged into it or it took a receipt: the events that
-/// it has seen include those that either of the two had seen.
+/// How the first load of a seat after a merge (or after it uses a receipt) changes the seat's view (its knowledge of
+/// the run). The load shows that the events that the seat has seen include the events that each of the two had seen.
 pub struct Learn<M> {
     machine: PhantomData<M>,
 }

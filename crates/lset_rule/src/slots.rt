@@ -1,4 +1,5 @@
-//! The slots of a thread (the nodes for keys that it can still add), and what else it keeps between two calls.
+//! The slots of a thread: nodes for the keys that it can still add. Also the other state that a thread keeps between
+//! two calls.
 ghost use Rattle.std.specs.Prelude.{◌≡◌};
 ghost use Rattle.lset_steps.specs.Steps.{idle};
 ghost use Rattle.lset_rule.specs.OwnSlots.{slots_of, resting};
@@ -7,7 +8,7 @@ use lset_steps::Local;
 use lset_words::{Call, Key, Layout};
 
 /// The state that a thread keeps between two calls: its number, the number of its slots (nodes for keys that it adds),
-/// and how many slots it has used. Other registers do not affect the next call.
+/// and how many slots it has used. The other registers do not affect the next call.
 #[derive(Clone, Copy)]
 pub struct OwnSlots {
     pub thread: u32,

@@ -1,4 +1,5 @@
-//! What a seat (the right to call as one thread) knows, as data for contracts. No such values exist at run time.
+//! The view of a seat: its knowledge of the run, as data for contracts. (A seat is the right to call as one thread.) No
+//! views exist at run time.
 ghost use Rattle.std.specs.Prelude.{◌≡◌};
 ghost use Rattle.lset_words.specs.Words.{Opening};
 
@@ -8,7 +9,7 @@ use std::collections::LinkedList;
 use std::marker::Model;
 
 /// The opening of a set: the number of threads, the number of keys that each thread can add (its quota), and the
-/// opening keys. Never changes.
+/// opening keys. It never changes.
 #[derive(Drop)]
 pub struct Opened {
     threads: u32,
@@ -40,16 +41,16 @@ impl Opened {
 pub struct OwnCall {
     pub call: Call,
     pub reply: Reply,
-    /// The number of the event at which the call started. All events of all threads are numbered from 1.
+    /// The number of the event that started the call. All events of all threads are numbered together, from 1.
     pub begun: u64,
-    /// The number of the step that ended the call.
+    /// The number of the event that ended the call.
     pub ended: u64,
 }
 
 /// A pending call of a thread.
 pub struct PendingCall {
     pub call: Call,
-    /// The number of the event at which the call started. All events of all threads are numbered from 1.
+    /// The number of the event that started the call. All events of all threads are numbered together, from 1.
     pub begun: u64,
     /// The number of steps that the call has made.
     pub steps: u64,
@@ -57,11 +58,11 @@ pub struct PendingCall {
 
 /// The record of a seat: its completed calls, and the records of the seats merged into it (gathered), oldest first.
 pub enum Past {
-    /// The record of this thread, which has no calls yet.
+    /// The record of the thread with this number, which has completed no calls yet.
     Fresh(u32),
-    /// A record, and a call that the record's own thread completed after it.
+    /// An earlier record of a seat, and the call that the seat's own thread completed next.
     Called(&'static Past, OwnCall),
-    /// A record, and the record of a seat that was later merged into its seat.
+    /// An earlier record of a seat, and the record of another seat that was then merged into this seat.
     Gathered(&'static Past, &'static Past),
 }
 
@@ -71,10 +72,10 @@ pub struct SpareThread {
     pub local: Local,
 }
 
-/// A view: what a seat (the right to call as one thread) knows.
+/// A view: the knowledge of a seat (the right to call as one thread) about the run.
 pub struct View {
-    /// Whether the view has no threads, because its seat was merged into another or the view is a receipt. The rule
-    /// (the invariant) then only says which events the view has seen.
+    /// Whether the view has no threads, because its seat was merged into another seat or the view belongs to a receipt.
+    /// The invariant then states only which events the view has seen.
     pub spent: bool,
     /// The opening of the set.
     pub shape: Opened,
@@ -91,9 +92,9 @@ pub struct View {
     pub past: Past,
     /// The events that the seat has seen, oldest first.
     pub seen: LinkedList<Event>,
-    /// The events that this seat had seen when another seat was merged into it or it took a receipt.
+    /// The events that this seat had seen when another seat was merged into it, or when it used a receipt.
     pub ours: LinkedList<Event>,
-    /// The events that the other seat had seen when it was merged into this seat, or the receipt when this seat took
-    /// it.
+    /// The events that the other seat had seen when it was merged into this seat, or that the receipt had seen when
+    /// this seat used it.
     pub theirs: LinkedList<Event>,
 }

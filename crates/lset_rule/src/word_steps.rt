@@ -1,4 +1,4 @@
-//! Single steps of a call on the shared words. Each function requires that its step is the next one according to the
+//! Single steps of a call on the shared words. Each function requires that its step is the next step of the call by the
 //! step table.
 ghost use Rattle.std.specs.Prelude.{◌≡◌, ◌<◌, ℕ};
 ghost use Rattle.lset_words.specs.Words.{target, tail_word};
@@ -13,19 +13,19 @@ use atomic_table::{Seat, Shared};
 use lset_steps::{Action, Machine};
 use lset_words::Call;
 
-/// A seat on the shared words: the right to call as one thread. A zero-sized token; what the seat knows (its view)
-/// exists only in contracts.
+/// A seat on the shared words: the right to call as one thread. A seat is a zero-sized token; its view (its knowledge
+/// of the run) exists only in contracts.
 pub type TableSeat = Seat<(), View>;
 
-/// The shared words of a set whose list is `M`: the locks, the counts, and the keys and links of the nodes.
+/// The shared words of a set with the list `M`: the locks, the counts, and the keys and links of the nodes.
 pub type Words<M> = Shared<(), View, Opened, Follows<M>>;
 
-/// Makes a step of a pending call other than its first step.
+/// Makes a step of a pending call, but not its first step.
 ///
-/// `place` is a seat on the words `table` with a pending call, and `action` is the access that the step table has at
-/// the call's current row. Returns the value to pass to the table's `feed`: the value that was loaded or stored, or
-/// that a compare-and-exchange found. (An exchange has succeeded if and only if it found the expected value.) After the
-/// step, the seat has seen all events up to this step.
+/// `place` is a seat on the words `table` with a pending call. `action` is the action that the step table has at the
+/// call's current row. Returns the value to pass to the table's `feed`: the value that was loaded or stored, or the
+/// value that a compare-and-exchange found. (An exchange has succeeded if and only if it found the expected value.)
+/// After the step, the seat has seen all events up to this step.
 #[inline(always)]
 pub fn step_on<M: Machine>(table: &Words<M>, place: &mut TableSeat, action: Action) -> u64
     requires place { IsOf table.now.table_id table.now.key place.old }
@@ -49,9 +49,9 @@ pub fn step_on<M: Machine>(table: &Words<M>, place: &mut TableSeat, action: Acti
 
 /// Starts a call and makes its first step. The call starts after all events that the seat had seen.
 ///
-/// `place` is an idle seat on the words `table`. The key of `call` must be below the tail's. `action` is the access
-/// that the step table has at the call's first row. Returns the value to pass to the table's `feed`: the value that was
-/// loaded or stored, or that a compare-and-exchange found.
+/// `place` is an idle seat on the words `table`. The key of `call` must be smaller than the key of the tail. `action`
+/// is the action that the step table has at the call's first row. Returns the value to pass to the table's `feed`: the
+/// value that was loaded or stored, or the value that a compare-and-exchange found.
 #[inline(always)]
 pub fn start_on<M: Machine, J: Asking>(
     table: &Words<M>,
