@@ -23,8 +23,8 @@ abbrev pub other : Presence → Presence
 other Present = Absent
 other Absent = Present
 
--- `left_so` returns the state of the key after a call with this effect. `needed_by` returns the state that the key must
--- have before such a call.
+-- `left_so` returns the key's state after a call with this effect. `needed_by` returns the state that the key must have
+-- before a call with this effect.
 abbrev pub left_so : Effect → Option Presence
 left_so (Changes p) = Some p
 left_so (Sees p) = Some p
@@ -35,8 +35,8 @@ needed_by (Changes p) = Some (other p)
 needed_by (Sees p) = Some p
 needed_by Other = None
 
--- `leaves_if` returns the state of the key after a call. `needs_if` returns the state that the key must have before the
--- call. Both return None for a pending call.
+-- `leaves_if` returns the key's state after a call. `needs_if` returns the state that the key must have before the
+-- call. Both functions return None for a pending call.
 abbrev pub leaves_if : Call → Option (ℕ × Reply) → Option Presence
 leaves_if c None = None
 leaves_if c (Some e) = left_so (effect_of c e.1)
@@ -62,9 +62,9 @@ abbrev pub HasToBe : List CallRecord → ℕ → Option Presence → Presence �
 HasToBe calls key left need None = left ≡ Some need
 HasToBe calls key left need (Some y) = IsOf calls key y × (needs_if y.call y.ended ≡ Some need)
 
--- Returns the start of the first of two clashing calls, or 0 if the key's opening state replaces this call. This moment
--- begins the time between the two calls, which lasts until the second call ends. It never ends if the second call is
--- pending or is replaced by the key's final state.
+-- Returns the start of the first of two clashing calls, or 0 if the key's opening state replaces this call. At this
+-- moment the time between the two calls begins. This time ends when the second call ends, or never if the second call
+-- is pending or is replaced by the key's final state.
 abbrev pub since_of : Option CallRecord → ℕ
 since_of None = 0
 since_of (Some x) = x.begun

@@ -10,7 +10,8 @@ use Rattle.lset_judge.specs.declared.event.Event.TheVariants.{Begins, Ends, Look
 use Rattle.lset_judge.specs.Rule.{State, Event, begins, ends, looks, idle}
 
 -- `puts_held` returns the ends of the pending `add`s that have not taken effect, and `takes_held` the ends of the
--- pending `remove`s. If the ends are not in heaps, there is at most one such change, and `until` is its end.
+-- pending `remove`s that have not taken effect. If the ends are not in heaps, there is at most one such change, and
+-- `until` is its end.
 abbrev pub puts_held : ℕ → Held → List ℕ
 puts_held until Nothing = []
 puts_held until Put = until ∷ []
@@ -36,7 +37,7 @@ is_many Put = false
 is_many Take = false
 is_many (Many many) = true
 
--- States that the `KeyChanges` `old` and `new` have the same pending changes, and the same latest ends of changes.
+-- States that the values `old` and `new` have the same pending changes and the same latest ends of changes.
 pub record AreSame (old new : KeyChanges) : Type 0 where
   pub puts : puts_in new ≡ puts_in old
   pub takes : takes_in new ≡ takes_in old

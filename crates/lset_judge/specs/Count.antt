@@ -16,8 +16,8 @@ use Rattle.lset_judge.specs.Rest.{has_ended, turns_to}
 use Rattle.lset_judge.specs.Clash.{records, other, leaves_if, needs_if, IsOf}
 
 -- A count (calls on a key that are too many for any order) covers the time from `since` to `until`. If `since` is None,
--- the key's opening state counts as a first call, and is `was`. If `until` is None, its final state counts as a last
--- call, and is not `was`. `also` returns the number of these additional calls: 1 for None, else 0.
+-- the key's opening state counts as a first call, and is `was`. If `until` is None, the key's final state counts as a
+-- last call, and is not `was`. `also` returns the number of these additional calls: 1 for None, else 0.
 abbrev pub also : Option ℕ → ℕ
 also None = 1
 also (Some moment) = 0

@@ -29,11 +29,11 @@ use Rattle.lset_judge.specs.Rest.{turns_to}
 use Rattle.lset_judge.specs.Stream.{States, behind_all, record_of, IsStreamOf}
 use Rattle.lset_judge.specs.Clash.{record_if, other, leaves_if, needs_if, since_of, WasSo, IsClash}
 
--- The facts that the judge stores about the calls on a key. It stores one completed call, the kept call, which left the
--- key in the state `was`. `kept` is the kind of the kept call; `thread`, `begun` and `ended` are its thread, start and
--- end. If `kept` is `Opening`, no call is stored, and the set opened with the key in the state `was`. All changes that
--- make the key present end by `puts_until`, and all changes that make it absent end by `takes_until`. A pending change
--- counts as ending after all moments.
+-- The facts that the judge stores about the calls on a key. The judge stores one completed call, the kept call, which
+-- left the key in the state `was`. `kept` is the kind of the kept call; `thread`, `begun` and `ended` are its thread,
+-- start and end. If `kept` is `Opening`, no call is stored, and the set opened with the key in the state `was`. All
+-- changes that make the key present end by `puts_until`, and all changes that make the key absent end by `takes_until`.
+-- A pending change counts as ending after all moments.
 pub record Facts : Type 0 where
   pub was : Presence
   pub kept : Kept
@@ -81,8 +81,8 @@ is_call Change = true
 is_call Refused = true
 is_call Look = true
 
--- Returns the stored call (the kept call), which left the key in the state `was`. Returns None if no call is stored:
--- the set then opened with the key in this state.
+-- Returns the stored call (the kept call), which left the key in the state `was`. Returns None if no call is stored,
+-- since the set opened with the key in this state.
 abbrev pub first_of : ℕ → Facts → Option StreamCall
 first_of key f = if is_call f.kept then Some (call_kept key f) else None
 

@@ -58,7 +58,8 @@ abbrev pub put_in : ℕ → List ℕ → List ℕ
 put_in e [] = e ∷ []
 put_in e (x ∷ xs) = if nat_lt e x then e ∷ x ∷ xs else x ∷ put_in e xs
 
--- Returns the ends of the pending changes to the state w after an event. xs are these ends before the event.
+-- Returns the ends of the pending changes to the state w after an event. The argument xs contains these ends before the
+-- event.
 abbrev pub entering : Bool → Event → List ℕ → List ℕ
 entering w (begins v end) xs = if same w v then put_in end xs else xs
 entering w (ends v) xs = xs
@@ -82,8 +83,8 @@ turned_by m e s = record {
   takes = if s.there then take_out e s.takes else s.takes;
 }
 
--- The judge's rule: a change takes effect only when an event needs it, and the pending change with the earliest end is
--- first. `nearest` returns the earliest end, and `turned_if` the state after this change.
+-- The judge's rule: a change takes effect only when an event needs it. The pending change with the earliest end then
+-- takes effect. `nearest` returns this earliest end, and `turned_if` the key's state after the change.
 abbrev pub nearest : ℕ → List ℕ → ℕ
 nearest x [] = x
 nearest x (y ∷ ys) = min x (nearest y ys)
@@ -92,8 +93,8 @@ abbrev pub turned_if : ℕ → State → List ℕ → Option State
 turned_if m s [] = None
 turned_if m s (x ∷ xs) = Some (turned_by m (nearest x xs) s)
 
--- Makes up to n pending changes take effect, until the event v is possible in the key's state. Returns this state, or
--- None if the event is possible in none of the states.
+-- Makes up to n pending changes of a key take effect, one after another, until the event v is possible in the key's
+-- state. Returns this state. Returns None if v is possible in none of the states.
 abbrev pub settled : ℕ → ℕ → Event → Option State → Option State
 settled n m v None = None
 settled zero m v (Some s) = if fits (suc m) v s then Some s else None
@@ -121,7 +122,7 @@ abbrev pub state_after : (ℕ → Event) → Bool → ℕ → Option State
 state_after ev opening zero = Some (opened opening)
 state_after ev opening (suc m) = stepped m (ev (suc m)) (state_after ev opening m)
 
--- Returns whether every event up to the moment `last` is possible by the judge's rule, and the final state `left` is
--- possible after them.
+-- Returns whether, by the judge's rule, every event up to the moment `last` is possible, and then the final state
+-- `left`.
 abbrev pub may_leave : (ℕ → Event) → Bool → Bool → ℕ → Bool
 may_leave ev opening left last = is_some (stepped last (leaves left) (state_after ev opening last))

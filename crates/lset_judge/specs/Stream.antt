@@ -91,8 +91,8 @@ pub record ArePending (calls : List CallRecord) (moment : ℕ) (pending : List P
   pub later : All (λ (p : Pending). moment < p.end) pending
 
 -- States that the stored states of the keys after a moment are the states that the judge's rule computes. If the rule
--- has failed by then (Some f), states instead that the rule failed for the key of f by the moment of f, and for no key
--- earlier.
+-- has failed by then (Some f), states instead that the rule failed for the key `f.key` by the moment `f.moment`, and
+-- for no key earlier.
 abbrev pub IsJudgedTo : List ℕ → List CallRecord → ℕ → States → Option Failed → Type 0
 IsJudgedTo opening calls moment states None =
     (k : ℕ) → state_after (event_at behind_all k calls) (has_key k opening) moment ≡ Some (state_for states k)

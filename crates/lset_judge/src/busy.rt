@@ -6,8 +6,7 @@ ghost use Rattle.lset_judge.specs.Pending.{last_end};
 use std::alloc::{AllocError, Global};
 use std::collections::HashMap;
 
-/// The ends of the last calls of threads 0 to `LOW` - 1 are in a vector. Those of all other threads are in a hash
-/// table.
+/// Threads 0 to `LOW` - 1 have the ends of their last calls in a vector. All other threads have them in a hash table.
 const LOW: u32 = 65_536;
 
 /// For each thread that has made a call, the end of its last call.
@@ -15,7 +14,7 @@ const LOW: u32 = 65_536;
 pub(crate) struct Busy {
     /// For each thread below `LOW`, the end of its last call, or 0 if it has made no call.
     pub(crate) low: Vec<u64>,
-    /// For every other thread that has made a call, the end of its last call.
+    /// For each thread from `LOW` on that has made a call, the end of its last call.
     pub(crate) high: HashMap<u32, u64>,
 }
 

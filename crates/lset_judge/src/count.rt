@@ -17,7 +17,7 @@ use std::alloc::{AllocError, Global};
 /// call must therefore change the key back. But too few calls can do that.
 #[derive(Debug, Drop)]
 pub struct Count {
-    /// The key of all these calls.
+    /// The key of all calls in the count.
     pub key: Key,
     /// The key's state (present or absent) after each call except the last. Each call except the first needs the other
     /// state.
@@ -108,7 +108,7 @@ fn has_ended_before(first: StreamCall, second: StreamCall) -> bool
 }
 
 /// Returns whether the key must change back between the two calls, in each order that their times allow: the earlier
-/// call leaves the key in the state `was`, and the later one needs the other state.
+/// call leaves the key in the state `was`, and the later call needs the other state.
 fn need_turn(first: StreamCall, second: StreamCall, was: Presence) -> bool
     ensures { IsTrue result → NeedTurn was (record_of first) (record_of second) }
 {
@@ -239,8 +239,7 @@ fn is_count(calls: &[StreamCall], there: Presence, left: Option<Presence>, count
     need_turns(counted, was) && count.backs.len() < count.turns()
 }
 
-/// Returns the calls within a stretch of time, ordered by start. They can be a count: calls that are too many for any
-/// order.
+/// Returns the calls that a stretch of time counts, ordered by start. They can be too many for any order.
 fn counted_in(
     alloc: Global,
     calls: &[StreamCall],

@@ -43,7 +43,7 @@ impl Ends {
         self.heap.is_empty()
     }
 
-    /// Returns whether all ends are later than `before` + 1.
+    /// Returns whether all ends are later than the moment `before` + 1.
     pub(crate) fn none_due(&self, before: u64) -> bool
         ensures { result ≡ (not_before (suc (suc before)) self.now == length self.now) }
     {

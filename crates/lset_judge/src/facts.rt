@@ -75,7 +75,7 @@ impl KeyState {
     }
 
     /// Returns the stored call on `key` (the kept call), which left the key in the state `was`. Returns `None` if no
-    /// call is stored: the key was then in this state when the set opened.
+    /// call is stored, since the set opened with the key in this state.
     fn first(&self, key: Key) -> Option<StreamCall>
         ensures { result ≡ first_of key.0 (facts_of self.now) }
     {

@@ -129,7 +129,7 @@ impl ManyCalls {
         pop_before(&mut self.calls, &mut self.ends, moment)
     }
 
-    /// Inserts a call. No call in the table can have the same thread or the same end.
+    /// Inserts a call. The table must not contain a call with the same thread or the same end.
     pub(crate) fn insert(&mut self, pending: Pending) -> Result<(), AllocError>
         requires { All (λ p. p.call.thread ≢ pending.call.thread) self.old }
         ensures { OnOk result (All (λ p. p.end ≢ pending.end) self.old → IsPermutation (pending ∷ self.old) self.new) }

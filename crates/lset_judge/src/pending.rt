@@ -15,8 +15,9 @@ use std::marker::Model;
 /// The maximum number of pending calls in the vector `few`. The vector is searched call by call.
 const FEW: usize = 32;
 
-/// The pending calls in a recording. Up to `FEW` of them are in a vector, which is searched call by call and is
-/// fastest. The others are in a hash table. Inserting a call there, or removing one, needs logarithmic time.
+/// The pending calls in a recording. Up to `FEW` of them are in a vector, which is searched call by call (the fastest
+/// way for few calls). The others are in a hash table. Inserting a call into this table, or removing a call from it,
+/// needs logarithmic time.
 #[derive(Drop)]
 pub(crate) struct PendingCalls {
     few: Vec<Pending>,
@@ -172,7 +173,7 @@ impl PendingCalls {
         None
     }
 
-    /// Inserts a call. No pending call can have the same thread or the same end.
+    /// Inserts a call. No pending call must have the same thread or the same end.
     pub(crate) fn insert(&mut self, pending: Pending) -> Result<(), AllocError>
         requires { All (λ p. p.call.thread ≢ pending.call.thread) self.old }
         ensures { OnOk result (All (λ p. p.end ≢ pending.end) self.old → IsPermutation (pending ∷ self.old) self.new) }

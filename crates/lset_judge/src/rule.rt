@@ -31,8 +31,8 @@ pub(crate) enum Kept {
     Look,
 }
 
-/// The state of a key: whether it is present and since when, its changes, and one completed call (the kept call). A
-/// later call can clash with this call. (64 bytes.)
+/// The state of a key: whether it is present and since when, its changes, and one completed call (the kept call). The
+/// judge compares later calls with the kept call to find a clash. (64 bytes.)
 #[derive(Drop)]
 pub(crate) struct KeyState {
     pub(crate) changes: KeyChanges,

@@ -1,4 +1,4 @@
-//! A stream: judges the calls of a recording one after another. Stores the state of each key and the pending calls.
+//! Judges the calls of a recording one after another, as a stream. Stores the state of each key and the pending calls.
 
 ghost use Rattle.std.specs.Prelude.{◌≡◌, ◌≢◌, ◌↔◌, ◌<◌, ◌≤◌, ◌+◌, ◌++◌, ◌∷◌, [], ℕ, IsTrue, All, List, length, false, true, None, Some, IfOk, OnOk, IfErr, IfSome, MatchOption, if◌then◌else◌, ◌⊎◌};
 ghost use Rattle.std.specs.Prelude.{Contains, IsSome, slice_index_or, ◌==◌, ◌&&◌};
@@ -86,11 +86,11 @@ pub(crate) enum StreamVerdict {
     NotLinearizable(Refusal),
 }
 
-/// The reason why no order explains the calls and leaves the final keys: a key, since no order explains its calls, and
-/// a moment.
+/// The reason why no order explains the calls and leaves the final keys: a key, whose calls alone show this, and a
+/// moment.
 #[derive(Clone, Copy, Debug, PartialEq, Eq)]
 pub struct Refusal {
-    /// No order explains the calls on this key.
+    /// No order explains the calls on this key and leaves the key's final state.
     pub key: Key,
     /// No order explains the calls on `key` that start by this moment, with all their replies, whatever keys the order
     /// leaves. This is the first moment when the judge's rule (its test of one key's calls) fails for any key. `None`
@@ -238,7 +238,7 @@ fn meet_key(
     Ok(goes_on)
 }
 
-/// Records the start of a call on a key after the judge's rule (the test of one key's calls) has failed for this key.
+/// Records the start of a call on a key that has failed the judge's rule (the test of one key's calls).
 fn note_begin(
     states: &mut HashMap<u32, KeyState>,
     alloc: Global,
@@ -257,8 +257,8 @@ fn note_begin(
     Ok(())
 }
 
-/// Records the end of a call on a key after the judge's rule (the test of one key's calls) has failed for this key.
-/// Returns a clash that involves this call, if the stored facts show one.
+/// Records the end of a call on a key that has failed the judge's rule (the test of one key's calls). Returns a clash
+/// that involves this call, if the stored facts show one.
 fn note_end(states: &mut HashMap<u32, KeyState>, call: StreamCall) -> Option<Clash>
     ensures kept { EndIsKept states.old call states.new result }
     ensures missed { result ≡ None → IsClashing (facts_for states.old (key_of call.call).0) call → ⊥ }
@@ -275,7 +275,7 @@ fn note_end(states: &mut HashMap<u32, KeyState>, call: StreamCall) -> Option<Cla
 /// The result of processing the end of a call.
 #[derive(Clone, Copy)]
 struct EndMet {
-    /// Whether the judge's rule (the test of one key's calls) still succeeds after this end.
+    /// Whether the judge's rule (the test of one key's calls) still succeeds after the call has ended.
     goes_on: bool,
     /// Whether the call overlaps another call that changes the same key.
     overlaps: bool,
@@ -390,7 +390,7 @@ fn verdict_of_key(key: Option<u32>) -> StreamVerdict
     }
 }
 
-/// A stream: judges the calls of a recording one after another, ordered by start. Stores the state of each key, the
+/// A stream judges the calls of a recording one after another, ordered by start. It stores the state of each key, the
 /// pending calls, and the end of each thread's last call. Its memory grows with the numbers of keys, threads and
 /// pending calls, but not with the number of calls.
 ///
@@ -698,7 +698,7 @@ impl Stream {
     }
 
     /// Returns two clashing calls (no order can explain both), if the judge found them. They are on the key that failed
-    /// the judge's rule.
+    /// the judge's rule (the test of one key's calls).
     pub(crate) fn clash_met(&self) -> Option<Clash>
         ensures { result ≡ clash_met self.now.failed self.now.clash }
     {

@@ -1,5 +1,5 @@
-//! Searches for a stretch: a period of time when a key would have to change back more often than it can. The calls of
-//! the stretch found are checked afterwards. No contract mentions stretches.
+//! Searches for a stretch: a period of time in which a key would have to change back more often than it can. If a
+//! stretch is found, its calls are checked afterwards. No contract mentions stretches.
 
 use crate::clash::{has_ended, other};
 use crate::stream::StreamCall;
@@ -9,20 +9,21 @@ use std::alloc::{AllocError, Global};
 /// A stretch: a period of time that contains too many calls on a key for any order.
 #[derive(Clone, Copy)]
 pub(crate) struct Stretch {
-    /// The key's state (present or absent) after each counted change.
+    /// The key's state (present or absent) after each change that this stretch of time counts.
     pub(crate) was: Presence,
-    /// Only changes that start at this moment or later are counted.
+    /// The stretch of time counts only changes that start at this moment or later.
     from: u64,
-    /// Only changes that have ended by this moment are counted.
+    /// The stretch of time counts only changes that have ended by this moment.
     upto: u64,
     /// A call that saw the key in the state `was`. It counts as an additional call before the changes.
     pub(crate) first: Option<StreamCall>,
     /// A call that saw the key in the state other than `was`. It counts as an additional call after the changes.
     pub(crate) last: Option<StreamCall>,
-    /// The start of the stretch. `None` if the set opened with the key in the state `was`: the opening state then
-    /// counts as a call.
+    /// The start of this stretch of time. `None` if the set opened with the key in the state `was`: the opening state
+    /// then counts as a call.
     pub(crate) since: Option<u64>,
-    /// The end of the stretch. `None` if the key's final state is not `was`: the final state then counts as a call.
+    /// The end of this stretch of time. `None` if the key's final state is not `was`: the final state then counts as a
+    /// call.
     pub(crate) until: Option<u64>,
 }
 

@@ -154,8 +154,8 @@ module _ (op : Opening) (es : ℕ → Event) (fair : IsFair lazy op es) (t : ℕ
         }))
       ]
 
-  -- The case that the next event belongs to another thread: no word changes, and neither does the number of remaining
-  -- steps of the `ceiling`.
+  -- The case that the next event belongs to another thread. No shared word changes, and the number of remaining steps
+  -- of the `ceiling` stays the same.
   stays : (k m : ℕ) → Waits k m → (state_at lazy op es (suc k)).words ≡ (state_at lazy op es k).words
       → local_of (state_at lazy op es (suc k)) t ≡ local_of (state_at lazy op es k) t → Waits (suc k) m
   stays k m w words same = record {

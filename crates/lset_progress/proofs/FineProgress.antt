@@ -27,8 +27,8 @@ use Rattle.lset_progress.proofs.RowsWithLocks.{Shape, Loads, RowOf, NodeLocks, w
 use Rattle.lset_progress.proofs.RowsWithLocks.{writes, no_lock, pred_only, gave_pred, gave_curr, after_pred}
 use Rattle.lset_progress.proofs.Standing.{Standing, stands}
 
--- Returns how many steps of a call remain after its next step. The list contains this number for each row of the step
--- table, from row 0 on.
+-- Returns how many steps of a call remain after its next step. The numbers are for the rows of the step table, from row
+-- 0 on.
 abbrev left : ℕ → (ℕ → ℕ) → Local → ℕ
 left size key l = slice_index (0 ∷ (4 * size + 1) ∷ (4 * size) ∷ (4 * ahead key size (key l.curr) + 6)
     ∷ (4 * ahead key size (key l.curr) + 5) ∷ (4 * ahead key size (key l.curr) + 4)

@@ -99,9 +99,9 @@ left size key l = get_or (0 ∷ (2 * size + 6) ∷ (2 * ahead key size (key l.cu
     ∷ (2 * ahead key size (key l.curr) + 8) ∷ 8 ∷ 7 ∷ 6 ∷ 5 ∷ 4 ∷ 3 ∷ 2 ∷ 3 ∷ 2 ∷ (1 + then_again size l.reply)
     ∷ (then_again size l.reply) ∷ []) l.pc (reads_left size key l)
 
--- The facts about LazyList that the general proofs of progress use. A walk is `valid` (validation will succeed) if pred
--- is in the chain, curr is the next node, and neither is marked when both are locked. After its decision, a thread that
--- releases its locks has a reply. While a `ceiling` walks, no node of the chain is marked.
+-- The facts about LazyList that the proofs of progress for all lists use. A walk is `valid` (validation will succeed)
+-- if pred is in the chain, curr is the next node, and neither is marked when both are locked. After its decision, a
+-- thread that releases its locks has a reply. While a `ceiling` walks, no node of the chain is marked.
 abbrev pub shape : Shape
 shape = record {
   may = NodeLocks (within 5 14) (within 6 13);

@@ -11,25 +11,25 @@ use Rattle.lset_progress.specs.DeadlockFreedom.{IsDeadlockFree, moves}
 use Rattle.lset_progress.specs.Wrong.{claiming, yielding, NotLivelockFree, NotLockFree}
 use Rattle.lset_progress.proofs.WrittenRuns.{turn, rounds_never_end, rounds_are_fair}
 
--- The events before the loop: both threads have walked to the head and the tail, and have written their numbers into
--- the head's lock word, thread 1 last.
+-- The events of the run before the events that repeat forever: both threads have walked to the head and the tail, and
+-- have written their numbers into the head's lock word, thread 1 last.
 abbrev claims : List Event
 claims = Begin 0 (Add (record { 0 = 3 })) ∷ Go 0 ∷ Go 0 ∷ Go 0 ∷ Begin 1 (Add (record { 0 = 5 })) ∷ Go 1 ∷ Go 1 ∷ Go 1 ∷ Go 0
     ∷ Go 1 ∷ []
 
--- In the loop, each thread reads the other thread's number, and writes its own number again.
+-- In the events that repeat forever, each thread reads the other thread's number, and writes its own number again.
 pub claiming_is_not_lock_free : NotLockFree claiming
 claiming_is_not_lock_free reads most law = rounds_never_end claiming claims (Go 0) (Go 0 ∷ Go 1 ∷ Go 1 ∷ []) refl refl refl refl
     (steps_of reads) refl most law
 
--- The events before the loop: thread 0 has added 5. Then thread 0, which adds 3, and thread 1, which removes 5, have
--- both walked to the head and the node of 5.
+-- The events of the run before the events that repeat forever: thread 0 has added 5. Then thread 0, which adds 3, and
+-- thread 1, which removes 5, have both walked to the head and the node of 5.
 abbrev yields : List Event
 yields = Begin 0 (Add (record { 0 = 5 })) ∷ Go 0 ∷ Go 0 ∷ Go 0 ∷ Go 0 ∷ Go 0 ∷ Go 0 ∷ Go 0 ∷ Go 0 ∷ Go 0 ∷ Go 0 ∷ Go 0 ∷ Go 0
     ∷ Begin 0 (Add (record { 0 = 3 })) ∷ Go 0 ∷ Go 0 ∷ Begin 1 (Remove (record { 0 = 5 })) ∷ Go 1 ∷ Go 1 ∷ []
 
--- The events of the loop: each thread locks its first node, reads that its second node is locked, releases the first
--- lock, and walks to the same nodes again.
+-- The events that repeat forever: each thread locks its first node, reads that its second node is locked, releases the
+-- first lock, and walks to the same nodes again.
 abbrev gives_back : List Event
 gives_back = Go 1 ∷ Go 0 ∷ Go 1 ∷ Go 0 ∷ Go 1 ∷ Go 0 ∷ Go 0 ∷ Go 1 ∷ Go 1 ∷ []
 
@@ -37,7 +37,7 @@ pub yielding_is_refused : (reads : Bool) → NotLivelockFree (counted reads) yie
 yielding_is_refused reads most law = rounds_never_end yielding yields (Go 0) gives_back refl refl refl refl
     (moves (counted reads) yielding) refl most law
 
--- The run is fair: each thread makes a step in every round of the loop.
+-- The run is fair: each thread makes a step among the events that repeat forever.
 turns : (t : ℕ) → t < 2 → (d : ℕ) × (turn (Go 0) gives_back [] d ≡ Go t)
 turns zero l = (0, refl)
 turns (suc zero) l = (1, refl)

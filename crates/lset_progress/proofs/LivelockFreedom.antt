@@ -70,8 +70,8 @@ module _ (T : Table) (law : Lawful T) (S : Shape) (most : Sizes → ℕ) (shows 
     owes : (u : ℕ) → u < sz.threads → Owes (stores u) (local_of s u)
     within : price sz * total stores sz.threads + total time sz.threads ≤ p
 
-  -- If, after an event, the same numbers of steps are still enough for all threads, the bound p on the potential still
-  -- holds.
+  -- If, after an event, the same numbers of steps are still enough for all threads, the potential (a bound on the
+  -- counted steps until a call ends) is still at most p.
   same_phase : (sz : Sizes) (s s' : State) (p : ℕ) (f : Phase sz s p)
       → ((u : ℕ) → u < sz.threads → Fits sz s'.words (f.time u) (local_of s' u) × Owes (f.stores u) (local_of s' u))
       → Phase sz s' p
@@ -83,7 +83,7 @@ module _ (T : Table) (law : Lawful T) (S : Shape) (most : Sizes → ℕ) (shows 
     within = f.within;
   }
 
-  -- The start of a call does not increase the potential.
+  -- The start of a call does not increase the potential, a bound on the counted steps until a call ends.
   begins : (sz : Sizes) (s : State) (t : ℕ) (c : Call) → Enabled s (Begin t c) → (p : ℕ) → Phase sz s p
       → Phase sz (after T s (Begin t c)) p
   begins sz s t c en p f = same_phase sz s (after T s (Begin t c)) p f (λ u un. elim (same_or_not u t) [
@@ -97,7 +97,7 @@ module _ (T : Table) (law : Lawful T) (S : Shape) (most : Sizes → ℕ) (shows 
   ])
 
   -- A counted step (not a failed attempt to take a lock) decreases the potential by one, unless the step ends its call.
-  -- No other step increases the potential.
+  -- No other step increases the potential. The potential is a bound on the counted steps until a call ends.
   module _ (op : Opening) (last k : ℕ) (es : ℕ → Event) (r : Run T op es last) (below : k < last) (t : ℕ) (ee : es k ≡ Go t)
       (en : Enabled (state_at T op es k) (Go t)) (p : ℕ) (f : Phase (sizes op) (state_at T op es k) p) where
     abbrev s : State
@@ -189,7 +189,7 @@ module _ (T : Table) (law : Lawful T) (S : Shape) (most : Sizes → ℕ) (shows 
         timed_same S (node_count (sizes op)) s.words s'.words m l same.0 same.1 h.2,
       )
 
-      -- The case of a call whose steps are not counted.
+      -- The case of a call without counted steps.
       module _ (none : calls L.call ≡ 0) where
         not_late : S.late L → ⊥
         not_late h = let one : calls L.call ≡ 1 = counts.late op last k t es r (omega arith) tn h in omega arith
@@ -243,8 +243,8 @@ module _ (T : Table) (law : Lawful T) (S : Shape) (most : Sizes → ℕ) (shows 
                 (subst (λ m. Owes m (local_of s u)) (sym (others u y)) (f.owes u un))
           ]
 
-          -- If the step changes no key and no link, the potential decreases by 1, since thread t has one step fewer
-          -- left.
+          -- If the step changes no key and no link, the potential (a bound on the counted steps until a call ends)
+          -- decreases by 1, since thread t has one step fewer left.
           quiet : Kept → Later
           quiet same =
               let fewer : total (put f.time t n) op.threads + 1 ≤ total f.time op.threads =
@@ -270,8 +270,8 @@ module _ (T : Table) (law : Lawful T) (S : Shape) (most : Sizes → ℕ) (shows 
                 },
               )
 
-          -- If the thread has decided what to change, the potential decreases, since the thread has made one of its 5
-          -- steps after the decision.
+          -- If the thread has decided what to change, the potential (a bound on the counted steps until a call ends)
+          -- decreases, since the thread has made one of its 5 steps after the decision.
           stores_on : LateBy S 5 L → (m : ℕ) → f.stores t ≡ suc m → S.left 0 (λ a. 0) L < suc m → Later
           stores_on x m e few =
               let fewer : total (put f.stores t m) op.threads + 1 ≤ total f.stores op.threads =
@@ -395,7 +395,7 @@ module _ (T : Table) (law : Lawful T) (S : Shape) (most : Sizes → ℕ) (shows 
       (λ j p l f. one_event op (k + n) es r j p l f (es j) refl (r.enabled j l)) (none_left op (k + n) es r (some (sizes op)))
       n k (lock_window most (sizes op)) (omega arith) (starts op (k + n) es r k) h
 
--- If no step has a requirement on the words (`calm` always holds), the steps of all calls can be counted.
+-- If no step has a requirement on the shared words (`calm` always holds), the steps of all calls can be counted.
 pub each_counts : (T : Table) (S : Shape) → ((ws : List ℕ) (l : Local) → S.calm ws l) → Counts T S (λ call. 1)
 each_counts T S calm = record {
   one_or_none = λ call. inr refl;

@@ -88,7 +88,7 @@ at_pred link l row follows =
       along = λ h. absurd (omega arith);
     }
 
--- The facts about LockFreeList that the general proofs of progress use. No thread holds a lock. While a `ceiling`
+-- The facts about LockFreeList that the proofs of progress for all lists use. No thread holds a lock. While a `ceiling`
 -- walks, no node of the chain is marked.
 abbrev pub shape : Shape
 shape = record {
@@ -142,7 +142,7 @@ module _ {sz : Sizes} {ws : List ℕ} {used : ℕ → ℕ} {t : ℕ} {vs : ℕ �
   size = node_count sz
 
   -- States that the step from the private state k to the words ws' has the outcome f, and preserves the facts that the
-  -- general proofs use.
+  -- proofs of progress use.
   abbrev After : Local → List ℕ → Fed → Type 0
   After k ws' f = Then shape size key ws k Any key ws' f
       × (((r : Reply) × (f.answer ≡ Some r)) ⊎ ((23 ≤ k.pc → Plain ws) → 23 ≤ f.local.pc → Plain ws'))

@@ -1,5 +1,4 @@
--- Proofs about paths along the links of nodes. A path is defined by the links alone, without a view (the nodes and
--- keys) of the list.
+-- Proofs about paths along the links of nodes. A path is defined by the links alone.
 use Rattle.std.specs.Prelude.{◌≡◌, ◌≢◌, ℕ, ◌/◌, ◌<◌, ◌≤◌, List, [], ◌∷◌}
 use Rattle.std.proofs.Common.{arith, sym, ap, subst, refl}
 use Rattle.lset_steps.specs.Chain.{View, Segment, InChain, IsOrdered}

@@ -33,7 +33,7 @@ pub record Shows (T : Table) (S : Shape) (most : Sizes → ℕ) : Type 0 where
   pub calm_alone : (op : Opening) (last k t : ℕ) (es : ℕ → Event) → Run T op es last → k ≤ last
       → NoOtherHolds (sizes op) (state_at T op es k) t → S.calm (state_at T op es k).words (local_of (state_at T op es k) t)
 
--- Returns the value that an exchange expects in the word. For any other action, returns `other`.
+-- Returns the value that an exchange expects to find in its word. For any other action, returns `other`.
 abbrev expected : Action → ℕ → ℕ
 expected (Exchange x old new) other = old
 expected a other = other
@@ -52,7 +52,7 @@ module _ (S : Shape) (T : Table) (sz : Sizes) (ws : List ℕ) (t : ℕ) (l : Loc
   abbrev Row : Action → Type 0
   Row a = RowBy S size T sz ws t l a
 
-  -- If thread t holds a lock after its step, `may` allows this lock in the thread's new private state.
+  -- If thread t holds a lock after its step, the thread can hold this lock by `may` in its new private state.
   may_after : (x : ℕ) → (slice_index ws x ≡ t + 1 → S.may l x) → (a : Action) → Row a → held x t (slice_index ws x) a ≡ t + 1
       → S.may (T.feed l (seen_by ws a)).local x
   may_after x before (Load w) row h = row.keeps x tt (before h)

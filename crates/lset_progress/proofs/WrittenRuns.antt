@@ -22,7 +22,7 @@ both false b e = absurd cc
 abbrev pub op : Opening
 op = empty 2 2
 
--- A test of a state and the next event, such as whether the event is enabled, ends no call, or is counted.
+-- A test of a state and its next event: for example, whether the event is enabled, ends no call, or is counted.
 abbrev pub Test : Type 0
 Test = State → Event → Bool
 
@@ -57,7 +57,8 @@ abbrev pub all_so : Test → Table → State → List Event → Bool
 all_so test T s [] = true
 all_so test T s (e ∷ es) = test s e && all_so test T (after T s e) es
 
--- Returns event number j of a run: first the events of the third list, then the events e and es in a loop forever.
+-- Returns event number j of a run. The run has first the events of the third argument, and then repeats the events e
+-- and es forever.
 abbrev pub turn : Event → List Event → List Event → ℕ → Event
 turn e es [] zero = e
 turn e es [] (suc j) = turn e es es j
@@ -86,8 +87,8 @@ module _ (T : Table) (e : Event) (es : List Event) where
   at_first test (x ∷ r) s so zero l = (both (test s x) (all_so test T (after T s x) r) so).0
   at_first test (x ∷ r) s so (suc j) l = at_first test r _ (both (test s x) (all_so test T _ r) so).1 j (omega arith)
 
-  -- If the loop leads back to its first state, and the test succeeds for each event of one round, then the test
-  -- succeeds forever.
+  -- If the events that repeat forever lead back to the state before them, and the test succeeds for each of them once,
+  -- then the test always succeeds.
   module _ (test : Test) (S0 : State) (round_so : all_so test T S0 (e ∷ es) ≡ true) (back : state_after T S0 (e ∷ es) ≡ S0) where
     split : (test S0 e ≡ true) × (all_so test T (after T S0 e) es ≡ true)
     split = both (test S0 e) (all_so test T (after T S0 e) es) round_so
@@ -154,8 +155,8 @@ module _ (T : Table) (events : List Event) (e : Event) (es : List Event) (led : 
     no_reply j r l = replies T (state_at T op run j) (run j) r (subst (λ s. is_silent T s (run j) ≡ true) (sym (is_at j))
         (behind T e es (is_silent T) S0 silent back events (opening op) refl j l))
 
-    -- If each event of the loop is a counted step, and no event of the loop ends a call, then no number of counted
-    -- steps is enough for a call to end.
+    -- If each of the events that repeat forever is a counted step and ends no call, then no number of counted steps is
+    -- enough for a call to end.
     module _ (count : State → Event → ℕ) (counts : all_so (is_one count) T S0 (e ∷ es) ≡ true) where
       all_count : (n k : ℕ) → m ≤ k → steps_among count T op run k n ≡ n
       all_count zero k l = refl
@@ -172,7 +173,8 @@ module _ (T : Table) (events : List Event) (e : Event) (es : List Event) (led : 
           let x : SomeEnds count T op run m (most (sizes op)) = law op m (most _) run (runs_on (m + most _)) (omega arith) in
           no_reply x.at x.ends.0 x.from (ap (λ z. (told T (state_at T op run x.at) z).answer) x.own ∙ x.ends.1)
 
-    -- If each thread also makes a step in the loop, the run is fair, and the list is not free from deadlock.
+    -- If, in addition, each thread makes one of the steps that repeat forever, the run is fair, and the list is not
+    -- free from deadlock.
     module _ (calls : Call → ℕ) (turns : (t : ℕ) → t < 2 → (d : ℕ) × (turn e es [] d ≡ Go t)) where
       is_fair : IsFair T op run
       is_fair = record {

@@ -30,8 +30,7 @@ NoOtherHolds sz s t = (u x : ℕ) → u < sz.threads → u ≢ t → Holds sz s 
 abbrev pub Answers : Table → State → ℕ → Type 0
 Answers T s t = (reply : Reply) × ((told T s (Go t)).answer ≡ Some reply)
 
--- [Calls end alone]: states, for a list with locks, that a call ends within `most` steps if its thread runs alone and
--- no other thread holds a lock (solo termination).
+-- [Ends alone]: states that if only thread t makes steps, its call ends within n steps.
 abbrev pub EndsAlone : Table → State → ℕ → ℕ → Type 0
 EndsAlone T s t zero = ⊥
 EndsAlone T s t (suc n) = Enabled s (Go t) × (Answers T s t ⊎ EndsAlone T (after T s (Go t)) t n)

@@ -16,8 +16,8 @@ use Rattle.lset_lock_free.specs.LockFree.{lock_free}
 use Rattle.lset_progress.specs.DeadlockFreedom.{IsLivelockFree}
 use Rattle.lset_progress.specs.Progress.{CallsEndAlone, CallsEndUnhindered, EndsAmong, steps_of}
 
--- A broken LockFreeList. After a failed exchange at row 3, the walk repeats the exchange instead of starting again from
--- the head.
+-- A broken LockFreeList. After a failed exchange at row 3 of the step table, the walk repeats the exchange instead of
+-- starting again from the head.
 abbrev pub spins_on : Local → ℕ → Fed
 spins_on l seen = if seen == 2 * l.curr then continued (record l { pc = 2; curr = l.succ }) else continued l
 
@@ -30,9 +30,9 @@ spinning = record {
   effect = lock_free.effect;
 }
 
--- A broken LockFreeList. Before an `add` links its node, it writes its thread's number into the lock word of the node
--- before (row 11 of the step table). It continues only if it then reads its own number in this word (row 12). Otherwise
--- it writes the number again.
+-- A broken LockFreeList. Before an `add` links its new node after pred, it writes its thread's number into the lock
+-- word of pred (row 11 of the step table). It continues only if it then reads its own number in this word (row 12).
+-- Otherwise it writes the number again.
 abbrev pub claims_first : Fed → Fed
 claims_first f = record { local = if f.local.pc == 5 then record f.local { pc = 11 } else f.local; answer = f.answer }
 
