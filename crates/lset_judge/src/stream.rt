@@ -90,7 +90,7 @@ pub(crate) enum StreamVerdict {
 /// moment.
 #[derive(Clone, Copy, Debug, PartialEq, Eq)]
 pub struct Refusal {
-    /// No order explains the calls on this key and leaves the key's final state.
+    /// A key such that no order explains its calls and leaves its final state.
     pub key: Key,
     /// No order explains the calls on `key` that start by this moment, with all their replies, whatever keys the order
     /// leaves. This is the first moment when the judge's rule (its test of one key's calls) fails for any key. `None`

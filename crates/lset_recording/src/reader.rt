@@ -64,7 +64,7 @@ impl RecordingReader {
         !self.is_long && self.line.as_slice().is_empty()
     }
 
-    /// Stores bytes of a line that has no newline yet. If the line is too long, notes only this.
+    /// Stores bytes of a line that has no newline yet. If the line is too long, only sets `is_long`.
     fn hold(&mut self, bytes: &[u8])
         requires { Lacks 10 bytes.now }
         ensures read { (before : List ℕ) → IsRead before self.old → IsRead (before ++ bytes.now) self.new }
@@ -94,7 +94,7 @@ impl RecordingReader {
         }
     }
 
-    /// Reads a complete line, without its newline, without copying it. The reader must not have stored any bytes of
+    /// Reads a complete line, without its newline and without copying it. The reader must not have stored any bytes of
     /// this line.
     fn whole_line_in(&mut self, line: &[u8]) -> Result<(), LineFault>
         requires lacks { Lacks 10 line.now }
@@ -224,9 +224,9 @@ impl RecordingReader {
         self.judging.finish()
     }
 
-    /// Ends the text here, and returns the verdict: whether some order of the calls explains their replies and the
-    /// final keys. If the recording was cut off, its final keys are unknown, and any are accepted. Allocates; does not
-    /// block.
+    /// Ends the text here, and returns the verdict: whether some order of the calls explains their replies and leaves
+    /// the final keys. If the recording was cut off, its final keys are unknown, and the order can leave any keys.
+    /// Allocates; does not block.
     ///
     /// # Errors
     ///

@@ -22,7 +22,8 @@ impl<M: Machine> TableRule<(), View, Opened> for Follows<M> {
     ghost first = { opener };
 }
 
-/// The call that starts with a first step, as a type. A caller passes `Brand`, and proves which call `Brand` means.
+/// A type that represents the call that a first step starts. A caller passes `Brand`, and proves which call `Brand`
+/// represents.
 pub trait Asking {
     ghost call: { Call };
 }
