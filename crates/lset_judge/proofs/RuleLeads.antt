@@ -1,5 +1,6 @@
--- Proof: the judge's rule does at least as well as any correct timeline (a choice of the moments when the changes of a
--- key take effect). The rule has at least as many pending changes left as the timeline, and they end at least as late.
+-- Proof: the judge's rule, which decides when changes take effect, does at least as well as any correct timeline (a
+-- choice of the moments when the changes of a key take effect). The rule has at least as many pending changes left as
+-- the timeline, and these changes end at least as late.
 use Rattle.std.proofs.Common.{◌≡◌, ℕ, suc, ◌+◌, ◌<◌, ◌≤◌, List, [], ◌∷◌, true, inl, inr, refl, arith, length, zero, sym, ap, ◌⊎◌, Bool, false, ◌∙◌, subst}
 use Rattle.std.specs.Prelude.{◌==◌, nat_lt, if◌then◌else◌, Option, Some, None, is_some, not}
 use Rattle.std.proofs.lemmas.Bool.{cases_Bool, true≢false, not-true, not-false, or_cases, or_parts}
@@ -100,17 +101,17 @@ once b = if b then 1 else 0
 abbrev pub at : Bool → ℕ → List ℕ → List ℕ → State
 at b t ps ks = record { there = b; turned = t; puts = ps; takes = ks }
 
--- Compares the pending changes that would change the key's state g by the judge's rule: states that the timeline's
--- state s has fewer of them left than g.
+-- States that the timeline (state s) has fewer pending changes left than the judge's rule (state g), among the changes
+-- that would change the key's state in g. A timeline is a choice of the moments when changes take effect.
 abbrev pub IsFurther : State → State → Type 0
 IsFurther g s = length (changes_to (not g.there) s) < length (options g)
 
 abbrev NoFewer : List ℕ → List ℕ → Type 0
 NoFewer ss gs = (d : ℕ) → not_before d ss ≤ not_before d gs
 
--- Compares two states of a key after the event at moment m: g by the judge's rule, and s by a correct timeline (a
--- choice of the moments when changes take effect). States that g has at least as many pending changes left as s, and
--- that they end at least as late.
+-- Compares two states of a key after the event at moment m: the state g by the judge's rule, and the state s by a
+-- correct timeline (a choice of the moments when changes take effect). States that g has at least as many pending
+-- changes left as s, and that these changes end at least as late.
 pub record Leads (m : ℕ) (g s : State) : Type 0 where
   pub lists : (w : Bool) → NoFewer (changes_to w s) (changes_to w g)
   pub balance : length g.puts + once g.there + length s.takes ≡ length s.puts + once s.there + length g.takes
@@ -190,8 +191,9 @@ rule_turns false m t (x ∷ xs) gk s l f =
     lists false = l.lists false
 rule_turns b m t gp gk s l f = absurd (omega (arith, f))
 
--- Suppose that the key is present by the judge's rule and absent by the timeline, or the reverse. Then the timeline has
--- fewer pending changes left that would change the key's state by the rule.
+-- Suppose that the key is present by the judge's rule and absent by the timeline (a choice of the moments when changes
+-- take effect), or the reverse. Then the timeline has fewer pending changes left that would change the key's state by
+-- the rule.
 apart : (b c : Bool) (m gt st : ℕ) (gp gk sp sk : List ℕ) → Leads m (at b gt gp gk) (at c st sp sk) → (b ≡ c → ⊥)
     → IsFurther (at b gt gp gk) (at c st sp sk)
 apart true false m gt st gp gk sp sk l n = let y = l.balance in let f = fewer sp gp (l.lists true) in omega (arith, y, f)
@@ -264,7 +266,8 @@ more w (begins u end) ss gs h = elim (cases_Bool (same w u)) [
 ]
 more w v ss gs h = h
 
--- A change that starts lengthens the list of pending changes by 1 both for the judge's rule and for the timeline.
+-- A change that starts adds one pending change both for the judge's rule and for the timeline (a choice of the moments
+-- when changes take effect).
 alike : (w : Bool) (v : Event) (ss gs : List ℕ) → length (entering w v gs) + length ss ≡ length (entering w v ss) + length gs
 alike w (begins u end) ss gs = elim (cases_Bool (same w u)) [
   | inl t ↦ rw t (let a = length_in end ss in let b = length_in end gs in omega (arith, a, b))

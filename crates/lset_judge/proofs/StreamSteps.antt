@@ -73,8 +73,8 @@ module _ (opening : List ℕ) (calls : List CallRecord) where
         ap (λ (u : Event). stepped n u (state_after (event k) (has_key k opening) n)) is
         ∙ ap (stepped n w) (quiet_until (event k) (has_key k opening) (n - m) m n (omega (arith, up)) (λ j l h. quiet j l h k) ∙ so)
 
-    -- If key k passes the judge's rule up to moment m, has failed it by moment i, and has no event after m up to n,
-    -- then i is after n.
+    -- If key k passes the judge's rule (the test of its calls) up to moment m, has failed the rule by moment i, and has
+    -- no event after m up to n, then i is after n.
     not_yet : (k i : ℕ) (s : State) → state_after (event k) (has_key k opening) m ≡ Some s → state_after (event k) (has_key k opening) i ≡ None
         → suc n ≤ i
     not_yet k i s so fails = elim (below_or_not i (suc n)) [

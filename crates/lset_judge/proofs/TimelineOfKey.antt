@@ -410,8 +410,8 @@ module _ (ev : ℕ → Event) (last : ℕ) (left : Bool) (are : AreEvents ev) wh
   ]
 
   module _ (b : Bool) (first : List Act) (ready : Ready 0 (opened b) first) where
-    -- Up to each moment, the key passes the judge's rule, and the rule has at least as many pending changes left as the
-    -- timeline (a choice of the moments when changes take effect).
+    -- Up to each moment, the key passes the judge's rule (the test of its calls), and the rule has at least as many
+    -- pending changes left as the timeline (a choice of the moments when changes take effect).
     goes_on : (m : ℕ) → m ≤ last → (g s : State) × (ys : List Act) × (state_after ev b m ≡ Some g) × Leads m g s × Ready m s ys
     goes_on zero low = (opened b, opened b, first, refl, leads_at_first b, ready)
     goes_on (suc m) low =

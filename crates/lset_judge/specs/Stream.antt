@@ -90,9 +90,9 @@ pub record ArePending (calls : List CallRecord) (moment : ℕ) (pending : List P
   pub apart : AllPairs (λ (p q : Pending). p.end ≢ q.end) pending
   pub later : All (λ (p : Pending). moment < p.end) pending
 
--- States that the stored states of the keys after a moment are the states that the judge's rule computes. If the rule
--- has failed by then (Some f), states instead that the rule failed for the key `f.key` by the moment `f.moment`, and
--- for no key earlier.
+-- States that the stored states of the keys after a moment are the states that the judge's rule (the test of one key's
+-- calls) computes. If the rule has failed by then (Some f), states instead that the rule failed for the key `f.key` by
+-- the moment `f.moment`, and for no key earlier.
 abbrev pub IsJudgedTo : List ℕ → List CallRecord → ℕ → States → Option Failed → Type 0
 IsJudgedTo opening calls moment states None =
     (k : ℕ) → state_after (event_at behind_all k calls) (has_key k opening) moment ≡ Some (state_for states k)
@@ -146,7 +146,8 @@ FailsFirst h key (Some moment) = HasFailed h key moment × ((k m : ℕ) → HasF
 
 -- States that a verdict is correct. Linearizable: some order explains the calls and leaves the keys. NotLinearizable:
 -- no order does, with any quota. The calls on the key that the reason (`refusal`) names suffice to show it
--- (`IsRefusedBy`), and this key is the first to fail the judge's rule, at the reason's moment.
+-- (`IsRefusedBy`), and this key is the first to fail the judge's rule (the test of one key's calls), at the reason's
+-- moment.
 abbrev pub IsStreamVerdict : HistoryValue → List ℕ → StreamVerdict → Type 0
 IsStreamVerdict h keys Linearizable = IsExplained h keys
 IsStreamVerdict h keys (NotLinearizable refusal) =
