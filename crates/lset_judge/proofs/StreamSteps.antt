@@ -237,7 +237,7 @@ module _ (threads : ℕ) (calls : List CallRecord) (history : IsHistory threads 
       all_apart : AllPairs (λ (p q : Pending). p.end ≢ q.end) (next ∷ rest)
       all_apart = ends_moved pending (next ∷ rest) is are.apart
 
-      -- Just after the earliest end of a pending call, the pending calls are the other calls in the list.
+      -- Just after the pending call with the earliest end has ended, the pending calls are the other calls in the list.
       pub without_next : ArePending calls next.end rest
       without_next = record {
         known = rest_of (λ (p : Pending). (n : ℕ) × (n < length calls) × (p ≡ pending_of (call_numbered calls n))) are.known;

@@ -278,7 +278,7 @@ module _ (ev : ℕ → Event) (last : ℕ) (left : Bool) (are : AreEvents ev) wh
       lists false true to r = lists_taken true m ps p ys r.pairs.0 (r.lists true)
       lists false false to r = lists_kept false m ks p ys (λ e. true≢false (changes_apart true false (sym to ∙ e))) (r.lists false)
 
-  -- ---- Lemmas about an event when no further act takes effect before it, since the next act starts later
+  -- ---- Lemmas about an event that is before the start of the next act. An act is the effect of a call.
   abbrev Waits : ℕ → List Act → Type 0
   Waits m [] = Unit {0}
   Waits m (p ∷ ys) = m < p.begun
