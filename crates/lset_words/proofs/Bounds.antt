@@ -1,4 +1,5 @@
--- A list has at most MOST_NODES nodes, and different slots (nodes that adds use up) are different nodes.
+-- Proof that a list has at most MOST_NODES nodes, and that different slots (the nodes that successful adds use up) are
+-- different nodes.
 use Rattle.std.specs.Prelude.{◌≡◌, ℕ, ◌+◌, ◌*◌, ◌<◌, ◌≤◌}
 use Rattle.std.proofs.Common.{arith, ap}
 use Rattle.lset_words.specs.declared.TheConstants.{MOST_THREADS, MOST_QUOTA, MOST_OPENING, MOST_NODES}
@@ -12,8 +13,8 @@ few_nodes threads quota opening few small opens =
 pub nodes_within : (s : Sizes) → IsWithin s → node_count s ≤ MOST_NODES
 nodes_within s w = few_nodes s.threads s.quota s.opening w.few w.small w.opens
 
--- Quotient and remainder are unique: two slots have the same number only if their threads and their numbers within the
--- thread are the same.
+-- Two slots (nodes that successful adds use up) have the same number only if their threads `t` and `u` are equal and
+-- their indices `i` and `j` are equal.
 pub row_once : (quota t u i j : ℕ) → i < quota → j < quota → t * quota + i ≡ u * quota + j → (t ≡ u) × (i ≡ j)
 row_once quota t u i j a b e =
     let row : t ≡ u = grind arith in

@@ -1,5 +1,4 @@
--- Extending a seat's record by two lists of calls, one after the other, is the same as extending it by their
--- concatenation.
+-- Appending two lists of calls to a record, one after the other, has the same result as appending their concatenation.
 use Rattle.std.proofs.Common.{◌≡◌, List, [], ◌∷◌, ◌++◌, refl}
 use Rattle.lset_words.specs.Records.{CallMade, Record, called, with_calls}
 

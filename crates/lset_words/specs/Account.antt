@@ -1,5 +1,5 @@
--- The account of a run: the keys in the set at each moment, and the effect of each event on them. An account mentions
--- calls, replies and changes of keys, but no nodes and no locks.
+-- The account of a run: the keys in the set at each moment, and the effect of each event on these keys. An account
+-- mentions calls, replies and changes of keys, but no nodes and no locks.
 use Rattle.std.specs.Prelude.{◌≡◌, ◌≢◌, ℕ, suc, ◌+◌, ◌<◌, ◌≤◌, Bool, true, false, Option, Some, None, Contains as InList}
 use Rattle.std.specs.List.Sorted.{IsStrictlyIncreasing}
 use Rattle.lset_words.specs.Words.{Opening}
@@ -17,9 +17,9 @@ Content = ℕ → Type 0
 abbrev pub Same : Content → Content → Type 0
 Same before after = (j : ℕ) → (before j → after j) × (after j → before j)
 
--- [Named change]: relates the content before a step to the content after it. Without a change, both have the same keys.
--- Otherwise they differ in the changed key alone: a key is added only if it was absent, and removed only if it was
--- present.
+-- [Named change]: relates the content before a step to the content after it. Without a change, both have the same
+-- keys. Otherwise they differ only in the changed key: a key is added only if it was absent, and removed only if it
+-- was present.
 abbrev pub Changes : Option Change → Content → Content → Type 0
 Changes None before after = Same before after
 Changes (Some (k, true)) before after =
@@ -27,8 +27,8 @@ Changes (Some (k, true)) before after =
 Changes (Some (k, false)) before after =
     before k.0 × (after k.0 → ⊥) × ((j : ℕ) → j ≢ k.0 → (before j → after j) × (after j → before j))
 
--- Returns how many successful adds a thread has made after one of its calls made this change. `count` is the number
--- before the change.
+-- Returns a thread's number of successful adds after a step that makes this change, or no change. `count` is the
+-- number before the step.
 abbrev pub count_after : Option Change → ℕ → ℕ
 count_after None count = count
 count_after (Some (k, true)) count = count + 1
@@ -83,8 +83,8 @@ RightReply true quota contents counts first last thread call (Some reply) = repl
 RightReply false quota contents counts first last thread call (Some reply) =
     FitsSometime quota contents counts first last thread call reply
 
--- Thread `t` begins a call between moments `k` and `k + 1`. Before that, it has no pending call. The set's keys and the
--- counts of successful adds do not change.
+-- Thread `t` begins a call between moments `k` and `k + 1`. At moment `k`, the thread has no pending call. The set's
+-- keys and the counts of successful adds do not change.
 pub record Begins (threads : ℕ) (log : Log) (contents : Contents) (counts : Counts) (k t : ℕ) : Type 0 where
   pub of_a_thread : t < threads
   pub idle : is_open log t k ≡ false
@@ -95,10 +95,11 @@ pub record Begins (threads : ℕ) (log : Log) (contents : Contents) (counts : Co
 -- or returns no reply.
 pub record Steps (threads quota : ℕ) (log : Log) (contents : Contents) (counts : Counts) (k t : ℕ) (change : Option Change)
     (reply : Option Reply) : Type 0 where
-  -- The thread has a pending call.
+  -- Thread `t` exists and has a pending call.
   pub of_a_thread : t < threads
   pub under_way : is_open log t k ≡ true
-  -- The set's keys and the count of the thread's successful adds change as `change` says, and in no other way.
+  -- The set's keys and the thread's number of successful adds change only by `change`. They stay the same if `change`
+  -- is `None`.
   pub content : Changes change (contents k) (contents (suc k))
   pub own_count : counts (suc k) t ≡ count_after change (counts k t)
   pub other_counts : (u : ℕ) → u < threads → u ≢ t → counts (suc k) u ≡ counts k u

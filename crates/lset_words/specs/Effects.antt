@@ -1,4 +1,4 @@
--- What a call with its reply shows about its key.
+-- The effect of a completed call: its reply shows that the call changed its key, or found the key present or absent.
 use Rattle.std.specs.Prelude.{Bool, true, false}
 use Rattle.lset_words.specs.declared.Call.{Call}
 use Rattle.lset_words.specs.declared.Call.TheVariants.{Add, Remove, Contains}
@@ -17,7 +17,7 @@ abbrev pub is_there : Presence → Bool
 is_there Present = true
 is_there Absent = false
 
--- Returns what a call with this reply shows about its key: the call changed the key, or saw it present or absent. The
+-- Returns the effect of a call with this reply: the call changed its key, or found the key present or absent. The
 -- effect is `Other` if the reply shows nothing about the key.
 abbrev pub effect_of : Call → Reply → Effect
 effect_of (Add k) True = Changes Present

@@ -1,6 +1,6 @@
 -- The log of a run, and the calls in the log. Entry k of a log is the event between moments k and k + 1. Moment k is
--- the state after the first k events. An entry records what a user of the set can see of an event: the start of a call,
--- the change of a key, or a reply. It mentions no nodes and no locks.
+-- the state after the first k events. An entry records what a user of the set can see of an event: the start of a
+-- call, the change of a key, or a reply. An entry mentions no nodes and no locks.
 use Rattle.std.specs.Prelude.{ℕ, zero, suc, ◌==◌, ◌||◌, ◌&&◌, Bool, true, false, if◌then◌else◌, List, [], ◌∷◌, ◌++◌, map, Option}
 use Rattle.std.specs.Prelude.{Some, None, is_none}
 use Rattle.lset_words.specs.declared.Key.{Key}
@@ -21,8 +21,8 @@ pub data Entry : Type 0 where
 abbrev pub Log : Type 0
 Log = ℕ → Entry
 
--- A call of a run, with the moments just after it began, changed the set, and made its last step. The last two are
--- `None` until the call has made that step.
+-- A call of a run, with the moments just after it began, changed the set, and ended. `changed` is `None` until the
+-- call changes the set. `ended` is `None` until the call ends.
 pub record TracedCall : Type 0 where
   pub thread : ℕ
   pub call : Call
@@ -63,9 +63,9 @@ record_of x = record { thread = x.thread; call = x.call; begun = x.begun; ended 
 abbrev pub history_at : Log → ℕ → List CallRecord
 history_at log k = map record_of (calls_at log k)
 
--- Four functions describe the last call of thread `t`, pending or completed. This one returns the call itself. The ones
--- below return the moment just after it began, whether it is pending, and whether it has made a change. `before` is the
--- value before the entry.
+-- Returns the last call of thread `t` after an event, pending or completed. `before` is the last call before the
+-- event. The next three functions compute, in the same way, the moment just after that call began, whether it is
+-- pending, and whether it has made a change.
 abbrev pub call_after : Entry → ℕ → Call → Call
 call_after (began u call) t before = if u == t then call else before
 call_after (stepped u change reply) t before = before

@@ -11,7 +11,7 @@ pub record CallMade : Type 0 where
   pub call : Call
   pub reply : Reply
 
--- What a seat (the right to call as one thread) has done. `fresh` is the record of a thread without calls, `called`
+-- The record of a seat (the right to call as one thread). `fresh` is the record of a thread without calls, `called`
 -- appends a call that the thread made itself, and `gathered` appends the record of a seat that was merged into this
 -- one.
 pub data Record : Type 0 where
@@ -55,14 +55,13 @@ calls_by u order = filter (λ (a : Answered). a.thread == u) order
 abbrev pub placed_by : ℕ → CallMade → Answered
 placed_by u c = record { thread = u; call = c.call; reply = c.reply }
 
--- States that the calls of the record's thread in the order are exactly those that the record lists as its own, in the
--- same sequence.
+-- States that the order and the record have the same calls of the record's own thread, in the same sequence.
 abbrev pub HasOwnCalls : List Answered → Record → Type 0
 HasOwnCalls order r = calls_by (thread_of r) order ≡ map (placed_by (thread_of r)) (own_calls r)
 
 -- States that the order has call `c` at the right place. `r` is the record of the thread before it made `c`. Before
--- `c`, the calls of that thread in the order are exactly r's own calls. After `c`, the order has no call of a thread
--- whose record was merged into `r`, directly or as part of another record.
+-- `c`, the calls of that thread in the order are exactly the own calls of `r`. After `c`, the order has no call of a
+-- thread whose record was merged into `r`, directly or as part of another record.
 pub record Follows (order : List Answered) (r : Record) (c : CallMade) : Type 0 where
   pub before : List Answered
   pub after : List Answered

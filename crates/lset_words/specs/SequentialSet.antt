@@ -37,7 +37,7 @@ ceiling_in k (x ∷ xs) = if nat_lt x k then ceiling_in k xs else At (record { 0
 abbrev pub count_of : SetState → ℕ → ℕ
 count_of s thread = slice_index s.counts thread
 
--- Returns what the set in state `s` replies to this call of this thread. Each thread has the same quota.
+-- Returns the reply of the set in state `s` to this call of this thread. Each thread has the same quota.
 abbrev pub reply_to : ℕ → SetState → ℕ → Call → Reply
 reply_to quota s thread (Add k) = if has_key k.0 s.keys then False else if count_of s thread == quota then Full else True
 reply_to quota s thread (Remove k) = if has_key k.0 s.keys then True else False

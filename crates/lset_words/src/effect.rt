@@ -1,4 +1,4 @@
-//! What a completed call shows about its key: changed, seen present, or seen absent.
+//! The effect of a completed call: the call changed its key, or found the key present or absent.
 
 ghost use Rattle.std.specs.Prelude.{◌≡◌};
 ghost use Rattle.lset_words.specs.Effects.{effect_of};
@@ -12,7 +12,7 @@ pub enum Presence {
     Absent,
 }
 
-/// What a completed call shows about its key.
+/// The effect of a completed call: the call changed its key, or found the key present or absent.
 #[derive(Clone, Copy, Debug, PartialEq, Eq)]
 pub enum Effect {
     /// The call added the key (`Present`) or removed it (`Absent`).
@@ -24,8 +24,7 @@ pub enum Effect {
 }
 
 impl Call {
-    /// Returns what the call shows about its key if it returns `reply`. An `add` that returns `Full` found its key
-    /// absent.
+    /// Returns the effect of the call if it returns `reply`. An `add` that returns `Full` found its key absent.
     pub fn effect(self, reply: Reply) -> Effect
         ensures { result ≡ effect_of self reply }
     {

@@ -1,7 +1,7 @@
 use crate::{Call, Reply};
 
-/// A call of a history (Herlihy and Wing): its thread, the call, and when it begins and ends. Moments count events,
-/// from 1. A call without an end is pending.
+/// A call of a history (Herlihy and Wing): its thread, the call, the moment when it begins, and the moment when it
+/// ends with its reply. Moments are numbered from 1. A call without an end is pending.
 #[derive(Clone, Copy, Debug, PartialEq, Eq)]
 pub struct CallRecord {
     pub thread: u32,
@@ -17,7 +17,7 @@ pub struct Placed {
     pub reply: Reply,
 }
 
-/// When a call takes effect (its linearization point): the moment, counted in events from 1, and whether the call
+/// When a call takes effect (its linearization point): the moment (the number of events so far), and whether the call
 /// changes the set at this moment.
 #[derive(Clone, Copy, Debug, PartialEq, Eq)]
 pub struct Point {

@@ -5,9 +5,9 @@
 //! theorem for each list, run the lists in threads, replay schedules and check reports all use these definitions. To
 //! understand what the theorem claims, read these definitions once.
 //!
-//! A function of this library allocates only if it takes `alloc: Global`, or a value that was created with one. It
-//! blocks only if it takes a runtime `rt` with `Wait`. The table of words, the limits and the call `ceiling` are not
-//! from the literature.
+//! A function of this library allocates only if it has a parameter `alloc: Global`, or a parameter that was created
+//! with one. It blocks only if it has a parameter `rt` (the runtime) with `Wait`. The table of words, the limits and
+//! the call `ceiling` are not from the literature.
 #![tactic(auto)]
 
 ghost use Rattle.std.specs.Prelude.{◌≡◌, ℕ, ◌+◌, ◌/◌, ◌%◌, ◌<◌, ◌^◌, IsTrue, ◌↔◌, All, Bool, IfOk, IfErr};
@@ -98,7 +98,7 @@ impl Call {
     }
 }
 
-/// What a completed call returns. `add`, `remove` and `contains` reply `True` or `False`; `add` replies `Full` if the
+/// The reply of a completed call. `add`, `remove` and `contains` reply `True` or `False`; `add` replies `Full` if the
 /// key is absent and the thread has used up its quota. `ceiling` replies `At` with the key that it found, or `Nothing`
 /// if there is none.
 #[derive(Clone, Copy, Debug, PartialEq, Eq)]
@@ -167,8 +167,8 @@ pub fn keys_are_small(keys: &[u32])
     let _keys = keys;
 }
 
-/// Packs a link word. `next`, below `2^63`, is the number of the next node, and `mark` says whether the node is marked
-/// as removed. Both share one word so that one compare-and-exchange can change them together (Harris).
+/// Packs a link word. `next`, below `2^63`, is the number of the next node, and `mark` is true if the node with this
+/// link is marked as removed. Both share one word so that one compare-and-exchange can change them together (Harris).
 pub fn pack(next: u64, mark: bool) -> u64
     requires { next < 2 ^ 63 }
     ensures { result ≡ packed next mark }
