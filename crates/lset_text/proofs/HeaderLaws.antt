@@ -1,4 +1,5 @@
--- Proof that reading inverts writing for headers: a header is read from its own four lines and from no other text.
+-- Proof that reading inverts writing for headers: reading returns a header if and only if the text begins with the
+-- four lines of this header.
 use Rattle.std.proofs.Common.{◌≡◌, Result, ℕ, ◌<◌, ◌≤◌, ◌^◌, true, List, [], ◌∷◌, ◌++◌, length, Option, Some, None, Ok, Err, refl}
 use Rattle.std.proofs.Common.{ap, subst, ◌∙◌, arith, codes}
 use Rattle.std.specs.Prelude.{option_map}
@@ -63,7 +64,7 @@ pub line_due_goes : (line : ℕ) (cause : Cause) (x : List ℕ) (parts : List (L
 line_due_goes line cause x [] h = absurd (omega arith)
 line_due_goes line cause x (y ∷ more) h = refl
 
--- A header line, and the parts of the text that come after it.
+-- A header line, and the parts of the text that follow it.
 abbrev Due : Type 0
 Due = List ℕ × List (List ℕ)
 
@@ -76,7 +77,8 @@ line_due_ok line cause [] due is = absurd cc
 line_due_ok line cause (rest ∷ []) due is = absurd cc
 line_due_ok line cause (a ∷ b ∷ more) due is = subst (IsDue (a ∷ b ∷ more)) (ok_is (a, b ∷ more) due is) (refl, omega arith)
 
--- States that `read` makes the value of the first line, and that the text has at least one more part after this line.
+-- States that `read` returns the value `told.0` for the first line, and that the parts after this line are `told.1`,
+-- at least one.
 abbrev IsToldBy : {A : Type 0} → (List ℕ → Option A) → List (List ℕ) → A × List (List ℕ) → Type 0
 IsToldBy read parts told = (x : List ℕ) × (parts ≡ x ∷ told.1) × (read x ≡ Some told.0) × (0 < length told.1)
 
@@ -100,8 +102,8 @@ told_again line cause read x y more told is = rw is refl
 abbrev Found : Type 0
 Found = Header × List (List ℕ)
 
--- What is left to do after each of the four header lines has been read. This function is for the quota line. The
--- functions for the threads line, the kind line and the title follow.
+-- The rest of reading a header, after its quota line has been read. The next three functions are the rest after the
+-- threads line, after the kind line, and after the title.
 abbrev after_quota : Kind → ℕ → ℕ × List (List ℕ) → Result Found LineFault
 after_quota kind threads quota = Ok (record { kind = kind; threads = threads; quota = quota.0 }, quota.1)
 

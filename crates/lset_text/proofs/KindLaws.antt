@@ -1,4 +1,4 @@
--- Proof that a line and the value read from it determine each other, whatever kinds of lines a file has.
+-- Proof that a line and the value read from it determine each other, for every list of kinds of lines.
 use Rattle.std.proofs.Common.{◌≡◌, ◌⊎◌, inl, inr, ℕ, Bool, true, false, cond, List, [], ◌∷◌, map, length, ◌<◌, Option, Some, None}
 use Rattle.std.proofs.Common.{Result, Ok, Err, refl, sym, ap, subst, ◌∙◌}
 use Rattle.std.specs.List.{AllByRecursion}
@@ -17,12 +17,12 @@ pub made_ok : {X Y : Type 0} (f : X → Y) (r : Result X Cause) (y : Y) → made
 made_ok f (Ok x) y e = (x, refl, ok_is (f x) y e)
 made_ok f (Err d) y e = absurd cc
 
--- What the proofs need to know about a kind of line. Its form can be read back. Each value made from fields that the
--- version can spell has the property `Good`, and its spelling consists of these fields.
+-- States two properties of a kind of line. Its form can be read back. Each value made from fields that the version can
+-- spell has the property `Good`, and the value's spelling consists of these fields.
 abbrev pub Knows : {X : Type 0} → Version → (X → List (List ℕ)) → (X → Type 0) → LineKind X → Type 0
 Knows v pieces Good k = IsForm k.0 × ((t : Told k.0) → AllFit v k.0 t → (spell k.0 t ≡ pieces (k.1 t)) × Good (k.1 t))
 
--- A value that was read from a line has the property `Good`, and its spelling is the line.
+-- If a value was read from a line, the value has the property `Good`, and its spelling is the line.
 pub first_found : {X : Type 0} (v : Version) (none : Cause) (pieces : X → List (List ℕ)) (Good : X → Type 0)
     (ks : List (LineKind X)) (ps : List (List ℕ)) (x : X)
     → AllByRecursion (Knows v pieces Good) ks → first_of v none ks ps ≡ Ok x → (ps ≡ pieces x) × Good x
@@ -66,7 +66,8 @@ line_found_lacks v none pieces Good ks line x known e =
     let found = line_found v none pieces (λ y. Lacks 10 (line_of (pieces y))) ks line x (lacks_too v pieces Good ks known) e in
     subst (Lacks 10) (sym found.0) found.1
 
--- States that one of the kinds makes the value `x`, and that the spelling of `x` does not look like any earlier kind.
+-- States that one of the kinds makes the value `x`, and that the spelling of `x` does not match the form of any
+-- earlier kind.
 abbrev pub IsMade : {X : Type 0} → Version → (X → List (List ℕ)) → List (LineKind X) → X → Type 0
 IsMade v pieces [] x = ⊥
 IsMade v pieces (k ∷ ks) x =
@@ -83,7 +84,8 @@ first_made v none pieces Good (k ∷ ks) x known (inl m) =
     ap (first_of v none (k ∷ ks)) (sym spelled) ∙ here ∙ ap Ok m.1
 first_made v none pieces Good (k ∷ ks) x known (inr m) = rw m.0 (first_made v none pieces Good ks x known.1 m.1)
 
--- If `P` holds for every spelling of valid fields, `P` holds for the spelling of each value that some kind makes.
+-- If `P` holds for every spelling of valid fields, then `P` holds for the spelling of each value that one of the kinds
+-- makes.
 made_spells : {X : Type 0} (v : Version) (pieces : X → List (List ℕ)) (Good : X → Type 0) (P : List (List ℕ) → Type 0)
     → ((k : LineKind X) → IsForm k.0 → (t : Told k.0) → AllFit v k.0 t → P (spell k.0 t))
     → (ks : List (LineKind X)) (x : X) → AllByRecursion (Knows v pieces Good) ks → IsMade v pieces ks x → P (pieces x)
@@ -125,7 +127,7 @@ pub first_many : {X : Type 0} (v : Version) (none : Cause) (ks : List (LineKind 
 first_many v none [] ps below = refl
 first_many v none (k ∷ ks) ps below = rw (too_many v k.0 ps below.0) (first_many v none ks ps below.1)
 
--- ---- Lemmas about kinds of lines whose values are mapped by a function
+-- ---- Lemmas about kinds of lines, after a function is applied to their values
 
 kind_seen : {X Y T : Type 0} (f : X → Y) (g : T → X) (c : Cause) (b : Bool) (o : Option T) (r : Result Y Cause) (s : Result X Cause)
     → r ≡ made f s → cond b (made (λ t. f (g t)) (or_fail c o)) r ≡ made f (cond b (made g (or_fail c o)) s)
@@ -140,7 +142,8 @@ first_as f v none (k ∷ ks) ps =
     kind_seen f k.1 Number (have_form v k.0 ps) (all_told v k.0 ps) (first_of v none (map (kind_as f) ks) ps)
     (first_of v none ks ps) (first_as f v none ks ps)
 
--- What the proofs know about kinds of lines (`Knows`) is still true if a function `f` is applied to their values.
+-- If the kinds of lines have the properties `Knows` and `IsMade`, they still have them after a function `f` is applied
+-- to their values.
 module _ {X Y : Type 0} (f : X → Y) (v : Version) (pieces : X → List (List ℕ)) (seen : Y → List (List ℕ))
     (same : (x : X) → pieces x ≡ seen (f x)) where
   pub knows_as : (Good : X → Type 0) (Fine : Y → Type 0) → ((x : X) → Good x → Fine (f x)) → (ks : List (LineKind X))

@@ -1,4 +1,4 @@
--- Lemmas about a loop that reads a text line by line, for every grammar. `Stands` is the invariant of the loop.
+-- Lemmas about a loop that reads a text line by line, for every grammar. The record `Stands` is the loop's invariant.
 use Rattle.std.proofs.Common.{◌≡◌, ℕ, ◌+◌, ◌<◌, ◌≤◌, ◌⊎◌, inl, inr, Bool, true, false, cond, eqb, List, [], ◌∷◌, ◌++◌, length}
 use Rattle.std.proofs.Common.{get_or, Result, Ok, Err, refl, sym, ap, subst, ◌∙◌, append_assoc, length-append, arith}
 use Rattle.std.specs.List.{AllByRecursion}
@@ -15,7 +15,7 @@ use Rattle.lset_text.specs.Lines.{Grammar, lines_from, Leads, IsFaultlessTo, IsG
 use Rattle.lset_text.proofs.PartLaws.{some_part}
 use Rattle.lset_text.proofs.ReadingLaws.{bind_ok, map_fault_ok}
 
--- ---- Lemmas about a single complete line
+-- ---- Lemmas about reading a single complete line
 
 lines_go : {S : Type 0} (g : Grammar S) (line : ℕ) (s t : S) (x : List ℕ) (parts : List (List ℕ)) → 0 < length parts
     → g.step s x ≡ Ok t → lines_from g line s (x ∷ parts) ≡ lines_from g (line + 1) t parts
@@ -29,7 +29,7 @@ unfolding lines_from
 lines_stop g d line s x [] some is = absurd (omega arith)
 lines_stop g d line s x (y ∷ more) some is = rw is refl
 
--- ---- Proof that an error is never above the first line that is read
+-- ---- Proof that the first error is never above the line that is read first
 
 pub bind_err : {A B E : Type 0} (r : Result A E) (f : A → Result B E) (d : E) → (r >>= f) ≡ Err d
     → (r ≡ Err d) ⊎ ((x : A) × (r ≡ Ok x) × (f x ≡ Err d))
@@ -66,7 +66,7 @@ pub starts : {S : Type 0} (g : Grammar S) (first : ℕ) (text : List ℕ) (s : S
     → Stands g first text (lines_from g first s (cut_at 10 text)) first s text
 starts g first text s = record { so_far = refl; above = []; parts = refl; number = omega arith; left = omega arith }
 
--- If the next line is accepted, the invariant holds after it, in the next state.
+-- If the next line is accepted, the loop's invariant also holds after this line, for the state that follows the line.
 pub goes_on : {S : Type 0} (g : Grammar S) (first : ℕ) (text : List ℕ) (read : Result S LineFault) (line : ℕ) (s t : S)
     (rest x after : List ℕ) → cut_at 10 rest ≡ x ∷ cut_at 10 after → length x + length after + 1 ≡ length rest → g.step s x ≡ Ok t
     → Stands g first text read line s rest → Stands g first text read (line + 1) t after
@@ -113,7 +113,7 @@ is_good {S} g first text read line s t rest x after parts is stands =
       rw (← more) (faultless_from g line (line + 1) t (cut_at 10 after) (omega arith)),
     )
 
--- Lemmas about a line at which reading stops: the line has an error, or an allocation failed.
+-- Lemmas about the line that stops the reading: the line has an error, or an allocation failed.
 module _ {S : Type 0} (g : Grammar S) (first : ℕ) (text : List ℕ) (read : Result S LineFault) (line : ℕ) (s : S)
     (rest x after : List ℕ) (parts : cut_at 10 rest ≡ x ∷ cut_at 10 after) (stands : Stands g first text read line s rest)
     (cause : Cause) where
@@ -192,8 +192,8 @@ leads_all g P Q one s t [] holds leads = tt
 leads_all g P Q one s t (x ∷ xs) holds leads =
     let moved = one s leads.0 x holds leads.1 in (moved.1, leads_all g P Q one leads.0 t xs moved.0 leads.2)
 
--- If each item's line leads from the state for the items before it to the state that includes the item, the lines of
--- the whole list lead from the first state to the last.
+-- Suppose that reading the line of each item changes the state for the earlier items to the state for these items and
+-- this one. Then reading the lines of the whole list changes the first state to the last.
 pub items_lead : {S X : Type 0} (g : Grammar S) (state : List X → S) (lines : ℕ → List X → List (List ℕ))
     (line : ℕ → X → List ℕ) → ((n : ℕ) → lines n [] ≡ [])
     → ((n : ℕ) (x : X) (xs : List X) → lines n (x ∷ xs) ≡ line n x ∷ lines (n + 1) xs) → (before xs : List X)

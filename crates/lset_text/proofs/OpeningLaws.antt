@@ -48,7 +48,7 @@ above_before (x ∷ xs) key more increasing =
     longer : (xs : List ℕ) (y : ℕ) (ys : List ℕ) (n : ℕ) → n + 1 ≡ length xs → n + 1 < length (xs ++ y ∷ ys)
     longer xs y ys n e = grind (arith, length-append xs (y ∷ ys))
 
--- ---- Lemmas about the keys with which a set opens
+-- ---- Lemmas about the opening keys of a set
 
 pub is_header : (h : Header) (keys : List ℕ) → Opens (record { threads = h.threads; quota = h.quota; keys = keys }) → IsHeader h
 is_header h keys is = record { some = is.within.some; few = is.within.few; small = is.within.small; opens = omega arith }

@@ -1,4 +1,4 @@
--- If a chain of checks returned a value, each of its checks passed.
+-- Lemmas about a chain of checks: if the chain returned a value, each of its checks passed.
 use Rattle.std.proofs.Common.{◌≡◌, Bool, true, false, cond, Option, Some, None, Result, Ok, Err, refl}
 use Rattle.lset_text.specs.Results.{◌>>=◌, or_fail, map_fault}
 

@@ -27,7 +27,7 @@ middle P front more xs x is all = at_seam P front more x (subst (AllByRecursion 
 pub shorter : {X : Type 0} (front more xs : List X) (x : X) → front ++ x ∷ more ≡ xs → length front < length xs
 shorter front more xs x is = let long = ap length is in omega (arith, long, length-append front (x ∷ more))
 
--- ---- If the later sections are still empty, a line added to a section is the last line of the text
+-- ---- A line that is added to a section is the last line of the text, if the later sections are still empty
 
 pub push_last : {X : Type 0} (f : List (List ℕ)) (line : X → List ℕ) (xs : List X) (x : X)
     → f ++ map line (xs ++ x ∷ []) ≡ f ++ map line xs ++ line x ∷ []
@@ -37,7 +37,7 @@ pub push_before : {X : Type 0} (f a : List (List ℕ)) (line : X → List ℕ) (
     → f ++ map line (xs ++ x ∷ []) ++ a ≡ f ++ map line xs ++ a ++ line x ∷ []
 push_before f a line xs x none = rw (none, map_push line xs x) (simp (append-nil, append_assoc))
 
--- ---- Lemmas about the section that a reader is in
+-- ---- Lemmas about the section that the reader is currently in
 
 -- Returns the section that the reader is in: `s` if the list of items is still empty, else `t`.
 abbrev pub later : {X T : Type 0} → List X → T → T → T
@@ -48,8 +48,7 @@ pub later_pushed : {X T : Type 0} (xs : List X) (x : X) (s t : T) → t ≡ late
 later_pushed [] x s t = refl
 later_pushed (y ∷ ys) x s t = refl
 
--- ---- If each item's line leads to the next state, the lines of a section lead to the last state, provided the
--- section's limit is not exceeded
+-- ---- If each item's line changes the state as required, so do all lines of a section within the section's limit
 
 pub section_leads : {S X : Type 0} (g : Grammar S) (state : List X → S) (line : X → List ℕ) (P : X → Type 0) (most : ℕ)
     (xs : List X) → length xs ≤ most → AllByRecursion P xs
@@ -59,8 +58,8 @@ section_leads g state line P most xs few are each =
     items_lead g state (λ n. map line) (λ n. line) (λ n. refl) (λ n x ys. refl) [] xs
     (λ front more x is. each front more x is (omega (arith, shorter front more xs x is, few)) (middle P front more xs x is are))
 
--- The lines of the opening keys lead from the state without keys to the state with all of them. In version 1, a file
--- has no opening keys.
+-- Reading the lines of the opening keys changes the state without keys to the state with all of them. In version 1, a
+-- file has no opening keys.
 pub openings_lead : {S : Type 0} (g : Grammar S) (state : List ℕ → S) (v : Version) (o : Opening) → Opens o
     → HasOpening v o.keys
     → ((front : List ℕ) (k : ℕ) → v ≡ Two → length front < MOST_OPENING → k < 2 ^ 32 → is_above front k ≡ true

@@ -52,8 +52,8 @@ good_in_text g bytes rest h line is good =
       subst (IsFaultlessTo line) (sym (text_after g (cut_at 10 bytes) (cut_at 10 rest) h is)) good.2,
     )
 
--- If an allocation fails while the lines after the header are read, the error names a line below the header, and no
--- earlier error was found up to this line.
+-- If an allocation fails while the lines after the header are read, the reported line is below the header, and neither
+-- this line nor an earlier line has an error.
 pub good_after : {S X : Type 0} (g : TextGrammar S) (bytes rest : List ℕ) (h : Header)
     (r : Result X LineFault) → header_of g.title (cut_at 10 bytes) ≡ Ok (h, cut_at 10 rest)
     → IfErr r (λ e. e.cause ≡ Memory → IsGoodLine first_line (cut_at 10 rest)
@@ -66,8 +66,8 @@ good_after g bytes rest h (Err e) is good = λ m.
 
 -- ---- Proof that reading and writing are inverse
 
--- The file that was read is the text of the result. If `P` holds for the header's start state and each line preserves
--- `P`, `P` holds for the result.
+-- If reading a file returns a state, the file is the text of this state. If also `P` holds for the header's start
+-- state and each line preserves `P`, then `P` holds for the returned state.
 pub text_found : {S : Type 0} (g : TextGrammar S) (P : S → Type 0) (text : S → List (List ℕ))
     → ((h : Header) → IsHeader h → P (g.start h) × (text (g.start h) ≡ header_lines g.title h))
     → ((s t : S) (x : List ℕ) → P s → g.lines.step s x ≡ Ok t → P t × (text t ≡ text s ++ x ∷ []))
@@ -92,8 +92,8 @@ some_first : (ls : List (List ℕ)) → (y : List ℕ) × (more : List (List ℕ
 some_first [] = ([], [], refl)
 some_first (l ∷ ls) = (l, ls ++ [] ∷ [], refl)
 
--- If lines lead from the header's start state to a state in which a text can end, reading the header and these lines
--- returns this state.
+-- Suppose that some lines change the header's start state to a state that can be the last. Then reading the header and
+-- these lines returns this state.
 pub text_again : {S : Type 0} (g : TextGrammar S) (P : S → Type 0)
     → ((s t : S) (x : List ℕ) → P s → g.lines.step s x ≡ Ok t → P t × Lacks 10 x)
     → (h : Header) (xs : List (List ℕ)) (t : S) → Lacks 10 g.title → IsHeader h → P (g.start h)

@@ -1,4 +1,4 @@
--- Proof that reading inverts writing for names and replies: each is read from its own text and from no other.
+-- Proof that reading inverts writing for names and replies: reading returns a value only for this value's own text.
 use Rattle.std.proofs.Common.{◌≡◌, ℕ, ◌<◌, ◌≤◌, ◌^◌, ◌||◌, Bool, true, List, [], ◌∷◌, ◌++◌, take, drop, Option, Some, None, is_some}
 use Rattle.std.proofs.Common.{refl, sym, ap, subst, ◌∙◌, inl, inr, codes, arith, option_map, take-append-drop}
 use Rattle.std.specs.List.{AllByRecursion}
@@ -37,7 +37,7 @@ some_is a b e = cc
 no_word : {A : Type 0} (k : A) → None ≡ Some k → ⊥
 no_word k e = cc
 
--- A value that is read is one of the given values, and is read only from its own text.
+-- A value that is read from a field is one of the given values, and the field is the value's text.
 pub value_ok : {A : Type 0} (text : A → List ℕ) (P : A → Type 0) (values : List A) (piece : List ℕ) (x : A)
     → AllByRecursion P values → value_of text values piece ≡ Some x → (piece ≡ text x) × P x
 value_ok text P [] piece x all is = absurd cc

@@ -81,7 +81,7 @@ abbrev pub spell : (f : Form) → Told f → List (List ℕ)
 spell [] t = []
 spell (p ∷ f) t = spelled p t.0 ∷ spell f t.1
 
--- Returns the line that spells these values.
+-- Returns the line that spells these values, in the form `f`.
 abbrev pub line_with : (f : Form) → Told f → List ℕ
 line_with f t = line_of (spell f t)
 

@@ -50,7 +50,7 @@ title_in title line = if bytes_eq line title then Some title else None
 abbrev pub kind_form : Form
 kind_form = piece.word (codes "list") ∷ piece.kind ∷ []
 
--- Returns the kind of list if the line is `list` and the name of a kind. Otherwise returns `None`.
+-- Returns the kind of list if the line is `list` followed by the name of a kind. Otherwise returns `None`.
 abbrev pub kind_in : List ℕ → Option Kind
 kind_in line = option_map (λ t. t.1.0) (told_in Two kind_form (cut_at 32 line))
 
@@ -62,8 +62,8 @@ abbrev pub number_after : List ℕ → ℕ → ℕ → List ℕ → Option ℕ
 number_after word low high line = option_map (λ t. t.1.0) (told_in Two (number_form word low high) (cut_at 32 line))
 
 -- Splits off the next header line, number `line`, and returns it with the parts after it. The last part is the text
--- after the last newline. If nothing but an empty last part remains, the line is missing: the error is `cause`. If the
--- last part has bytes, the error is `NotEnded`.
+-- after the last newline. If only an empty last part remains, the line is missing, and the error is `cause`. If only a
+-- last part with bytes remains, the error is `NotEnded`.
 abbrev pub line_due : ℕ → Cause → List (List ℕ) → Result (List ℕ × List (List ℕ)) LineFault
 line_due line cause [] = Err (fault line cause)
 line_due line cause (rest ∷ []) = Err (fault line (if length rest == 0 then cause else wrong.NotEnded))
@@ -89,7 +89,7 @@ threads_told = told_by_line 3 wrong.Threads (number_after (codes "threads") 1 MO
 abbrev pub quota_told : List (List ℕ) → Result (ℕ × List (List ℕ)) LineFault
 quota_told = told_by_line 4 wrong.Quota (number_after (codes "quota") 0 MOST_QUOTA)
 
--- Reads a header from the lines of a text, and returns it with the parts after it.
+-- Reads a header from the lines of a text. Returns the header with the parts of the text that follow the header.
 unfoldable pub header_of : List ℕ → List (List ℕ) → Result (Header × List (List ℕ)) LineFault
 header_of title parts = do
   first ← title_told title parts

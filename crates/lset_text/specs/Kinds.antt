@@ -20,8 +20,8 @@ made f (Ok x) = Ok (f x)
 made f (Err e) = Err e
 
 -- Reads a line that was cut into fields. The first kind whose form matches the line makes the value. If no kind
--- matches, the line is refused with the cause `none`. If one matches, but a field that must be a number is not one or
--- is out of range, the line is refused with `Number`.
+-- matches, the line is refused with the cause `none`. If a kind matches, but one of the line's numbers is malformed or
+-- out of range, the line is refused with `Number`.
 abbrev pub first_of : {X : Type 0} → Version → Cause → List (LineKind X) → List (List ℕ) → Result X Cause
 first_of v none [] pieces = Err none
 first_of v none (k ∷ ks) pieces =

@@ -1,4 +1,4 @@
--- Chains of checks, in which the first failed check determines the error.
+-- Chains of checks. The first check that fails determines the error.
 use Rattle.std.specs.Prelude.{Option, Some, None, Result, Ok, Err}
 
 infixl 10 ◌>>=◌

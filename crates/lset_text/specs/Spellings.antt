@@ -25,7 +25,7 @@ kind_text kind.Optimistic = codes "optimistic"
 kind_text kind.Lazy = codes "lazy"
 kind_text kind.LockFree = codes "lock-free"
 
--- Returns the first of these values whose text equals the field, or `None`.
+-- Returns the first of these values that is spelled like the field, or `None`.
 abbrev pub value_of : {A : Type 0} → (A → List ℕ) → List A → List ℕ → Option A
 value_of text values piece = find (λ x. bytes_eq piece (text x)) values
 
@@ -121,7 +121,7 @@ HasReply One reply.Nothing = ⊥
 HasReply version r = Unit {0}
 
 -- States that reading inverts writing for kinds of lists: a field is read as a kind if and only if it is the kind's
--- name. `CallsReadBack` and `RepliesReadBack` state the same for calls and replies.
+-- name. `CallsReadBack` and `RepliesReadBack` state this for calls and replies.
 abbrev pub KindsReadBack : Type 0
 KindsReadBack = (k : Kind) (piece : List ℕ)
     → (kind_of (kind_text k) ≡ Some k) × (kind_of piece ≡ Some k → piece ≡ kind_text k)

@@ -27,7 +27,8 @@ pub fn number(piece: &[u8], low: u32, high: u32) -> Option<u32>
 }
 
 /// Returns the number from `low` to `high` that the field spells in decimal digits, without leading zeros. Returns
-/// `None` for any other field. Accepts ranges beyond 32 bits, unlike `number`, but makes one more test for each digit.
+/// `None` for any other field. Accepts ranges beyond 32 bits, unlike `number`, but makes an additional test for each
+/// digit.
 #[tactic(auto, unfolding(crate::specs::Numbers::number_in))]
 pub fn long_number(piece: &[u8], low: u64, high: u64) -> Option<u64>
     ensures value { result ≡ number_in low high piece.now }

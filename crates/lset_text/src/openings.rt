@@ -4,8 +4,8 @@ ghost use Rattle.lset_text.specs.Openings.{is_above, opening_line, opening_lines
 
 use std::alloc::AllocError;
 
-/// Returns whether `key` is above the last of `keys`, or true if `keys` is empty. Appending such a key to strictly
-/// increasing keys keeps them strictly increasing.
+/// Returns whether `key` is above the last of `keys`. Returns true if `keys` is empty. Appending such a key to
+/// strictly increasing keys keeps them strictly increasing.
 pub fn is_above(keys: &[u32], key: u32) -> bool
     ensures { result ≡ is_above keys.now key }
 {

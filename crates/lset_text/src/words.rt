@@ -186,8 +186,8 @@ pub fn is_reply(version: Version, piece: &[u8]) -> bool
     }
 }
 
-/// Lemma: reading inverts writing for the names of list kinds and calls, and for replies: each is read from its own
-/// text and from no other. The function does nothing.
+/// Lemma: reading inverts writing for the names of list kinds and calls, and for replies: each name or reply is read
+/// from its own text and from no other text. The function does nothing.
 pub fn words_read_back()
     ensures kinds { KindsReadBack }
     ensures calls { CallsReadBack }
