@@ -1,4 +1,5 @@
--- How histories grow: a history without calls, a prefix of a history, and a history after a call begins or ends.
+-- How a history grows: lemmas about a history without calls, a prefix of a history, and a history after a call begins
+-- or ends.
 use Rattle.std.proofs.Common.{◌≡◌, ℕ, ◌<◌, ◌≢◌, List, [], ◌∷◌, ◌++◌, length, get_or, Option, Some, None, subst, arith}
 use Rattle.std.proofs.Common.{length-append}
 use Rattle.std.proofs.Math.Seq.{get_or-append_seam}

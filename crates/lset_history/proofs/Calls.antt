@@ -29,13 +29,13 @@ abbrev pub run_of : ℕ → ℕ → Log → Contents → Counts → Run
 run_of threads quota log contents counts =
     record { threads = threads; quota = quota; log = log; contents = contents; counts = counts }
 
--- States that the log's entry just before the moment `begun` is the start of this call.
+-- States that this call begins in the log's entry just before the moment `begun`.
 pub record Beginning (r : Run) (thread : ℕ) (call : Call) (begun : ℕ) : Type 0 where
   pub before : ℕ
   pub is : begun ≡ suc before
   pub entry : r.log before ≡ began thread call
 
--- States that the log's entry just before the moment `changed` is the change that this call makes.
+-- States that this call changes the set in the log's entry just before the moment `changed`, and may make this change.
 pub record ChangeAt (r : Run) (thread : ℕ) (call : Call) (begun changed : ℕ) : Type 0 where
   pub before : ℕ
   pub is : changed ≡ suc before
@@ -45,8 +45,8 @@ pub record ChangeAt (r : Run) (thread : ℕ) (call : Call) (begun changed : ℕ)
   pub entry : r.log before ≡ stepped thread (Some change) reply
   pub may : MayChange r.quota (r.counts before thread) call false (Some change)
 
--- States that the log's entry just before the moment `end` is the end of this call with a correct reply. If the call
--- makes a change, it does so earlier or in this step.
+-- States that this call ends with a correct reply in the log's entry just before the moment `end`. If the call makes a
+-- change, it makes the change in this step or earlier.
 pub record EndAt (r : Run) (thread : ℕ) (call : Call) (begun : ℕ) (changed : Option ℕ) (end : ℕ) (reply : Reply) : Type 0 where
   pub before : ℕ
   pub is : end ≡ suc before
@@ -56,14 +56,16 @@ pub record EndAt (r : Run) (thread : ℕ) (call : Call) (begun : ℕ) (changed :
   pub after_change : (m : ℕ) → changed ≡ Some m → m ≤ end
   pub right : RightReply (is_some changed) r.quota r.contents r.counts begun end thread call (Some reply)
 
--- States that the functions that compute a thread's pending call from the log return the values of this call.
+-- States that at moment `k` the log has this call as the thread's pending call, begun at `begun`, and that the call
+-- has made a change if and only if `changed` is not `None`.
 pub record OpenAt (r : Run) (k thread : ℕ) (call : Call) (begun : ℕ) (changed : Option ℕ) : Type 0 where
   pub is : is_open r.log thread k ≡ true
   pub call_is : last_call r.log thread k ≡ call
   pub begun_is : begun_at r.log thread k ≡ begun
   pub changed_is : has_changed r.log thread k ≡ is_some changed
 
--- What is true of each call at moment k.
+-- States that the call `x`, in its state at moment `k`, agrees with the log: its begin, its change and its end are
+-- entries of the log.
 pub record Traced (r : Run) (k : ℕ) (x : TracedCall) : Type 0 where
   pub of_a_thread : x.thread < r.threads
   pub begins : Beginning r x.thread x.call x.begun
@@ -73,7 +75,7 @@ pub record Traced (r : Run) (k : ℕ) (x : TracedCall) : Type 0 where
   pub ends : (m : ℕ) (reply : Reply) → x.ended ≡ Some (m, reply)
       → (m ≤ k) × EndAt r x.thread x.call x.begun x.changed m reply
 
--- What is true of two calls if `x` has the smaller number.
+-- States that call `x` begins before call `y` and, if both are made by one thread, also ends before `y` begins.
 pub record Later (x y : TracedCall) : Type 0 where
   pub begins : x.begun < y.begun
   pub one_thread : x.thread ≡ y.thread → IsSomeAnd x.ended (λ (e : ℕ × Reply). e.0 < y.begun)
@@ -89,17 +91,18 @@ pub if_some : {A : Type 0} (o : Option A) (P : A → Type 0) → ((x : A) → o 
 if_some None P f = tt
 if_some (Some x) P f = f x refl
 
--- States that the list has exactly the calls that exist at moment k.
+-- The properties of the list of calls at moment `k`: each call agrees with the log, and no pending call and no call
+-- with a change is missing.
 pub record Calls (r : Run) (k : ℕ) (xs : List TracedCall) : Type 0 where
   pub each : All (Traced r k) xs
   pub pairs : AllPairs Later xs
-  -- If the log has a pending call by thread `t`, this call is in the list.
+  -- If thread `t` has a pending call in the log, this call is in the list.
   pub opens : (t : ℕ) → is_open r.log t k ≡ true → SomeCall (IsOpenOf t) xs
-  -- If the log has a change, the call that made it is in the list.
+  -- If an entry of the log is a change, the call that made the change is in the list.
   pub changers : (j t : ℕ) (change : Change) (reply : Option Reply) → j < k → r.log j ≡ stepped t (Some change) reply
       → SomeCall (λ x. x.changed ≡ Some (suc j)) xs
 
--- ---- How a thread's pending call, computed from the log, changes with one entry
+-- ---- The effect of a log entry on the functions that compute a thread's pending call from the log
 pub open_is : (log : Log) (k : ℕ) (e : Entry) → log k ≡ e → (t : ℕ) → is_open log t (suc k) ≡ open_after e t (is_open log t k)
 open_is log k e at t = rw at refl
 
@@ -107,7 +110,7 @@ pub changed_is : (log : Log) (k : ℕ) (e : Entry) → log k ≡ e → (t : ℕ)
     → has_changed log t (suc k) ≡ changed_after e t (has_changed log t k)
 changed_is log k e at t = rw at refl
 
--- ---- An entry of another thread leaves a pending call unchanged
+-- ---- A log entry of another thread does not change a pending call
 abbrev thread_of : Entry → ℕ
 thread_of (began t call) = t
 thread_of (stepped t change reply) = t
@@ -116,7 +119,7 @@ stays_open : {r : Run} {k t begun : ℕ} {call : Call} {changed : Option ℕ} (e
     → OpenAt r k t call begun changed → OpenAt r (suc k) t call begun changed
 stays_open e at other o = grind (arith, nat_tests)
 
--- An entry of the log does not change a call that is completed, or whose thread does not make the entry.
+-- A log entry does not affect a call that is completed or belongs to another thread.
 waits : {r : Run} {k : ℕ} {x : TracedCall} → (x.ended ≡ None → thread_of (r.log k) ≢ x.thread) → Traced r k x
     → Traced r (suc k) x
 waits other t = record {
@@ -128,7 +131,7 @@ waits other t = record {
   ends = λ m y e. (omega (arith, t.ends m y e), (t.ends m y e).1);
 }
 
--- ---- Lemmas about a call that begins
+-- ---- Lemmas about the start of a call
 abbrev pub new_call : ℕ → ℕ → Call → TracedCall
 new_call k t call = record { thread = t; call = call; begun = suc k; changed = None; ended = None }
 
@@ -181,7 +184,8 @@ after_beginning {r} {k} {t} {call} {xs} e l shut h = record {
     before : {j u : ℕ} {change : Change} {reply : Option Reply} → j < suc k → r.log j ≡ stepped u (Some change) reply → j < k
     before m f = search rules
 
--- A step of thread `t` between moments k and k + 1: its entry in the log, and what is known about its change and reply.
+-- A step of thread `t` between moments k and k + 1: the log entry, the change that the pending call may make, and a
+-- correct reply.
 pub record Stepping (r : Run) (k t : ℕ) (change : Option Change) (reply : Option Reply) : Type 0 where
   pub entry : r.log k ≡ stepped t change reply
   pub of_a_thread : t < r.threads
@@ -199,7 +203,7 @@ way_of t x u = (grind (arith, nat_tests), grind (arith, nat_tests))
 pub is_way : (t : ℕ) (x : TracedCall) → x.thread ≡ t → x.ended ≡ None → is_under_way t x ≡ true
 is_way t x e n = rw (equal_test x.thread t e, n) refl
 
--- If a call has a change or an end after a step, the call had it before the step, or the step made it.
+-- If a call has a change after a step, the call had this change before the step, or the step made it.
 changed_as : (m n : ℕ) (change : Option Change) (before : Option ℕ) → changed_by m change before ≡ Some n
     → ((change ≡ None) × (before ≡ Some n)) ⊎ ((c : Change) × (change ≡ Some c) × (n ≡ m))
 changed_as m n None before e = inl (refl, e)
@@ -220,7 +224,7 @@ may_be : (quota count : ℕ) (call here : Call) (b : Bool) (c : Change) → here
 may_be quota count call here b (key, true) e m = (sym e ∙ m.0, refl, m.2)
 may_be quota count call here b (key, false) e m = (sym e ∙ m.0, refl)
 
--- Facts about the pending call of the thread that makes the step.
+-- Lemmas about the pending call `x` of the thread that makes the step.
 module _ {r : Run} {k : ℕ} {change : Option Change} {reply : Option Reply} {x : TracedCall} (s : Stepping r k x.thread change reply)
     (none : x.ended ≡ None) (p : Traced r k x) where
   here : OpenAt r k x.thread x.call x.begun x.changed
@@ -343,7 +347,8 @@ module _ {r : Run} {k t : ℕ} {change : Option Change} {reply : Option Reply} (
       opens_as : (u : ℕ) (y : Option Reply) (b : Bool) → open_after (stepped t change y) u b ≡ true → (b ≡ true) × (t ≡ u → y ≡ None)
       opens_as u y b o = (grind (arith, nat_tests), grind (arith, nat_tests))
 
--- At each moment of a run, the list of its calls has the properties in `Calls`. Proof by induction on the moments.
+-- At each moment of a run, the list of the run's calls has the properties in `Calls`. Proof by induction on the
+-- moments.
 pub calls_of : (op : Opening) (last : ℕ) (log : Log) (contents : Contents) (counts : Counts)
     → Account op last log contents counts
     → (k : ℕ) → k ≤ last → Calls (run_of op.threads op.quota log contents counts) k (calls_at log k)

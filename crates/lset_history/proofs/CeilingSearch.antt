@@ -1,5 +1,5 @@
--- The search for the first moment at which a key is the smallest present key at or above another key. The search goes
--- from one recorded change to the next, and finally looks at the keys present after the last change.
+-- The search for the first moment when a key is the smallest present key at or above another key. The search goes from
+-- one recorded change to the next, and finally examines the keys present after the last change.
 use Rattle.std.proofs.Common.{rules, ◌≡◌, ◌≢◌, ℕ, ◌+◌, ◌<◌, ◌≤◌, inl, inr, Bool, true, false, not, List, [], ◌∷◌, sym, refl}
 use Rattle.std.proofs.Common.{subst, ap, ◌∙◌, arith}
 use Rattle.std.specs.Prelude.{Option, Some, None, All, IsTrue, ◌==◌, nat_lt, if◌then◌else◌}
@@ -15,7 +15,8 @@ use Rattle.lset_history.proofs.ChangeLaws.{present_past}
 abbrev pub CeilingAt : (ℕ → List ℕ) → ℕ → Option ℕ → ℕ → Type 0
 CeilingAt changes key found m = IsCeiling (λ j. is_present changes j m ≡ true) key found
 
--- States that a key that changes at exactly these moments does not change after moment `a` and up to moment `b`.
+-- States that none of these moments is after `a` and at or before `b`. If they are the moments at which a key changes,
+-- the key does not change in this time.
 abbrev IsQuiet : List ℕ → ℕ → ℕ → Type 0
 IsQuiet ms a b = All (λ m. a < m → m ≤ b → ⊥) ms
 
@@ -119,7 +120,7 @@ module _ (changes : ℕ → List ℕ) (key : ℕ) (found : Option ℕ) where
 
 -- ---- Lemmas about the search after the last change
 
--- A key from `key` to just below the found key refutes `found` if and only if the key is present.
+-- A key from `key` to just below the found key refutes the result `found` if and only if the key is present.
 against_below : (changes : ℕ → List ℕ) (key : ℕ) (o : Option ℕ) (j m : ℕ) → key ≤ j → IsBelow j o
     → is_against changes key o j m ≡ is_present changes j m
 against_below changes key None j m l u = if_not_below j key l false (is_present changes j m)
@@ -212,8 +213,8 @@ abbrev pub IsFrom : ℕ → Option ℕ → Type 0
 IsFrom key None = Unit {0}
 IsFrom key (Some k) = key ≤ k
 
--- States that each key from `key` to just below both `next` and `end` was absent at `moment` if the key is present
--- after the last change.
+-- States that each key from `key` to just below both `next` and `end`, if present after the last change, was absent at
+-- `moment`.
 abbrev pub CameUpTo : (ℕ → List ℕ) → ℕ → Option ℕ → Option ℕ → ℕ → Type 0
 CameUpTo changes key next end moment =
     (j : ℕ) → key ≤ j → IsBelow j next → IsBelow j end → is_present_now changes j ≡ true → is_present changes j moment ≡ false

@@ -1,4 +1,4 @@
--- A test that can be computed: is a key the smallest present key at or above another key at a moment? All keys must be
+-- A computable test whether a key is the smallest present key at or above another key at a moment. All keys must be
 -- below 2^32.
 use Rattle.std.proofs.Common.{rules, ◌≡◌, ℕ, ◌+◌, ◌-◌, ◌<◌, ◌≤◌, ◌⊎◌, inl, inr, true, List, refl, subst, ap, arith}
 use Rattle.std.specs.Prelude.{Option, Some, None}

@@ -1,4 +1,4 @@
--- How recording one more change affects the recorded changes of all keys.
+-- The effect of recording an additional change on the recorded changes of all keys.
 use Rattle.std.proofs.lemmas.Grind.{common_steps}
 use Rattle.std.proofs.Common.{◌≡◌, ◌≢◌, ℕ, ◌<◌, ◌^◌, ◌≤◌, inl, inr, Bool, true, false, List, [], ◌∷◌, ◌++◌, get_or, map, sym}
 use Rattle.std.proofs.Common.{refl, subst, ap, ◌∙◌, arith, append_assoc}
@@ -37,7 +37,8 @@ pub noted_in : (keys : List ℕ) (m : Kept) (k : ℕ) → noted_of (changes_in k
 noted_in keys m k = ap moments_in (lookup-map_values (λ (v : Vec ℕ Global). v.items) (is_at (nat_cmp k)) m.entries)
     ∙ items_mapped (get nat_cmp m k)
 
--- The recorded moments of every key, after one more moment of `key` is recorded.
+-- After a moment of `key` is recorded, the recorded moments of `key` end with it, and those of all other keys are
+-- unchanged.
 noted_items : (m n : Kept) (key at : ℕ) (w : Vec ℕ Global) → UpdatesBy nat_cmp (nat_cmp key) m n (Some w)
     → w.items ≡ items_in (get nat_cmp m key) ++ at ∷ [] → (k : ℕ) → items_in (get nat_cmp n k)
     ≡ (if k == key then items_in (get nat_cmp m k) ++ at ∷ [] else items_in (get nat_cmp m k))
@@ -85,7 +86,8 @@ bounded_noted c d key at low bounded is k high =
 all_both : (P Q R : ℕ → Type 0) → ((m : ℕ) → P m → Q m → R m) → (ms : List ℕ) → All P ms → All Q ms → All R ms
 all_both P Q R f ms p q = All-from_get_or R ms 0 (λ i l. f (get_or ms i 0) (All-get_or P ms i 0 l p) (All-get_or Q ms i 0 l q))
 
--- One more change: `d` is the record after key `key` changed at moment `at`, and `c` the record before.
+-- Lemmas about an additional change: `c` is the record of changes before key `key` changed at moment `at`, and `d` the
+-- record after it.
 module _ (c d : ChangesValue) (key at : ℕ) (noted : (k : ℕ) → moments_of d k ≡ with_change (moments_of c) key at k) where
   listed_noted : (keys_at : BTreeMap ℕ ℕ) → (0 < at → get nat_cmp keys_at at ≡ Some key)
       → ((k : ℕ) → All (IsListed keys_at k) (moments_of c k)) → (k : ℕ) → All (IsListed keys_at k) (moments_of d k)
@@ -109,7 +111,7 @@ module _ (c d : ChangesValue) (key at : ℕ) (noted : (k : ℕ) → moments_of d
   ]
 
 module _ (c : ChangesValue) (key at : ℕ) (later : IsLaterThanAll (moments_of c) at) where
-  -- Recording which key changed at this moment does not affect what is recorded for other moments.
+  -- Recording the key that changed at moment `at` does not affect the keys recorded for other moments.
   listed_beside : (old new : BTreeMap ℕ ℕ) → UpdatesBy nat_cmp (nat_cmp at) old new (Some key)
       → ((k : ℕ) → All (IsListed old k) (moments_of c k)) → (k : ℕ) → All (IsListed new k) (moments_of c k)
   listed_beside old new up listed k = all_both (λ m. m < at) (IsListed old k) (IsListed new k)
@@ -133,7 +135,7 @@ module _ (c : ChangesValue) (key at : ℕ) (later : IsLaterThanAll (moments_of c
     present = present_noted c d key at noted present old new turn others own kept.present;
   }
 
--- The invariant still holds if the map of keys is replaced by a map with the same entries.
+-- The invariant of `Changes` still holds if `keys_at` is replaced by a map with the same entries.
 pub kept_listed : (c : ChangesValue) (old new : BTreeMap ℕ ℕ) (now : BTreeSet ℕ) → new.entries ≡ old.entries → AreKept c old now →
     AreKept c new now
 kept_listed c old new now e kept =
@@ -161,8 +163,8 @@ pub others_after : (key : ℕ) (old new : BTreeSet ℕ) → set.UpdatesBy nat_cm
     → IsTrue (contains nat_cmp old k) → IsTrue (contains nat_cmp new k)
 others_after key old new up k n has = up.2 k (sym (same_test key k) ∙ unequal_test k key n) ∙ has
 
--- A case distinction: a property of the changes at moment 0 follows if it holds both for an opening key and for any
--- other key.
+-- A case distinction: if `P` holds for the moments of an opening key (only moment 0) and of any other key (none), then
+-- `P` holds for the moments of every key when the set opens.
 opened_then : (P : List ℕ → Type 0) → P [] → P (0 ∷ []) → (b : Bool) → P ((if b then 0 ∷ [] else []) ++ [])
 opened_then P none one true = one
 opened_then P none one false = none
@@ -186,7 +188,7 @@ kept_opened keys keys_at now increasing small has = record {
     too_high : (k : ℕ) → 2 ^ 32 ≤ k → Contains keys k → ⊥
     too_high k high c = let low : k < 2 ^ 32 = All-contains (λ x. x < 2 ^ 32) keys k small c in omega (arith, high, low)
 
--- Returns the entries of the map with plain lists in place of vectors.
+-- Returns the entries of a map, with lists in place of vectors.
 abbrev pub shown : List (ℕ × Vec ℕ Global) → List (ℕ × List ℕ)
 shown es = map (λ (e : ℕ × Vec ℕ Global). (e.0, e.1.items)) es
 

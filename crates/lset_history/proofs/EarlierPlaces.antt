@@ -1,4 +1,4 @@
--- The first i elements of an order, and whether their replies are right.
+-- Lemmas about the first i elements of an order of calls, and about the correctness of their replies.
 use Rattle.std.proofs.Common.{◌≡◌, ◌≢◌, ℕ, zero, suc, ◌<◌, ◌≤◌, ◌+◌, ◌==◌, ◌||◌, Bool, true, false, List, [], ◌∷◌, length}
 use Rattle.std.proofs.Common.{get_or, take, map, Option, Some, None, refl, sym, ap, ◌∙◌, subst, inl, inr, arith, add-one}
 use Rattle.std.specs.Prelude.{set}
@@ -51,13 +51,14 @@ marks_more marks order i inside low holds q =
           ∙ holds q ∙ sym (more ∙ ap (λ b. stands (take i order) q || b) (ne_eqb call q ne) ∙ or-false _)
     ]
 
--- States that the reply at index i is what the sequential set returns after the earlier calls of the order.
+-- States that the sequential set returns the reply at index `i` of the order, after it has made the earlier calls of
+-- the order.
 abbrev GivesReply : ℕ → List CallRecord → List Placed → ℕ → SetState → Type 0
 GivesReply quota calls order i s =
     reply_to quota (set_left_by s calls (take i order)) (placed_call calls order i).thread (placed_call calls order i).call
     ≡ (place_at order i).reply
 
--- Returns the sequential set after the call at index i of the order.
+-- Returns the state of the sequential set after the call at index `i` of the order. `s` is the state before this call.
 abbrev after_place : List CallRecord → List Placed → ℕ → SetState → SetState
 after_place calls order i s = after_call s (placed_call calls order i).thread (placed_call calls order i).call
     (place_at order i).reply
@@ -108,7 +109,7 @@ order_more o calls order i inside =
     ap (λ (s : SetState). let v : OracleValue = record { threads = o.threads; quota = o.quota; state = s } in v)
     (left_more calls order i o.state inside)
 
--- Rewrites what the loop knows about the call `x` and the set `now` as a fact about index i of the order.
+-- If the reply is right for the call `x` and the set `now`, the reply at index `i` of the order is right.
 pub reply_there : (o now : OracleValue) (calls : List CallRecord) (order : List Placed) (i : ℕ) (x : CallRecord)
     → now ≡ after_order o calls (take i order) → x ≡ placed_call calls order i → HasReply now x (place_at order i).reply
     → HasReply (after_order o calls (take i order)) (placed_call calls order i) (place_at order i).reply

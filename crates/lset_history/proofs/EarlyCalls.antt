@@ -10,7 +10,8 @@ use Rattle.lset_words.specs.declared.history.Placed.{Placed}
 use Rattle.lset_history.specs.Checks.{smallest_with}
 use Rattle.lset_history.specs.Faults.{place_at, placed_call, IsTooEarly, Passes, RefusesFirst}
 
--- States that a call ended before this moment. `EndsFrom` states that some call at index i of the order or later did.
+-- States that a call ended before this moment. `EndsFrom` states that a call at index `i` of the order or later ended
+-- before it.
 abbrev pub EndsBefore : ℕ → Option (ℕ × Reply) → Type 0
 EndsBefore moment ended = IsSomeAnd ended (λ (end : ℕ × Reply). end.0 < moment)
 
@@ -18,12 +19,14 @@ abbrev pub EndsFrom : List CallRecord → List Placed → ℕ → ℕ → Type 0
 EndsFrom calls order i moment =
     (later : ℕ) × (i ≤ later) × (later < length order) × EndsBefore moment (placed_call calls order later).ended
 
--- States that `smallest` is the smallest end among the calls at index i and later, or `None` if none of them has ended.
+-- States that `smallest` is the smallest end of the calls at index `i` and later, or `None` if none of these calls has
+-- ended.
 pub record EndsSmallest (calls : List CallRecord) (order : List Placed) (i : ℕ) (smallest : Option ℕ) : Type 0 where
   pub below : (moment : ℕ) → IsSomeAnd smallest (λ end. end < moment) → EndsFrom calls order i moment
   pub ends : (moment : ℕ) → EndsFrom calls order i moment → IsSomeAnd smallest (λ end. end < moment)
 
--- The first call from index i on that is too early in the order.
+-- The first call of the order, from index `i` on, that is too early: a later call of the order ended before this call
+-- began.
 pub record EarlyFrom (calls : List CallRecord) (order : List Placed) (i number : ℕ) : Type 0 where
   pub place : ℕ
   pub from : i ≤ place
@@ -37,8 +40,8 @@ FindsEarly calls order i early =
     MatchOption early ((place : ℕ) → i ≤ place → place < length order → IsTooEarly calls order place → ⊥)
     (EarlyFrom calls order i)
 
--- If some call at index j or later ended before a moment, either the call at index j did, or a later call did. The loop
--- uses this to go from index j + 1 to index j.
+-- If a call at index `j` or later ended before a moment, then the call at index `j` did, or a call at a larger index
+-- did. The loop uses this when it goes from index j + 1 to index j.
 first_or_later : (calls : List CallRecord) (order : List Placed) (j moment : ℕ) → EndsFrom calls order j moment
     → EndsBefore moment (placed_call calls order j).ended ⊎ EndsFrom calls order (suc j) moment
 first_or_later calls order j moment (k, from, inside, ends) =
@@ -74,7 +77,7 @@ pub smallest_more : (calls : List CallRecord) (order : List Placed) (j : ℕ) (s
 smallest_more calls order j smallest ended inside e h = smallest_by calls order j smallest ended
     (λ m here. (j, omega arith, inside, rw e at here)) (λ m from. rw e (first_or_later calls order j m from)) h
 
--- What the loop knows decides whether the call at index j is too early.
+-- If a call after index `j` ended before the call at index `j` began, the call at index `j` is too early.
 too_early_here : (calls : List CallRecord) (order : List Placed) (j : ℕ)
     → EndsFrom calls order (suc j) (placed_call calls order j).begun → IsTooEarly calls order j
 too_early_here calls order j (k, from, inside, ends) = (k, omega arith, inside, ends)

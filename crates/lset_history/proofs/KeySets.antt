@@ -1,4 +1,4 @@
--- The keys of the sequential set are the keys of the tree in which the code stores them.
+-- Lemmas about the tree in which the code stores the keys of the sequential set: it has the same keys as the set.
 use Rattle.std.proofs.Common.{◌≡◌, ℕ, ◌<◌, ◌==◌, ◌||◌, false, List, [], ◌∷◌, refl, sym, ap, ◌∙◌, inl, inr, subst}
 use Rattle.std.proofs.Common.{arith}
 use Rattle.std.specs.List.{list_any, AllByRecursion}

@@ -8,12 +8,12 @@ use Rattle.std.proofs.lemmas.List.Elements.{All-from_recursion, recursion_from_A
 use Rattle.std.proofs.lemmas.List.Kept.{AllPairs-cons}
 use Rattle.std.proofs.lemmas.Bool.{cases_Bool}
 
--- States that R holds for each element and each later element.
+-- States that `R` relates each element to each later element.
 abbrev pub Pairs : {X : Type 0} → (X → X → Type 0) → List X → Type 0
 Pairs R [] = Unit {0}
 Pairs R (x ∷ xs) = AllByRecursion (R x) xs × Pairs R xs
 
--- States that P holds for some element.
+-- States that `P` holds for some element of the list.
 abbrev pub SomeOf : {X : Type 0} → (X → Type 0) → List X → Type 0
 SomeOf P [] = ⊥
 SomeOf P (x ∷ xs) = P x ⊎ SomeOf P xs
@@ -107,7 +107,8 @@ contains_some y (x ∷ xs) (suc k, l, e) = inr (contains_some y xs (k, omega ari
 pub contains_map : {X Y : Type 0} (f : X → Y) (xs : List X) (x : X) → Contains xs x → Contains (map f xs) (f x)
 contains_map f xs x (k, l, e) = (k, omega (arith, length-map xs f), get_or-map f xs k x (f x) l ∙ ap f e)
 
--- Finds an element for which P holds.
+-- If `P` holds for some element of a list, returns such an element `z`, with proofs that `P` holds for it and that the
+-- list has it.
 pub some_one : {X : Type 0} (P : X → Type 0) (xs : List X) → SomeOf P xs → (z : X) × P z × SomeOf (λ x. x ≡ z) xs
 some_one P [] s = absurd s
 some_one P (x ∷ xs) (inl p) = (x, p, inl refl)

@@ -23,7 +23,7 @@ halved (suc b) low high next_low next_high h l g =
     let k : high - low < 2 ^ b * 2 = subst (λ z. high - low < z) (pow-suc 2 b) h in
     (omega arith, subst (λ z. next_high - next_low < 2 ^ z) (let e : b ≡ suc b - 1 = omega arith in e) (omega arith))
 
--- A lower bound for the number of comparisons: after each comparison, at least half of the range remains.
+-- A lower bound on the number of comparisons: after each comparison, at least half of the range, minus one, remains.
 pub half_needed : (k low high next_low next_high : ℕ) → 2 ^ k ≤ high - low + 1 → high - low ≤ 2 * (next_high - next_low) + 2
     → 2 ^ (k - 1) ≤ next_high - next_low + 1
 half_needed zero low high next_low next_high h l = let one : 2 ^ (zero - 1) ≡ 1 = refl in omega arith
@@ -60,7 +60,7 @@ turned_is n = elim (odd_or_even n) [
   | inr h ↦ (unequal_test (n % 2) 1 (λ e. let a : n % 2 ≡ 0 = h.0 in omega arith) ∙ sym h.1)
 ]
 
--- Lemmas about negating a `Bool` n times. Each change of a key negates its presence.
+-- Lemmas about negating a `Bool` n times. Each change of a key negates whether the key is present.
 differ : (x there : Bool) → not (beq x there) ≡ (if there then not x else x)
 differ true true = refl
 differ true false = refl
@@ -147,7 +147,7 @@ module _ (there : Bool) (ms all : List ℕ) (is : all ≡ (if there then 0 ∷ [
   pub few_looks : (looked : ℕ) → ((b : ℕ) → b ≤ 64 → length ms < 2 ^ b → looked ≤ b) → length all ≤ 1000000 → looked ≤ 20
   few_looks looked h few = at_most_20 (length ms) looked h (no_longer there ms 1000000 (subst (λ z. length z ≤ 1000000) is few))
 
--- The number of elements up to `key` decides whether `key` is in an increasing list.
+-- Lemmas that decide whether `key` is in an increasing list, from the number of elements at or below `key`.
 module _ (keys : List ℕ) (key upto : ℕ) (increase : IsStrictlyIncreasing keys) (h : IsCountUpTo keys key upto) where
   has_none_equal : ((i : ℕ) → i < length keys → get_or keys i 0 ≢ key) → has_key key keys ≡ false
   has_none_equal other = has_false key keys (λ c. All-contains (λ x. x ≢ key) keys key (All-from_get_or (λ x. x ≢ key) keys 0 other) c refl)

@@ -1,4 +1,4 @@
--- Predicates on pairs of an element of a list and a later element.
+-- Lemmas about predicates on two elements of a list, an earlier one and a later one.
 use Rattle.std.proofs.Common.{◌≡◌, ℕ, suc, zero, ◌<◌, ◌≢◌, List, ◌∷◌, length, get_or, inl, inr, ◌∙◌, arith}
 use Rattle.std.specs.List.{All, AllPairs}
 use Rattle.std.proofs.Math.ListN.{set}
@@ -11,7 +11,8 @@ pairs_head R x xs pairs j d b = pairs zero (suc j) d (omega arith) (omega arith)
 pub pairs_tail : {X : Type 0} (R : X → X → Type 0) (x : X) (xs : List X) → AllPairs R (x ∷ xs) → AllPairs R xs
 pairs_tail R x xs pairs i j d a b = pairs (suc i) (suc j) d (omega arith) (omega arith)
 
--- Reading an element after a write: the new value at the written index, the old value elsewhere.
+-- Reading index `k` of a list after `z` is written at index `n`: the result is `z` if `k` is `n`, else the old
+-- element.
 pub read_written : {X : Type 0} (xs : List X) (n k : ℕ) (z d : X) → k ≡ n → n < length xs → get_or (set xs n z) k d ≡ z
 read_written xs n k z d e inside = rw e (get_or-set_same xs n z d inside)
 

@@ -61,7 +61,7 @@ module _ {X : Type 0} (R : X → X → Type 0) (chain : (x y z : X) → R x y �
       (λ z s. contains_some z zs (Contains-permutation xs zs z b (Contains-permutation ys xs z (IsPermutation-sym xs ys a) (some_contains z ys s))))
       (λ z s. contains_some z ys (Contains-permutation xs ys z a (Contains-permutation zs xs z (IsPermutation-sym xs zs b) (some_contains z zs s))))
 
--- ---- Calls with a linearization point are in a total and strict order
+-- ---- Proof that `ComesBefore`, the order of calls by their linearization points, is total and strict
 pub before_chain : (s r q : Standing) → ComesBefore s r → ComesBefore r q → ComesBefore s q
 before_chain s r q a b = grind arith
 

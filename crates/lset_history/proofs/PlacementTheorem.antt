@@ -36,15 +36,15 @@ use Rattle.lset_history.proofs.SetStates.{Shows, keys_after, counts_after, set_a
 use Rattle.lset_history.proofs.Standings.{Stood, Changing, changing, Reading, IsStanding, during, ended_place, EndedPlace, reading, stood}
 use Rattle.lset_history.proofs.Standings.{has_place}
 
--- Returns the call with its thread and its reply, as an element of an order.
+-- Converts a call with a linearization point to an element of an order: its thread, the call, and its reply.
 abbrev pub answered_of : Standing → Answered
 answered_of s = record { thread = s.traced.thread; call = s.traced.call; reply = reply_by s.traced.changed s.traced.ended }
 
--- States that a set in state s returns the replies of these calls one after another, and is in state t after them.
+-- States that a set in state `s` returns the replies of these calls, made one after another, and is then in state `t`.
 abbrev Leads : ℕ → SetState → SetState → List Standing → Type 0
 Leads quota s t xs = IsLegal quota s (map answered_of xs) × (set_left s (map answered_of xs) ≡ t)
 
--- States that a set in state s returns the reply of this call, and is in state t after it.
+-- States that a set in state `s` returns the reply of this call, and is then in state `t`.
 abbrev LeadsTo : ℕ → SetState → SetState → Standing → Type 0
 LeadsTo quota s t x = let b = answered_of x in
     (reply_to quota s b.thread b.call ≡ b.reply) × (after_call s b.thread b.call b.reply ≡ t)
@@ -93,11 +93,11 @@ reading_stays r s state h same increasing n =
         → reply_by changed ended ≡ h.end.1
     replied changed ended e f = rw (e, f) refl
 
--- States that a later call of the order does not end before the earlier one begins.
+-- States that the call at the later place of the order does not end before the call at the earlier place begins.
 abbrev InTime : List CallRecord → Placed → Placed → Type 0
 InTime history p q = Precedes (call_numbered history q.call) (call_numbered history p.call) → ⊥
 
--- States that the call changes the set at moment m.
+-- States that the call changes the set at moment `m`.
 abbrev ChangesIn : ℕ → Standing → Type 0
 ChangesIn m q = (makes_change q ≡ true) × (q.moment ≡ m)
 
@@ -141,7 +141,7 @@ module _ (op : Opening) (last : ℕ) (log : Log) (contents : Contents) (counts :
       answer : CallRecord → Answered
       answer c = record { thread = c.thread; call = c.call; reply = reply_by s.traced.changed s.traced.ended }
 
-  -- ---- Between two changes, the set stays the same
+  -- ---- The set does not change between two changes of the log
   unchanged : (e : Entry) (s : SetState) → ((t : ℕ) (change : Change) (reply : Option Reply) → e ≡ stepped t (Some change) reply → ⊥)
       → set_after e s ≡ s
   unchanged (began t call) s none = refl
@@ -191,7 +191,7 @@ module _ (op : Opening) (last : ℕ) (log : Log) (contents : Contents) (counts :
       let same : s.traced.thread ≡ q.traced.thread = cc (before, c.change.entry, d.change.entry) in
       no_end s.traced.ended s.moment q.traced.begun (during h).in_call (later.one_thread same) (omega (arith, (during i).from))
 
-  -- ---- Lemmas about two calls in the order
+  -- ---- Lemmas about two calls, the first before the second in the order
   comes_on : (s q : Standing) → Stands s → Stands q → ComesBefore s q → (s.moment ≤ q.moment) × (makes_change q ≡ true → s.moment < q.moment)
   comes_on s q h i b = (moments, later)
     where
@@ -207,7 +207,7 @@ module _ (op : Opening) (last : ℕ) (log : Log) (contents : Contents) (counts :
         | inr f ↦ grind arith
       ]
 
-  -- States that each of these calls takes effect after moment j, or reads the set at moment j.
+  -- States that each of these calls takes effect at moment `m` or later, and after `m` if the call changes the set.
   abbrev Late : ℕ → List Standing → Type 0
   Late m xs = AllByRecursion (λ q. (m ≤ q.moment) × (makes_change q ≡ true → m < q.moment)) xs
 
@@ -220,13 +220,13 @@ module _ (op : Opening) (last : ℕ) (log : Log) (contents : Contents) (counts :
   none_due m i (q ∷ xs) late l (inl s) = let b : m < q.moment = late.0.1 s.0 in omega (arith, s.1)
   none_due m i (q ∷ xs) late l (inr s) = none_due m i xs late.1 l s
 
-  -- States that each change after moment j was made by one of these calls.
+  -- States that each change after moment `j` was made by one of these calls.
   abbrev Due : ℕ → List Standing → Type 0
   Due j xs = (i t : ℕ) (change : Change) (reply : Option Reply) → j ≤ i → i < last → log i ≡ stepped t (Some change) reply
       → SomeOf (ChangesIn (suc i)) xs
 
-  -- A set in the state of moment j returns the replies of all later calls, in their sorted order. Proof by induction on
-  -- the calls: between two changes, the set stays the same.
+  -- A set in the state of moment `j` returns the replies of all later calls, if they are made in their sorted order.
+  -- Proof by induction on the calls: the set does not change between two changes.
   leads : (xs : List Standing) (j : ℕ) → j ≤ last → AllByRecursion Stands xs → Pairs ComesBefore xs → Late j xs → Due j xs
       → Leads op.quota (set_at op log j) (set_at op log last) xs
   leads [] j l s b late due = (tt, sym (quiet j last l due))
@@ -292,7 +292,7 @@ module _ (op : Opening) (last : ℕ) (log : Log) (contents : Contents) (counts :
     leaves : set_left (opening_set op) (map (answered history) (map placed_of sorted)) ≡ set_at op log last
     leaves = rw answers_are led.1
 
-    -- ---- The order has each call once, and keeps real-time order
+    -- ---- The order has each call once, and keeps the real-time order of calls
     is_once : AllPairs (λ (p q : Placed). p.call ≢ q.call) (map placed_of sorted)
     is_once = pairs_std (λ (p q : Placed). p.call ≢ q.call) (map placed_of sorted)
         (pairs_map placed_of (λ (p q : Placed). p.call ≢ q.call) sorted
@@ -313,7 +313,7 @@ module _ (op : Opening) (last : ℕ) (log : Log) (contents : Contents) (counts :
         each s q h i b p = no_end q.traced.ended q.moment s.traced.begun (during i).in_call (rw (numbered q i, numbered s h) at p)
             (omega (arith, (during h).from, (comes_on s q h i b).0))
 
-    -- ---- The order has each completed call, and only calls of the history
+    -- ---- The order has each completed call, and no call that the history lacks
     is_known : All (λ (p : Placed). p.call < length history) (map placed_of sorted)
     is_known = All-from_recursion (λ (p : Placed). p.call < length history) (map placed_of sorted)
         (all_map placed_of (λ (p : Placed). p.call < length history) sorted

@@ -1,4 +1,4 @@
--- The calls of a run form a history.
+-- Proof that the calls of a run form a history.
 use Rattle.std.proofs.Common.{◌≡◌, ◌≢◌, ℕ, ◌<◌, ◌≤◌, Some, length, map, arith}
 use Rattle.std.specs.Prelude.{IfSome}
 use Rattle.std.proofs.lemmas.List.{length-map, get_or-map}
@@ -19,7 +19,7 @@ module _ (r : Run) (k : ℕ) where
     ends_later = if_some x.ended (λ e. x.begun < e.0) (λ e i. (t.ends e.0 e.1 i).1.later);
   }
 
-  -- No two calls begin or end at the same moment, since each entry of the log is one event.
+  -- A call cannot end at the moment when another call begins, since each entry of the log is one event.
   end_no_beginning : (x y : TracedCall) (e : ℕ × Reply) → Traced r k x → EndAt r y.thread y.call y.begun y.changed e.0 e.1
       → e.0 ≢ x.begun
   end_no_beginning x y e t d f = cc

@@ -1,4 +1,5 @@
--- [Fits] agrees with the sequential set: a reply fits if and only if the set returns it and the call changes nothing.
+-- Proof that [Fits] agrees with the sequential set: a reply fits if and only if the set returns the reply and the call
+-- changes nothing.
 use Rattle.std.proofs.Common.{◌≡◌, ℕ, ◌+◌, ◌<◌, ◌≤◌, ◌⊎◌, inl, inr, List, [], ◌∷◌, sym, refl, ap, ◌∙◌, arith, true, false, subst}
 use Rattle.std.specs.Prelude.{Contains, nat_lt, ◌==◌}
 use Rattle.std.proofs.lemmas.Bool.{cases_Bool}
@@ -16,7 +17,7 @@ use Rattle.lset_words.specs.Account.{Content, Fits}
 use Rattle.lset_history.specs.Laws.{IncreasesFor}
 use Rattle.lset_history.proofs.Keys.{has_true, has_from, has_false, has_none, with_keeps, without_from, member_or_not}
 
--- States that x is the smallest key of the list at or above k.
+-- States that `x` is the smallest key of the list at or above `k`.
 abbrev pub IsCeilingIn : ℕ → List ℕ → ℕ → Type 0
 IsCeilingIn k xs x = (k ≤ x) × Contains xs x × ((j : ℕ) → k ≤ j → j < x → Contains xs j → ⊥)
 
@@ -101,7 +102,7 @@ abbrev key_told : Reply → ℕ
 key_told (reply.At x) = x.0
 key_told reply = 0
 
--- States that the content and the list have the same keys.
+-- States that a content (a set of keys, as a predicate) and a list have the same keys.
 abbrev pub SameKeys : Content → List ℕ → Type 0
 SameKeys content keys = (j : ℕ) → (content j → Contains keys j) × (Contains keys j → content j)
 
@@ -109,7 +110,7 @@ pub increases_for : (call : Call) (keys : List ℕ) → IncreasesFrom 0 keys →
 increases_for (call.Ceiling k) keys r = increasing_from_increases 0 keys r
 increases_for call keys r = tt
 
--- States that the set returns this reply and that the call changes nothing.
+-- States that the sequential set returns this reply and that the call does not change the set.
 abbrev pub Replies : ℕ → SetState → ℕ → Call → Reply → Type 0
 Replies quota s thread call reply = (reply_to quota s thread call ≡ reply) × (after_call s thread call reply ≡ s)
 
@@ -187,7 +188,8 @@ module _ (quota : ℕ) (content : Content) (s : SetState) (same : SameKeys conte
   fits_from_replies t n (call.Ceiling k) reply.Nothing increasing e f = λ j lo m. none_ceiling k.0 s.keys f.0 j lo ((same j).0 m)
   fits_from_replies t n (call.Ceiling k) y increasing e f = ceiling_not k.0 s.keys y f.0 (λ x g. cc) (λ g. cc)
 
-  -- If the keys are given as a list, it is decidable whether a reply fits.
+  -- It is decidable whether a key is in the set, and therefore whether a reply fits, since the set's keys are known as
+  -- a list.
   present : (k : ℕ) → content k ⊎ (content k → ⊥)
   present k = elim (member_or_not k s.keys) [ inl c ↦ inl ((same k).1 c) | inr c ↦ inr (λ h. c ((same k).0 h)) ]
 

@@ -1,5 +1,5 @@
--- At each moment of a run, the sequential set that makes the run's changes has the same keys and numbers of successful
--- adds as the run.
+-- The sequential set at each moment of a run, if it makes the run's changes: it has the run's keys and numbers of
+-- successful adds.
 use Rattle.std.proofs.Common.{rules, ◌≡◌, ◌≢◌, ℕ, zero, suc, ◌+◌, ◌<◌, ◌≤◌, true, false, inl, inr, List, length, sym, refl, subst}
 use Rattle.std.proofs.Common.{◌∙◌, arith}
 use Rattle.std.specs.Prelude.{Contains, Option, Some, None, slice_index, slice_set}
@@ -36,7 +36,7 @@ abbrev pub set_at : Opening → Log → ℕ → SetState
 set_at op log zero = opening_set op
 set_at op log (suc k) = set_after (log k) (set_at op log k)
 
--- States that the sequential set has exactly these keys and these numbers of successful adds.
+-- States that the state of the sequential set has exactly these keys and these numbers of successful adds.
 pub record Shows (threads : ℕ) (content : Content) (counts : ℕ → ℕ) (s : SetState) : Type 0 where
   pub keys : SameKeys content s.keys
   pub increasing : IncreasesFrom 0 s.keys

@@ -20,7 +20,7 @@ use Rattle.lset_history.proofs.SetStates.{Shows, set_at, shows_at}
 use Rattle.lset_history.proofs.SetFitting.{fits_or_not}
 use Rattle.lset_words.specs.Words.{Opening}
 
--- The smallest moment from `first` to `last` at which P holds. It can be found if P can be decided at each moment.
+-- The smallest moment from `first` to `last` for which `P` holds. It can be found if `P` is decidable at each moment.
 pub record Smallest (P : ℕ → Type 0) (first last : ℕ) : Type 0 where
   pub moment : ℕ
   pub from : first ≤ moment
@@ -42,7 +42,7 @@ smallest_by P (suc d) first last e f p = elim (f first (omega arith)) [
     below : (r : Smallest P (suc first) last) → (P first → ⊥) → (m : ℕ) → first ≤ m → m < r.moment → P m → ⊥
     below r n m b c h = grind arith
 
--- ---- Proof that each call either has a linearization point or provably has none
+-- ---- Proof that it is decidable whether a call has a linearization point
 place_of : (r : Run) (last : ℕ) (x : TracedCall) (changed : Option ℕ) (ended : Option (ℕ × Reply)) → Traced r last x
     → ((m : ℕ) → m ≤ last → (reply : Reply) → Fits r.quota (r.contents m) (r.counts m x.thread) x.call reply
     ⊎ (Fits r.quota (r.contents m) (r.counts m x.thread) x.call reply → ⊥))
@@ -68,7 +68,7 @@ place_of r last x None (Some end) t f c_is e_is =
         between (suc a) (suc b) l = let i : (d : ℕ) × (b ≡ a + d) = between a b (omega arith) in
             let j : b ≡ a + i.0 = i.1 in (i.0, omega arith)
 
--- Collects the linearization points of all calls in one list.
+-- Collects the linearization points of all calls in one list, with one entry for each call.
 chosen : (P : TracedCall → Option ℕ → Type 0) (xs : List TracedCall) → AllByRecursion (λ x. (place : Option ℕ) × P x place) xs
     → (ps : List (Option ℕ)) × (length ps ≡ length xs) × ((i : ℕ) → i < length xs → P (traced_at xs i) (place_at ps i))
 chosen P [] h = ([], refl, λ i l. absurd (omega arith))

@@ -1,4 +1,4 @@
--- How the result of the whole check of an order follows from its single checks: either they find the first error, or
+-- The result of checking a whole order, derived from the single checks: either one of them finds the first error, or
 -- the order explains the history.
 use Rattle.std.proofs.Common.{rules, ◌≡◌, ◌≢◌, ℕ, ◌<◌, ◌==◌, Bool, true, false, List, [], length, get_or, Option, Some, None}
 use Rattle.std.proofs.Common.{refl, sym, ap, ◌∙◌, subst, inl, inr, ◌⊎◌, arith}
@@ -27,12 +27,12 @@ use Rattle.lset_history.proofs.EarlierPlaces.{stands_earlier, legal_at, passes_r
 read_place : (order : List Placed) (i : ℕ) (d : Placed) → i < length order → get_or order i d ≡ place_at order i
 read_place order i d low = get_or_default order i d (place_at [] 0) low
 
--- ---- The order has no unknown call
+-- ---- Lemmas about the check that every call of the order is in the history
 pub passes_known : (calls : List CallRecord) (order : List Placed) → HasKnownCalls calls order
     → Passes (IsUnknown calls order) order
 passes_known calls order known place low unknown = let h = known place (place_at [] 0) low in omega arith
 
--- ---- The order misses no completed call
+-- ---- Lemmas about the check that every completed call is in the order
 absent_stands : (order : List Placed) (n : ℕ) → All (λ (p : Placed). p.call ≢ n) order → stands order n ≡ false
 absent_stands order n absent = list_any_none (λ (p : Placed). p.call == n) order (λ k d low. ne_eqb _ n (absent k d low))
 
@@ -97,18 +97,18 @@ linearizes o calls order known once none replies early = record {
               (reply_of_end _ end reply _ e recorded)),
         )
 
--- ---- The result of the whole check follows from the single checks
+-- ---- Lemmas that combine the single checks to the result of the whole check
 
--- States what the first two checks have found: all calls of the order are in the history, none of them is in the order
--- twice, and exactly these calls are marked.
+-- States the result of the first two checks: all calls of the order are in the history, none is in the order twice,
+-- and the marks are set for exactly the calls of the order.
 pub record StandsOnce (h : HistoryValue) (calls : List CallRecord) (order : List Placed) (marks : List Bool) : Type 0 where
   pub calls_are : calls ≡ h.calls
   pub known : HasKnownCalls calls order
   pub once : Passes (IsTwice order) order
   pub holds : MarksCalls marks order
 
--- States what the first three checks have found: in addition, no completed call is missing. The sequential set has not
--- made any call yet.
+-- States the result of the first three checks: as `StandsOnce`, and no completed call is missing. The sequential set
+-- is still in its opening state.
 pub record LeavesNoneOut (h : HistoryValue) (calls : List CallRecord) (order : List Placed) (marks : List Bool)
     (oracle : OracleValue) : Type 0 where
   pub stands_once : StandsOnce h calls order marks
@@ -142,7 +142,7 @@ pub missing_fault : (h : HistoryValue) (calls : List CallRecord) (order : List P
 missing_fault h calls order keys marks number s out =
     (passes_known h.calls order (rw s.calls_are at s.known), s.once, misses_first h.calls order marks number s.holds (rw s.calls_are at out))
 
--- Rewrites what the checks have found as facts about the history's own calls and the set's opening state.
+-- Replaces the calls and the set of the loop by the history's own calls and the opening state of the set.
 settled : (h : HistoryValue) (calls : List CallRecord) (order : List Placed) (marks : List Bool) (oracle : OracleValue)
     → LeavesNoneOut h calls order marks oracle → LeavesNoneOut h h.calls order marks (set_opened h.opening)
 settled h calls order marks oracle l =
@@ -176,7 +176,7 @@ too_early_fault h calls order keys marks oracle number l r e =
       rw l.stands_once.calls_are at e,
     )
 
--- After the checks, the keys of the sequential set are the final keys of the order.
+-- After the checks, the sequential set has the final keys of the order.
 keys_after : (h : HistoryValue) (calls : List CallRecord) (order : List Placed) (marks : List Bool) (oracle : OracleValue)
     → LeavesNoneOut h calls order marks oracle
     → (after_order oracle calls order).state.keys ≡ (set_left_by (opening_set h.opening) h.calls order).keys

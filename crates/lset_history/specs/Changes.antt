@@ -1,4 +1,5 @@
--- When each key was added to a set and removed from it, and the first moment at which a key is present or absent.
+-- The moments when each key was added to a set and removed from it, and the first moment when a key is present or
+-- absent.
 use Rattle.std.specs.Prelude.{◌≡◌, ◌^◌, ℕ, zero, suc, ◌-◌, ◌<◌, ◌≤◌, ◌==◌, length, map, slice_index, nat_lt, Bool, true, false}
 use Rattle.std.specs.Prelude.{IsTrue, not, if◌then◌else◌, List, [], ◌∷◌, ◌++◌, All, Option, Some, None, Vec}
 use Rattle.std.specs.declared.alloc.Global.{Global}
@@ -9,8 +10,8 @@ use Rattle.std.specs.BTreeMap.{BTreeMap, get, is_at}
 use Rattle.std.specs.BTreeSet.{BTreeSet, contains}
 use Rattle.lset_words.specs.SequentialSet.{has_key}
 
--- The opening keys and, for each key that changed, the moments (from 1) at which the key was alternately added and
--- removed, in increasing order.
+-- The opening keys, and the changes of each key: the increasing moments, from 1, at which the key was alternately
+-- added and removed.
 pub record ChangesValue : Type 0 where
   pub opening : List ℕ
   pub entries : List (ℕ × List ℕ)
@@ -18,7 +19,7 @@ pub record ChangesValue : Type 0 where
 abbrev pub no_changes : ChangesValue
 no_changes = record { opening = []; entries = [] }
 
--- Returns the moments before moment 1 at which a key changed: opening keys count as added at moment 0.
+-- Returns moment 0 if the key is an opening key, else no moment: an opening key counts as added at moment 0.
 abbrev pub opened_moments : List ℕ → ℕ → List ℕ
 opened_moments keys key = if has_key key keys then 0 ∷ [] else []
 
@@ -29,18 +30,18 @@ moments_in (Some ms) = ms
 abbrev pub noted_of : ChangesValue → ℕ → List ℕ
 noted_of c key = moments_in (lookup (is_at (nat_cmp key)) c.entries)
 
--- Returns all moments at which a key was added or removed, including moment 0 if it is an opening key.
+-- Returns all moments at which the key was added or removed, including moment 0 if it is an opening key.
 abbrev pub moments_of : ChangesValue → ℕ → List ℕ
 moments_of c key = opened_moments c.opening key ++ noted_of c key
 
--- Returns whether a key is present at a moment, if the key changes at the moments of the list. `present` says whether
--- the key is present before the first of them.
+-- Returns whether a key is present at `moment`, if the key is added or removed at each moment of the list. `present`
+-- is true if the key is present before the first of these moments.
 abbrev pub state_at : Bool → List ℕ → ℕ → Bool
 state_at present [] moment = present
 state_at present (m ∷ ms) moment = if nat_lt moment m then present else state_at (not present) ms moment
 
--- Returns whether a key is present at the end, if it changes at each moment of the list. `present` says whether the key
--- is present before the first of them.
+-- Returns whether a key is present at the end, if the key is added or removed at each moment of the list. `present` is
+-- true if the key is present before the first of these moments.
 abbrev pub state_after : Bool → List ℕ → Bool
 state_after present [] = present
 state_after present (m ∷ ms) = state_after (not present) ms
@@ -66,18 +67,17 @@ abbrev pub IsFirst : (ℕ → Type 0) → ℕ → ℕ → Option ℕ → Type 0
 IsFirst P first last None = (m : ℕ) → first ≤ m → m ≤ last → P m → ⊥
 IsFirst P first last (Some k) = (first ≤ k) × (k ≤ last) × P k × ((m : ℕ) → first ≤ m → m < k → P m → ⊥)
 
--- Finds a first moment by computation: `first_passing asked f first n` returns the first m, from `first` to `first +
--- n`, with `f m` equal to `asked`, or `None`.
+-- Returns whether two truth values are equal.
 abbrev pub is_same : Bool → Bool → Bool
 is_same true b = b
 is_same false b = not b
 
+-- Returns the first `m` from `first` to `first + n` for which `f m` is `asked`, or `None` if there is no such `m`.
 abbrev pub first_passing : Bool → (ℕ → Bool) → ℕ → ℕ → Option ℕ
 first_passing asked f first zero = if is_same asked (f first) then Some first else None
 first_passing asked f first (suc n) = if is_same asked (f first) then Some first else first_passing asked f (suc first) n
 
--- Tests by computation whether `found` is the smallest key at or above `key` that is present at moment `m`. `None`
--- means that no such key is present. All keys must be below 2^32.
+-- Returns whether two keys are equal, or both `None`.
 abbrev pub same_key : Option ℕ → Option ℕ → Bool
 same_key None None = true
 same_key None (Some b) = false
@@ -87,10 +87,12 @@ same_key (Some a) (Some b) = a == b
 abbrev pub smallest_present : (ℕ → List ℕ) → ℕ → ℕ → Option ℕ
 smallest_present changes key m = first_passing true (λ j. is_present changes j m) key (4294967295 - key)
 
+-- Returns whether, at moment `m`, `found` is the smallest present key at or above `key` (`None`: that no such key is
+-- present). All keys must be below 2^32.
 abbrev pub has_ceiling : (ℕ → List ℕ) → ℕ → Option ℕ → ℕ → Bool
 has_ceiling changes key found m = same_key (smallest_present changes key m) found
 
--- Converts the fields of the Rust type `Changes` to the value that its contracts use.
+-- Converts the fields of the Rust type `Changes` to the value that the type's contracts use.
 abbrev pub changes_in : List ℕ → BTreeMap ℕ (Vec ℕ Global) → ChangesValue
 changes_in opening kept = record { opening = opening; entries = map (λ (e : ℕ × Vec ℕ Global). (e.0, e.1.items)) kept.entries }
 
@@ -101,7 +103,8 @@ Increase c = (key : ℕ) → IsStrictlyIncreasing (moments_of c key)
 abbrev pub IsBounded : (ℕ → List ℕ) → Type 0
 IsBounded changes = (key : ℕ) → 2 ^ 32 ≤ key → changes key ≡ []
 
--- States that the map has this key at this moment. Moment 0 is exempt, since the map does not contain the opening keys.
+-- States that `keys_at` maps this moment to this key. Moment 0 is exempt, since the map does not contain the opening
+-- keys.
 abbrev pub IsListed : BTreeMap ℕ ℕ → ℕ → ℕ → Type 0
 IsListed keys_at key moment = 0 < moment → get nat_cmp keys_at moment ≡ Some key
 

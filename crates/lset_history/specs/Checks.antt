@@ -1,4 +1,4 @@
--- What each check of an order of calls decides. The contracts of the checker's functions use these definitions.
+-- Definitions of the checks of an order of calls. The contracts of the checker's functions use these definitions.
 use Rattle.std.specs.Prelude.{◌≡◌, ◌≢◌, ℕ, ◌<◌, ◌==◌, ◌⊎◌, Bool, true, false, List, map, length, get_or, min, Option, Some, None}
 use Rattle.std.specs.Prelude.{take, is_some, All, IfSome, IsSomeAnd}
 use Rattle.std.specs.List.{list_any}
@@ -14,19 +14,19 @@ use Rattle.lset_history.specs.Faults.{placed_call, set_left_by}
 abbrev pub HasKnownCalls : List CallRecord → List Placed → Type 0
 HasKnownCalls calls order = All (λ (p : Placed). p.call < length calls) order
 
--- Returns whether a call is in the order.
+-- Returns whether the call with this number is in the order.
 abbrev pub stands : List Placed → ℕ → Bool
 stands order number = list_any (λ p. p.call == number) order
 
--- Returns whether the mark of a call is set. The list has one mark for each call of the history.
+-- Returns whether the mark of the call with this number is set. The list has one mark for each call of the history.
 abbrev pub is_marked : List Bool → ℕ → Bool
 is_marked marks number = get_or marks number false
 
--- States that the marks are set for exactly those calls that are in the order.
+-- States that a call's mark is set if and only if the call is in the order.
 abbrev pub MarksCalls : List Bool → List Placed → Type 0
 MarksCalls marks order = (number : ℕ) → is_marked marks number ≡ stands order number
 
--- States that the call is completed, but has no mark and therefore is not in the order.
+-- States that the call is completed but has no mark. (A call without a mark is not in the order.)
 pub record IsLeftOut (calls : List CallRecord) (marks : List Bool) (number : ℕ) : Type 0 where
   pub known : number < length calls
   pub ended : is_some (call_numbered calls number).ended ≡ true
@@ -40,8 +40,8 @@ abbrev pub LeavesOutFirst : List CallRecord → List Bool → ℕ → Type 0
 LeavesOutFirst calls marks number =
     IsLeftOut calls marks number × ((smaller : ℕ) → smaller < number → IsLeftOut calls marks smaller → ⊥)
 
--- States that the reply is right: it is the reply in the history, if the call is completed, and the reply of the
--- sequential set.
+-- States that the reply is right: the sequential set returns this reply and, if the call is completed, so does the
+-- call in the history.
 pub record HasReply (o : OracleValue) (x : CallRecord) (reply : Reply) : Type 0 where
   pub recorded : IfSome x.ended (λ (end : ℕ × Reply). end.1 ≡ reply)
   pub given : reply_to o.quota o.state x.thread x.call ≡ reply
@@ -53,8 +53,8 @@ HasOtherReply o x reply =
 abbrev pub after_reply : OracleValue → CallRecord → Reply → OracleValue
 after_reply o x reply = record o { state = after_call o.state x.thread x.call reply }
 
--- States that every reply in the order is right: it is the reply in the history, if the call is completed, and the
--- reply of the sequential set after the earlier calls of the order.
+-- States that every reply in the order is right: the sequential set returns this reply after the earlier calls of the
+-- order and, if the call is completed, the history has the same reply.
 pub record HasReplies (o : OracleValue) (calls : List CallRecord) (order : List Placed) : Type 0 where
   pub recorded : All (λ (p : Placed). IfSome (call_numbered calls p.call).ended (λ (end : ℕ × Reply). end.1 ≡ p.reply)) order
   pub legal : IsLegal o.quota o.state (map (answered calls) order)
@@ -68,7 +68,7 @@ abbrev pub PutsInSome : OracleValue → List CallRecord → List Placed → Type
 PutsInSome o calls order = (place : ℕ) × (place < length order)
     × PutsIn (after_order o calls (take place order)) (placed_call calls order place).thread (placed_call calls order place).call
 
--- Returns the smaller of `smallest` and the moment at which a call ends. `None` means that there is no end.
+-- Returns the smaller of `smallest` and the moment when a call ends. `None` stands for no moment.
 abbrev pub smallest_with : Option ℕ → Option (ℕ × Reply) → Option ℕ
 smallest_with smallest None = smallest
 smallest_with None (Some end) = Some end.0

@@ -1,4 +1,5 @@
--- When an order of calls explains a history and its final keys, and which error is reported if it does not.
+-- The conditions under which an order of calls explains a history and its final keys, and the error to report if the
+-- order does not.
 use Rattle.std.specs.Prelude.{◌≡◌, ◌≢◌, ℕ, ◌<◌, ◌≤◌, ◌⊎◌, List, map, take, length, All, IsSome, IsSomeAnd, slice_index_or}
 use Rattle.std.specs.List.Sorted.{IsStrictlyIncreasing}
 use Rattle.lset_words.specs.declared.Reply.{Reply}
@@ -64,7 +65,7 @@ pub record IsMissing (calls : List CallRecord) (order : List Placed) (number : �
 abbrev pub Passes : (ℕ → Type 0) → List Placed → Type 0
 Passes Refuses order = (place : ℕ) → place < length order → Refuses place → ⊥
 
--- States that `number` is the call at the first index of the order at which a check finds an error.
+-- States that `number` is the first call of the order for which a check finds an error.
 pub record RefusesFirst (Refuses : ℕ → Type 0) (order : List Placed) (number : ℕ) : Type 0 where
   pub place : ℕ
   pub inside : place < length order
@@ -79,9 +80,8 @@ pub record MissesFirst (calls : List CallRecord) (order : List Placed) (number :
   pub missing : IsMissing calls order number
   pub smallest : (smaller : ℕ) → smaller < number → IsMissing calls order smaller → ⊥
 
--- States that this is the error to report: the checks before its own find no error, and it is the first error of its
--- own check. `Missing` names the smallest number of a missing call. For `Memory`, a failed allocation, nothing is
--- stated.
+-- States that this is the error to report: no earlier check finds an error, and this is the first error of its own
+-- check. `Missing` has the smallest number of a missing call. For `Memory`, a failed allocation, nothing is required.
 abbrev pub IsFault : HistoryValue → List Placed → List ℕ → OrderFault → Type 0
 IsFault h order keys (Unknown number) = RefusesFirst (IsUnknown h.calls order) order number
 IsFault h order keys (Twice number) = Passes (IsUnknown h.calls order) order × RefusesFirst (IsTwice order) order number

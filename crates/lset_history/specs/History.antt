@@ -10,7 +10,7 @@ use Rattle.lset_words.specs.History.{IsHistory, call_numbered}
 use Rattle.lset_history.specs.declared.fault.HistoryFault.{HistoryFault}
 use Rattle.lset_history.specs.declared.fault.HistoryFault.TheVariants.{NoThread, Busy, NotOpen, Time, Memory}
 
--- The calls of a history, indexed by their numbers, and how the set opens.
+-- The value of a history: its calls, indexed by their numbers, and the threads, quota and opening keys of the set.
 pub record HistoryValue : Type 0 where
   pub opening : Opening
   pub calls : List CallRecord

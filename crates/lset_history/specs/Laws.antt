@@ -1,4 +1,5 @@
--- The laws of placement, the order of a run's calls by their linearization points. They mention no nodes and no locks.
+-- Theorems about placement, the order of a run's calls by their linearization points. They mention no nodes and no
+-- locks.
 use Rattle.std.specs.Prelude.{◌≡◌, ◌↔◌, ℕ, ◌≤◌, List, map, Contains}
 use Rattle.std.specs.List.Sorted.{IsStrictlyIncreasing}
 use Rattle.lset_words.specs.declared.Call.{Call}
@@ -12,15 +13,16 @@ use Rattle.lset_words.specs.Account.{Content, Contents, Counts, Fits, Account}
 use Rattle.lset_history.specs.Placement.{IsPlacement}
 use Rattle.lset_words.specs.Words.{Opening}
 
--- Returns the set of keys in a list, as a predicate. `contents_of_lists` does the same for the list of each moment.
+-- Returns the keys of a list as a set, given by a predicate. `contents_of_lists` does this for the list of each
+-- moment.
 abbrev pub content_of : List ℕ → Content
 content_of keys j = Contains keys j
 
 abbrev pub contents_of_lists : (ℕ → List ℕ) → Contents
 contents_of_lists lists m = content_of (lists m)
 
--- States that the set has exactly the keys of the list `content`, and has them in strictly increasing order. No other
--- increasing list has the same keys.
+-- States that the set has exactly the keys of the list `content`, in strictly increasing order. No other increasing
+-- list has the same keys.
 pub record HasKeysOf (s : SetState) (content : List ℕ) : Type 0 where
   pub increasing : IsStrictlyIncreasing s.keys
   pub members : (j : ℕ) → Contains content j ↔ Contains s.keys j
@@ -32,7 +34,7 @@ set_of_order op log last order = set_left (opening_set op) (map (answered (histo
 
 -- The placement theorem: if a run has an account (each event changes the keys as its call allows, and each reply is
 -- correct at some moment of its call), then the order of its calls by linearization points linearizes the history, and
--- ends with the same keys as the run.
+-- leaves the same keys as the run.
 abbrev pub PlacementLinearizes : Type 0
 PlacementLinearizes = (op : Opening) (last : ℕ) (log : Log) (lists : ℕ → List ℕ) (counts : Counts) (order : List Placed)
     → Account op last log (contents_of_lists lists) counts
@@ -40,8 +42,8 @@ PlacementLinearizes = (op : Opening) (last : ℕ) (log : Log) (lists : ℕ → L
     → Linearizes op.quota (opening_set op) (history_at log last) order × HasKeysOf (set_of_order op log last order) (lists last)
 
 -- States that if a run has an account (each event changes the keys as its call allows, and each reply is correct at
--- some moment of its call), its calls can be ordered by their linearization points, and each call that changed the set
--- or completed is in this order.
+-- some moment of its call), then its calls can be ordered by their linearization points. This order contains each call
+-- that changed the set or completed.
 abbrev pub EveryCallHasAPlace : Type 0
 EveryCallHasAPlace = (op : Opening) (last : ℕ) (log : Log) (lists : ℕ → List ℕ) (counts : Counts)
     → Account op last log (contents_of_lists lists) counts
@@ -53,7 +55,7 @@ abbrev pub LogsTellHistories : Type 0
 LogsTellHistories = (op : Opening) (last : ℕ) (log : Log) (lists : ℕ → List ℕ) (counts : Counts)
     → Account op last log (contents_of_lists lists) counts → (k : ℕ) → k ≤ last → IsHistory op.threads (history_at log k)
 
--- States that the keys increase strictly, if the call is a `Ceiling`. For the other calls nothing is required.
+-- States that the keys increase strictly if the call is a `Ceiling`. For the other calls nothing is required.
 abbrev pub IncreasesFor : Call → List ℕ → Type 0
 IncreasesFor (call.Add k) keys = Unit {0}
 IncreasesFor (call.Remove k) keys = Unit {0}

@@ -1,4 +1,4 @@
--- The value of the Rust type `Oracle`, the sequential set, and what a call on this set returns and changes.
+-- The value of the Rust type `Oracle` (the sequential set), and the effect of a call on this value.
 use Rattle.std.specs.Prelude.{◌≡◌, ℕ, ◌≤◌, List, length, All}
 use Rattle.std.specs.List.Sorted.{IsStrictlyIncreasing}
 use Rattle.lset_words.specs.declared.Call.{Call}
@@ -13,11 +13,11 @@ pub record OracleValue : Type 0 where
   pub quota : ℕ
   pub state : SetState
 
--- Returns the sequential set with these keys and, for each thread, the number of its successful adds.
+-- Returns the sequential set with this quota, these keys, and these numbers of successful adds, one for each thread.
 abbrev pub set_of : ℕ → List ℕ → List ℕ → OracleValue
 set_of quota keys counts = record { threads = length counts; quota = quota; state = record { keys = keys; counts = counts } }
 
--- Returns the sequential set before the first call.
+-- Returns the sequential set as it opens, before the first call.
 abbrev pub set_opened : Opening → OracleValue
 set_opened op = record { threads = op.threads; quota = op.quota; state = opening_set op }
 

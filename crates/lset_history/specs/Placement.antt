@@ -9,7 +9,7 @@ use Rattle.lset_words.specs.declared.history.Placed.{Placed}
 use Rattle.lset_words.specs.Log.{TracedCall}
 use Rattle.lset_words.specs.Account.{Contents, Counts, Fits}
 
--- States that `moment` is the first moment from the start of the call `x` to its end at which its reply fits.
+-- States that `moment` is the first moment of the call `x`, from its start to its end, when its reply fits.
 pub record IsSmallestFit (quota : ℕ) (contents : Contents) (counts : Counts) (x : TracedCall) (end : ℕ) (reply : Reply)
     (moment : ℕ) : Type 0 where
   pub from : x.begun ≤ moment
@@ -17,9 +17,9 @@ pub record IsSmallestFit (quota : ℕ) (contents : Contents) (counts : Counts) (
   pub fits : Fits quota (contents moment) (counts moment x.thread) x.call reply
   pub smallest : (m : ℕ) → x.begun ≤ m → m < moment → Fits quota (contents m) (counts m x.thread) x.call reply → ⊥
 
--- States which moment is a call's linearization point. If the call has changed the set, it is the moment of the change.
--- If the call is completed and changed nothing, it is the first moment at which its reply fits. A pending call without
--- a change has no point.
+-- States that `place` is the moment of a call's linearization point. If the call has changed the set, this is the
+-- moment of the change. If the call is completed and changed nothing, this is the first moment when its reply fits. A
+-- pending call without a change has no linearization point (`None`).
 abbrev pub StandsBy : ℕ → Contents → Counts → TracedCall → Option ℕ → Option (ℕ × Reply) → Option ℕ → Type 0
 StandsBy quota contents counts x (Some changed) ended place = place ≡ Some changed
 StandsBy quota contents counts x None None place = place ≡ None
@@ -40,8 +40,8 @@ reply_by (Some changed) ended = True
 reply_by None None = True
 reply_by None (Some end) = end.1
 
--- Returns the element of the order for this call: its number, and its reply. The reply of a call that changed the set
--- is `True`, even if the call is still pending.
+-- Returns the element of the order for this call: the call's number and its reply. The reply of a call that changed
+-- the set is `True`, even if the call is still pending.
 abbrev pub placed_of : Standing → Placed
 placed_of s = record { call = s.number; reply = reply_by s.traced.changed s.traced.ended }
 
@@ -53,7 +53,7 @@ makes_change s = has s.traced.changed
     has (Some moment) = true
 
 -- Returns the calls that have a linearization point, ordered by number. `places` has one entry for each call: the
--- moment of its point, or `None`.
+-- moment of the linearization point, or `None`.
 abbrev pub standing : ℕ → List TracedCall → List (Option ℕ) → List Standing
 standing number [] places = []
 standing number (x ∷ xs) [] = []
@@ -61,8 +61,8 @@ standing number (x ∷ xs) (None ∷ places) = standing (suc number) xs places
 standing number (x ∷ xs) (Some moment ∷ places) =
     record { number = number; traced = x; moment = moment } ∷ standing (suc number) xs places
 
--- Returns the rank by which calls are sorted: by the moment of the linearization point and, at the same moment, a
--- change before the calls that see the change. Calls of equal rank are sorted by number.
+-- Returns the rank of a call in the order. Calls are sorted by the moment of their linearization point. At one moment,
+-- the call that changes the set comes before the calls that see the change. Calls of equal rank are sorted by number.
 abbrev pub rank_of : Standing → ℕ
 rank_of s = if makes_change s then 2 * s.moment else 2 * s.moment + 1
 
@@ -78,7 +78,8 @@ traced_at calls number = slice_index_or calls number no_traced
 abbrev pub place_at : List (Option ℕ) → ℕ → Option ℕ
 place_at places number = slice_index_or places number None
 
--- States that the order is the placement of these calls: all that have a linearization point, sorted by it.
+-- States that the order is the placement of these calls: it has all calls that have a linearization point, sorted by
+-- this point.
 pub record IsPlacement (quota : ℕ) (calls : List TracedCall) (contents : Contents) (counts : Counts)
     (order : List Placed) : Type 0 where
   -- The moment of each call's linearization point, or `None`.
@@ -86,7 +87,7 @@ pub record IsPlacement (quota : ℕ) (calls : List TracedCall) (contents : Conte
   pub one_each : length places ≡ length calls
   pub stands : (number : ℕ) → number < length calls
       → StandsAt quota contents counts (traced_at calls number) (place_at places number)
-  -- The calls that have a linearization point, sorted.
+  -- The calls that have a linearization point, sorted by this point.
   pub sorted : List Standing
   pub moved : IsPermutation (standing 0 calls places) sorted
   pub rises : AllPairs ComesBefore sorted

@@ -1,18 +1,18 @@
--- Definitions for the search for the first moment at which a given key is the smallest at or above another key. Only
+-- Definitions for the search for the first moment when a key is the smallest present key at or above another key. Only
 -- private functions use them.
 use Rattle.std.specs.Prelude.{◌≡◌, ℕ, ◌<◌, ◌≤◌, ◌==◌, nat_lt, Bool, true, false, not, if◌then◌else◌, List, All, Option, Some}
 use Rattle.std.specs.Prelude.{None}
 use Rattle.lset_history.specs.Changes.{is_present, is_present_now}
 
--- States that the result is a moment after `moment` and the only key that can change at that moment. No key changes in
--- between. `None` states that no key changes after `moment`.
+-- States that the result has the first moment after `moment` at which a key can have changed, and this key. No key
+-- changes in between. `None` states that no key changes after `moment`.
 abbrev pub IsNextNote : (ℕ → List ℕ) → ℕ → Option (ℕ × ℕ) → Type 0
 IsNextNote changes moment None = (j : ℕ) → All (λ m. m ≤ moment) (changes j)
 IsNextNote changes moment (Some n) = (moment < n.0)
     × ((j : ℕ) → All (λ m. moment < m → m ≤ n.0 → (m ≡ n.0) × (j ≡ n.1)) (changes j))
 
--- States that the result is the next key above `key` that is present after the last change of the set. `None` states
--- that no such key exists.
+-- States that no key between `key` and the result is present after the last change of the set. `None` states that no
+-- key above `key` is.
 abbrev pub IsNextPresent : (ℕ → List ℕ) → ℕ → Option ℕ → Type 0
 IsNextPresent changes key None = (j : ℕ) → key < j → is_present_now changes j ≡ false
 IsNextPresent changes key (Some k) = (key < k) × ((j : ℕ) → key < j → j < k → is_present_now changes j ≡ false)
@@ -25,9 +25,9 @@ is_against changes key (Some x) j moment =
     if nat_lt j key then false else if nat_lt x j then false else if x == j then not (is_present changes j moment)
     else is_present changes j moment
 
--- States what the search knows when it has read the changes up to `last`. At each moment from `from` to just before
--- `moment`, some key refutes that `found` is the smallest present key at or above `key`. Each key that refutes this at
--- `moment` also does so at all moments up to `last`.
+-- States the result of the search after it has read the changes up to `last`. At each moment from `from` to just
+-- before `moment`, some key refutes that `found` is the smallest present key at or above `key`. Each key that refutes
+-- this at `moment` also refutes it at all moments up to `last`.
 pub record IsCandidateUpTo (changes : ℕ → List ℕ) (key : ℕ) (found : Option ℕ) (from moment last : ℕ) : Type 0 where
   pub low : from ≤ moment
   pub before : (m : ℕ) → from ≤ m → m < moment → (j : ℕ) × (is_against changes key found j m ≡ true)
@@ -41,8 +41,8 @@ abbrev pub IsBelow : ℕ → Option ℕ → Type 0
 IsBelow j None = Unit {0}
 IsBelow j (Some end) = j < end
 
--- States that some key from `key` to just below `end` is present at this moment. Without `end`, the range has no upper
--- bound.
+-- States that some key from `key` to just below `end` is present at this moment. If `end` is `None`, the range has no
+-- upper bound.
 abbrev pub IsSomeThere : (ℕ → List ℕ) → ℕ → Option ℕ → ℕ → Type 0
 IsSomeThere changes key end moment = (j : ℕ) × (key ≤ j) × IsBelow j end × (is_present changes j moment ≡ true)
 

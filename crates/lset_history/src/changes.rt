@@ -32,8 +32,8 @@ use std::collections::{BTreeMap, BTreeSet};
 use std::marker::Model;
 use std::ops::Bound;
 
-/// Which keys a set had at each moment, stored as changes: when each key was added and when it was removed. At moment
-/// 0, the set contains exactly the opening keys.
+/// The keys that a set had at each moment, stored as changes: the moments when each key was added and removed. At
+/// moment 0, the set contains exactly the opening keys.
 #[derive(Drop)]
 pub struct Changes {
     alloc: Global,
@@ -58,8 +58,8 @@ impl Model for Changes {
     ghost invariant = { λ c. AreKept (changes_in c.opening.items c.moments) c.keys_at c.keys_now };
 }
 
-/// Returns how many of the strictly increasing `moments` are at or before `at`. The second result is the number of
-/// moments that the binary search compared with `at`.
+/// Returns the number of `moments` at or before `at`; `moments` must increase strictly. The second result is the
+/// number of moments that the binary search compared with `at`.
 fn count_upto(moments: &[u32], at: u32) -> (usize, u32)
     requires { IsStrictlyIncreasing moments.now }
     ensures count { IsCountUpTo moments.now at result.0 }
@@ -151,8 +151,8 @@ impl Changes {
         ensures noted { OnOk result ((k : ℕ) → moments_of self.new k ≡ with_change (moments_of self.old) key at k) }
         ensures unchanged { OnErr result (self.new ≡ self.old) }
     {
-        // `key` is inserted into the two indexes before the change is recorded, and removed from `keys_now` afterwards.
-        // So a failed allocation can leave a surplus entry in an index, but an index never lacks an entry.
+        // `key` is inserted into the two indexes before the change is recorded, and removed from `keys_now`
+        // afterwards. A failed allocation can leave a surplus entry in an index, but an index never lacks an entry.
         self.keys_at.insert(at, key)?;
         self.keys_now.insert(key)?;
         push_moment(&mut self.moments, self.alloc, key, at)?;
@@ -166,9 +166,9 @@ impl Changes {
     /// Returns this moment, or `None`, and the number of recorded moments that the search compared. `from` must be at
     /// most `to`.
     ///
-    /// The search is binary. It compares at most 24 moments if the key changed at most 1,000,000 times. If the key
-    /// changed n times after moment 0, the search compares at least log2(n + 1) moments, rounded down: no search by
-    /// comparisons can always do with fewer. Does not allocate.
+    /// The binary search compares at most 24 moments if the key changed at most 1,000,000 times. If the key changed n
+    /// times after moment 0, the search compares at least log2(n + 1) moments, rounded down. No search by comparisons
+    /// always needs fewer. Does not allocate.
     pub fn first(&self, key: u32, present: bool, from: u32, to: u32) -> (Option<u32>, u32)
         requires { from ≤ to }
         ensures first { IsFirst (λ m. is_present (moments_of self.now) key m ≡ present) from to result.0 }
@@ -212,8 +212,8 @@ impl Changes {
         self.first(key, true, moment, moment).0.is_some()
     }
 
-    /// Returns the first entry of `keys_at` after `moment`: a moment, and the only key that can have changed at that
-    /// moment. No key changed in between. Returns `None` if no change follows.
+    /// Returns the first entry of `keys_at` after `moment`: the moment, and the only key that can have changed then.
+    /// No key changed in between. Returns `None` if no change follows.
     fn note_after(&self, moment: u32) -> Option<(u32, u32)>
         ensures { IsNextNote (moments_of self.now) moment result }
     {
@@ -224,8 +224,8 @@ impl Changes {
         }
     }
 
-    /// Returns the smallest key above `key` in `keys_now`. The set does not contain any key in between after the last
-    /// change.
+    /// Returns the smallest key above `key` in `keys_now`, or `None`. After the last change, the set contains no key
+    /// between `key` and the result.
     fn present_after(&self, key: u32) -> Option<u32>
         ensures { IsNextPresent (moments_of self.now) key result }
     {
@@ -236,9 +236,9 @@ impl Changes {
         }
     }
 
-    /// Returns whether `other` refutes the claim that, at `moment`, `found` is the smallest key of the set at or above
-    /// `key` (if `found` is `None`: that no such key is in the set). A smaller key refutes the claim if the key is
-    /// present, and `found` itself does if it is absent.
+    /// Returns whether key `other` refutes that, at `moment`, `found` is the smallest key of the set at or above `key`
+    /// (if `found` is `None`: that no such key is in the set). A key below `found` refutes this if the key is present;
+    /// `found` itself does if it is absent.
     fn is_against(&self, key: u32, found: Option<u32>, other: u32, moment: u32) -> bool
         ensures { result ≡ is_against (moments_of self.now) key found other moment }
     {
@@ -250,16 +250,16 @@ impl Changes {
         }
     }
 
-    /// Returns the only moment from `from` on that can be the first at which `found` is the smallest key at or above
-    /// `key`. At each earlier moment some key refutes that. Each key that refutes it at the returned moment also does
-    /// so at all later moments.
+    /// Returns the only moment, from `from` on, that can be the first moment when `found` is the smallest key at or
+    /// above `key`. At each earlier moment, some key refutes this. Each key that refutes this at the returned moment
+    /// also does so at all later moments.
     fn candidate(&self, key: u32, found: Option<u32>, from: u32) -> u32
         ensures { IsCandidate (moments_of self.now) key found from result }
     {
         let mut moment = from;
         let mut last = from;
         while let Some((at, noted)) = self.note_after(last) {
-            // A key that refutes `found` at `moment` keeps refuting it until the key changes, at the moment `at`.
+            // A key that refutes `found` at `moment` refutes it until this key changes, at the moment `at`.
             if self.is_against(key, found, noted, moment) {
                 moment = at;
             }
@@ -269,7 +269,7 @@ impl Changes {
     }
 
     /// Returns `false` only if some key from `key` to just below `end` was in the set at `moment`. Returns `true` only
-    /// if none of the keys in this range that the set has after the last change was in the set at `moment`.
+    /// if each key in this range that is in the set after the last change was not in the set at `moment`.
     fn came_after(&self, key: u32, end: Option<u32>, moment: u32) -> bool
         ensures came { IsTrue result → CameAfter (moments_of self.now) key end moment }
         ensures there { result ≡ false → IsSomeThere (moments_of self.now) key end moment }
@@ -287,9 +287,9 @@ impl Changes {
         true
     }
 
-    /// Returns the first moment from `from` to `to` at which `found` is the smallest key of the set at or above `key`
-    /// (if `found` is `None`: at which no such key is in the set). Returns `None` if no moment is. `from` must be at
-    /// most `to`.
+    /// Returns the first moment from `from` to `to` when `found` is the smallest key of the set at or above `key` (if
+    /// `found` is `None`: when no such key is in the set). Returns `None` if there is no such moment. `from` must be
+    /// at most `to`.
     ///
     /// Reads all changes after `from`, even those after `to`. If each search is made before a change after its `to` is
     /// recorded, the searches together take time proportional to the sum of their ranges. Does not allocate.

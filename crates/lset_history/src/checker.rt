@@ -25,8 +25,8 @@ fn first_unknown(calls: &[CallRecord], order: &[Placed]) -> Option<u32>
 }
 
 /// Returns the number of the first call that occurs a second time in the order. `placed` must have one mark for each
-/// call of the history, all false. If no call is in the order twice, afterwards exactly the marks of the order's calls
-/// are true.
+/// call of the history, all false. If no call is in the order twice, exactly the marks of the order's calls are true
+/// at the end.
 fn first_twice(order: &[Placed], placed: &mut [bool]) -> Option<u32>
     requires known { All (λ (p : Placed). p.call < length placed.old) order.now }
     requires none_set { All (λ (mark : Bool). mark ≡ false) placed.old }
@@ -62,8 +62,8 @@ fn first_missing(calls: &[CallRecord], placed: &[bool]) -> Option<u32>
     None
 }
 
-/// Makes the call on `oracle`, the sequential set. Returns whether `reply` is the set's reply and, if the call is
-/// completed, also its reply in the history.
+/// Makes the call on `oracle`, the sequential set. Returns whether the set returns `reply` and, if the call is
+/// completed, whether `reply` is also its reply in the history.
 fn has_reply(oracle: &mut Oracle, call_record: CallRecord, reply: Reply) -> Result<bool, AllocError>
     requires { call_record.thread < oracle.old.threads }
     ensures answers { IfOk result (λ right. MatchBool right
@@ -80,7 +80,7 @@ fn has_reply(oracle: &mut Oracle, call_record: CallRecord, reply: Reply) -> Resu
 }
 
 /// Makes the calls of the order on `oracle`, the sequential set. Returns the number of the first call with a wrong
-/// reply: one that differs from the reply in the history, or from that of the set after the earlier calls.
+/// reply: a reply that differs from the reply in the history, or from the set's reply after the earlier calls.
 pub(crate) fn first_wrong_reply(
     oracle: &mut Oracle,
     calls: &[CallRecord],
@@ -107,7 +107,7 @@ fn is_below(end: Option<u32>, moment: u32) -> bool
     end.is_some_and(|end| end < moment)
 }
 
-/// Returns the smaller of `smallest` and the moment at which a call ends. `None` means that there is no end.
+/// Returns the smaller of `smallest` and the moment when a call ends. `None` stands for no moment.
 fn lesser(smallest: Option<u32>, ended: Option<(u32, Reply)>) -> Option<u32>
     ensures { result ≡ smallest_with smallest ended }
 {
@@ -147,11 +147,11 @@ fn first_too_early(calls: &[CallRecord], order: &[Placed]) -> Option<u32>
 ///
 /// # Errors
 ///
-/// Returns the first of these that applies. The whole order is searched for one kind of error before the next:
+/// Returns the first of these that applies. The whole order is searched for one kind of error before the next kind:
 /// - `Unknown`: the history has no call with this number;
 /// - `Twice`: the call is in the order twice;
-/// - `Missing`: this call is completed and not in the order; if there are several, the one with the smallest number;
-/// - `WrongReply`: the history has another reply, or the sequential set returns another reply at this place;
+/// - `Missing`: this call is completed and not in the order; if several calls are missing, the smallest number;
+/// - `WrongReply`: the history has another reply, or the sequential set returns another reply at this point of the order;
 /// - `TooEarly`: a later call of the order had ended before this call began;
 /// - `WrongSet`: `keys` are not the final keys after the order's calls, in strictly increasing order.
 ///

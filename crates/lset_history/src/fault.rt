@@ -25,8 +25,8 @@ pub enum HistoryFault {
     Memory,
 }
 
-/// The first error in an order of calls, with the number of the call. The whole order is searched for one kind of error
-/// before the next. Of several errors of one kind, the first in the order is reported.
+/// The first error in an order of calls, with the number of the call. The whole order is searched for one kind of
+/// error before the next kind. Of several errors of one kind, the first in the order is reported.
 #[derive(Clone, Copy, Debug, PartialEq, Eq, Error)]
 pub enum OrderFault {
     /// The history has no call with this number.
@@ -38,8 +38,8 @@ pub enum OrderFault {
     /// This completed call is not in the order. If several are missing, the smallest number is reported.
     #[error("call {0} has ended and does not stand in the order")]
     Missing(u32),
-    /// The history has another reply for this call, or the sequential set returns another reply at this place of the
-    /// order.
+    /// The history has another reply for this call, or the sequential set returns another reply after the earlier
+    /// calls of the order.
     #[error("call {0} has another reply")]
     WrongReply(u32),
     /// In the order, this call comes before a call that had already ended when this call began.

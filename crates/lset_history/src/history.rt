@@ -11,7 +11,7 @@ use std::fmt;
 use std::marker::Model;
 
 /// A history of calls (Herlihy and Wing): each call's thread, start, end and reply. Calls are numbered from 0, ordered
-/// by start. Starts and ends are dated by moments, which are numbers from 1. No two of them happen at the same moment.
+/// by start. The moments of starts and ends are numbers from 1. Each start and each end has a moment of its own.
 #[derive(Drop)]
 pub struct History {
     threads: u32,
@@ -105,9 +105,10 @@ impl History {
         self.opening = opening;
     }
 
-    /// Appends a call, pending or completed, to the history. The call must satisfy `MayFollow`: it begins after every
-    /// call of the history has begun, no other call begins or ends at one of its moments, and the earlier calls of its
-    /// thread ended before it begins. Can allocate. If an allocation fails, returns `AllocError` and changes nothing.
+    /// Appends a call, pending or completed, to the history. The call must satisfy `MayFollow`: it begins after the
+    /// start of every other call, no other call begins or ends at the moment of its start or end, and the earlier
+    /// calls of its thread ended before it begins. Can allocate. If an allocation fails, returns `AllocError` and
+    /// changes nothing.
     pub fn push(&mut self, call_record: CallRecord) -> Result<(), AllocError>
         requires { MayFollow self.old.opening.threads self.old.calls call_record }
         ensures pushed { OnOk result (self.new ≡ with_begun self.old call_record) }

@@ -28,8 +28,8 @@ fn tree_of(alloc: Global, keys: &[u32]) -> Result<BTreeSet<u32>, AllocError>
     Ok(tree)
 }
 
-/// The sequential set (Herlihy and Shavit's interface), with a quota for each thread: the keys of the set, and how many
-/// adds of each thread have succeeded.
+/// The sequential set (Herlihy and Shavit's interface) with a quota for each thread: the set's keys, and the number of
+/// successful adds of each thread.
 #[derive(Drop)]
 pub struct Oracle {
     alloc: Global,
@@ -78,7 +78,8 @@ impl Oracle {
         })
     }
 
-    /// Returns the set as it is before the first call of a history. Allocates. If that fails, returns `AllocError`.
+    /// Returns the set in its opening state, before the first call of `history`. Allocates. If that fails, returns
+    /// `AllocError`.
     pub(crate) fn before(alloc: Global, history: &History) -> Result<Oracle, AllocError>
         ensures { IfOk result (λ o. o ≡ set_opened history.now.opening) }
     {

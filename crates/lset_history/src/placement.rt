@@ -8,8 +8,8 @@ pub fn placement_linearizes()
 {}
 
 /// Lemma: if a run has an account (each event changes the keys as its call allows, and each reply is correct at some
-/// moment of its call), its calls can be ordered by their linearization points, and each call that changed the set or
-/// completed is in this order. The function does nothing.
+/// moment of its call), its calls can be ordered by their linearization points. This order contains each call that
+/// changed the set or completed. The function does nothing.
 pub fn every_call_has_a_place()
     ensures { EveryCallHasAPlace }
 {}

@@ -8,7 +8,7 @@ use Rattle.lset_history.specs.Changes.{changes_in, AreKept}
 use Rattle.lset_history.proofs.ChangeNoted.{kept_beside, kept_listed, kept_present, kept_noted, has_after, others_after}
 use Rattle.lset_history.proofs.changes.Changes.note.Goals as goal
 
--- The case that the first allocation fails: nothing was inserted.
+-- The case that the first allocation fails: `keys_at` and `keys_now` are unchanged.
 pub invariant_of-self : goal.invariant_of-self
 invariant_of-self c = kept_listed (changes_in c.self.inside.opening.items c.self.inside.moments) c.self.inside.keys_at c.insert.new.self
     c.self.inside.keys_now
