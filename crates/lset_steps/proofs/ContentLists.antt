@@ -1,5 +1,5 @@
--- The chain and the set as lists: links lead from the head to the tail, and the keys of the unmarked nodes on the way
--- increase and are exactly the keys of the set.
+-- The chain and the set as lists. Links lead from the head to the tail. The keys of the unmarked nodes of the chain
+-- increase, and are exactly the keys of the set.
 use Rattle.std.proofs.Common.{◌≡◌, ◌≢◌, ℕ, zero, suc, ◌+◌, ◌-◌, ◌/◌, ◌%◌, ◌<◌, ◌≤◌, true, false, inl, inr, List, [], ◌∷◌, sym}
 use Rattle.std.proofs.Common.{refl, ap, subst, ◌∙◌, arith, rules}
 use Rattle.std.specs.Prelude.{Contains, nat_lt, nat_eq, ◌&&◌}

@@ -26,21 +26,21 @@ use Rattle.lset_steps.proofs.MoveLaws.{move-changed, marked_stays, later_same, l
 use Rattle.lset_steps.proofs.Hindsight.{hindsight}
 use Rattle.lset_steps.proofs.Openings.{opening_local, none_used, opening_ordered, opening_memory}
 
--- A proof outline: what a thread knows at each row of its step table (Owicki and Gries). The arguments are the quota,
--- the thread, the views of the list at all moments up to now, the moment at which the call began, the current moment,
--- the current view, whether the call has changed the set, and the thread's private state.
+-- A proof outline: an assertion for each row of a thread's step table (Owicki and Gries). The arguments are the quota,
+-- the thread, the views (the list's nodes and locks) at all moments up to now, the moment when the call began, the
+-- current moment, the current view, whether the call has changed the set, and the thread's private state.
 abbrev pub Outline : Type 1
 Outline = ℕ → ℕ → (ℕ → View) → ℕ → ℕ → View → Bool → Local → Type 0
 
--- What is true of the words at a moment, whichever thread makes the next step.
+-- The properties of the list's words at moment `now`, for a step of any thread.
 pub record Here (marks : Bool) (sz : Sizes) (vs : ℕ → View) (now : ℕ) (ws : List ℕ) (used : ℕ → ℕ) : Type 1 where
   pub limits : IsWithin sz
   pub memory : Memory marks sz ws used
   pub course : Course vs now
   pub present : vs now ≡ view sz ws used
 
--- What is true of thread t and its private state `l` at a moment, together with its proof outline: what the thread
--- knows at its row of the step table.
+-- The properties of thread `t` and its private state `l` at moment `now`, with the assertion of the proof outline at
+-- the thread's row.
 pub record Thread (At : Outline) (sz : Sizes) (t : ℕ) (vs : ℕ → View) (first now : ℕ) (ws : List ℕ) (used : ℕ → ℕ)
     (done : Bool) (l : Local) : Type 0 where
   pub registers : Registers sz t l
@@ -48,7 +48,7 @@ pub record Thread (At : Outline) (sz : Sizes) (t : ℕ) (vs : ℕ → View) (fir
   pub begun : first ≤ now
   pub at : At sz.quota t vs first now (view sz ws used) done l
 
--- A step of thread t, with proofs that the step preserves all that the invariant of a run requires.
+-- A step of thread `t`, with proofs that the step preserves the invariant of a run.
 pub record StepOf (T : Table) (marks : Bool) (At : Outline) (sz : Sizes) (t : ℕ) (vs : ℕ → View) (first : ℕ → ℕ) (now : ℕ)
     (ws : List ℕ) (used : ℕ → ℕ) (done : ℕ → Bool) (locals : ℕ → Local) : Type 0 where
   pub action : Action
@@ -69,13 +69,13 @@ pub record StepOf (T : Table) (marks : Bool) (At : Outline) (sz : Sizes) (t : �
   pub own : At sz.quota t vs (first t) (suc now) (view sz words' used') (done t || is_change effect) local'
   pub others : (u : ℕ) → u < sz.threads → u ≢ t → At sz.quota u vs (first u) (suc now) (view sz words' used') (done u) (locals u)
 
--- States that the thread's proof outline, what it knows at its row of the step table, was true at some moment before
--- the call began.
+-- States that the thread's assertion (from the proof outline, at its row) holds in view `v`, for some values of
+-- `first`, `now` and `done`.
 abbrev pub Before : Outline → ℕ → ℕ → (ℕ → View) → View → Local → Type 0
 Before At q t vs v l = (first : ℕ) × (now : ℕ) × (done : Bool) × At q t vs first now v done l
 
--- What the proof of a list must show about its proof outline: what each thread knows is true when the list opens, and
--- each event preserves it.
+-- The proof obligations for a list's proof outline: the assertion of each thread holds when the list opens, and each
+-- event preserves it.
 pub record Discipline (T : Table) (marks : Bool) (At : Outline) : Type 1 where
   pub idle_at : (op : Opening) → Opens op → (t : ℕ) (vs : ℕ → View)
       → At op.quota t vs 0 0 (view_of (sizes op) (opening op)) false (idle op.quota t)
@@ -93,8 +93,8 @@ pub record Discipline (T : Table) (marks : Bool) (At : Outline) : Type 1 where
       (locals t).pc ≢ 0
       → StepOf T marks At sz t vs first now ws used done locals
 
--- If the views of a run (its nodes and locks at each moment) up to moment s have the required properties, and the next
--- step preserves these, the views up to moment s + 1 have them.
+-- Extends `Course`, the properties of a run's views (the list's nodes and locks), from moment `s` to moment s + 1, if
+-- the next step preserves these properties.
 course_more : (vs : ℕ → View) (s : ℕ) → Course vs s → KeepsNodes (vs s) (vs (suc s)) → KeepsMarked (vs s) (vs (suc s))
     → IsOrdered (vs (suc s)) → Course vs (suc s)
 course_more vs s r g m ord = record {
@@ -137,7 +137,7 @@ answered_on false q vs first now t call pc (Some r) a = (
       record { moment = f.moment; from = f.from; upto = (let u : f.moment ≤ now = f.upto in omega arith); fits = f.fits }),
 )
 
--- Lemmas about choosing between two values by a test, and about replacing the private state of one thread.
+-- Lemmas about conditionals, and about replacing the private state of one thread.
 pub pick_yes : {A : Type 0} (b : Bool) (x y : A) → b ≡ true → (if b then x else y) ≡ x
 pick_yes b x y e = rw e refl
 
@@ -150,8 +150,8 @@ put_same s t l h = get_or-set_same s.locals t l (idle 0 0) h
 pub put_other : (s : State) (t u : ℕ) (l : Local) → u ≢ t → slice_index_or (slice_set s.locals t l) u (idle 0 0) ≡ local_of s u
 put_other s t u l h = get_or-set_other s.locals t u l (idle 0 0) h
 
--- The invariant of a run at moment k: what is true of the words, and what each thread knows at its row of the step
--- table.
+-- The invariant of a run at moment `k`: properties of the words, and for each thread the assertion of the proof
+-- outline at its row.
 pub record Inv (marks : Bool) (At : Outline) (sz : Sizes) (vs : ℕ → View) (k : ℕ) (s : State) (first : ℕ → ℕ)
     (done : ℕ → Bool) : Type 1 where
   pub memory : Memory marks sz s.words (used_in s)
@@ -257,7 +257,7 @@ module _ (T : Table) (marks : Bool) (At : Outline) (d : Discipline T marks At) (
       (record { limits = lim.within; memory = i.memory; course = i.course; present = i.present }) i.threads (rw i.locals at en.0)
       en.1
 
-  -- The state after a step of thread t.
+  -- Lemmas about the state after a step of thread `t`.
   module _ (k : ℕ) (s : State) (first : ℕ → ℕ) (done : ℕ → Bool) (t : ℕ) (i : Inv marks At (sizes op) vs k s first done)
       (en : Enabled s (Go t))
       (m : StepOf T marks At (sizes op) t vs first k s.words (used_in s) done (local_of s)) where
@@ -389,7 +389,7 @@ module _ (T : Table) (marks : Bool) (At : Outline) (d : Discipline T marks At) (
               (answered_on (done t || is_change m.effect) op.quota vs (first t) k t _ m.local'.pc m.answer m.answered))));
         }
 
--- The invariant of a run implies the law of the machine.
+-- Proof that the invariant of a run implies the law of the machine.
 module _ (T : Table) (marks : Bool) (At : Outline) (d : Discipline T marks At) (op : Opening) (es : ℕ → Event) (last : ℕ)
     (r : Run T op es last) where
   next_inv : (k : ℕ) (e : Event) → es k ≡ e → Enabled (state_at T op es k) e

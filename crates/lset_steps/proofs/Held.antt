@@ -1,5 +1,5 @@
--- What a thread knows about nodes that it has locked, and how it can change them. Applies to every list that writes
--- links only while it holds node locks.
+-- Assertions about nodes that a thread has locked, and the steps that can change these nodes. For every list that
+-- writes links only while the thread holds node locks.
 use Rattle.std.specs.Prelude.{◌≡◌, ◌≢◌, ℕ, ◌+◌, ◌*◌, ◌/◌, ◌%◌, ◌<◌, Bool, true, false, Option, Some, None, List, [], slice_set, refl}
 use Rattle.std.proofs.Common.{arith, inl, inr, sym, ◌∙◌, ap}
 use Rattle.lset_words.specs.Words.{key_index, link_index, lock_index, tail_word, node_count, word_count, slot_node, target, key_of, Sizes}
@@ -27,7 +27,8 @@ pub record Held (v : View) (t a : ℕ) : Type 0 where
 pub head_held : {v : View} {t : ℕ} → v.published 0 → v.lock 0 ≡ t + 1 → Held v t 0
 head_held published mine = record { mine = mine; at = ([], refl); published = published }
 
--- States that thread t holds the lock of pred, that pred's key is smaller than `key`, and that curr is the next node.
+-- States that thread `t` holds the lock of `pred`, that pred's key is smaller than `key`, and that `curr` is the node
+-- after `pred`.
 pub record Behind (v : View) (t key pred curr : ℕ) : Type 0 where
   pub held : Held v t pred
   pub inner : pred ≢ 1
@@ -35,7 +36,8 @@ pub record Behind (v : View) (t key pred curr : ℕ) : Type 0 where
   pub below : v.key pred < key
   pub next : v.published curr
 
--- States that thread t holds the locks of pred and of curr, the next node, and that pred's key is smaller than `key`.
+-- States that thread `t` holds the locks of `pred` and of `curr`, the node after `pred`, and that pred's key is
+-- smaller than `key`.
 pub record Between (v : View) (t key pred curr : ℕ) : Type 0 where
   pub walk : Behind v t key pred curr
   pub mine : v.lock curr ≡ t + 1
@@ -55,8 +57,8 @@ in_chain {v} {t} {key} {pred} {curr} b =
     let half : v.link pred / 2 ≡ curr = omega arith in
     chain_on v pred curr curr [] b.held.at b.inner half refl
 
--- What a step preserves for thread t. The step is either made by another thread, or made by t without writing a link of
--- the chain and without releasing a lock.
+-- The properties that a step preserves for thread `t`. The step is made by another thread, or by `t` itself without
+-- writing a link of the chain and without releasing a lock.
 pub record Leaves (v w : View) (t : ℕ) : Type 0 where
   pub used : w.used t ≡ v.used t
   pub grows : (a : ℕ) → v.published a → w.published a
@@ -109,7 +111,7 @@ module _ {v w : View} {t : ℕ} (s : Leaves v w t) where
   pub removing_on : {curr : ℕ} {op : Call} → v.published curr → Removing v curr op → Removing w curr op
   removing_on {curr} p a = record { call = a.call; found = s.keys curr p ∙ a.found }
 
--- Steps of other threads do not change the words of the slot (the thread's own node) that t will use next.
+-- Steps of other threads do not change the slot that thread `t` will use next (the node for its next successful add).
 module _ {v w : View} {q t : ℕ} (r : Rely v w q t) where
   pub own_key_on : (x : ℕ) → v.used t < q → v.key (slot_node q t (v.used t)) ≡ x → w.key (slot_node q t (w.used t)) ≡ x
   own_key_on x room e = rw r.used (r.own_key room ∙ e)
@@ -117,7 +119,8 @@ module _ {v w : View} {q t : ℕ} (r : Rely v w q t) where
   pub own_link_on : (x : ℕ) → v.used t < q → v.link (slot_node q t (v.used t)) ≡ x → w.link (slot_node q t (w.used t)) ≡ x
   own_link_on x room e = rw r.used (r.own_link room ∙ e)
 
--- States that a step writes a link of the chain only while its thread holds the node's lock.
+-- States that a step is allowed, and that it writes the link of a node in the chain only if its thread holds the
+-- node's lock.
 abbrev pub LockedStep : (marks : Bool) (sz : Sizes) (t : ℕ) (ws : List ℕ) (used : ℕ → ℕ) (a : Action) (ws' : List ℕ) (used' : ℕ →
     ℕ)
     (change : Option (Key × Bool)) → Type 0
@@ -180,7 +183,8 @@ module _ {marks : Bool} {sz : Sizes} {ws : List ℕ} {used : ℕ → ℕ} (m : M
   pub held_from : {a : ℕ} → node_lock ws a ≡ t + 1 → InChain (view sz ws used) a → Held (view sz ws used) t a
   held_from {a} mine i = record { mine = mine; at = i; published = in_chain_published (view sz ws used) m.ordered a i }
 
-  -- If a thread that holds the lock of pred reads pred's link, the link leads to a node curr that satisfies `Behind`.
+  -- If a thread holds the lock of `pred`, and pred's key is smaller than `key`, then `Behind` holds for `pred` and the
+  -- node that pred's link leads to.
   pub behind_from : {pred key : ℕ} → Held (view sz ws used) t pred → node_link ws pred % 2 ≡ 0 → node_key ws pred < key
       → key < tail_word
       → Behind (view sz ws used) t key pred (node_link ws pred / 2)
@@ -221,7 +225,7 @@ module _ {marks : Bool} {sz : Sizes} {ws : List ℕ} {used : ℕ → ℕ} (m : M
     (b.walk.held.mine, b.mine),
   )
 
-  -- ---- For lists that mark nodes: marking curr, and then unlinking it
+  -- ---- Lemmas for lists that mark nodes: the step that marks curr, and the step that then unlinks curr
   pub marks_between : {pred curr : ℕ} {op : Call} (x : ℕ) → marks ≡ true → Between (view sz ws used) t (target op) pred curr
       → Removing (view sz ws used) curr op → node_link ws curr % 2 ≡ 0 → x ≡ node_link ws curr + 1 → target op < tail_word
       → LockedStep marks sz t ws used (Store (link_index curr) x) (slice_set ws (link_index curr) x) used
@@ -241,7 +245,7 @@ module _ {marks : Bool} {sz : Sizes} {ws : List ℕ} {used : ℕ → ℕ} (m : M
     (b.walk.held.mine, b.mine),
   )
 
--- What a thread still knows about its locked nodes after its own steps that do not write them.
+-- Lemmas about the assertions on locked nodes that a thread's own steps preserve.
 module _ {marks : Bool} {sz : Sizes} {ws : List ℕ} {used : ℕ → ℕ} (m : Memory marks sz ws used) {t : ℕ} (tn : t < sz.threads) where
   pub leaves_locked : (a : ℕ) → node_lock ws a ≡ 0
       → Leaves (view sz ws used) (view sz (slice_set ws (lock_index a) (t + 1)) used) t
@@ -265,7 +269,7 @@ module _ {marks : Bool} {sz : Sizes} {ws : List ℕ} {used : ℕ → ℕ} (m : M
     published = h.published;
   }
 
-  -- Marking curr does not separate pred and curr: curr is still the next node.
+  -- After curr is marked, curr is still the node after pred.
   pub between_marked : {pred curr : ℕ} {op : Call} (x : ℕ) → Between (view sz ws used) t (target op) pred curr
       → Removing (view sz ws used) curr op → node_link ws curr % 2 ≡ 0 → x ≡ node_link ws curr + 1 → target op < tail_word
       → Between (view sz (slice_set ws (link_index curr) x) used) t (target op) pred curr

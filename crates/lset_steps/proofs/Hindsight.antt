@@ -22,7 +22,7 @@ later_published vs n b (suc d) m t r e l mb =
 pub key_stays : (vs : ℕ → View) (n b m t : ℕ) → Course vs n → m ≤ t → t ≤ n → (vs m).published b → (vs t).key b ≡ (vs m).key b
 key_stays vs n b m t r l h mb = (later_published vs n b (t - m) m t r (omega arith) h mb).1
 
--- A marked node keeps its link, so a node that is unmarked now was unmarked at all earlier moments.
+-- A marked node keeps its link, and therefore its mark, at all later moments.
 marked_by : (vs : ℕ → View) (n b d m t : ℕ) → Course vs n → t ≡ m + d → t ≤ n → (vs m).published b → (vs m).link b % 2 ≡ 1
     → (vs t).link b ≡ (vs m).link b
 marked_by vs n b zero m t r e l p odd = let f : m ≡ t = omega arith in subst (λ x. (vs x).link b ≡ (vs m).link b) f refl
@@ -42,8 +42,9 @@ unmarked_before vs n b m t r l h p even = elim (even_or_not ((vs m).link b)) [
     even_or_not : (x : ℕ) → (x % 2 ≡ 0) ⊎ (x % 2 ≡ 1)
     even_or_not x = grind arith
 
--- Hindsight: if a node was once in the chain, each link that it has later is one that it had while it was in the chain.
--- Proof by induction on the moments: a link changes only while its node is in the chain.
+-- Hindsight: if a node was in the chain at moment `m`, its link at a later moment `t` is a link that the node had
+-- while it was in the chain, at some moment from `m` to `t`. Proof by induction on the moments: a link changes only
+-- while its node is in the chain.
 hindsight-by : (vs : ℕ → View) (n b d m t : ℕ) → Course vs n → t ≡ m + d → t ≤ n → InChain (vs m) b
     → Seen vs m t b ((vs t).link b)
 hindsight-by vs n b zero m t r e l i =
@@ -90,8 +91,8 @@ abbrev pub seen_on : (vs : ℕ → View) (first now later b l : ℕ) → now ≤
 seen_on vs first now later b k l s =
     record { at = s.at; from = s.from; upto = (let u : s.at ≤ now = s.upto in omega arith); in_chain = s.in_chain; link = s.link }
 
--- If a `contains` finds that its key is between the keys of two neighbours, the set lacked the key at some moment of
--- the call.
+-- If the key `k` is between the keys of a node and of the next node, and the walk saw this link, the set lacked `k` at
+-- some moment of the call.
 pub lacked_between : (vs : ℕ → View) (n first now a l k : ℕ) → Course vs n → now ≤ n → a ≢ 1 → Seen vs first now a l
     → (vs now).key a < k + 1 → k + 1 < (vs now).key (l / 2) → Lacked vs first now k
 lacked_between vs n first now a l k r le na s lo hi =

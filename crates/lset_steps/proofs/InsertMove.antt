@@ -1,4 +1,4 @@
--- What changes when a node is inserted after a node of the chain: the order of keys, the chain, and the keys of the
+-- The effect of inserting a node after a node of the chain: on the order of keys, on the chain, and on the keys of the
 -- set.
 use Rattle.std.proofs.Common.{◌≡◌, ◌≢◌, ℕ, ◌+◌, ◌*◌, ◌/◌, ◌%◌, ◌<◌, ◌≤◌, ◌⊎◌, inl, inr, List, [], ◌∷◌, sym, refl, ap, subst, ◌∙◌, arith}
 use Rattle.lset_steps.specs.Chain.{View, Segment, InChain, InContent, IsOrdered}
@@ -6,7 +6,7 @@ use Rattle.lset_steps.proofs.Moves.{Inserts, KeepsNodes}
 use Rattle.lset_steps.proofs.Segments.{sides, gap}
 use Rattle.lset_steps.proofs.QuietMove.{in_chain_published, chain_before, chain_on, segment_after, apart, apart'}
 
--- The inserted node `own`, the nodes pred and curr on both sides of it, and their keys and links.
+-- The keys and links in an insertion: of the new node `own`, of `pred` before it, and of `curr` after it.
 pub record Facts (v w : View) (pred own curr k : ℕ) : Type 0 where
   pub curr_is : v.link pred / 2 ≡ curr
   pub own_is : w.link pred / 2 ≡ own
@@ -176,7 +176,7 @@ insert-goes v w ord pred own k q = record {
     cases : (i : ℕ) → (i ≡ pred) ⊎ (i ≢ pred)
     cases i = grind arith
 
--- ---- How an insertion changes the keys of the set
+-- ---- Lemmas about the effect of an insertion on the keys of the set
 
 pub insert_absent : (v w : View) → IsOrdered v → (pred own k : ℕ) → Inserts v w pred own k → InContent v k → ⊥
 insert_absent v w ord pred own k q c =

@@ -1,4 +1,4 @@
--- The steps that can change the words of a list, and which words they leave unchanged.
+-- The steps that can change the words of a list, and the words that each step leaves unchanged.
 use Rattle.std.specs.Prelude.{◌≡◌, ◌≢◌, ℕ, ◌+◌, ◌*◌, ◌/◌, ◌%◌, ◌<◌, ◌≤◌, ◌⊎◌, Bool, true, false, Option, Some, None, List, []}
 use Rattle.std.specs.Prelude.{slice_index, slice_set, length, refl, if◌then◌else◌, ◌==◌}
 use Rattle.std.proofs.Common.{arith, inl, inr, sym, ◌∙◌, ap, subst, length-set}
@@ -20,7 +20,8 @@ use Rattle.lset_steps.proofs.MoveLaws.{move-ordered, move-goes, tail_stays, mark
 use Rattle.lset_steps.proofs.AfterWrite.{key_after_key, key_after_link, key_after_lock, link_after_key, link_after_link}
 use Rattle.lset_steps.proofs.AfterWrite.{link_after_lock, not_key, not_link, set_same}
 
--- Slots of different threads are different nodes: quotient and remainder of a slot's number are unique.
+-- Two slots (nodes that successful adds use up) have the same number only if their threads and their indices are
+-- equal: quotient and remainder are unique.
 pub row_once : (q t u i j : ℕ) → i < q → j < q → t * q + i ≡ u * q + j → (t ≡ u) × (i ≡ j)
 row_once q t u i j a b e =
     let r : t ≡ u = grind arith in
@@ -43,12 +44,12 @@ one_more_same used t = grind (arith, nat_tests)
 pub one_more_other : (used : ℕ → ℕ) (t u : ℕ) → u ≢ t → one_more used t u ≡ used u
 one_more_other used t u d = grind (arith, nat_tests)
 
--- States that the action writes x to word i. An exchange does so if it succeeds.
+-- States that the action writes `x` to word `i`: it is a store, or an exchange that succeeds.
 abbrev pub Writes : List ℕ → Action → ℕ → ℕ → Type 0
 Writes ws a i x = (a ≡ Store i x) ⊎ (a ≡ Exchange i (slice_index ws i) x)
 
--- The steps that thread t may make. Each constructor has the action, the words and each thread's number of successful
--- adds after it, and the key that is added or removed.
+-- The steps that thread `t` may make. Each constructor has the action, the words after it, each thread's number of
+-- successful adds after it, and the key that the step adds or removes.
 pub data WordStep (marks : Bool) (sz : Sizes) (t : ℕ) (ws : List ℕ) (used : ℕ → ℕ) : Action → List ℕ → (ℕ → ℕ)
     → Option (Key × Bool) → Type 0 where
   reads : (x : ℕ) → x < word_count sz → WordStep marks sz t ws used (Load x) ws used None
@@ -82,7 +83,7 @@ pub data WordStep (marks : Bool) (sz : Sizes) (t : ℕ) (ws : List ℕ) (used : 
       → node_link ws p ≡ 2 * c → node_link ws c / 2 ≡ d → node_key ws c ≡ key_word_of k
       → WordStep marks sz t ws used a (slice_set ws (link_index p) (2 * d)) used (Some (k, false))
 
--- What is true of the words of a list at every moment of a run.
+-- The properties of the words of a list at every moment of a run.
 pub record Memory (marks : Bool) (sz : Sizes) (ws : List ℕ) (used : ℕ → ℕ) : Type 0 where
   pub words : length ws ≡ word_count sz
   pub room : (t : ℕ) → t < sz.threads → used t ≤ sz.quota
@@ -208,7 +209,8 @@ grown_from sz t used i (inr (inl h)) = elim (same_or_not h.0 t) [
         let c : one_more used t h.0 ≡ used t + 1 = rw a (one_more_same used t) in
         grind arith
 
--- The words after an action that writes x to word i: word i has the value x, and the others are unchanged.
+-- Lemmas about an action that writes `x` to word `i`: word `i` has the value `x` afterwards, and all other words are
+-- unchanged.
 module _ (ws : List ℕ) where
   written : (a : Action) (i x : ℕ) → Writes ws a i x → left_by ws a ≡ slice_set ws i x
   written a i x (inl e) = rw e refl
@@ -320,7 +322,8 @@ module _ (marks : Bool) (sz : Sizes) (ws : List ℕ) (used : ℕ → ℕ) (m : M
   even_at c e at = let z : UnmarkedInChain false (view sz ws used) =
       subst (λ b. UnmarkedInChain b (view sz ws used)) e m.marked in z c (chain_published c at)
 
-  -- Each step of `WordStep` makes one of the moves of `Moves`, which are stated in terms of nodes instead of words.
+  -- Each step of `WordStep` is one of the moves in `Moves`. A move describes the change of the list's nodes instead of
+  -- its words.
   pub moved : (a : Action) (ws' : List ℕ) (used' : ℕ → ℕ) (ch : Option (Key × Bool)) → WordStep marks sz t ws used a ws' used' ch
       → Move marks (view sz ws used) (view sz ws' used') ch
   moved a ws' used' ch (reads x i) = quiet
@@ -384,7 +387,7 @@ module _ (marks : Bool) (sz : Sizes) (ws : List ℕ) (used : ℕ → ℕ) (m : M
   lock_use a ws' used' ch (cuts b p c d w at first inn follows next) = no_lock ws a t p (2 * d) w
   lock_use a ws' used' ch (drops b p c d k y w at first inn follows next key) = no_lock ws a t p (2 * d) w
 
-  -- The number of the thread's successful adds increases by one if the step adds a key, and otherwise stays the same.
+  -- The thread's number of successful adds increases by one if the step adds a key, and otherwise does not change.
   pub mine_counted : (a : Action) (ws' : List ℕ) (used' : ℕ → ℕ) (ch : Option (Key × Bool))
       → WordStep marks sz t ws used a ws' used' ch → used' t ≡ count_after ch (used t)
   mine_counted a ws' used' ch (puts b p c k w at nt follows r ready key above under) = one_more_same used t

@@ -1,26 +1,27 @@
--- Moves: the ways in which one step can change the nodes of a list. This file also defines what a thread can know about
--- earlier moments. Only proofs use these definitions.
+-- Moves: the changes that one step can make to the nodes of a list. This file also defines assertions about earlier
+-- moments. Only proofs use these definitions.
 use Rattle.std.specs.Prelude.{◌≡◌, ◌≢◌, ℕ, ◌+◌, ◌*◌, ◌/◌, ◌%◌, ◌<◌, ◌≤◌, ◌⊎◌, Bool, true, false, Option, Some, None}
 use Rattle.lset_words.specs.declared.Key.{Key}
 use Rattle.lset_steps.specs.Chain.{View, InChain, InContent, IsOrdered, Seen}
 
--- What every step preserves: nodes keep their keys and stay published, an unlinked node does not return to the chain,
--- and the link of a node changes only if the node is in the chain before and after the step.
+-- The properties of every step: published nodes (those that have been in the chain) stay published and keep their
+-- keys, an unlinked node does not return to the chain, and the link of a node changes only if the node is in the chain
+-- before and after the step.
 pub record KeepsNodes (v w : View) : Type 0 where
   pub keys : (i : ℕ) → v.published i → w.key i ≡ v.key i
   pub grows : (i : ℕ) → v.published i → w.published i
   pub kept : (b : ℕ) → v.published b → (w.link b ≡ v.link b) ⊎ (InChain v b × InChain w b)
   pub back : (b : ℕ) → v.published b → InChain w b → InChain v b
 
--- A move that changes no published node (none that has been in the chain), such as a load, or a write to a lock or to
--- an unused node.
+-- A move that changes no published node (no node that has been in the chain), such as a load, or a write to a lock or
+-- to an unused node.
 pub record Quiet (v w : View) : Type 0 where
   pub keys : (i : ℕ) → v.published i → w.key i ≡ v.key i
   pub links : (i : ℕ) → v.published i → w.link i ≡ v.link i
   pub grows : (i : ℕ) → v.published i → w.published i
   pub published_from : (i : ℕ) → w.published i → v.published i
 
--- An insertion: links the node `own`, which has key k, between pred and the next node.
+-- An insertion: links the new node `own` with key `k` between `pred` and the next node.
 pub record Inserts (v w : View) (pred own k : ℕ) : Type 0 where
   pub keys : (i : ℕ) → v.published i → w.key i ≡ v.key i
   pub links : (i : ℕ) → v.published i → i ≢ pred → w.link i ≡ v.link i
@@ -38,7 +39,7 @@ pub record Inserts (v w : View) (pred own k : ℕ) : Type 0 where
   pub own_published : w.published own
   pub published_from : (i : ℕ) → w.published i → v.published i ⊎ (i ≡ own)
 
--- A marking: marks node b, which has key k, as removed.
+-- A marking: marks node `b` with key `k` as removed.
 pub record Marks (v w : View) (b k : ℕ) : Type 0 where
   pub keys : (i : ℕ) → v.published i → w.key i ≡ v.key i
   pub links : (i : ℕ) → v.published i → i ≢ b → w.link i ≡ v.link i
@@ -50,7 +51,7 @@ pub record Marks (v w : View) (b k : ℕ) : Type 0 where
   pub grows : (i : ℕ) → v.published i → w.published i
   pub published_from : (i : ℕ) → w.published i → v.published i
 
--- An unlinking: links pred to the node after curr, so that curr, the node after pred, leaves the chain.
+-- An unlinking: removes `curr`, the node after `pred`, from the chain by linking `pred` to the node after `curr`.
 pub record Unlinks (v w : View) (pred curr : ℕ) : Type 0 where
   pub keys : (i : ℕ) → v.published i → w.key i ≡ v.key i
   pub links : (i : ℕ) → v.published i → i ≢ pred → w.link i ≡ v.link i
@@ -63,8 +64,8 @@ pub record Unlinks (v w : View) (pred curr : ℕ) : Type 0 where
   pub grows : (i : ℕ) → v.published i → w.published i
   pub published_from : (i : ℕ) → w.published i → v.published i
 
--- The moves of a list, each with the key that it adds to the set or removes. `marks` says whether the list marks nodes
--- before it unlinks them. Otherwise, the unlinking removes the key.
+-- The moves of a list, each with the key that it adds to the set or removes, if any. `marks` is true if the list marks
+-- nodes before it unlinks them. In any other list, the unlinking removes the key.
 pub data Move (marks : Bool) (v w : View) : Option (Key × Bool) → Type 0 where
   quiet : Quiet v w → Move marks v w None
   inserts : (pred own : ℕ) (k : Key) → Inserts v w pred own k.0 → Move marks v w (Some (k, true))
@@ -77,8 +78,8 @@ pub data Move (marks : Bool) (v w : View) : Option (Key × Bool) → Type 0 wher
 abbrev pub KeepsMarked : View → View → Type 0
 KeepsMarked v w = (b : ℕ) → v.published b → v.link b % 2 ≡ 1 → w.link b ≡ v.link b
 
--- States that the views at moments 0 to n can be those of a run: keys are in order at each moment, and each step
--- preserves what every step of a list must preserve.
+-- States that the views (the list's nodes and locks) at moments 0 to `n` can be those of a run: keys are in order at
+-- each moment, and each step satisfies `KeepsNodes` and `KeepsMarked`.
 pub record Course (vs : ℕ → View) (n : ℕ) : Type 0 where
   pub ordered : (t : ℕ) → t ≤ n → IsOrdered (vs t)
   pub goes : (t : ℕ) → t < n → KeepsNodes (vs t) (vs (t + 1))
@@ -105,14 +106,15 @@ pub record Lacked (vs : ℕ → View) (first now k : ℕ) : Type 0 where
   pub upto : at ≤ now
   pub lacks : InContent (vs at) k → ⊥
 
--- What a `contains` of key k knows at row 20 of the step table, before it loads the link of curr. The node curr was in
--- the chain at some moment since the call began at `first`, and its key is smaller than k.
+-- The assertion of a `contains` of key `k` at row 20 of the step table, before it loads the link of `curr`. The node
+-- `curr` was in the chain at some moment since the call began at `first`, and its key is smaller than `k`.
 pub record At20 (vs : ℕ → View) (first now k curr : ℕ) : Type 0 where
   pub past : InPast vs first now curr
   pub low : (vs past.at).key curr < k + 1
 
--- What a `contains` of key k knows at row 21 of the step table, before it loads the key of curr. It has read a link to
--- curr in a node with a smaller key than k, and that node had this link while it was in the chain.
+-- The assertion of a `contains` of key `k` at row 21 of the step table, before it loads the key of `curr`. The call
+-- has read a link to `curr` in a node with a smaller key than `k`, and this node had this link at a moment when it was
+-- in the chain.
 pub record At21 (vs : ℕ → View) (first now k curr : ℕ) : Type 0 where
   pub from : ℕ
   pub word : ℕ
@@ -120,14 +122,15 @@ pub record At21 (vs : ℕ → View) (first now k curr : ℕ) : Type 0 where
   pub next : word / 2 ≡ curr
   pub low : (vs seen.at).key from < k + 1
 
--- What a `contains` of key k knows at row 22 of the step table, before it loads the mark of curr. The node curr has the
--- key k, and was in the chain at some moment since the call began at `first`.
+-- The assertion of a `contains` of key `k` at row 22 of the step table, before it loads the mark of `curr`. The node
+-- `curr` has the key `k`, and was in the chain at some moment since the call began at `first`.
 pub record At22 (vs : ℕ → View) (first now k curr : ℕ) : Type 0 where
   pub past : InPast vs first now curr
   pub found : (vs past.at).key curr ≡ k + 1
 
--- What a `ceiling` of key k knows at row 25 of the step table, before it loads the mark of curr. The node curr was in
--- the chain at some moment since the call began, and its key word is `ckey`, which is not smaller than that of k.
+-- The assertion of a `ceiling` of key `k` at row 25 of the step table, before it loads the mark of `curr`. The node
+-- `curr` was in the chain at some moment since the call began, and has the key word `ckey`, which is not smaller than
+-- the key word of `k`.
 pub record At25 (vs : ℕ → View) (first now k curr ckey : ℕ) : Type 0 where
   pub past : InPast vs first now curr
   pub walk : At21 vs first now k curr

@@ -23,7 +23,7 @@ use Rattle.lset_steps.specs.Rows.{ceiling_at}
 use Rattle.lset_steps.proofs.ReadTables.{HasReadRows, IsReadRow}
 use Rattle.lset_steps.specs.BoundedReads.{BoundedReads, ReadsNext, steps_after, steps_since}
 
--- Returns how many of the numbers below n satisfy f.
+-- Returns how many of the numbers below `n` satisfy `f`.
 abbrev count : (ℕ → Bool) → ℕ → ℕ
 count f zero = 0
 count f (suc n) = (if f n then 1 else 0) + count f n
@@ -72,8 +72,8 @@ true_or_false : (b : Bool) → (b ≡ true) ⊎ (b ≡ false)
 true_or_false true = inl refl
 true_or_false false = inr refl
 
--- Counts the nodes that a call has visited: `amount` nodes that have been in the chain, all with key words smaller than
--- `below`. The nodes are numbers below `size`.
+-- The nodes that a call has visited: `amount` nodes with numbers below `size`. All are published (have been in the
+-- chain), and have key words smaller than `below`.
 record Tally (v : View) (size below amount : ℕ) : Type 0 where
   met : ℕ → Bool
   are : (i : ℕ) → met i ≡ true → v.published i × (v.key i < below)
@@ -131,7 +131,7 @@ tally_on {v} {w} {size} {below} g a = record {
 abbrev IsCeilingRow : ℕ → Type 0
 IsCeilingRow pc = (pc ≡ 23) ⊎ (pc ≡ 24) ⊎ (pc ≡ 25)
 
--- How far the call of a thread has come after `steps` steps. At each row of a `contains`, the number of visited nodes
+-- The progress of a thread's call after `steps` steps. At rows 20 to 22 of a `contains`, the number of visited nodes
 -- determines the number of steps.
 data Walked (v : View) (size steps : ℕ) (l : Local) : Type 0 where
   resting : l.pc ≡ 0 → Walked v size steps l
@@ -166,7 +166,7 @@ module _ (T : Table) (law : Lawful T) (rows : HasReadRows T) (op : Opening) wher
   abbrev size : ℕ
   size = node_count (sizes op)
 
-  -- A step of thread t in state `s`.
+  -- Lemmas about a step of thread `t` in state `s`.
   module _ (s : State) (o : StateLaws T.marks (sizes op) s) (t : ℕ) (th : t < op.threads) (steps : ℕ) where
     abbrev V : View
     V = view_of (sizes op) s
@@ -295,8 +295,8 @@ module _ (T : Table) (law : Lawful T) (rows : HasReadRows T) (op : Opening) wher
     opening_local : local_of (state_at T op es 0) t ≡ idle op.quota t
     opening_local = get_or-map-range_with_len (idle op.quota) 0 op.threads t t (idle 0 0) th (omega arith)
 
-    -- After one more event, the thread's progress is still described by `Walked`. Proof by cases: the event is the
-    -- start of the thread's own call, the thread's own step, or an event of another thread.
+    -- Each event preserves `Walked`, the progress of the thread's call. Proof by cases: the event is the start of the
+    -- thread's own call, the thread's own step, or an event of another thread.
     walked_after : (k : ℕ) → k < last → (e : Event) → es k ≡ e → Enabled (state_at T op es k) e
         → Walked (views T op es k) size (steps_since es t k) (local_of (state_at T op es k) t)
         → Walked (views T op es k) size (steps_after e t (steps_since es t k)) (local_of (after T (state_at T op es k) e) t)

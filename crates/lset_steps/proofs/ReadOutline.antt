@@ -1,6 +1,6 @@
--- What a thread knows at each row of a `contains` or a `ceiling` without locks (its proof outline). Proof that each row
--- preserves this, and that the reply is correct at some moment of the call, possibly one before a step of another
--- thread (after O'Hearn and others).
+-- The assertions of a `contains` or a `ceiling` without locks, one for each row of the step table (a proof outline).
+-- Proof that each row preserves them, and that the reply is correct at some moment of the call, not necessarily in a
+-- step of its own thread (after O'Hearn and others).
 use Rattle.std.specs.Prelude.{◌≡◌, ◌≢◌, ℕ, suc, ◌-◌, ◌==◌, if◌then◌else◌, ◌/◌, ◌%◌, ◌<◌, ◌≤◌, ◌⊎◌, Bool, false, None, List, [], refl}
 use Rattle.std.proofs.Common.{arith, inl, inr, sym, ◌∙◌, ap, subst}
 use Rattle.lset_words.proofs.Numbers.{same_or_not, below_or_not, if_below, if_not_below, if_same, if_other}
@@ -44,7 +44,7 @@ pub data Reading (vs : ℕ → View) (first now : ℕ) (done : Bool) (l : Local)
   reads25 : l.pc ≡ 25 → done ≡ false → l.call ≡ Ceiling (key_of l.call) → At25 vs first now (key_of l.call).0 l.curr l.ckey
       → Reading vs first now done l
 
--- What a thread knows in a `contains` or a `ceiling` is about the past, so it is still true at the next moment.
+-- The assertions of a `contains` or a `ceiling` are about the past, so they still hold at the next moment.
 pub reading_on : {vs : ℕ → View} {first now : ℕ} {done : Bool} {l : Local} → Reading vs first now done l
     → Reading vs first (suc now) done l
 reading_on {vs} {first} {now} {done} {l} (reads20 e d c a) =
@@ -108,7 +108,7 @@ fits_lacked q vs first now t call c a = record {
 pub even_or_odd : (x : ℕ) → (x % 2 ≡ 0) ⊎ (x % 2 ≡ 1)
 even_or_odd x = grind arith
 
--- Rows 20 to 25 of the step table, which belong to `contains` and `ceiling`, for every protocol by which threads share
+-- Lemmas about rows 20 to 25 of the step table, the rows of `contains` and `ceiling`, for every protocol for sharing
 -- the words.
 module _ (T : Table) (P : Protocol T.marks) (At : Outline) (sz : Sizes) (t : ℕ) (vs : ℕ → View) (first now : ℕ) (ws : List ℕ)
     (used : ℕ → ℕ) (done : Bool) (l : Local)
@@ -150,8 +150,8 @@ module _ (T : Table) (P : Protocol T.marks) (At : Outline) (sz : Sizes) (t : ℕ
       let low : target l.call < tail_word = regs.low in
       omega arith
 
-  -- The load of a link leads from row 20 of the step table to row 21: what the thread must know at row 21 is true of
-  -- the node to which the link leads.
+  -- Loading the link of `curr` at row 20 of the step table leads to row 21: the assertion of row 21 holds for the next
+  -- node.
   behind : At20 vs first now (key_of l.call).0 l.curr
       → (node_link ws l.curr / 2 < node_count sz) × At21 vs first (suc now) (key_of l.call).0 (node_link ws l.curr / 2)
   behind a =
@@ -257,7 +257,7 @@ module _ (T : Table) (P : Protocol T.marks) (At : Outline) (sz : Sizes) (t : ℕ
       (keep_walk sz t 24 l.pred (s / 2) l regs.pred next.0 regs, refl, refl, λ x. omega arith)
       (reading (record l { pc = 24; curr = s / 2 }) (reads24 refl d c next.1))
 
-  -- If a `ceiling` stops at a key word, its reply was correct at the moment at which the previous node was in the chain
+  -- If a `ceiling` stops at a key word, its reply was correct at the moment when the previous node was in the chain
   -- with the link that the call read.
   found_then : (a : At21 vs first now (key_of l.call).0 l.curr) (c : ℕ) → l.call ≡ Ceiling (key_of l.call)
       → (vs a.seen.at).key l.curr ≡ c → target l.call ≤ c → (c < tail_word → (vs now).link l.curr % 2 ≡ 0)

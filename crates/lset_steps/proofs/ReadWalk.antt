@@ -49,8 +49,8 @@ module _ (T : Table) (rows : HasReadRows T) (vs : ℕ → View) (first now : ℕ
   seen_now (reads25 e d c x) =
       at_curr (inr (inr (inr (inr (inr e))))) (rows.acts l (inr (inr (inr (inr (inr e))))) ∙ (rw e refl)) x.past
 
--- States that a list's proof outline includes, at rows 20 to 25 of the step table, what a `contains` or a `ceiling`
--- knows there.
+-- States that a list's proof outline implies, at rows 20 to 25 of the step table, the assertions of a `contains` or a
+-- `ceiling` (`Reading`).
 abbrev pub ShowsReading : Outline → Type 1
 ShowsReading At = (q t : ℕ) (vs : ℕ → View) (first now : ℕ) (v : View) (done : Bool) (l : Local) → IsReadRow l.pc
     → At q t vs first now v done l → Reading vs first now done l
@@ -70,7 +70,7 @@ loads_seen T At d rows shows op last k t a es r l th busy reads next =
     (local_of (state_at T op es k) t)
     (read_row T (lawful_of T At d) rows op last k t es r l th busy reads) (i.threads t th).at)
 
--- States that thread t does not begin a call between moments `at` and k, so that its last call is the same at both.
+-- States that thread `t` has the same last call, begun at the same moment, at moments `at` and `k`.
 record SameCall (log : Log) (t at k : ℕ) : Type 0 where
   begun : begun_at log t k ≡ begun_at log t at
   call : last_call log t k ≡ last_call log t at

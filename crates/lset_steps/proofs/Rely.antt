@@ -1,5 +1,5 @@
--- The rely condition of lists that write links only under node locks: what a step of one thread leaves unchanged for
--- another thread.
+-- The rely condition of lists that write links only while the thread holds node locks: the properties that a step of
+-- one thread preserves for another thread.
 use Rattle.std.specs.Prelude.{◌≡◌, ◌≢◌, ℕ, ◌+◌, ◌*◌, ◌<◌, ◌⊎◌, Bool, Option, List, slice_index, slice_set, refl}
 use Rattle.std.proofs.Common.{arith, inl, inr, sym, ◌∙◌, ap}
 use Rattle.lset_words.proofs.Numbers.{same_or_not}
@@ -19,9 +19,9 @@ use Rattle.lset_steps.proofs.Memory.{at_lock, at_own_key, at_own_link}
 use Rattle.lset_steps.proofs.AfterWrite.{set_other, key_after_link, link_after_link, lock_after_link, list_lock_after_link, link_after_key}
 use Rattle.lset_steps.proofs.AfterWrite.{key_after_key, lock_after_key, list_lock_after_key, key_after_lock, link_after_lock}
 
--- What a step by another thread, from view v (the list before) to view w (the list after), leaves unchanged for thread
--- u with quota q: keys, the locks that u holds, the links of the nodes that u has locked and whether they are in the
--- chain, how many adds of u have succeeded, and the node for its next add.
+-- The properties that a step of another thread, from view `v` (the list before) to view `w` (the list after),
+-- preserves for thread `u` with quota `q`: keys, the locks that `u` holds, the links of the nodes that `u` has locked
+-- and whether they are in the chain, the number of successful adds of `u`, and the node for its next add.
 pub record Rely (v w : View) (q u : ℕ) : Type 0 where
   pub goes : KeepsNodes v w
   pub used : w.used u ≡ v.used u
@@ -32,8 +32,8 @@ pub record Rely (v w : View) (q u : ℕ) : Type 0 where
   pub own_key : v.used u < q → w.key (slot_node q u (v.used u)) ≡ v.key (slot_node q u (v.used u))
   pub own_link : v.used u < q → w.link (slot_node q u (v.used u)) ≡ v.link (slot_node q u (v.used u))
 
--- States that a step writes the link of a published node (one that has been in the chain) only if the thread holds this
--- node's lock, and unlinks a node only if the thread also holds the lock of the unlinked node.
+-- States that a step writes the link of a published node (one that has been in the chain) only if the thread holds the
+-- node's lock. To unlink a node, the thread must also hold the lock of the unlinked node.
 abbrev pub Guarded : (marks : Bool) (sz : Sizes) (t : ℕ) (ws : List ℕ) (used : ℕ → ℕ) (a : Action) (ws' : List ℕ)
     (used' : ℕ → ℕ) (ch : Option (Key × Bool))
     → WordStep marks sz t ws used a ws' used' ch → Type 0
@@ -45,7 +45,7 @@ Guarded marks sz t ws used a ws' used' ch (drops b p c d k y w at first inn foll
     (node_lock ws p ≡ t + 1) × (node_lock ws c ≡ t + 1)
 Guarded marks sz t ws used a ws' used' ch step = Unit {0}
 
--- A step of thread t, as another thread u sees it.
+-- Lemmas about the effect of a step of thread `t` on another thread `u`.
 module _ (marks : Bool) (sz : Sizes) (ws : List ℕ) (used : ℕ → ℕ) (m : Memory marks sz ws used) (t : ℕ) (h : t < sz.threads)
     (u : ℕ) (k : u < sz.threads) (d : u ≢ t) where
   at_word : (x v : ℕ) → IsLockWord x → (slice_index ws x ≡ 0) ⊎ (slice_index ws x ≡ t + 1)
@@ -92,9 +92,9 @@ module _ (marks : Bool) (sz : Sizes) (ws : List ℕ) (used : ℕ → ℕ) (m : M
   alien : (c a : ℕ) → node_lock ws c ≡ t + 1 → node_lock ws a ≡ u + 1 → a ≢ c
   alien c a x y e = d (let f : node_lock ws a ≡ node_lock ws c = ap (node_lock ws) e in omega arith)
 
-  -- A step of t under the locks leaves unchanged everything that u relies on. Proof by cases: `at_word` for lock words,
-  -- `at_link` for links of published nodes. A node that t writes or unlinks is locked by t and therefore not by u
-  -- (`alien`).
+  -- A step of `t` that respects the node locks preserves everything that `u` relies on. Proof by cases: `at_word` for
+  -- lock words, `at_link` for links of published nodes. A node that `t` writes or unlinks is locked by `t` and
+  -- therefore not by `u` (`alien`).
   pub rely_of : (a : Action) (ws' : List ℕ) (used' : ℕ → ℕ) (ch : Option (Key × Bool))
       (c : WordStep marks sz t ws used a ws' used' ch)
       → Guarded marks sz t ws used a ws' used' ch c

@@ -1,5 +1,5 @@
--- The rely condition of every list, with or without locks: what a step of one thread leaves unchanged for another
--- thread.
+-- The rely condition of every list, with or without locks: the properties that a step of one thread preserves for
+-- another thread.
 use Rattle.std.specs.Prelude.{◌≡◌, ◌≢◌, ℕ, ◌+◌, ◌*◌, ◌%◌, ◌<◌, Bool, Option, List, refl}
 use Rattle.std.proofs.Common.{arith, inl, sym}
 use Rattle.lset_words.specs.Words.{slot_node, Sizes}
@@ -13,9 +13,9 @@ use Rattle.lset_steps.proofs.Memory.{WordStep, Memory, reads, fails, takes, give
 use Rattle.lset_steps.proofs.Memory.{drops, own_of, row_once, no_own, moved, goes_on, others_counted}
 use Rattle.lset_steps.proofs.AfterWrite.{key_after_link, link_after_link, link_after_key, key_after_key, key_after_lock, link_after_lock}
 
--- What a step by another thread, from view v (the list before) to view w (the list after), leaves unchanged for thread
--- u with quota q, even without locks: keys, the links of marked nodes, how many adds of u have succeeded, and the node
--- for its next add.
+-- The properties that a step of another thread, from view `v` (the list before) to view `w` (the list after),
+-- preserves for thread `u` with quota `q`, even without locks: keys, the links of marked nodes, the number of
+-- successful adds of `u`, and the node for its next add.
 pub record Remains (v w : View) (q u : ℕ) : Type 0 where
   pub goes : KeepsNodes v w
   pub marked : (a : ℕ) → v.published a → v.link a % 2 ≡ 1 → w.link a ≡ v.link a
@@ -32,7 +32,7 @@ remains_same v q u = record {
   own_link = λ r. refl;
 }
 
--- A step of thread t, as another thread u sees it.
+-- Lemmas about the effect of a step of thread `t` on another thread `u`.
 module _ (marks : Bool) (sz : Sizes) (ws : List ℕ) (used : ℕ → ℕ) (m : Memory marks sz ws used) (t : ℕ) (h : t < sz.threads)
     (u : ℕ) (k : u < sz.threads) (d : u ≢ t) where
   at_chain : (p : ℕ) → InChain (view sz ws used) p → Published sz used p

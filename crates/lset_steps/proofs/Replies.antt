@@ -1,4 +1,4 @@
--- Which replies are correct when a call decides, and facts that the proofs of all step tables use.
+-- The replies that are correct when a call decides, and lemmas that the proofs of all step tables use.
 use Rattle.std.specs.Prelude.{◌≡◌, ◌≢◌, ℕ, ◌+◌, ◌-◌, ◌/◌, ◌%◌, ◌<◌, ◌≤◌, ◌⊎◌, Bool, true, false, Option, Some, None, [], ◌||◌, refl}
 use Rattle.std.proofs.Common.{arith, inl, inr, sym, ap, subst, ◌∙◌}
 use Rattle.lset_words.specs.declared.Call.{Call}
@@ -18,8 +18,9 @@ use Rattle.lset_steps.proofs.QuietMove.{in_chain_published, chain_on}
 use Rattle.lset_words.proofs.Numbers.{below_or_not, if_below, if_not_below}
 use Rattle.lset_words.specs.declared.Key.{Key}
 
--- What is true after the decision that a call will add its key. `Removing` is what is true after the decision that it
--- will remove its key.
+-- The assertion after the decision that a call will add its key: the call is an `add`, its thread has not used up its
+-- quota, and the key is smaller than curr's. `Removing` is the assertion after the decision that a call will remove
+-- its key.
 pub record Adding (v : View) (t q curr : ℕ) (op : Call) : Type 0 where
   pub call : op ≡ Add (key_of op)
   pub room : v.used t < q
@@ -29,7 +30,7 @@ pub record Removing (v : View) (curr : ℕ) (op : Call) : Type 0 where
   pub call : op ≡ Remove (key_of op)
   pub found : v.key curr ≡ target op
 
--- Every step preserves what is true after the decision to add or to remove.
+-- Every step preserves `Adding` and `Removing`, the assertions after the decision to add or to remove a key.
 module _ {v w : View} (g : KeepsNodes v w) where
   pub removing_kept : {curr : ℕ} {op : Call} → v.published curr → Removing v curr op → Removing w curr op
   removing_kept {curr} p a = record { call = a.call; found = g.keys curr p ∙ a.found }
@@ -53,13 +54,13 @@ decided_cases a d u q t v (Contains k) true room c l hit miss full over = inl (T
 decided_cases a d u q t v (Contains k) false room c l hit miss full over = inl (False, refl, miss refl)
 decided_cases a d u q t v (Ceiling k) found room c l hit miss full over = inl (ceiling_at c, refl, over)
 
--- If k is between the keys of two neighbours in the chain, k is not in the set.
+-- If the key `k` is between the keys of two neighbours in the chain, `k` is not in the set.
 pub absent_between : (v : View) → IsOrdered v → (p k : ℕ) → InChain v p → p ≢ 1 → v.key p < k + 1
     → k + 1 < v.key (v.link p / 2) → InContent v k → ⊥
 absent_between v ord p k i d lo hi c = let e : v.key c.0 ≡ k + 1 = c.3 in gap v ord p c.0 i c.1 d (omega arith) (omega arith)
 
--- The reply of a `ceiling` is correct at two neighbours of the chain with its key between them, if the second is the
--- tail or is not marked.
+-- The reply of a `ceiling` is correct if its key is above the first of two neighbours in the chain but not above the
+-- second, and the second is the tail or is not marked.
 pub ceiling_fits : (q t : ℕ) (v : View) (p c : ℕ) (k : Key) → IsOrdered v → v.key 0 ≡ 0 → v.key 1 ≡ tail_word → InChain v p
     → p ≢ 1 → v.key p < k.0 + 1 → c ≡ v.key (v.link p / 2) → k.0 + 1 ≤ c → (c < tail_word → v.link (v.link p / 2) % 2 ≡ 0)
     → FitsIn q v t (Ceiling k) (ceiling_at c)
@@ -105,7 +106,7 @@ or_false false = refl
 abbrev pub fed : Local → Option Reply → Fed
 fed l a = record { local = l; answer = a }
 
--- Registers stay in range when a call begins, and in each step.
+-- A thread's registers stay in range when it begins a call.
 pub registers_begun : (sz : Sizes) (t pc : ℕ) (call : Call) (l : Local) → target call < tail_word → Registers sz t l
     → Registers sz t (begun pc call l)
 registers_begun sz t pc call l low r =
@@ -113,12 +114,12 @@ registers_begun sz t pc call l low r =
     let smallest : 0 ≤ tail_word = omega arith in
     assumption
 
--- Registers stay in range when a successful add has used up a node of its thread.
+-- A thread's registers stay in range when a successful add uses up a slot and stores the reply `True`.
 pub keep_more : (sz : Sizes) (t p : ℕ) (l : Local) → l.used < sz.quota → Registers sz t l
     → Registers sz t (record l { pc = p; reply = Some True; used = l.used + 1 })
 keep_more sz t p l room r = let most : l.used + 1 ≤ sz.quota = omega (arith, room) in assumption
 
--- Registers stay in range when a successful add has used up a node of its thread and replies in the same step.
+-- A thread's registers stay in range when a successful add uses up a slot, and no reply is stored.
 pub keep_used : (sz : Sizes) (t p : ℕ) (l : Local) → l.used < sz.quota → Registers sz t l
     → Registers sz t (record l { pc = p; used = l.used + 1 })
 keep_used sz t p l room r = let most : l.used + 1 ≤ sz.quota = omega (arith, room) in assumption

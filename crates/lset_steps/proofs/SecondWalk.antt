@@ -9,8 +9,9 @@ use Rattle.lset_steps.proofs.Moves.{Course, InPast}
 use Rattle.lset_steps.proofs.Hindsight.{hindsight, next_in_past, in_past_on}
 use Rattle.lset_steps.proofs.Held.{Leaves}
 
--- What thread t knows during its second walk: it has held the lock of pred since the moment `start`, and the node that
--- the walk has reached was in the chain at some moment since then. `v` is the current view.
+-- The assertion during the second walk of thread `t`: the thread has held the lock of `pred` since the moment `start`,
+-- and the node that the walk has reached was in the chain at some moment since then. `v` is the current view (the
+-- list's nodes and locks).
 pub record SecondWalk (vs : ℕ → View) (start now : ℕ) (v : View) (t pred node : ℕ) : Type 0 where
   pub seen : InPast vs start now node
   pub kept : (s : ℕ) → start ≤ s → s < now → (vs s).lock pred ≡ t + 1
@@ -59,7 +60,7 @@ module _ (vs : ℕ → View) {start now t pred : ℕ} {v : View} (present : vs n
     node_published = l.grows node x.node_published;
   }
 
-  -- If t loads the link of the node that its second walk has reached, the walk has reached the next node.
+  -- If thread `t` loads the link of the node that its second walk has reached, the assertion holds for the next node.
   pub second_walk_goes : {node : ℕ} → Course vs now → IsOrdered v → node ≢ 1 → SecondWalk vs start now v t pred node
       → SecondWalk vs start (suc now) v t pred (v.link node / 2)
   second_walk_goes {node} course ord inn x = record {

@@ -1,5 +1,5 @@
--- Proof that a list satisfies the law of a machine if its threads share the words by a protocol. States what must be
--- shown for each row of the step table, and proves that this is enough.
+-- Proof that a list satisfies the law of a machine if its threads follow a protocol for sharing the words. This file
+-- states the proof obligation for each row of the step table, and proves that these obligations are enough.
 use Rattle.std.specs.Prelude.{◌≡◌, ◌≢◌, ℕ, suc, ◌+◌, ◌<◌, ◌≤◌, Bool, true, false, Option, Some, None, List, ◌||◌, if◌then◌else◌}
 use Rattle.std.specs.Prelude.{◌==◌, slice_set, refl}
 use Rattle.std.proofs.Common.{arith, inl, inr, sym, ◌∙◌, ap, subst}
@@ -27,8 +27,8 @@ pub due_of : (done : Bool) (q : ℕ) (vs : ℕ → View) (first now t : ℕ) (ca
     → FitsSometime q (contents_of vs) (counts_of vs) first now t call r → Due done q vs first now t call r
 due_of done q vs first now t call r unchanged fits = rw unchanged fits
 
--- If a call that has not changed the set decides on a reply that is correct now, the reply is correct at a moment of
--- the call.
+-- Suppose that a call has not changed the set and chooses a reply that is correct now. Then the reply is correct at a
+-- moment of the call.
 pub due_now : (done : Bool) (q : ℕ) (vs : ℕ → View) (first now t : ℕ) (v : View) (call : Call) (r : Reply)
     → done ≡ false → first ≤ now → vs now ≡ v → FitsIn q v t call r → Due done q vs first (suc now) t call r
 due_now done q vs first now t v call r unchanged from present fits = due_of done q vs first (suc now) t call r unchanged (record {
@@ -43,7 +43,7 @@ pub due_on : (done : Bool) (q : ℕ) (vs : ℕ → View) (first now t : ℕ) (ca
 due_on true q vs first now t call r d = d
 due_on false q vs first now t call r d = fitted_on q vs first now (suc now) t call r (omega arith) d
 
--- States what is known about a call that is about to release its locks: it has a correct reply, or it has changed
+-- States the outcome of a call that is about to release its locks: it has a correct reply, or (`None`) it has changed
 -- nothing and will start again.
 abbrev pub Outcome : Bool → ℕ → (ℕ → View) → ℕ → ℕ → ℕ → Call → Option Reply → Type 0
 Outcome done q vs first now t call None = done ≡ false
@@ -54,8 +54,8 @@ pub outcome_on : (done : Bool) (q : ℕ) (vs : ℕ → View) (first now t : ℕ)
 outcome_on done q vs first now t call None o = o
 outcome_on done q vs first now t call (Some reply) o = due_on done q vs first now t call reply o
 
--- A protocol by which threads share the words of a list: the steps that a thread may make, besides loads, and what such
--- a step leaves unchanged for another thread (`rely`).
+-- A protocol for sharing the words of a list: the steps that a thread may make (loads are always allowed), and the
+-- properties that such a step preserves for another thread (`rely`).
 pub record Protocol (marks : Bool) : Type 1 where
   pub step : (sz : Sizes) (t : ℕ) (ws : List ℕ) (used : ℕ → ℕ) → Action → List ℕ → (ℕ → ℕ) → Option (Key × Bool) → Type 0
   pub rely : View → View → ℕ → ℕ → Type 0
@@ -94,18 +94,20 @@ no_locks marks = record {
   still = remains_same;
 }
 
--- States that what a thread knows at its row of the step table stays true in steps of other threads.
+-- States that steps of other threads preserve a thread's assertion (from the proof outline, at its row of the step
+-- table).
 abbrev pub Stands : {marks : Bool} → Protocol marks → Outline → Type 1
 Stands P At = (q t : ℕ) (vs : ℕ → View) (first now : ℕ) (v w : View) (done : Bool) (l : Local) → vs now ≡ v → P.rely v w q t
     → At q t vs first now v done l → At q t vs first (suc now) w done l
 
--- States which parts of its private state a thread keeps in a step that does not end its call.
+-- States that in a step that does not end its call, a thread keeps its call and its number of successful adds, and its
+-- registers stay in range.
 abbrev pub Onward : Sizes → ℕ → Local → Local → Type 0
 Onward sz t l l' = Registers sz t l' × (l'.call ≡ l.call) × (l'.used ≡ l.used) × (l'.pc ≢ 0)
 
--- What must be shown about one row of the step table: thread t, in private state `l`, makes the step. The row continues
--- the call, changes the set, ends the call, or changes the set and ends the call. Each case has the row's action, its
--- effect on the words, the thread's next private state, and what the outline says after the step.
+-- The proof obligation for one row of the step table: thread `t`, in private state `l`, makes the step. The row
+-- continues the call, changes the set, ends the call, or changes the set and ends the call. Each case has the row's
+-- action, its effect on the words, the thread's next private state, and the assertion of the outline after the step.
 pub data Turn (T : Table) (P : Protocol T.marks) (At : Outline) (sz : Sizes) (t : ℕ) (vs : ℕ → View) (first now : ℕ) (ws : List ℕ)
     (used : ℕ → ℕ) (done : Bool) (l : Local) : Type 0 where
   passes : (a : Action) (ws' : List ℕ) (l' : Local)
@@ -137,7 +139,7 @@ Locks P = (sz : Sizes) (t : ℕ) (ws : List ℕ) (used : ℕ → ℕ) (a : ℕ) 
 pub locks_nodes : (marks : Bool) → Locks (node_locks marks)
 locks_nodes marks sz t ws used a inn = (λ free. locks_free a inn free, λ taken. finds_locked a inn taken)
 
--- A row that attempts to take the lock of node a is a step of the protocol, whether the attempt succeeds or fails.
+-- An attempt to take the lock of node `a` is a step of the protocol, whether the attempt succeeds or fails.
 pub tries : {T : Table} {P : Protocol T.marks} {At : Outline} {sz : Sizes} {t : ℕ} {vs : ℕ → View} {first now : ℕ} {ws : List ℕ}
     {used : ℕ → ℕ} {done : Bool} {l : Local}
     → Locks P → (a : ℕ) (on same : Local) → a < node_count sz → T.next l ≡ Exchange (lock_index a) 0 (t + 1)
@@ -154,9 +156,9 @@ tries {P = P} {sz = sz} {t = t} {ws = ws} {used = used} locks a on same inn acts
       ((locks sz t ws used a inn).1 other) again stays
 ]
 
--- What the proof of a list must show for its protocol. What a thread knows at its row (the outline) is true when a call
--- begins. Each row is a step of the protocol, and preserves what its own thread knows. Steps of other threads preserve
--- it, too.
+-- The proof obligations for a list and its protocol. A thread's assertion (from the proof outline, at its row) holds
+-- when a call begins. Each row is a step of the protocol, and preserves the assertion of its own thread. Steps of
+-- other threads preserve it as well.
 pub record Follows (T : Table) (P : Protocol T.marks) (At : Outline) : Type 1 where
   pub idle_at : (op : Opening) → Opens op → (t : ℕ) (vs : ℕ → View)
       → At op.quota t vs 0 0 (view_of (sizes op) (opening op)) false (idle op.quota t)
@@ -170,8 +172,8 @@ pub record Follows (T : Table) (P : Protocol T.marks) (At : Outline) : Type 1 wh
       → Here T.marks sz vs now ws used → Thread At sz t vs first now ws used done l → t < sz.threads → l.pc ≢ 0
       → Turn T P At sz t vs first now ws used done l
 
--- Adds an invariant of the shared words to what a thread knows (the outline). Each step of the protocol must preserve
--- the invariant. Then the proof of each row can use the invariant without proving it again.
+-- Adds an invariant of the shared words to each assertion of the proof outline. Each step of the protocol must
+-- preserve the invariant. Then the proof of each row can use the invariant without proving it again.
 abbrev pub Keeping : (View → Type 0) → Outline → Outline
 Keeping Always At q t vs first now v done l = At q t vs first now v done l × Always v
 

@@ -1,5 +1,5 @@
--- What changes when the node after a node of the chain is unlinked: the order of keys, the chain, and the keys of the
--- set.
+-- The effect of unlinking the node after a node of the chain: on the order of keys, on the chain, and on the keys of
+-- the set.
 use Rattle.std.proofs.Common.{◌≡◌, ◌≢◌, ℕ, ◌+◌, ◌*◌, ◌/◌, ◌%◌, ◌<◌, ◌≤◌, ◌⊎◌, inl, inr, List, [], ◌∷◌, sym, refl, ap, subst, ◌∙◌, arith}
 use Rattle.lset_words.proofs.Numbers.{same_or_not}
 use Rattle.lset_steps.specs.Chain.{View, Segment, InChain, InContent, IsOrdered}
@@ -7,7 +7,7 @@ use Rattle.lset_steps.proofs.Moves.{Unlinks, KeepsNodes}
 use Rattle.lset_steps.proofs.Segments.{segment_increases, sides, one_key}
 use Rattle.lset_steps.proofs.QuietMove.{in_chain_published, chain_before, chain_on, segment_after, apart, apart'}
 
--- The unlinked node curr, the nodes pred and s on both sides of it, and their keys and links.
+-- The keys and links in an unlinking: of the unlinked node `curr`, of `pred` before it, and of `s` after it.
 pub record Facts (v w : View) (pred curr s : ℕ) : Type 0 where
   pub curr_is : v.link pred / 2 ≡ curr
   pub s_is : v.link curr / 2 ≡ s
@@ -149,7 +149,7 @@ unlink_mark v w pred curr q b m = elim (same_or_not b pred) [
   | inr d ↦ ap (λ x. x % 2) (q.links b m d)
 ]
 
--- ---- How an unlinking changes the keys of the set
+-- ---- Lemmas about the effect of an unlinking on the keys of the set
 
 pub unlink_only : (v w : View) → IsOrdered v → (pred curr : ℕ) → Unlinks v w pred curr → (j : ℕ) → InContent w j → InContent v j
 unlink_only v w ord pred curr q j c =

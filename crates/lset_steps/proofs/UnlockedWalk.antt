@@ -1,5 +1,5 @@
--- What a walk without locks knows about the two nodes that it has reached: they have been in the chain (are published),
--- and the call's key is above that of the first. They can have left the chain.
+-- Assertions about the two nodes that a walk without locks has reached: they are published (have been in the chain),
+-- and the first has a smaller key than the call's. They can have left the chain.
 use Rattle.std.specs.Prelude.{◌≡◌, ◌≢◌, ℕ, ◌+◌, ◌*◌, ◌/◌, ◌<◌, ◌≤◌, Bool, true, None, List, slice_set}
 use Rattle.std.proofs.Common.{arith, ◌∙◌, ap}
 use Rattle.lset_words.specs.Words.{lock_index, tail_word, node_count, Sizes}
@@ -15,8 +15,8 @@ pub record Spot (v : View) (key pred curr : ℕ) : Type 0 where
   pub below : v.key pred < key
   pub curr_published : v.published curr
 
--- States that, in addition to `Spot`, the key word of curr is the one that was read, and is not smaller than the
--- call's.
+-- States `Spot` and, in addition, that the key word of `curr` is `ckey`, the word that was read, and is not smaller
+-- than the call's.
 pub record Found (v : View) (key pred curr ckey : ℕ) : Type 0 where
   pub spot : Spot v key pred curr
   pub is : v.key curr ≡ ckey
@@ -49,7 +49,7 @@ module _ {v w : View} (g : KeepsNodes v w) where
   }
 
 module _ {marks : Bool} {sz : Sizes} {ws : List ℕ} {used : ℕ → ℕ} (m : Memory marks sz ws used) where
-  -- If node a has a smaller key than the call's, a and the node to which its link leads satisfy `Spot`.
+  -- If published node `a` has a smaller key than the call's, `Spot` holds for `a` and the node after it.
   pub spot_behind : {key : ℕ} (a : ℕ) → (view sz ws used).published a → node_key ws a < key
       → Spot (view sz ws used) key a (node_link ws a / 2)
   spot_behind a p below = record { pred_published = p; below = below; curr_published = next_published marks sz ws used m a p }
@@ -71,8 +71,8 @@ module _ {marks : Bool} {sz : Sizes} {ws : List ℕ} {used : ℕ → ℕ} (m : M
       goes_on marks sz ws used m t tn (Exchange (lock_index a) 0 (t + 1)) (slice_set ws (lock_index a) (t + 1)) used None
       (locks_free a inn free).0
 
--- For lists that mark nodes: a thread that holds the lock of pred loads pred's link. If the link has no mark, pred is
--- in the chain.
+-- For lists that mark nodes: if a thread holds the lock of `pred`, and pred's link has no mark, `pred` is in the
+-- chain.
 pub behind_of_load : {sz : Sizes} {ws : List ℕ} {used : ℕ → ℕ} (m : Memory true sz ws used) {t key pred curr : ℕ} → key < tail_word
     → Spot (view sz ws used) key pred curr → node_lock ws pred ≡ t + 1 → node_link ws pred ≡ 2 * curr
     → Behind (view sz ws used) t key pred curr

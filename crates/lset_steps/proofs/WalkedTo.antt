@@ -1,5 +1,4 @@
--- The invariant of a loop that walks along the chain. `World::walk` is such a loop, and so is `Closed::keys` of
--- `lset_live`.
+-- The invariant of a loop that walks along the chain. `World::walk` and `Closed::keys` of `lset_live` have such loops.
 use Rattle.std.proofs.Common.{◌≡◌, ◌≢◌, ℕ, ◌-◌, ◌/◌, ◌%◌, ◌<◌, ◌≤◌, Bool, true, false, inl, inr, List, [], ◌∷◌, ◌++◌, sym, refl}
 use Rattle.std.proofs.Common.{ap, subst, arith, rules, ◌∙◌, append-nil}
 use Rattle.std.specs.Prelude.{nat_lt, ◌==◌, IsTrue, ◌↔◌, Option, Some, None, option_to_list, filter_map, if◌then◌else◌}
@@ -15,7 +14,7 @@ use Rattle.lset_steps.proofs.ContentLists.{content_increases}
 use Rattle.lset_steps.proofs.Segments.{segment-append}
 use Rattle.lset_steps.proofs.QuietMove.{not_one}
 
--- The loop invariant: the walk has reached node curr, and has collected these items from the nodes before curr.
+-- The loop invariant: the walk has reached node `curr`, and has collected `items` from the nodes before it.
 pub record HasPicked {A : Type 0} (answers : ChainKey → Option A → Type 0) (v : View) (items : List A) (curr : ℕ) : Type 0 where
   pub nodes : List ℕ
   pub seg : Segment v 0 nodes curr
@@ -59,7 +58,8 @@ module _ {A : Type 0} (answers : ChainKey → Option A → Type 0) (v : View) (o
             ∙ sym (ap (λ ks. filter_map pick ks) (chain_keys-append v w.nodes (curr ∷ [])));
       })
 
-  -- The walk passes a node with a key, and collects the answer for this key, if any.
+  -- The loop invariant still holds after the walk passes a node with a key, and collects the answer for this key, if
+  -- any.
   pub picked_more : (items : List A) (curr next : ℕ) (met : ChainKey) (answer : Option A) → v.key 0 ≡ 0 → curr ≢ 1
       → next ≡ v.link curr / 2 → met ≡ record { key = v.key curr - 1; marked = v.link curr % 2 == 1 } → answers met answer
       → HasPicked answers v items curr → HasPicked answers v (items ++ option_to_list answer) next
@@ -75,7 +75,7 @@ module _ {A : Type 0} (answers : ChainKey → Option A → Type 0) (v : View) (o
       listed None = refl
       listed (Some x) = refl
 
-  -- The key distance to the tail decreases in each round, so the loop ends.
+  -- The difference between the tail's key and the current key decreases in each round, so the loop ends.
   pub falls : (items : List A) (curr next : ℕ) → curr ≢ 1 → next ≡ v.link curr / 2 → HasPicked answers v items curr
       → v.key 1 - v.key next < v.key 1 - v.key curr
   falls items curr next n e w =
@@ -109,7 +109,7 @@ mark_of_word word false same = let e : word % 2 ≢ 1 = λ p. not_true (same.1 p
     not_true : IsTrue false → ⊥
     not_true t = absurd (cc)
 
--- ---- A walk that collects the keys of the set skips marked nodes
+-- ---- Lemmas about a walk that collects the keys of the set: it skips marked nodes
 abbrev pub unmarked_key : ChainKey → Option ℕ
 unmarked_key met = if met.marked then None else Some met.key
 
@@ -136,7 +136,7 @@ content_picked answers v items same w =
     ∙ unmarked_picked (chain_keys v w.nodes) ∙ sym (unmarked v w.nodes) in
     ((w.nodes, w.is_chain, keys), subst IsStrictlyIncreasing (sym keys) w.increasing)
 
--- ---- A walk that collects all keys of the chain skips no node
+-- ---- Lemmas about a walk that collects all keys of the chain: it skips no node
 picked_whole : (keys : List ChainKey) → filter_map (λ met. Some met) keys ≡ keys
 picked_whole [] = refl
 picked_whole (k ∷ ks) = ap (λ xs. k ∷ xs) (picked_whole ks)

@@ -12,8 +12,8 @@ use Rattle.lset_steps.specs.Chain.{Seen}
 use Rattle.lset_steps.specs.Laws.{views}
 use Rattle.lset_steps.specs.Promises.{IsContains, IsRead}
 
--- Returns how many steps thread t has made since its last call began, after one more event. `before` is the number
--- before the event.
+-- Returns the number of steps that thread `t` has made since its last call began, after an event. `before` is this
+-- number before the event.
 abbrev pub steps_after : Event → ℕ → ℕ → ℕ
 steps_after (Begin u call) t before = if u == t then 0 else before
 steps_after (Go u) t before = if u == t then before + 1 else before
@@ -22,12 +22,12 @@ abbrev pub steps_since : (ℕ → Event) → ℕ → ℕ → ℕ
 steps_since es t zero = 0
 steps_since es t (suc k) = steps_after (es k) t (steps_since es t k)
 
--- The maximum number of steps of a `contains`: two for each node that can have a user's key, and two more.
+-- The maximum number of steps of a `contains`: two for each node that can have a user's key, plus two.
 abbrev pub most_reads : Sizes → ℕ
 most_reads sz = 2 * (sz.threads * sz.quota + sz.opening) + 2
 
 -- [Bounded contains]: the next step of thread t's pending `contains` is a load, and the call has made fewer steps than
--- the bound. Hence no `contains` ever makes more steps than the bound.
+-- the bound. Therefore no `contains` makes more steps than the bound.
 pub record ReadsNext (T : Table) (op : Opening) (es : ℕ → Event) (k t : ℕ) : Type 0 where
   pub loads : (word : ℕ) × (T.next (local_of (state_at T op es k) t) ≡ Load word)
   pub few : steps_since es t k < most_reads (sizes op)
@@ -37,9 +37,9 @@ BoundedReads T = (op : Opening) (last k t : ℕ) (es : ℕ → Event) → Run T 
     → (local_of (state_at T op es k) t).pc ≢ 0 → IsContains (local_of (state_at T op es k) t).call
     → ReadsNext T op es k t
 
--- [Walk was in the chain]: thread t's last call, pending or completed at moment k, has passed node a with the link word
--- l: in one of its steps, `at`, it loaded the node's link word and saw l. (The load of the mark of the node at which
--- the call stops is such a step, too.)
+-- [Walk was in the chain]: thread t's last call, pending or completed at moment k, has passed node a with the link
+-- word l: in the step at moment `at`, the call loaded the node's link word and saw `l`. (The load of a mark is such a
+-- step as well.)
 pub record HasPassed (T : Table) (op : Opening) (es : ℕ → Event) (k t a l : ℕ) : Type 0 where
   pub at : ℕ
   pub from : begun_at (log_of T op es) t k ≤ at
@@ -49,7 +49,7 @@ pub record HasPassed (T : Table) (op : Opening) (es : ℕ → Event) (k t a l : 
   pub read : seen_next T (state_at T op es at) t ≡ l
 
 -- States that each node that a `contains` or a `ceiling` has passed was in the chain, with the link word that the call
--- saw, at some moment of the call before the load or at the load.
+-- saw, at some moment from the start of the call to the load.
 abbrev pub WalkWasInChain : Table → Type 0
 WalkWasInChain T = (op : Opening) (last k t a l : ℕ) (es : ℕ → Event) → Run T op es last → k ≤ last
     → IsRead (last_call (log_of T op es) t k) → (p : HasPassed T op es k t a l)

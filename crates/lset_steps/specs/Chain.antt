@@ -1,5 +1,5 @@
 -- The chain of a list, the nodes reachable from the head, and its content, the keys of the set. Both are computed from
--- the words of the list and from how many slots each thread has used (Herlihy and Shavit).
+-- the words of the list and from the number of slots that each thread has used (Herlihy and Shavit).
 use Rattle.std.specs.Prelude.{◌≡◌, ◌≢◌, ℕ, ◌+◌, ◌/◌, ◌%◌, ◌<◌, ◌≤◌, ◌⊎◌, Bool, true, false, List, [], ◌∷◌, Option, slice_index}
 use Rattle.lset_words.specs.Words.{key_index, link_index, lock_index, slot_node, opening_node, Sizes}
 use Rattle.lset_words.specs.declared.Key.{Key}
@@ -16,9 +16,9 @@ node_link ws a = slice_index ws (link_index a)
 abbrev pub node_lock : List ℕ → ℕ → ℕ
 node_lock ws a = slice_index ws (lock_index a)
 
--- What the laws need to know about a list at one moment: the key, link and lock word of each node, the lock of the
--- whole list, how many adds of each thread have succeeded, and which nodes are published, which means that they have
--- been in the chain at some time.
+-- The parts of a list that the laws mention, at one moment: the key, link and lock word of each node, the lock of the
+-- whole list, each thread's number of successful adds, and whether a node is published, which means that it has been
+-- in the chain at some time.
 pub record View : Type 1 where
   pub key : ℕ → ℕ
   pub link : ℕ → ℕ
@@ -78,8 +78,7 @@ abbrev pub UnmarkedInChain : Bool → View → Type 0
 UnmarkedInChain true v = (b : ℕ) → v.published b → v.link b % 2 ≡ 0 → InChain v b
 UnmarkedInChain false v = (b : ℕ) → v.published b → v.link b % 2 ≡ 0
 
--- [Content] at two moments: states that the keys of the set change from `v` to `w` as `change` says, and in no other
--- way.
+-- [Content] at two moments: states that the change of the set's keys from `v` to `w` is exactly `change`.
 abbrev pub Changed : Option (Key × Bool) → View → View → Type 0
 Changed change v w = Changes change (InContent v) (InContent w)
 

@@ -15,8 +15,8 @@ use Rattle.lset_steps.specs.declared.Event.TheVariants.{Go}
 use Rattle.lset_steps.specs.Steps.{Table, State, state_at, Run, local_of, seen_next, log_of, idle}
 use Rattle.lset_steps.specs.Chain.{View, view, IsOrdered, InChain, UnmarkedInChain, Changed, UnlinkedStays, Seen, contents_of, counts_of}
 
--- Returns how many adds of thread t have succeeded in state s. `view_of` returns the nodes and locks of a state, and
--- `views` those at each moment of a run.
+-- Returns the number of successful adds of thread `t` in state `s`. `view_of` returns the nodes and locks of a state,
+-- and `views` the nodes and locks at each moment of a run.
 abbrev pub used_in : State → ℕ → ℕ
 used_in s t = (local_of s t).used
 
@@ -34,8 +34,8 @@ word_named (Exchange w old new) = w
 abbrev pub IsLockWord : ℕ → Type 0
 IsLockWord x = (x ≡ 0) ⊎ ((i : ℕ) × (x ≡ lock_index i))
 
--- States that the private state of thread t has the thread's own number and quota, and that its registers are in range:
--- nodes of the table, and key words up to the tail's.
+-- States that the private state `l` has the number and the quota of thread `t`, and that its registers are in range:
+-- each is a node of the list, or a key word up to the tail's.
 pub record Registers (sz : Sizes) (t : ℕ) (l : Local) : Type 0 where
   pub thread : l.thread ≡ t
   pub quota : l.quota ≡ sz.quota
@@ -77,8 +77,8 @@ abbrev pub Answered : Bool → ℕ → (ℕ → View) → ℕ → ℕ → ℕ �
 Answered done q vs first now t call pc None = pc ≢ 0
 Answered done q vs first now t call pc (Some r) = (pc ≡ 0) × Due done q vs first now t call r
 
--- The laws of a step that thread t, in private state `l`, makes between moments k and k + 1. `change` is the key that
--- the table says is added or removed.
+-- The laws of a step that thread `t`, in private state `l`, makes between moments k and k + 1. `change` is the key
+-- that the step adds or removes according to the table.
 pub record StepLaws (T : Table) (op : Opening) (es : ℕ → Event) (k t : ℕ) (s : State) (l : Local)
     (change : Option (Key × Bool)) : Type 0 where
   -- The step accesses a word of the table, and no word outside it.
@@ -86,9 +86,9 @@ pub record StepLaws (T : Table) (op : Opening) (es : ℕ → Event) (k t : ℕ) 
   -- The step writes a lock word only to take or to release the lock.
   pub lock_use : LockUse s.words t (T.next l)
   pub same_call : (T.feed l (seen_next T s t)).local.call ≡ l.call
-  -- The keys of the set change as `change` says, and in no other way.
+  -- The change of the set's keys in this step is exactly `change`.
   pub content : Changed change (views T op es k) (views T op es (suc k))
-  -- The pending call of the thread may make this change.
+  -- The thread's pending call may make this change.
   pub by_call : MayChange op.quota l.used l.call (has_changed (log_of T op es) t k) change
   pub counts : (T.feed l (seen_next T s t)).local.used ≡ count_after change l.used
   -- The call ends if and only if the step has a reply, and the reply is correct.
@@ -106,7 +106,7 @@ pub record BeginLaws (begin : Call → Local → Local) (call : Call) (l : Local
   pub called : (begin call l).call ≡ call
   pub used : (begin call l).used ≡ l.used
   pub opened : (begin call l).pc ≢ 0
-  -- The state after the start of a call depends only on the call and on the thread's number, quota and number of
+  -- The thread's state after it begins a call depends only on the call and on the thread's number, quota and number of
   -- successful adds.
   pub alike : begin call l ≡ begin call (record (idle l.quota l.thread) { used = l.used })
 
@@ -122,13 +122,13 @@ pub record Lawful (T : Table) : Type 0 where
   pub unlinked_stays : (op : Opening) (last j k i : ℕ) (es : ℕ → Event) → Run T op es last → j ≤ k → k ≤ last
       → (views T op es j).published i
       → UnlinkedStays T.marks (views T op es j) (views T op es k) i
-  -- If a node is in the chain at moment j, then the link that it has at a later moment k is one that it had at some
-  -- moment from j to k at which it was in the chain.
+  -- If a node is in the chain at moment `j`, then its link at a later moment `k` is a link that the node had while it
+  -- was in the chain, at some moment from `j` to `k`.
   pub seen_before : (op : Opening) (last j k b : ℕ) (es : ℕ → Event) → Run T op es last → j ≤ k → k ≤ last
       → InChain (views T op es j) b
       → Seen (views T op es) j k b ((views T op es k).link b)
 
--- States that the first k events are a run within the limits, and that thread t has a pending call after them.
+-- States that the first `k` events are a run, and that thread `t` has a pending call after them.
 pub record UnderWay (T : Table) (op : Opening) (es : ℕ → Event) (k t : ℕ) : Type 0 where
   pub run : Run T op es k
   pub thread : t < op.threads

@@ -1,5 +1,6 @@
--- The consequences of the law of a machine, each under its own name. In all of them, `op` says how the set opens, `es`
--- are the events of a run of `last` events, and k is a moment: the state after k events.
+-- The consequences of the law of a machine, each with its own name. In all of them, `op` has the threads, quota and
+-- opening keys of the set, `es` are the events of a run of `last` events, and `k` is a moment (the state after `k`
+-- events).
 use Rattle.std.specs.Prelude.{◌≡◌, ◌≢◌, ℕ, zero, suc, ◌+◌, ◌%◌, ◌^◌, ◌<◌, ◌≤◌, ◌⊎◌, true, false, if◌then◌else◌, ◌==◌, List, []}
 use Rattle.std.specs.Prelude.{◌∷◌, ◌++◌, map, Option, Some, Contains, slice_index}
 use Rattle.std.specs.List.Sorted.{IsStrictlyIncreasing}
@@ -41,20 +42,20 @@ pub record ChainIsSorted (v : View) : Type 0 where
 abbrev pub SortedChain : Table → Type 0
 SortedChain T = (op : Opening) (last k : ℕ) (es : ℕ → Event) → Run T op es last → k ≤ last → ChainIsSorted (views T op es k)
 
--- [Lock words]: a lock word is t + 1 from the step in which thread t takes the lock until the store of 0 that releases
--- it, and 0 at all other times. This function returns lock word x after an action of thread t. `old` is the word before
--- the action.
+-- [Lock words]: returns lock word `x` after an action of thread `t`. `old` is the word before the action. A lock word
+-- is `t + 1` from the step in which thread `t` takes the lock until the store of 0 that releases it, and 0 at all
+-- other times.
 abbrev pub held : ℕ → ℕ → ℕ → Action → ℕ
 held x t old (Load w) = old
 held x t old (Store w v) = if w == x then 0 else old
 held x t old (Exchange w o v) = if w == x then (if old == 0 then t + 1 else old) else old
 
--- Returns lock word x after an event. `old` is the word before the event.
+-- Returns lock word `x` after an event. `old` is the word before the event.
 abbrev pub held_after : Table → State → ℕ → ℕ → Event → ℕ
 held_after T s x old (Begin t call) = old
 held_after T s x old (Go t) = held x t old (T.next (local_of s t))
 
--- Returns lock word x at each moment of a run, computed only from the attempts to take the lock and the stores that
+-- Returns lock word `x` at each moment of a run, computed only from the attempts to take the lock and the stores that
 -- release it.
 abbrev pub holder : Table → Opening → (ℕ → Event) → ℕ → ℕ → ℕ
 holder T op es x zero = 0
@@ -112,7 +113,7 @@ NoLinkIsMarked T = (op : Opening) (last k i : ℕ) (es : ℕ → Event) → Run 
 
 -- [Named change]: states how entry k of a log, the event between moments k and k + 1, changes the keys of the set and
 -- each thread's number of successful adds. Only the thread's own pending call can make the change, and each call makes
--- at most one.
+-- at most one change.
 abbrev pub ChangeIsNamed : ℕ → ℕ → Log → Contents → Counts → ℕ → Entry → Type 0
 ChangeIsNamed threads quota log contents counts k (began t call) =
     Same (contents k) (contents (suc k))
@@ -129,7 +130,7 @@ NamedChange T = (op : Opening) (last k : ℕ) (es : ℕ → Event) → Run T op 
     (log_of T op es k)
 
 -- [Replies fit]: states that a call that ends in the step between moments k and k + 1 has a correct reply: `True` if
--- the call has changed the set, else one that a sequential set returns at some moment of the call.
+-- the call has changed the set, else a reply that a sequential set returns at some moment of the call.
 abbrev pub RepliesFit : Table → Type 0
 RepliesFit T = (op : Opening) (last k t : ℕ) (es : ℕ → Event) (change : Option Change) (reply : Reply) → Run T op es last →
     k < last
@@ -154,7 +155,7 @@ TrueMeansChange T = (op : Opening) (last k t : ℕ) (es : ℕ → Event) (change
     → (has_changed (log_of T op es) t (suc k) ≡ true) ⊎ IsContains (last_call (log_of T op es) t k)
 
 -- States that every run has an account: each event changes the keys of the set as its call allows, and each reply is
--- correct at some moment of its call. This combines all the laws, without mentioning nodes or locks.
+-- correct at some moment of its call. The account mentions no nodes and no locks.
 abbrev pub HasAccount : Table → Type 0
 HasAccount T = (op : Opening) (last : ℕ) (es : ℕ → Event) → Run T op es last
     → Account op last (log_of T op es) (contents_of (views T op es)) (counts_of (views T op es))

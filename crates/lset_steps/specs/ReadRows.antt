@@ -1,6 +1,6 @@
 -- The rows of a step table for a `contains` and a `ceiling` that take no lock and write nothing (Herlihy and Shavit's
--- wait-free `contains`). Rows 20 and 23 load a link, rows 21 and 24 load the key of the node to which the link leads,
--- and rows 22 and 25 load the mark of the node at which the call stops.
+-- wait-free `contains`). Rows 20 and 23 load the link of a node, rows 21 and 24 load the key of the next node, and
+-- rows 22 and 25 load the mark of the last node that the call visits.
 use Rattle.std.specs.Prelude.{ℕ, ◌/◌, ◌%◌, if◌then◌else◌, Some, None, ◌==◌, nat_lt}
 use Rattle.lset_words.specs.declared.Call.{Call}
 use Rattle.lset_words.specs.declared.Call.TheVariants.{Add, Remove, Contains, Ceiling}
@@ -13,8 +13,7 @@ use Rattle.lset_steps.specs.declared.Action.TheVariants.{Load}
 use Rattle.lset_steps.specs.declared.Fed.{Fed}
 use Rattle.lset_steps.specs.Rows.{begun, ceiling_at}
 
--- Returns the row of the step table at which a call begins: 20 for `contains`, 23 for `ceiling`, 1 for `add` and
--- `remove`.
+-- Returns the first row of a call in the step table: 20 for `contains`, 23 for `ceiling`, 1 for `add` and `remove`.
 abbrev pub first_row : Call → ℕ
 first_row (Add k) = 1
 first_row (Remove k) = 1
@@ -45,16 +44,16 @@ read_key l seen =
 abbrev pub read_mark : Local → ℕ → Fed
 read_mark l seen = if seen % 2 == 0 then leaves_with True l else leaves_with False l
 
--- Returns what a `ceiling` does after it has read a key word: it continues with the next node if the key is smaller
--- than its own, replies `Nothing` at the tail, and otherwise loads the node's mark.
+-- Returns the next state of a `ceiling` that has read a key word. The call continues with the next node if the key is
+-- smaller than its own, replies `Nothing` at the tail, and otherwise loads the node's mark.
 abbrev pub ceiling_key : Local → ℕ → Fed
 ceiling_key l seen =
     if nat_lt seen (target l.call) then continued (record l { pc = 23; ckey = seen })
     else if seen == tail_word then leaves_with Nothing (record l { ckey = seen })
     else continued (record l { pc = 25; ckey = seen })
 
--- Returns what a `ceiling` does after it has read the mark of the node at which it stopped: it replies with the node's
--- key or, if the node is marked, starts again from the head.
+-- Returns the next state of a `ceiling` that has read the mark of the node where it stopped. The call replies with the
+-- node's key or, if the node is marked, starts again from the head.
 abbrev pub ceiling_mark : Local → ℕ → Fed
 ceiling_mark l seen = if seen % 2 == 0 then leaves_with (ceiling_at l.ckey) l else continued (record l { pc = 23; curr = 0 })
 

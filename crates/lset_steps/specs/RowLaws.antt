@@ -1,4 +1,4 @@
--- What the rows of a step table do, in a form that does not unfold the whole table.
+-- The behaviour of single rows of a step table, stated without unfolding the whole table.
 use Rattle.std.specs.Prelude.{◌≡◌, ℕ, ◌/◌, Bool, Option, None}
 use Rattle.lset_words.specs.declared.Key.{Key}
 use Rattle.lset_words.specs.declared.Call.{Call}
@@ -10,28 +10,28 @@ use Rattle.lset_steps.specs.declared.Fed.{Fed}
 use Rattle.lset_steps.specs.Steps.{Table}
 use Rattle.lset_steps.specs.ReadRows.{begun_reading, continued, read_key, read_mark, ceiling_key, ceiling_mark}
 
--- States what a thread does at row `pc` of the step table: its next action is `acts`, its state and reply after that
--- are `feeds`, and the change of the set is `tells`.
+-- States the behaviour of row `pc` of the step table: the thread's next action is `acts`, its state and reply after
+-- the action are `feeds`, and the change of the set is `tells`.
 abbrev pub Does : Table → ℕ → (Local → Action) → (Local → ℕ → Fed) → (Local → ℕ → Option (Key × Bool)) → Type 0
 Does T pc acts feeds tells = (l : Local) → l.pc ≡ pc
     → (T.next l ≡ acts l) × ((seen : ℕ) → (T.feed l seen ≡ feeds l seen) × (T.effect l seen ≡ tells l seen))
 
--- Returns `None`: for a step that does not change the set.
+-- Returns `None`, the change of a step that does not change the set.
 abbrev pub nothing : Local → ℕ → Option (Key × Bool)
 nothing l seen = None
 
--- States that a table has the rows for a `contains` and a `ceiling` that take no lock, and that these calls begin at
--- them.
+-- States that a table has rows 20 to 25 for a `contains` and a `ceiling` that take no lock, and that these calls begin
+-- at these rows.
 pub record HasReading (T : Table) : Type 0 where
   pub begins : (call : Call) (l : Local) → T.begin call l ≡ begun_reading call l
-  -- A `contains` loads the link of a node, starting at the head.
+  -- A `contains` loads the link of a node. It starts at the head.
   pub row_20 : Does T 20 (λ l. Load (link_index l.curr)) (λ l seen. continued (record l { pc = 21; curr = seen / 2 })) nothing
-  -- A `contains` loads the key of the next node, and compares the key with its own.
+  -- A `contains` loads the key of the next node, and compares this key with its own.
   pub row_21 : Does T 21 (λ l. Load (key_index l.curr)) read_key nothing
   -- A `contains` that has found its key loads the node's mark, and replies.
   pub row_22 : Does T 22 (λ l. Load (link_index l.curr)) read_mark nothing
-  -- A `ceiling` has three such rows as well, but remembers the key word, and starts again from the head if the node at
-  -- which it stops is marked.
+  -- Rows 23 to 25 do the same for a `ceiling`. It also stores the key word, and starts again from the head if the node
+  -- where it stops is marked.
   pub row_23 : Does T 23 (λ l. Load (link_index l.curr)) (λ l seen. continued (record l { pc = 24; curr = seen / 2 })) nothing
   pub row_24 : Does T 24 (λ l. Load (key_index l.curr)) ceiling_key nothing
   pub row_25 : Does T 25 (λ l. Load (link_index l.curr)) ceiling_mark nothing

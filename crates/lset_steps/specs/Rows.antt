@@ -1,5 +1,5 @@
--- What the rows of all step tables have in common: the nodes and words that they access, and how a call decides what to
--- do at the first key that is not smaller than its own.
+-- Definitions for the rows of all step tables: the nodes that they use, and the decision of a call at the first key
+-- that is not smaller than its own.
 use Rattle.std.specs.Prelude.{ℕ, ◌-◌, ◌<◌, ◌≤◌, Bool, if◌then◌else◌, Option, Some, None, ◌==◌, nat_lt}
 use Rattle.lset_words.specs.declared.TheConstants.{MOST_THREADS, MOST_QUOTA, MOST_NODES}
 use Rattle.lset_words.specs.declared.Call.{Call}
@@ -15,12 +15,12 @@ use Rattle.lset_steps.specs.declared.rows.Targets.{Targets}
 abbrev pub own_slot : Local → ℕ
 own_slot l = slot_node l.quota l.thread l.used
 
--- Returns the private state of a thread that has just begun a call at row `pc`. All other values are as in an idle
--- thread, except for the number of slots used.
+-- Returns the private state of a thread that has just begun a call at row `pc`. The thread keeps its number, its quota
+-- and its number of used slots. All other fields are as in an idle thread.
 abbrev pub begun : ℕ → Call → Local → Local
 begun pc call l = record (idle l.quota l.thread) { used = l.used; call = call; pc = pc }
 
--- Returns the private state, with another row of the step table and another reply.
+-- Returns the private state, with `pc` as the next row of the step table and with this reply.
 abbrev pub goes_to : ℕ → Option Reply → Local → Local
 goes_to pc reply l = record l { pc = pc; reply = reply }
 
@@ -30,8 +30,8 @@ abbrev pub ceiling_at : ℕ → Reply
 ceiling_at word = if nat_lt word tail_word then At (record { 0 = word - 1 }) else Nothing
 
 -- Decides how a call continues, depending on whether its key was found and whether the thread's quota allows another
--- add (`room`). An `add` or a `remove` that will change the set continues at row `adds` or `removes` of the step table.
--- All other calls have a reply now, and continue at row `leaves`.
+-- add (`room`). An `add` or a `remove` that will change the set continues at row `adds` or `removes` of the step
+-- table. All other calls get their reply now, and continue at row `leaves`.
 abbrev pub decided : ℕ → ℕ → ℕ → Call → Bool → Bool → ℕ → Local → Local
 decided adds removes leaves (Add k) found room key l =
     if found then goes_to leaves (Some False) l else if room then goes_to adds None l else goes_to leaves (Some Full) l
@@ -40,7 +40,7 @@ decided adds removes leaves (Contains k) found room key l = if found then goes_t
     else goes_to leaves (Some False) l
 decided adds removes leaves (Ceiling k) found room key l = goes_to leaves (Some (ceiling_at key)) l
 
--- Decides how a call continues at key word `key`, the first that is not smaller than its own.
+-- Decides how a call continues at `key`, the first key word that is not smaller than the call's own.
 abbrev pub decided_on : Targets → ℕ → Local → Local
 decided_on rows key l = decided rows.adds rows.removes rows.leaves l.call (key == target l.call) (nat_lt l.used l.quota) key l
 

@@ -18,8 +18,8 @@ use Rattle.lset_steps.specs.declared.Event.{Event}
 use Rattle.lset_steps.specs.declared.Event.TheVariants.{Begin, Go}
 
 -- A machine: a list set as a table of steps. `begin` begins a call, `next` is the thread's next access to a word,
--- `feed` is the thread's state after the access, and `effect` is the key that the step adds or removes. `marks` says
--- whether the list marks nodes before it unlinks them.
+-- `feed` is the thread's state and reply after the access, and `effect` is the key that the step adds or removes.
+-- `marks` is true if the list marks nodes before it unlinks them.
 pub record Table : Type 0 where
   pub marks : Bool
   pub begin : Call → Local → Local
@@ -48,8 +48,8 @@ idle q t = record {
   ckey = 0;
 }
 
--- The opening state of a list: the head links to the node of the first opening key, each such node to the next, and the
--- last one to the tail. This function returns the node of opening key i, or the tail if i is past the last key.
+-- Returns the node of opening key `i`, or the tail if `i` is past the last key. When a list opens, the head links to
+-- the node of the first opening key, each such node to the next, and the last one to the tail.
 abbrev pub opening_next : Sizes → ℕ → ℕ
 opening_next sz i = if nat_lt i sz.opening then opening_node sz i else 1
 
@@ -136,8 +136,7 @@ pub record Run (T : Table) (op : Opening) (es : ℕ → Event) (last : ℕ) : Ty
 abbrev pub event_at : List Event → ℕ → Event
 event_at es k = slice_index_or es k (Go 0)
 
--- Returns what the log of a run records about an event: who began which call, or who made a step with which change and
--- reply.
+-- Returns the log entry of an event: the call that a thread begins, or the change and the reply of a thread's step.
 abbrev pub entry_of : Table → State → Event → Entry
 entry_of T s (Begin t call) = began t call
 entry_of T s (Go t) = stepped t (told T s (Go t)).change (told T s (Go t)).answer

@@ -1,5 +1,5 @@
--- The value of the Rust type `World`, a list with its threads that is run one event at a time, and what its functions
--- return.
+-- The value of the Rust type `World` (a list with its threads, run one event at a time), and the results of its
+-- functions.
 use Rattle.std.specs.Prelude.{◌≡◌, ◌≢◌, ℕ, ◌-◌, ◌%◌, ◌<◌, ◌≤◌, Bool, not, List, [], ◌∷◌, map, filter, filter_map, length, Option}
 use Rattle.std.specs.Prelude.{Result, Ok, Err, if◌then◌else◌, ◌==◌, nat_lt, ◌&&◌}
 use Rattle.std.specs.List.Sorted.{IsStrictlyIncreasing}
@@ -17,7 +17,7 @@ pub record WorldState : Type 0 where
   pub sizes : Sizes
   pub state : State
 
--- States that the state of a world is the last state of a run, which opened with the world's numbers of threads, slots
+-- States that the state of a world is the last state of a run that opened with the world's numbers of threads, slots
 -- and opening keys.
 pub record IsRun (T : Table) (w : WorldState) : Type 0 where
   pub opening : Opening
@@ -41,8 +41,8 @@ Refused w (Go t) Busy = ⊥
 Refused w (Begin t call) Idle = ⊥
 Refused w (Go t) Idle = (t < w.sizes.threads) × ((local_of w.state t).pc ≡ 0)
 
--- States what a step returns, and that `w'` is the world after it. If the event is enabled, it is executed. If the step
--- returns an error, the world is unchanged.
+-- States that a step returns this result, and that `w'` is the world after the step. If the event is enabled, it is
+-- executed. If the step returns an error, the world is unchanged.
 abbrev pub StepResult : Table → WorldState → Event → Result Told StepFault → WorldState → Type 0
 StepResult T w e (Ok answer) w' = Enabled w.state e × (w' ≡ record w { state = after T w.state e }) × (answer ≡ told T w.state e)
 StepResult T w e (Err cause) w' = Refused w e cause × (w' ≡ w)
@@ -77,13 +77,13 @@ key_alone k = k.key
 abbrev pub unmarked_keys : List ChainKey → List ℕ
 unmarked_keys keys = map key_alone (filter is_unmarked keys)
 
--- States that a relation between keys and answers is the function `pick`. (`World::walk` knows only the contract of its
--- closure, which is such a relation.)
+-- States that the relation `answers` allows only the answers of the function `pick`. (The proof of `World::walk` knows
+-- its closure only through such a relation, the closure's contract.)
 abbrev pub AnswersAs : {A : Type 0} → (ChainKey → Option A → Type 0) → (ChainKey → Option A) → Type 0
 AnswersAs {A} answers pick = (met : ChainKey) (answer : Option A) → answers met answer → answer ≡ pick met
 
--- States that the items are what a function `pick` selects from the keys along the chain, in this order. `answers` is
--- all that is known about `pick`: which answers it can have for a key.
+-- States that `items` are the results other than `None` of a function `pick` on the keys along the chain, in this
+-- order. The function is known only through the relation `answers` between keys and results.
 pub record IsPickedFromChain {A : Type 0} (answers : ChainKey → Option A → Type 0) (v : View) (items : List A) : Type 0 where
   pub nodes : List ℕ
   pub is_chain : IsChain v nodes

@@ -58,14 +58,15 @@ pub fn frozen_nodes<M: Machine>()
     ensures { FrozenNodes M.table }
 {}
 
-/// Lemma: if a node was in the chain at some moment, each link read from the node later is one that the node had while
-/// it was in the chain, at that moment or a later one. (O'Hearn and others' hindsight.)
+/// Lemma: if a node was in the chain at some moment, each link that is later read from the node is a link that it had
+/// while it was in the chain, at that moment or later. (O'Hearn and others' hindsight.)
 pub fn seen_in_the_past<M: Machine>()
     ensures { SeenInThePast M.table }
 {}
 
 /// Lemma: in a list that marks nodes before it unlinks them, every node that has been in the chain (published) and has
-/// no mark is in the chain. In any other list, no such node has a mark. (Heller and others, for their lazy list.)
+/// no mark is still in the chain. In any other list, no such node has a mark. (Heller and others, for their lazy
+/// list.)
 pub fn unmarked_nodes_in_chain<M: Machine>()
     ensures { UnmarkedNodesInChain M.table }
 {}
@@ -82,9 +83,9 @@ pub fn named_change<M: Machine>()
     ensures { NamedChange M.table }
 {}
 
-/// Lemma: a call that ends replies `True` if it has changed the set. Otherwise, its reply is what a sequential set
-/// returns at some moment of the call. (Herlihy and Wing's linearizability; the moments are those of O'Hearn and
-/// others' hindsight.)
+/// Lemma: a call that ends replies `True` if it has changed the set. Otherwise, a sequential set returns the same
+/// reply at some moment of the call. (Herlihy and Wing's linearizability; the moments are those of O'Hearn and others'
+/// hindsight.)
 pub fn replies_fit<M: Machine>()
     ensures { RepliesFit M.table }
 {}
@@ -95,8 +96,8 @@ pub fn true_means_change<M: Machine>()
     ensures { TrueMeansChange M.table }
 {}
 
-/// Lemma: every run has an account, which states how each event changes the keys of the set and that each reply is
-/// correct, without nodes or locks. (A form of Herlihy and Wing's linearizability.)
+/// Lemma: every run has an account. It states how each event changes the keys of the set and that each reply is
+/// correct, and mentions no nodes and no locks. (A form of Herlihy and Wing's linearizability.)
 pub fn has_account<M: Machine>()
     ensures { HasAccount M.table }
 {}

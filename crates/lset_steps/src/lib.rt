@@ -1,4 +1,5 @@
-//! Step machines, which are list sets described one atomic step at a time, and worlds, which run them event by event.
+//! Step machines (list sets that are described one atomic step at a time), and worlds, which run the machines event by
+//! event.
 #![tactic(auto)]
 
 ghost use Rattle.std.specs.Prelude.{◌≡◌, ◌+◌, ◌*◌, ◌<◌};
@@ -87,7 +88,7 @@ pub enum Event {
     Go(u32),
 }
 
-/// What an event does: the reply, if the event ends a call, and the key that the event adds (`true`) or removes
+/// The outcome of an event: the reply if the event ends a call, and the key that the event adds (`true`) or removes
 /// (`false`), if any.
 #[derive(Clone, Copy, Debug, PartialEq, Eq)]
 pub struct Told {

@@ -55,8 +55,9 @@ pub fn ceiling_at(word: u64) -> Reply
     }
 }
 
-/// The rows of a step table at which a call continues when it has reached its position in the list: one row for an
-/// `add` that will add, one for a `remove` that will remove, and one for all calls that can reply now.
+/// The rows of a step table for the decision of a call that has reached its position in the list: `adds` for an `add`
+/// that will add its key, `removes` for a `remove` that will remove its key, and `leaves` for all calls that can reply
+/// now.
 #[derive(Clone, Copy)]
 pub struct Targets {
     pub adds: u8,

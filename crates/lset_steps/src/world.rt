@@ -154,7 +154,7 @@ pub fn opening_words(alloc: Global, layout: &Layout, keys: &[u32]) -> Result<Vec
     for i in 0..9 {
         words.push(opening_word_at(layout, keys, i))?;
     }
-    // The words of slots, nodes that no add has used yet, are zeros. One fill writes them all.
+    // All words of slots (nodes that no add has used yet) are 0. One fill writes them all.
     words.resize(behind_slots as usize, 0)?;
     for i in behind_slots..words_in_all {
         words.push(opening_word_at(layout, keys, i))?;
@@ -426,8 +426,8 @@ impl<M: Machine> World<M> {
         self.go_holding(t, held)
     }
 
-    /// Makes the next step of a thread with the code for its row of the step table. Each row of the five tables has an
-    /// arm here. Rows of other tables work without an arm, but more slowly.
+    /// Makes the next step of a thread with the code for its row of the step table. Each row of the five tables has a
+    /// match arm here. Rows of other tables work without an arm, but more slowly.
     #[inline(always)]
     fn go(&mut self, t: u32) -> Told
         requires { Enabled self.old.state (Event.Go t) }
