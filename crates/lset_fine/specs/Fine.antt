@@ -11,8 +11,8 @@ use Rattle.lset_steps.specs.declared.rows.Targets.{Targets}
 use Rattle.lset_steps.specs.Steps.{Table}
 use Rattle.lset_steps.specs.Rows.{own_slot, begun, decided_on}
 
--- The rows of the step table at which a call continues after its decision. A call decides what to do at the first key
--- that is not smaller than its own.
+-- The rows of the step table where a call continues after its decision at the first key that is not smaller than its
+-- own.
 abbrev pub targets : Targets
 targets = record { adds = 7; removes = 10; leaves = 12 }
 
@@ -33,7 +33,7 @@ next_action l =
     else Store (lock_index l.pred) 0
 
 -- Returns the thread's private state after it has loaded the key word of curr. If the key is smaller than the call's,
--- the walk continues; otherwise the call decides what to do.
+-- the walk continues. Otherwise the call decides.
 abbrev pub at_key : ℕ → Local → Local
 at_key seen l =
     if nat_lt seen (target l.call) then record l { pc = 5; ckey = seen }

@@ -1,4 +1,4 @@
-//! FineList: a list set with node locks that are taken hand over hand (Herlihy and Shavit's fine-grained list).
+//! FineList: a list set with node locks. Walks take the locks hand over hand (Herlihy and Shavit's fine-grained list).
 #![tactic(auto)]
 
 ghost use Rattle.std.specs.Prelude.{◌≡◌};
@@ -18,15 +18,15 @@ use lset_words::{Call, HEAD, Key, Kind, Reply};
 #[derive(Clone, Copy)]
 pub struct FineList;
 
-/// The rows of the step table at which a call continues after its decision. A call decides what to do at the first key
-/// that is not smaller than its own.
+/// The rows of the step table where a call continues after its decision at the first key that is not smaller than its
+/// own.
 const TARGETS: Targets = Targets {
     adds: 7,
     removes: 10,
     leaves: 12,
 };
 
-/// Returns the next word access of a thread with a pending call. The thread's program counter names the row of the step
+/// Returns the next word access of a thread with a pending call. The thread's program counter is its row of the step
 /// table. The numbers in `local` must be small, as they are in every run.
 #[inline(always)]
 pub fn next_action(local: &Local) -> Action
@@ -48,8 +48,8 @@ pub fn next_action(local: &Local) -> Action
     }
 }
 
-/// Returns the thread's private state after it has read the key word `seen`. If the key is smaller than the call's, the
-/// walk continues; otherwise the call decides what to do.
+/// Returns the thread's private state after it has read the key word `seen`. If the key is smaller than the call's,
+/// the walk continues. Otherwise the call decides.
 #[inline(always)]
 fn at_key(local: &Local, seen: u64) -> Local
     ensures { result ≡ at_key seen local.now }
@@ -115,8 +115,8 @@ fn local_after(local: &Local, seen: u64) -> Local
     }
 }
 
-/// Returns the thread's private state after its next step, in which it saw `seen`, and the reply if the step ends the
-/// call.
+/// Returns the thread's private state after its next step, which saw the word `seen`, and the reply if the step ends
+/// the call.
 #[inline(always)]
 pub fn fed_by(local: &Local, seen: u64) -> Fed
     requires { IsSmall local.now }

@@ -14,8 +14,8 @@ use Rattle.lset_steps.specs.Steps.{Table}
 use Rattle.lset_steps.specs.Rows.{own_slot, decided_on}
 use Rattle.lset_steps.specs.ReadRows.{begun_reading, read_action, read_fed, continued, leaves_with}
 
--- The rows of the step table at which a call continues after its decision. A call decides at the first key that is not
--- smaller than its own.
+-- The rows of the step table where a call continues after its decision at the first key that is not smaller than its
+-- own.
 abbrev pub targets : Targets
 targets = record { adds = 8; removes = 11; leaves = 13 }
 
@@ -38,7 +38,7 @@ next_action l =
     else read_action l
 
 -- Returns the thread's private state after it has loaded the key word of curr. If the key is smaller than the call's,
--- the walk continues; otherwise the call takes the locks.
+-- the walk continues. Otherwise the call takes the locks.
 abbrev pub at_key : ℕ → Local → Local
 at_key seen l = if nat_lt seen (target l.call) then record l { pc = 3; ckey = seen } else record l { pc = 4; ckey = seen }
 
@@ -54,8 +54,8 @@ at_pred seen l = if seen == 2 * l.curr then record l { pc = 7 } else gives_up l
 abbrev pub at_curr : ℕ → Local → Local
 at_curr seen l = if seen % 2 == 0 then decided_on targets l.ckey (record l { succ = seen / 2 }) else gives_up l
 
--- Returns the outcome of the step that releases the last lock: the call ends with its reply or, if it has none, starts
--- again.
+-- Returns the outcome of the step that releases the last lock. The call ends with its reply. If it has no reply, it
+-- starts again.
 abbrev pub released : Option Reply → Local → Fed
 released None l = continued (record l { pc = 1 })
 released (Some r) l = leaves_with r l

@@ -1,4 +1,4 @@
--- What each row of LazyList's step table does, in terms that all lists share.
+-- The effect of each row of LazyList's step table, in terms that all lists share.
 use Rattle.std.specs.Prelude.{ℕ, ◌+◌, ◌*◌, ◌/◌, ◌%◌, true, false, if◌then◌else◌, Option, Some, None, ◌==◌, nat_lt}
 use Rattle.lset_words.specs.declared.Call.{Call}
 use Rattle.lset_words.specs.declared.Call.TheVariants.{Add, Remove, Contains, Ceiling}
@@ -13,18 +13,18 @@ use Rattle.lset_steps.specs.Rows.{own_slot, goes_to, ceiling_at}
 use Rattle.lset_steps.specs.ReadRows.{continued, leaves_with}
 use Rattle.lset_steps.specs.RowLaws.{Does, HasReading, nothing}
 
--- Returns the outcome of a step after which the call continues at row `pc` of the step table.
+-- Returns the outcome of a step if the call continues at row `pc` of the step table.
 abbrev pub on_to : ℕ → Local → Fed
 on_to pc l = continued (record l { pc = pc })
 
--- Returns the outcome of a step after which the call releases its locks, from row 13 of the step table on. If the reply
+-- Returns the outcome of a step if the call will now release its locks, from row 13 of the step table on. If the reply
 -- is `None`, the call then starts again.
 abbrev pub leaves : Option Reply → Local → Fed
 leaves r l = continued (goes_to 13 r l)
 
--- Decides how a call continues when both nodes are locked and `curr` is not marked, depending on whether `curr` has the
--- call's key: an `add` that adds goes to row 8 of the step table, a `remove` that removes to row 11, and all other
--- calls have a reply.
+-- Decides how a call continues when both nodes are locked and `curr` is not marked, depending on whether `curr` has
+-- the call's key: an `add` that adds continues at row 8 of the step table, a `remove` that removes at row 11, and all
+-- other calls have a reply.
 abbrev pub decides : Call → Local → Fed
 decides (Add k) l =
     if l.ckey == target (Add k) then leaves (Some False) l
@@ -66,8 +66,8 @@ pub record LazyRows (T : Table) : Type 0 where
   pub row_7 : Does T 7 (λ l. Load (link_index l.curr))
       (λ l seen. if seen % 2 == 0 then decides l.call (record l { succ = seen / 2 }) else leaves None l)
       nothing
-  -- An `add` writes the key and the link of its slot, a node of its own. Then it links the slot after `pred`, which
-  -- adds the key to the set.
+  -- An `add` writes the key and the link of its own slot, a node that is not yet in the chain. Then it links this node
+  -- after `pred`, which adds the key to the set.
   pub row_8 : Does T 8 (λ l. Store (key_index (own_slot l)) (target l.call)) (λ l seen. on_to 9 l) nothing
   pub row_9 : Does T 9 (λ l. Store (link_index (own_slot l)) (2 * l.curr)) (λ l seen. on_to 10 l) nothing
   pub row_10 : Does T 10 (λ l. Store (link_index l.pred) (2 * own_slot l))

@@ -21,16 +21,16 @@ use lset_words::{Call, HEAD, Key, Kind, Reply};
 #[derive(Clone, Copy)]
 pub struct LazyList;
 
-/// The rows of the step table at which a call continues after its decision. A call decides at the first key that is not
-/// smaller than its own.
+/// The rows of the step table where a call continues after its decision at the first key that is not smaller than its
+/// own.
 const TARGETS: Targets = Targets {
     adds: 8,
     removes: 11,
     leaves: 13,
 };
 
-/// Returns the next access of a thread with a pending call, from the row of the step table that its program counter
-/// names. The numbers in `local` must be small, as they are in every run.
+/// Returns the next word access of a thread with a pending call. The thread's program counter is its row of the step
+/// table. The numbers in `local` must be small, as they are in every run.
 #[inline(always)]
 pub fn next_action(local: &Local) -> Action
     requires { IsSmall local.now }
@@ -54,8 +54,8 @@ pub fn next_action(local: &Local) -> Action
     }
 }
 
-/// Returns the thread's private state after its walk moves on from `pred` to the next node, whose key the walk loads
-/// next.
+/// Returns the thread's private state after its walk continues from `pred` to the next node. The walk loads the key of
+/// this node next.
 #[inline(always)]
 fn walked_from(pred: u64, local: &Local, seen: u64) -> Local
     ensures { result ≡ record local.now { pc = 2; pred = pred; curr = seen / 2 } }
@@ -68,8 +68,8 @@ fn walked_from(pred: u64, local: &Local, seen: u64) -> Local
     }
 }
 
-/// Returns the thread's private state after it has read the key word `seen`. If the key is smaller than the call's, the
-/// walk continues; otherwise the call takes the locks.
+/// Returns the thread's private state after it has read the key word `seen`. If the key is smaller than the call's,
+/// the walk continues. Otherwise the call takes the locks.
 #[inline(always)]
 fn at_key(local: &Local, seen: u64) -> Local
     ensures { result ≡ at_key seen local.now }
@@ -138,8 +138,8 @@ fn succeeds(local: Local) -> Local
     }
 }
 
-/// Returns the outcome of the step that releases the last lock: the call ends with its reply or, if it has none, starts
-/// again.
+/// Returns the outcome of the step that releases the last lock. The call ends with its reply. If it has no reply, it
+/// starts again.
 #[inline(always)]
 fn released(local: &Local) -> Fed
     ensures { result ≡ released local.now.reply local.now }

@@ -14,7 +14,7 @@ use Rattle.lset_steps.specs.Chain.{contents_of, counts_of}
 use Rattle.lset_steps.specs.Laws.{views}
 use Rattle.lset_steps.specs.Worlds.{IsContent}
 
--- Returns the keys of a set that opened with `op`, after the calls of an order.
+-- Returns the keys of a set that opened with `op`, after the calls of this order.
 abbrev pub keys_left : Opening → List CallRecord → List Placed → List ℕ
 keys_left op history order = (set_left (opening_set op) (map (answered history) order)).keys
 
@@ -28,11 +28,10 @@ pub record ExplainsRun (T : Table) (op : Opening) (es : ℕ → Event) (last : �
   pub history : IsHistory op.threads (history_of T op es last)
   -- The order linearizes the history of a set that starts with the opening keys.
   pub linearizes : Linearizes op.quota (opening_set op) (history_of T op es last) order
-  -- The keys that the set has after the order's calls are the keys that the list has at the end of the run, in
-  -- increasing order.
+  -- The keys of the set after the order's calls are the final keys of the run, in increasing order.
   pub content : IsContent (views T op es last) (keys_left op (history_of T op es last) order)
 
--- The main theorem: every run is explained by some order of its calls.
+-- The main theorem: for every run, some order of its calls explains the run.
 abbrev pub RunsAreLinearizable : Table → Type 0
 RunsAreLinearizable T = (op : Opening) (last : ℕ) (es : ℕ → Event) → Run T op es last
     → (order : List Placed) × ExplainsRun T op es last order
@@ -43,12 +42,13 @@ IsPlacedBy T op es k order = IsPlacement op.quota (calls_at (log_of T op es) k)
     (contents_of (views T op es)) (counts_of (views T op es)) order
 
 -- [The placement of a run]: states that the order lists the run's calls by their linearization points, and that no
--- other order does.
+-- other order of the calls does.
 pub record IsThePlacement (T : Table) (op : Opening) (es : ℕ → Event) (last : ℕ) (order : List Placed) : Type 0 where
   pub placement : IsPlacedBy T op es last order
   pub alone : (other : List Placed) → IsPlacedBy T op es last other → other ≡ order
 
--- The main theorem with placement: every run is explained by the order of its calls by linearization points.
+-- The main theorem with placement: for every run, the order of its calls by their linearization points explains the
+-- run.
 abbrev pub PlacementExplainsRuns : Table → Type 0
 PlacementExplainsRuns T = (op : Opening) (last : ℕ) (es : ℕ → Event) → Run T op es last
     → (order : List Placed) × ExplainsRun T op es last order × IsThePlacement T op es last order

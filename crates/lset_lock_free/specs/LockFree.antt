@@ -13,8 +13,8 @@ use Rattle.lset_steps.specs.Steps.{Table}
 use Rattle.lset_steps.specs.Rows.{own_slot, decided_on}
 use Rattle.lset_steps.specs.ReadRows.{begun_reading, read_action, read_fed, continued, leaves_with}
 
--- The rows of the step table at which a call continues after its decision. A call that does not change the set replies
--- at once (row 0).
+-- The rows of the step table where a call continues after its decision. A call that does not change the set replies at
+-- once (row 0).
 abbrev pub targets : Targets
 targets = record { adds = 5; removes = 8; leaves = 0 }
 
@@ -32,24 +32,24 @@ next_action l =
     else if l.pc == 10 then Exchange (link_index l.pred) (2 * l.curr) (2 * l.succ)
     else read_action l
 
--- Returns the outcome of the step that has loaded the link of curr. If the link has a mark, the call unlinks curr next;
--- otherwise it loads curr's key next.
+-- Returns the outcome of the step that has loaded the link of curr. If the link has a mark, the call unlinks curr
+-- next. Otherwise it loads curr's key next.
 abbrev pub at_link : ℕ → Local → Fed
 at_link seen l =
     if seen % 2 == 0 then continued (record l { pc = 4; succ = seen / 2 }) else continued (record l { pc = 3; succ = seen / 2 })
 
--- Returns the outcome of a step in which the call has decided what to do: the call continues, or ends with its reply.
+-- Returns the outcome of a step that contains the call's decision: the call continues, or ends with its reply.
 abbrev pub decision_of : Local → Fed
 decision_of l = record { local = l; answer = if l.pc == 0 then l.reply else None }
 
--- Returns the outcome of the step that has loaded the key word of curr. If the key is smaller than the call's, the walk
--- continues; otherwise the call decides what to do.
+-- Returns the outcome of the step that has loaded the key word of curr. If the key is smaller than the call's, the
+-- walk continues. Otherwise the call decides.
 abbrev pub at_key : ℕ → Local → Fed
 at_key seen l =
     if nat_lt seen (target l.call) then continued (record l { pc = 2; pred = l.curr; curr = l.succ })
     else decision_of (decided_on targets seen l)
 
--- Returns the outcome of a step whose exchange failed: the call walks again from the head.
+-- Returns the outcome of a failed exchange: the call walks again from the head.
 abbrev pub again : Local → Fed
 again l = continued (record l { pc = 1 })
 

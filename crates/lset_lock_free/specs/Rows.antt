@@ -1,4 +1,4 @@
--- What each row of LockFreeList's step table does, in terms that all lists share.
+-- The effect of each row of LockFreeList's step table, in terms that all lists share.
 use Rattle.std.specs.Prelude.{ℕ, ◌+◌, ◌*◌, ◌/◌, ◌%◌, Bool, true, false, if◌then◌else◌, Option, Some, None, ◌==◌, nat_lt}
 use Rattle.lset_words.specs.declared.Key.{Key}
 use Rattle.lset_words.specs.declared.Call.{Call}
@@ -14,7 +14,7 @@ use Rattle.lset_steps.specs.Rows.{own_slot, goes_to, ceiling_at}
 use Rattle.lset_steps.specs.ReadRows.{continued, leaves_with}
 use Rattle.lset_steps.specs.RowLaws.{Does, HasReading, nothing}
 
--- Returns the outcome of a step after which the call continues at row `pc` of the step table.
+-- Returns the outcome of a step if the call continues at row `pc` of the step table.
 abbrev pub on_to : ℕ → Local → Fed
 on_to pc l = continued (record l { pc = pc })
 
@@ -22,8 +22,8 @@ on_to pc l = continued (record l { pc = pc })
 abbrev pub answers : Reply → Local → Fed
 answers r l = leaves_with r (record l { reply = Some r })
 
--- Decides how a call continues at the first key that is not smaller than its own: an `add` that adds goes to row 5 of
--- the step table, a `remove` that removes to row 8, and all other calls end with a reply.
+-- Decides how a call continues at the first key that is not smaller than its own: an `add` that adds continues at row
+-- 5 of the step table, a `remove` that removes at row 8, and all other calls end with a reply.
 abbrev pub decides : Call → Local → ℕ → Fed
 decides (Add k) l seen =
     if seen == target (Add k) then answers False l
@@ -52,16 +52,16 @@ pub record LockFreeRows (T : Table) : Type 0 where
   pub row_3 : Does T 3 (λ l. Exchange (link_index l.pred) (2 * l.curr) (2 * l.succ))
       (λ l seen. if seen == 2 * l.curr then continued (record l { pc = 2; curr = l.succ }) else on_to 1 l)
       nothing
-  -- If `curr` is not marked, the walk loads the key of `curr`. Then it continues with the next node, or the call
-  -- decides what to do.
+  -- If `curr` is not marked, the walk loads the key of `curr`. Then the walk continues with the next node, or the call
+  -- decides.
   pub row_4 : Does T 4 (λ l. Load (key_index l.curr))
       (λ l seen. if nat_lt seen (target l.call) then continued (record l { pc = 2; pred = l.curr; curr = l.succ })
       else decides l.call l seen)
       nothing
-  -- An `add` writes the key and the link of its slot, a node of its own.
+  -- An `add` writes the key and the link of its own slot, a node that is not yet in the chain.
   pub row_5 : Does T 5 (λ l. Store (key_index (own_slot l)) (target l.call)) (λ l seen. on_to 6 l) nothing
   pub row_6 : Does T 6 (λ l. Store (link_index (own_slot l)) (2 * l.curr)) (λ l seen. on_to 7 l) nothing
-  -- An `add` links its slot, a node of its own, after `pred`. This adds the key to the set and uses up the slot. If the
+  -- An `add` links its own slot, a new node, after `pred`. This adds the key to the set and uses up the slot. If the
   -- exchange fails, the call starts again.
   pub row_7 : Does T 7 (λ l. Exchange (link_index l.pred) (2 * l.curr) (2 * own_slot l))
       (λ l seen. if seen == 2 * l.curr then leaves_with True (record l { used = l.used + 1 }) else on_to 1 l)

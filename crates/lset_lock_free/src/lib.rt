@@ -1,5 +1,5 @@
-//! LockFreeList: a list set without locks, in which compare-and-exchange operations mark nodes and unlink them one at a
-//! time (Herlihy and Shavit's lock-free list, after Harris and Michael).
+//! LockFreeList: a list set without locks. Compare-and-exchange operations mark nodes and unlink them one at a time
+//! (Herlihy and Shavit's lock-free list, after Harris and Michael).
 #![tactic(auto)]
 
 ghost use Rattle.std.specs.Prelude.{◌≡◌, ◌+◌};
@@ -23,7 +23,7 @@ use lset_words::{Call, HEAD, Key, Kind, Reply};
 #[derive(Clone, Copy)]
 pub struct LockFreeList;
 
-/// The rows of the step table at which a call continues after its decision. A call that does not change the set replies
+/// The rows of the step table where a call continues after its decision. A call that does not change the set replies
 /// at once (row 0).
 const TARGETS: Targets = Targets {
     adds: 5,
@@ -31,7 +31,7 @@ const TARGETS: Targets = Targets {
     leaves: 0,
 };
 
-/// Returns the next word access of a thread with a pending call. The thread's program counter names the row of the step
+/// Returns the next word access of a thread with a pending call. The thread's program counter is its row of the step
 /// table. The numbers in `local` must be small, as they are in every run.
 #[inline(always)]
 pub fn next_action(local: &Local) -> Action
@@ -51,8 +51,8 @@ pub fn next_action(local: &Local) -> Action
     }
 }
 
-/// Returns the outcome of a step after which the walk is at node `curr`, the one after `pred`. The walk loads the link
-/// of `curr` next.
+/// Returns the outcome of a step if the walk is then at `curr`, the node after `pred`. The walk loads the link of
+/// `curr` next.
 #[inline(always)]
 fn at_node(pred: u64, curr: u64, local: &Local) -> Fed
     ensures { result ≡ continued (record local.now { pc = 2; pred = pred; curr = curr }) }
@@ -66,7 +66,7 @@ fn at_node(pred: u64, curr: u64, local: &Local) -> Fed
 }
 
 /// Returns the outcome of the step that has read the link of `curr`. If the link has a mark, the call unlinks `curr`
-/// next; otherwise it loads the key of `curr` next.
+/// next. Otherwise it loads the key of `curr` next.
 #[inline(always)]
 fn at_link(local: &Local, seen: u64) -> Fed
     ensures { result ≡ at_link seen local.now }
@@ -79,7 +79,7 @@ fn at_link(local: &Local, seen: u64) -> Fed
     })
 }
 
-/// Returns the outcome of a step in which the call has decided what to do: the call continues, or ends with its reply.
+/// Returns the outcome of a step that contains the call's decision: the call continues, or ends with its reply.
 #[inline(always)]
 fn decision_of(local: Local) -> Fed
     ensures { result ≡ decision_of local }
@@ -89,7 +89,7 @@ fn decision_of(local: Local) -> Fed
 }
 
 /// Returns the outcome of the step that has read the key word `seen`. If the key is smaller than the call's, the walk
-/// continues; otherwise the call decides what to do.
+/// continues. Otherwise the call decides.
 #[inline(always)]
 fn at_key(local: &Local, seen: u64) -> Fed
     ensures { result ≡ at_key seen local.now }
@@ -101,8 +101,8 @@ fn at_key(local: &Local, seen: u64) -> Fed
     }
 }
 
-/// Returns the outcome of the step that has linked the thread's new node into the chain: the thread has used one more
-/// slot, and the call ends with `True`.
+/// Returns the outcome of the step that has linked the thread's new node into the chain. The thread's number of used
+/// slots increases by one, and the call ends with `True`.
 #[inline(always)]
 fn puts_in(local: &Local) -> Fed
     requires { IsSmall local.now }
@@ -115,7 +115,7 @@ fn puts_in(local: &Local) -> Fed
     leaves_with(Reply::True, local)
 }
 
-/// Returns the outcome of a step whose exchange failed: the call walks again from the head.
+/// Returns the outcome of a failed exchange: the call walks again from the head.
 #[inline(always)]
 fn again(local: &Local) -> Fed
     ensures { result ≡ again local.now }
@@ -123,8 +123,8 @@ fn again(local: &Local) -> Fed
     continued(Local { pc: 1, ..*local })
 }
 
-/// Returns the thread's private state after its next step, in which it saw `seen`, and the reply if the step ends the
-/// call.
+/// Returns the thread's private state after its next step, which saw the word `seen`, and the reply if the step ends
+/// the call.
 #[inline(always)]
 pub fn fed_by(local: &Local, seen: u64) -> Fed
     requires { IsSmall local.now }

@@ -1,4 +1,5 @@
--- Proof that if a call of OptimisticList changes nothing, its reply is correct at the moment of one of its own loads.
+-- Proof that if a call of OptimisticList changes nothing, its reply is correct at the moment of one of the call's own
+-- loads.
 use Rattle.std.specs.Prelude.{◌≡◌, ◌≢◌, ℕ, zero, suc, ◌+◌, ◌/◌, ◌<◌, ◌≤◌, ◌⊎◌, Bool, true, false, Option, Some, None, List}
 use Rattle.std.specs.Prelude.{if◌then◌else◌, ◌==◌, ◌||◌, nat_lt, slice_index_or, slice_set, length, refl}
 use Rattle.std.proofs.Common.{arith, inl, inr, sym, ◌∙◌, ap, subst, get_or-set_other, get_or-set_same}
@@ -27,7 +28,7 @@ use Rattle.lset_optimistic.specs.Lawful.Outline.At.{at0, at1, at2, at3, at4, at5
 use Rattle.lset_optimistic.specs.Promises.{held_at, world_at, FitsAtALoad, OptimisticRepliesFit}
 use Rattle.lset_optimistic.proofs.SecondWalks.{known}
 
--- ---- The load of pred's link at row 8 of the step table decides the reply
+-- ---- Lemmas about row 8 of the step table: the load of pred's link decides the reply
 none_is_not : {A : Type 0} (reply : Reply) → None ≡ Some reply → A
 none_is_not reply e = absurd (cc)
 
@@ -67,8 +68,8 @@ link_row : (ws : List ℕ) (l : Local) → l.pc ≡ 8
     → local_after l (seen_by ws (optimistic.next l)) ≡ at_link (node_link ws l.pred) (record l { pc = 8 })
 link_row ws l e = rw e refl
 
--- If a thread has a reply after its step at row 8 of the step table, its load saw that pred leads to curr, and the
--- reply was correct at that moment.
+-- If a thread has a reply after its step at row 8 of the step table, pred's link leads to curr in this step, and the
+-- reply is correct at this moment.
 fits_at : (op : Opening) (last : ℕ) (es : ℕ → Event) (r : Run optimistic op es last) (t : ℕ) (tn : t < op.threads) (k : ℕ) →
     k < last → es k ≡ Go t
     → (held_at op es k t).pc ≡ 8 → (reply : Reply)
@@ -84,8 +85,8 @@ fits_at op last es r t tn k l goes e reply y =
     (has_changed (log_of optimistic op es) t k) (local_of s t) reply i.memory th tn e th.at
     (ap (λ (x : Local). x.reply) (sym (link_row s.words (local_of s t) e)) ∙ y)
 
--- States where a reply at row 14 or 15 of the step table can come from: the thread was at row 8 and decided, or changed
--- the set, or came from row 14 with the reply.
+-- States the origin of the reply that a thread has after a step to row 14 or 15 of the step table: a decision at row
+-- 8, a change of the set, or a reply that the thread already had at row 14.
 abbrev Came : Local → ℕ → Reply → Type 0
 Came l seen reply = (l.pc ≡ 8) ⊎ (is_change (optimistic.effect l seen) ≡ true) ⊎ ((l.pc ≡ 14) × (l.reply ≡ Some reply))
 
@@ -169,8 +170,8 @@ module _ (op : Opening) (last : ℕ) (es : ℕ → Event) (r : Run optimistic op
   abbrev S : ℕ → State
   S k = state_at optimistic op es k
 
-  -- States that a thread that has a reply, has changed nothing and is about to release a lock has already made the load
-  -- at which its reply was correct.
+  -- States that if a thread has a reply, has changed nothing and is about to release a lock, then its reply is correct
+  -- at the moment of a load that the thread has already made.
   abbrev Settled : ℕ → ℕ → Bool → Local → Type 0
   Settled now first done l = (reply : Reply) → 14 ≤ l.pc → l.reply ≡ Some reply → done ≡ false
       → FitsAtALoad op es first now t l.call reply

@@ -1,4 +1,4 @@
--- Proof that the second walks of OptimisticList are valid: what they reach was in the chain.
+-- Proof that the second walks of OptimisticList are valid: each node that they reach was in the chain.
 use Rattle.std.specs.Prelude.{◌≡◌, ◌≢◌, ℕ, zero, suc, ◌+◌, ◌-◌, ◌/◌, ◌<◌, ◌≤◌, ◌⊎◌, Bool, true, false, None, if◌then◌else◌, ◌==◌}
 use Rattle.std.specs.Prelude.{nat_lt, slice_index_or, slice_set, length, refl}
 use Rattle.std.proofs.Common.{arith, inl, inr, sym, ◌∙◌, ap, subst, get_or-set_other, get_or-set_same}
@@ -24,7 +24,7 @@ use Rattle.lset_optimistic.specs.Lawful.Outline.{At, optimistic_follows}
 use Rattle.lset_optimistic.specs.Lawful.Outline.At.{at0, at1, at2, at3, at4, at5, at6, at7, at8, at9, at10, at11, at12, at13, at14, at15}
 use Rattle.lset_optimistic.specs.Promises.{held_at, world_at, IsWalking, HasArrived, GivesBack, WasInChain, IsLockedInChain, ValidatedWalk}
 
--- What a thread knows about its second walk, at each row of the step table.
+-- The properties of a thread's second walk, at each row of the step table.
 record Facts (vs : ℕ → View) (first now : ℕ) (v : View) (t : ℕ) (l : Local) : Type 0 where
   walks : IsWalking l → WasInChain vs first now t l.pred l.node
   arrives : HasArrived l → IsLockedInChain v t l.pred
@@ -96,7 +96,7 @@ module _ (q t : ℕ) (vs : ℕ → View) (first now : ℕ) (v : View) (done : Bo
     decides = λ from upto. absurd (omega arith);
   }
 
--- States that a step from rows 7 to 13 of the step table keeps pred, and the node that the second walk has reached.
+-- States that the second walk has arrived at pred after a step, and that the step does not change the thread's pred.
 abbrev Stays : Local → Local → Type 0
 Stays l m = HasArrived m × (m.pred ≡ l.pred)
 

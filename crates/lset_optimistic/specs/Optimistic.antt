@@ -12,8 +12,8 @@ use Rattle.lset_steps.specs.declared.rows.Targets.{Targets}
 use Rattle.lset_steps.specs.Steps.{Table}
 use Rattle.lset_steps.specs.Rows.{own_slot, begun, decided_on}
 
--- The rows of the step table at which a call continues after its decision. A call decides at the first key that is not
--- smaller than its own.
+-- The rows of the step table where a call continues after its decision at the first key that is not smaller than its
+-- own.
 abbrev pub targets : Targets
 targets = record { adds = 9; removes = 12; leaves = 14 }
 
@@ -36,7 +36,7 @@ next_action l =
     else Store (lock_index l.curr) 0
 
 -- Returns the thread's private state after it has loaded the key word of curr. If the key is smaller than the call's,
--- the walk continues; otherwise the call takes the locks.
+-- the walk continues. Otherwise the call takes the locks.
 abbrev pub at_key : ℕ → Local → Local
 at_key seen l = if nat_lt seen (target l.call) then record l { pc = 3; ckey = seen } else record l { pc = 4; ckey = seen }
 

@@ -1,5 +1,6 @@
--- Laws of OptimisticList, in addition to the laws of all machines. In all of them, `op` says how the set opens, `es`
--- are the events of a run of `last` events, t is a thread, and k is a moment: the state after k events.
+-- Laws of OptimisticList, in addition to the laws of all machines. In all of them, `op` has the threads, quota and
+-- opening keys of the set, `es` are the events of a run of `last` events, `t` is a thread, and `k` is a moment (the
+-- state after `k` events).
 use Rattle.std.specs.Prelude.{◌≡◌, ℕ, ◌+◌, ◌/◌, ◌<◌, ◌≤◌, ◌⊎◌, false, Some}
 use Rattle.lset_words.specs.Words.{lock_index, Opening}
 use Rattle.lset_words.specs.declared.Call.{Call}
@@ -14,7 +15,8 @@ use Rattle.lset_steps.specs.Chain.{View, InChain, FitsIn}
 use Rattle.lset_steps.specs.Laws.{views}
 use Rattle.lset_optimistic.specs.Optimistic.{optimistic}
 
--- Returns the private state of thread t at moment k. `world_at` returns the nodes and locks of the list at moment k.
+-- Returns the private state of thread `t` at moment `k`. `world_at` returns the nodes and locks of the list at this
+-- moment.
 abbrev pub held_at : Opening → (ℕ → Event) → ℕ → ℕ → Local
 held_at op es k t = local_of (state_at optimistic op es k) t
 
@@ -26,15 +28,15 @@ world_at op es k = views optimistic op es k
 abbrev pub IsWalking : Local → Type 0
 IsWalking l = (l.pc ≡ 6) ⊎ (l.pc ≡ 7)
 
--- States that the second walk of a call has arrived at pred, whose lock is not yet released. The thread is at a row
--- from 7, the load of pred's key, to 14, the release of pred's lock. If the walk has failed, the thread is at row 14 as
--- well, but with another node than pred.
+-- States that the second walk of a call has arrived at pred, and that the thread has not yet released pred's lock. The
+-- thread is at a row from 7 (the load of pred's key) to 14 (the release of pred's lock). A thread with a failed walk
+-- is at row 14 as well, but with another node than pred.
 pub record HasArrived (l : Local) : Type 0 where
   pub from : 7 ≤ l.pc
   pub upto : l.pc ≤ 14
   pub there : l.node ≡ l.pred
 
--- States that thread t, in the event after moment i, releases the lock of node a by a store of 0.
+-- States that in the event after moment `i`, thread `t` releases the lock of node `a` by a store of 0.
 pub record GivesBack (op : Opening) (es : ℕ → Event) (i t a : ℕ) : Type 0 where
   pub step : es i ≡ Go t
   pub stores : optimistic.next (held_at op es i t) ≡ Store (lock_index a) 0
@@ -60,13 +62,13 @@ pub record WalksAreValid (op : Opening) (last t : ℕ) (es : ℕ → Event) : Ty
   pub passes : (k : ℕ) → k ≤ last → IsWalking (held_at op es k t)
       → WasInChain (views optimistic op es) (begun_at (log_of optimistic op es) t k) k t (held_at op es k t).pred
       (held_at op es k t).node
-  -- If a second walk has arrived at pred at moment j, pred is in the chain and the thread holds its lock, at moment j
-  -- and at every later moment until the thread releases the lock.
+  -- If a second walk has arrived at pred at moment `j`, then at this moment and at every later one, until the thread
+  -- releases pred's lock, pred is in the chain and the thread holds its lock.
   pub arrives : (j k : ℕ) → j ≤ k → k ≤ last → HasArrived (held_at op es j t)
       → ((i : ℕ) → j ≤ i → i < k → GivesBack op es i t (held_at op es j t).pred → ⊥)
       → IsLockedInChain (world_at op es k) t (held_at op es j t).pred
-  -- A thread is at one of the rows 8 to 13 of the step table, at which a call decides, adds or removes, only if its
-  -- second walk has arrived at pred.
+  -- Only after its second walk has arrived at pred is a thread at one of the rows 8 to 13 of the step table. In these
+  -- rows, a call decides, adds or removes.
   pub decides : (k : ℕ) → k ≤ last → 8 ≤ (held_at op es k t).pc → (held_at op es k t).pc ≤ 13 → HasArrived (held_at op es k t)
 
 -- [Validated walk]: states that if the second walk arrives at pred, then pred is in the chain until the thread releases
@@ -75,8 +77,8 @@ abbrev pub ValidatedWalk : Type 0
 ValidatedWalk = (op : Opening) (last t : ℕ) (es : ℕ → Event) → Run optimistic op es last → t < op.threads →
     WalksAreValid op last t es
 
--- States that at some moment from `first` to just before `now`, thread t loaded pred's link at row 8 and saw that the
--- link leads to curr, and that the reply is correct at that moment.
+-- States that at some moment from `first` to just before `now`, thread `t` loaded pred's link at row 8 and saw that
+-- the link leads to curr. The reply is correct at this moment.
 pub record FitsAtALoad (op : Opening) (es : ℕ → Event) (first now t : ℕ) (call : Call) (reply : Reply) : Type 0 where
   pub at : ℕ
   pub from : first ≤ at
@@ -87,8 +89,8 @@ pub record FitsAtALoad (op : Opening) (es : ℕ → Event) (first now t : ℕ) (
   pub fits : FitsIn op.quota (world_at op es at) t call reply
 
 -- [Optimistic replies fit]: states that if a call ends without having changed the set, its reply is correct at some
--- moment of the call. At that moment, after its second walk had arrived at pred, the thread saw pred's link lead to
--- curr (row 8).
+-- moment of the call. At this moment, after its second walk had arrived at pred, the thread saw that pred's link leads
+-- to curr (row 8).
 abbrev pub OptimisticRepliesFit : Type 0
 OptimisticRepliesFit = (op : Opening) (last k t : ℕ) (es : ℕ → Event) (reply : Reply) → Run optimistic op es last → k < last →
     t < op.threads

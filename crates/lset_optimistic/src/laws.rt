@@ -5,14 +5,14 @@ ghost use Rattle.lset_optimistic.specs.Promises.{ValidatedWalk, OptimisticReplie
 
 /// Lemma: if the second walk of a call reaches the first of the two locked nodes, this node is in the chain until its
 /// lock is released, even if the walk has passed nodes that were being unlinked. A call decides or changes the list
-/// only after its walk has reached this node. (Herlihy and Shavit's validation. That each node of the walk was in the
-/// chain at some moment since the lock was taken is the hindsight of O'Hearn and others.)
+/// only after its walk has reached this node. (Herlihy and Shavit's validation. The proof uses the hindsight of
+/// O'Hearn and others: each node of the walk was in the chain at some moment since the lock was taken.)
 pub fn validated_walk()
     ensures { ValidatedWalk }
 {}
 
-/// Lemma: if a call ends without having changed the set, its reply is correct at a moment of the call at which the
-/// thread, after its second walk, saw the first of the two locked nodes lead to the second. (Herlihy and Shavit's
+/// Lemma: if a call ends without having changed the set, its reply is correct at a moment of the call when the thread,
+/// after its second walk, saw that the first of the two locked nodes leads to the second. (Herlihy and Shavit's
 /// linearization points of calls without a change.)
 pub fn optimistic_replies_fit()
     ensures { OptimisticRepliesFit }

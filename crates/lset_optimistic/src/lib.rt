@@ -28,22 +28,22 @@ use lset_steps::rows::{
 use lset_steps::{Action, Fed, Local, Machine};
 use lset_words::{Call, HEAD, Key, Kind, Reply};
 
-/// The list set whose calls walk without locks, and then lock the two nodes at which the walk ended. A second walk from
+/// The list set whose calls walk without locks, and then lock the two nodes where the walk ended. A second walk from
 /// the head checks that the first of these nodes is still in the chain and leads to the second (Herlihy and Shavit's
 /// optimistic list).
 #[derive(Clone, Copy)]
 pub struct OptimisticList;
 
-/// The rows of the step table at which a call continues after its decision. A call decides at the first key that is not
-/// smaller than its own.
+/// The rows of the step table where a call continues after its decision at the first key that is not smaller than its
+/// own.
 const TARGETS: Targets = Targets {
     adds: 9,
     removes: 12,
     leaves: 14,
 };
 
-/// Returns the next access of a thread with a pending call, from the row of the step table that its program counter
-/// names. The numbers in `local` must be small, as they are in every run.
+/// Returns the next word access of a thread with a pending call. The thread's program counter is its row of the step
+/// table. The numbers in `local` must be small, as they are in every run.
 #[inline(always)]
 pub fn next_action(local: &Local) -> Action
     requires { IsSmall local.now }
@@ -67,8 +67,8 @@ pub fn next_action(local: &Local) -> Action
     }
 }
 
-/// Returns the thread's private state after its walk moves on from `pred`, whose key word is `pkey`, to the node to
-/// which `link` leads.
+/// Returns the thread's private state after its walk continues from `pred`, the node with key word `pkey`, to the next
+/// node, which the word `link` names.
 #[inline(always)]
 fn walks_on(local: &Local, pred: u64, pkey: u64, link: u64) -> Local
     ensures { result ≡ record local.now { pc = 2; pred = pred; pkey = pkey; curr = link / 2 } }
@@ -82,8 +82,8 @@ fn walks_on(local: &Local, pred: u64, pkey: u64, link: u64) -> Local
     }
 }
 
-/// Returns the thread's private state after it has read the key word `seen`. If the key is smaller than the call's, the
-/// walk continues; otherwise the call takes the locks.
+/// Returns the thread's private state after it has read the key word `seen`. If the key is smaller than the call's,
+/// the walk continues. Otherwise the call takes the locks.
 #[inline(always)]
 fn at_key(local: &Local, seen: u64) -> Local
     ensures { result ≡ at_key seen local.now }
@@ -204,8 +204,8 @@ fn local_after(local: &Local, seen: u64) -> Local
     }
 }
 
-/// Returns the thread's private state after its next step, in which it saw `seen`, and the reply if the step ends the
-/// call.
+/// Returns the thread's private state after its next step, which saw the word `seen`, and the reply if the step ends
+/// the call.
 #[inline(always)]
 pub fn fed_by(local: &Local, seen: u64) -> Fed
     requires { IsSmall local.now }

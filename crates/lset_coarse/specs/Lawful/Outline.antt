@@ -1,5 +1,5 @@
--- The proof outline of CoarseList, the list with a single lock: what a thread knows at each row of the step table, and
--- the proof that each step preserves this.
+-- The proof outline of CoarseList, the list with a single lock: an assertion for each row of the step table, and the
+-- proof that each step preserves the assertions.
 use Rattle.std.specs.Prelude.{◌≡◌, ◌≢◌, ℕ, suc, ◌+◌, ◌*◌, ◌/◌, ◌%◌, ◌<◌, ◌≤◌, Bool, true, false, Option, Some, None, List, [], ◌∷◌}
 use Rattle.std.specs.Prelude.{slice_index, slice_set, refl}
 use Rattle.std.proofs.Common.{arith, inl, inr, sym, ◌∙◌, ap, subst}
@@ -28,12 +28,13 @@ use Rattle.lset_steps.proofs.Turns.Turn.{passes, changes, answers}
 use Rattle.lset_steps.specs.Rows.{decided_on, goes_to, own_slot}
 use Rattle.lset_coarse.specs.Coarse.{coarse, targets}
 
--- The protocol of CoarseList: as long as another thread holds the lock, a step of thread t changes nothing.
+-- The protocol of CoarseList: as long as another thread holds the lock, a step of thread `t` changes neither the words
+-- nor the numbers of used slots.
 abbrev pub LeavesHolder : Sizes → ℕ → List ℕ → (ℕ → ℕ) → Action → List ℕ → (ℕ → ℕ) → Option (Key × Bool) → Type 0
 LeavesHolder sz t ws used a ws' used' change = WordStep false sz t ws used a ws' used' change
     × ((u : ℕ) → u ≢ t → slice_index ws 0 ≡ u + 1 → (ws' ≡ ws) × (used' ≡ used))
 
--- States that everything the holder of the lock relies on is the same in both views (the list at two moments): keys,
+-- States that two views (the list at two moments) agree on everything that the holder of the lock relies on: keys,
 -- links, the lock, and the numbers of used slots.
 pub record Same (v w : View) : Type 0 where
   pub keys : w.key ≡ v.key
@@ -61,7 +62,7 @@ one_lock = record {
 }
 
 -- States that the thread holds the lock (`me` is its number plus 1), that pred is in the chain and has a smaller key
--- than the call's, and that curr is the next node.
+-- than the call's, and that curr is the node after pred.
 pub record Walking (v : View) (me key pred curr : ℕ) : Type 0 where
   pub mine : v.list_lock ≡ me
   pub at : InChain v pred
@@ -71,7 +72,7 @@ pub record Walking (v : View) (me key pred curr : ℕ) : Type 0 where
 abbrev Window : View → ℕ → Local → Type 0
 Window v t l = Walking v (t + 1) (target l.call) l.pred l.curr
 
--- The proof outline: for each row of the step table, what thread t knows before the step of this row.
+-- The proof outline: the assertion of thread `t` before each row of the step table.
 pub data At (q t : ℕ) (vs : ℕ → View) (first now : ℕ) (v : View) (done : Bool) (l : Local) : Type 0 where
   at0 : l.pc ≡ 0 → At q t vs first now v done l
   at1 : l.pc ≡ 1 → done ≡ false → At q t vs first now v done l
@@ -88,11 +89,12 @@ pub data At (q t : ℕ) (vs : ℕ → View) (first now : ℕ) (v : View) (done :
   at10 : l.pc ≡ 10 → v.list_lock ≡ t + 1 → (r : Reply) → l.reply ≡ Some r → Due done q vs first now t l.call r
       → At q t vs first now v done l
 
--- What the thread knows is still true after a step of another thread.
+-- If no link changes, each piece of the chain stays the same.
 segment_same : (v w : View) → w.link ≡ v.link → (i j : ℕ) (ns : List ℕ) → Segment v i ns j → Segment w i ns j
 segment_same v w e i j [] x = x
 segment_same v w e i j (a ∷ ns) x = (x.0, x.1, segment_same v w e (w.link i / 2) j ns (rw e x.2))
 
+-- Steps of other threads preserve the assertions of thread `t`.
 module _ (q t : ℕ) (vs : ℕ → View) (first now : ℕ) (v w : View) (done : Bool) (l : Local) (r : v.list_lock ≡ t + 1 → Same v w) where
   module _ (x : Window v t l) where
     s : Same v w
@@ -165,12 +167,12 @@ module _ (sz : Sizes) (t : ℕ) (vs : ℕ → View) (first now : ℕ) (ws : List
   curr_published : Window V t l → V.published l.curr
   curr_published w = in_chain_published V M.ordered l.curr (curr_at w)
 
-  -- The walk can continue from every node of the chain with a smaller key than the call's.
+  -- `Walking` holds for each node of the chain with a smaller key than the call's, together with the node after it.
   walks : (a : ℕ) → slice_index ws 0 ≡ t + 1 → InChain V a → node_key ws a < target l.call
       → Walking V (t + 1) (target l.call) a (node_link ws a / 2)
   walks a mine i lt = record { mine = mine; at = i; follows = even_next a i; below = lt }
 
-  -- What the thread knows is still true after it has written to its own slot.
+  -- `Window` still holds after the thread has written to its own slot (the node for its next successful add).
   window_on : (w : View) → Quiet V w → w.list_lock ≡ slice_index ws 0 → Window V t l → Window w t l
   window_on w quiet lock x =
       let pred = in_chain_published V M.ordered l.pred x.at in

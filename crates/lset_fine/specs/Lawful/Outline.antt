@@ -1,5 +1,5 @@
--- The proof outline of FineList, which takes node locks hand over hand: what a thread knows at each row of the step
--- table, and the proof that each step preserves this.
+-- The proof outline of FineList, which takes node locks hand over hand: an assertion for each row of the step table,
+-- and the proof that each step preserves the assertions.
 use Rattle.std.specs.Prelude.{◌≡◌, ◌≢◌, ℕ, suc, ◌+◌, ◌*◌, ◌/◌, ◌%◌, ◌<◌, ◌≤◌, Bool, true, false, Some, None, List, slice_set, refl}
 use Rattle.std.proofs.Common.{arith, inl, inr, sym, ◌∙◌, subst}
 use Rattle.lset_words.proofs.Numbers.{if_below, if_not_below, below_or_not}
@@ -25,11 +25,11 @@ use Rattle.lset_steps.proofs.Turns.{Turn, Follows, node_locks, locks_nodes, due_
 use Rattle.lset_steps.proofs.Turns.Turn.{passes, changes, answers}
 use Rattle.lset_fine.specs.Fine.{fine, targets}
 
--- What a thread knows while it holds the locks of both pred and curr.
+-- The assertion of a thread that holds the locks of both pred and curr.
 abbrev Window : View → ℕ → Local → Type 0
 Window v t l = Between v t (target l.call) l.pred l.curr
 
--- The proof outline: for each row of the step table, what thread t knows before the step of this row.
+-- The proof outline: the assertion of thread `t` before each row of the step table.
 pub data At (q t : ℕ) (vs : ℕ → View) (first now : ℕ) (v : View) (done : Bool) (l : Local) : Type 0 where
   at0 : l.pc ≡ 0 → At q t vs first now v done l
   at1 : l.pc ≡ 1 → done ≡ false → At q t vs first now v done l
@@ -51,7 +51,7 @@ pub data At (q t : ℕ) (vs : ℕ → View) (first now : ℕ) (v : View) (done :
   at13 : l.pc ≡ 13 → v.lock l.pred ≡ t + 1 → (r : Reply) → l.reply ≡ Some r → Due done q vs first now t l.call r
       → At q t vs first now v done l
 
--- What the thread knows is still true after a step of another thread.
+-- Steps of other threads preserve the assertions of thread `t`.
 module _ (q t : ℕ) (vs : ℕ → View) (first now : ℕ) (v w : View) (done : Bool) (l : Local) (r : Rely v w q t) where
   s : Leaves v w t
   s = leaves_of r

@@ -100,7 +100,7 @@ has_read_rows = record {
   tells = λ l seen. in_each_read_row (λ n. effect_of (record l { pc = n }) seen ≡ None) refl refl refl refl refl refl l.pc;
 }
 
--- ---- Proof that each row preserves what the thread knows (its proof outline)
+-- ---- Proof that each row preserves the assertions of its own thread
 module _ (sz : Sizes) (t : ℕ) (vs : ℕ → View) (first now : ℕ) (ws : List ℕ) (used : ℕ → ℕ) (done : Bool) (l : Local)
     (h : Here true sz vs now ws used) (th : Thread At sz t vs first now ws used done l) (tn : t < sz.threads) where
   abbrev Goal : Type 0

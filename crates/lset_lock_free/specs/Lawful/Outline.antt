@@ -1,5 +1,5 @@
--- The proof outline of LockFreeList: what a thread knows at each row of the step table, and the proof that each step
--- preserves this.
+-- The proof outline of LockFreeList: an assertion for each row of the step table, and the proof that each step
+-- preserves the assertions.
 use Rattle.std.specs.Prelude.{◌≡◌, ◌≢◌, ℕ, suc, ◌+◌, ◌-◌, ◌*◌, ◌/◌, ◌%◌, ◌<◌, ◌≤◌, ◌⊎◌, Bool, true, false, Some, None, List, []}
 use Rattle.std.specs.Prelude.{slice_set, refl, ◌==◌, nat_lt}
 use Rattle.std.proofs.Common.{arith, inl, inr, sym, ◌∙◌, ap, subst}
@@ -36,8 +36,8 @@ use Rattle.lset_steps.proofs.Turns.{Turn, due_of, Follows, no_locks}
 use Rattle.lset_steps.proofs.Turns.Turn.{passes, changes, answers, ends}
 use Rattle.lset_lock_free.specs.LockFree.{lock_free, targets, decision_of, at_key, at_link, again, next_action, fed_by, effect_of}
 
--- States that at some moment from `first` to `now`, node a was in the chain, b was the next node, P was true, and
--- thread t had made `count` successful adds.
+-- States that at some moment from `first` to `now`, node `a` was in the chain, `b` was the next node, `P` was true,
+-- and thread `t` had made `count` successful adds.
 pub record Was (vs : ℕ → View) (first now a b t count : ℕ) (P : View → Type 0) : Type 0 where
   pub at : ℕ
   pub from : first ≤ at
@@ -48,23 +48,22 @@ pub record Was (vs : ℕ → View) (first now a b t count : ℕ) (P : View → T
   pub same_count : (vs at).used t ≡ count
 
 -- States that at some moment from `first` to `now`, pred was in the chain with a smaller key than the call's, and curr
--- was the next node. `Open` states that at some such moment curr was in the chain without a mark, and succ was the next
--- node.
+-- was the node after pred. `Open` states that at some such moment, curr was in the chain without a mark, and succ was
+-- the node after curr.
 abbrev pub Link : (ℕ → View) → ℕ → ℕ → ℕ → ℕ → ℕ → ℕ → ℕ → Type 0
 Link vs first now key pred curr t count = Was vs first now pred curr t count (λ v. v.key pred < key)
 
 abbrev pub Open : (ℕ → View) → ℕ → ℕ → ℕ → ℕ → ℕ → ℕ → Type 0
 Open vs first now curr succ t count = Was vs first now curr succ t count (λ v. v.link curr % 2 ≡ 0)
 
--- The proof outline: for each row of the step table, what thread t knows before the step of this row. The rows of
--- `contains` and `ceiling` share the last line.
+-- The proof outline: the assertion of thread `t` before each row of the step table. The last case is for all rows of
+-- `contains` and `ceiling`.
 pub data At (q t : ℕ) (vs : ℕ → View) (first now : ℕ) (v : View) (done : Bool) (l : Local) : Type 0 where
   at0 : l.pc ≡ 0 → At q t vs first now v done l
   at1 : l.pc ≡ 1 → done ≡ false → At q t vs first now v done l
   at2 : l.pc ≡ 2 → done ≡ false → Spot v (target l.call) l.pred l.curr
       → Link vs first now (target l.call) l.pred l.curr t (v.used t) → At q t vs first now v done l
-  -- The case that the thread's last step unlinked the node between pred and curr, so that curr is the next node after
-  -- pred now.
+  -- The case that the thread's last step unlinked the node between pred and curr. Now curr is the node after pred.
   at2_now : l.pc ≡ 2 → done ≡ false → Spot v (target l.call) l.pred l.curr → first ≤ now → InChain v l.pred
       → v.link l.pred / 2 ≡ l.curr → At q t vs first now v done l
   at3 : l.pc ≡ 3 → done ≡ false → Spot v (target l.call) l.pred l.curr → v.published l.succ → v.link l.curr ≡ 2 * l.succ + 1
@@ -87,7 +86,7 @@ pub data At (q t : ℕ) (vs : ℕ → View) (first now : ℕ) (v : View) (done :
       → v.link l.curr ≡ 2 * l.succ + 1 → At q t vs first now v done l
   at_read : Reading vs first now done l → At q t vs first now v done l
 
--- What a thread knows about the past is still true at the next moment.
+-- An assertion about the past still holds at the next moment.
 was_on : {vs : ℕ → View} {first now a b t count count' : ℕ} {P : View → Type 0} → count' ≡ count
     → Was vs first now a b t count P → Was vs first (suc now) a b t count' P
 was_on {now = now} e x = record {
@@ -100,7 +99,7 @@ was_on {now = now} e x = record {
   same_count = x.same_count ∙ sym e;
 }
 
--- What is true now was true at some moment of the call.
+-- If the properties in `Was` hold now, they hold at some moment of the call.
 is_now : {vs : ℕ → View} {first now a b t : ℕ} {v : View} (P : View → Type 0) → vs now ≡ v → first ≤ now → InChain v a
     → v.link a / 2 ≡ b → P v → Was vs first now a b t (v.used t) P
 is_now {vs} {first} {now} {a} {b} {t} {v} P e from i next holds = record {
@@ -113,7 +112,7 @@ is_now {vs} {first} {now} {a} {b} {t} {v} P e from i next holds = record {
   same_count = ap (λ x. x.used t) e;
 }
 
--- What the thread knows is still true after a step of another thread.
+-- Steps of other threads preserve the assertions of thread `t`.
 module _ (q t : ℕ) (vs : ℕ → View) (first now : ℕ) (v w : View) (done : Bool) (l : Local) (present : vs now ≡ v)
     (r : Remains v w q t) where
   g : KeepsNodes v w
@@ -156,7 +155,7 @@ has_read_rows = record {
   tells = λ l seen. in_each_read_row (λ n. effect_of (record l { pc = n }) seen ≡ None) refl refl refl refl refl refl l.pc;
 }
 
--- ---- Proof that each row preserves what the thread knows (its proof outline)
+-- ---- Proof that each row preserves the assertions of its own thread
 module _ (sz : Sizes) (t : ℕ) (vs : ℕ → View) (first now : ℕ) (ws : List ℕ) (used : ℕ → ℕ) (done : Bool) (l : Local)
     (h : Here true sz vs now ws used) (th : Thread At sz t vs first now ws used done l) (tn : t < sz.threads) where
   abbrev Goal : Type 0
@@ -218,8 +217,8 @@ module _ (sz : Sizes) (t : ℕ) (vs : ℕ → View) (first now : ℕ) (ws : List
   abbrev Fitting : Reply → Type 0
   Fitting r = FitsSometime sz.quota (contents_of vs) (counts_of vs) first now t l.call r
 
-  -- The decision is right: at some moment of the call, the key was in the set if the call found it, and absent if the
-  -- call did not.
+  -- Suppose that at moment `at` of the call, the set has the call's key exactly if the call found the key. Then the
+  -- call decides rightly: its reply is correct at this moment, or it continues at the row for adding or removing.
   decided_at : (s at : ℕ) → first ≤ at → at ≤ now → (vs at).used t ≡ used t
       → ((s == target l.call) ≡ true → InContent (vs at) (key_of l.call).0)
       → ((s == target l.call) ≡ false → InContent (vs at) (key_of l.call).0 → ⊥)
@@ -256,7 +255,7 @@ module _ (sz : Sizes) (t : ℕ) (vs : ℕ → View) (first now : ℕ) (ws : List
   end_then a at upto p =
       sym (key_stays vs now a at now h.course upto (omega arith) p) ∙ ap (λ v. v.key a) h.present
 
-  -- If the set contains a `ceiling`'s own key, this key is the correct reply.
+  -- If the key of a `ceiling` is in the set, this key is the correct reply.
   own_ceiling : (v : View) (s : ℕ) → s ≡ target l.call → target l.call < tail_word → InContent v (key_of l.call).0
       → FitsIn sz.quota v t (Ceiling (key_of l.call)) (ceiling_at s)
   own_ceiling v s e low c = subst (FitsIn sz.quota v t (Ceiling (key_of l.call)))

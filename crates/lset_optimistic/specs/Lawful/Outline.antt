@@ -1,5 +1,5 @@
--- The proof outline of OptimisticList, which walks without locks and validates by a second walk: what a thread knows at
--- each row of the step table, and the proof that each step preserves this.
+-- The proof outline of OptimisticList, which walks without locks and validates by a second walk: an assertion for each
+-- row of the step table, and the proof that each step preserves the assertions.
 use Rattle.std.specs.Prelude.{◌≡◌, ◌≢◌, ℕ, suc, ◌+◌, ◌*◌, ◌/◌, ◌<◌, ◌≤◌, ◌⊎◌, Bool, true, false, Option, Some, None, List}
 use Rattle.std.specs.Prelude.{if◌then◌else◌, ◌==◌, slice_set, refl}
 use Rattle.std.proofs.Common.{arith, inl, inr, sym, ◌∙◌, ap, subst}
@@ -30,7 +30,7 @@ use Rattle.lset_steps.proofs.Turns.{Turn, Follows, Outcome, node_locks, locks_no
 use Rattle.lset_steps.proofs.Turns.Turn.{passes, changes, answers}
 use Rattle.lset_optimistic.specs.Optimistic.{optimistic, targets}
 
--- What the first walk has found: pred and curr with their key words. The call's key is above pred's and not above
+-- The result of the first walk: pred and curr with their key words. The call's key is above pred's and not above
 -- curr's.
 pub record Reached (v : View) (key pred pkey curr ckey : ℕ) : Type 0 where
   pub found : Found v key pred curr ckey
@@ -46,12 +46,12 @@ reached_kept {pred = pred} g f = record {
 abbrev pub Window : View → Local → Type 0
 Window v l = Reached v (target l.call) l.pred l.pkey l.curr l.ckey
 
--- States what a thread knows after a second walk that reached pred: it holds the locks of pred and curr, which are
+-- The assertion after a second walk that reached pred: the thread holds the locks of pred and curr, which are
 -- neighbours in the chain.
 abbrev pub Neighbours : View → ℕ → Local → Type 0
 Neighbours v t l = Between v t (target l.call) l.pred l.curr × (l.node ≡ l.pred)
 
--- The proof outline: for each row of the step table, what thread t knows before the step of this row.
+-- The proof outline: the assertion of thread `t` before each row of the step table.
 pub data At (q t : ℕ) (vs : ℕ → View) (first now : ℕ) (v : View) (done : Bool) (l : Local) : Type 0 where
   at0 : l.pc ≡ 0 → At q t vs first now v done l
   at1 : l.pc ≡ 1 → done ≡ false → At q t vs first now v done l
@@ -79,7 +79,7 @@ pub data At (q t : ℕ) (vs : ℕ → View) (first now : ℕ) (v : View) (done :
       → Outcome done q vs first now t l.call l.reply → At q t vs first now v done l
   at15 : l.pc ≡ 15 → v.lock l.curr ≡ t + 1 → Outcome done q vs first now t l.call l.reply → At q t vs first now v done l
 
--- What the thread knows is still true after a step of another thread.
+-- Steps of other threads preserve the assertions of thread `t`.
 module _ (q t : ℕ) (vs : ℕ → View) (first now : ℕ) (v w : View) (done : Bool) (l : Local) (present : vs now ≡ v)
     (r : Rely v w q t) where
   s : Leaves v w t
@@ -112,7 +112,8 @@ module _ (q t : ℕ) (vs : ℕ → View) (first now : ℕ) (v w : View) (done : 
       (outcome_on done q vs first now t l.call l.reply o)
   stays (at15 e c o) = at15 e (s.locks l.curr c) (outcome_on done q vs first now t l.call l.reply o)
 
--- If the second walk has reached pred and pred's link leads to curr, the decision of the call at curr is right.
+-- If the second walk has reached pred, and pred's link leads to curr, the call decides rightly: its reply is correct
+-- now, or it will add or remove its key.
 pub decision : {sz : Sizes} {t : ℕ} {ws : List ℕ} {used : ℕ → ℕ} (m : Memory false sz ws used) (l : Local) → t < sz.threads →
     Registers sz t l
     → l.used ≡ used t → Window (view sz ws used) l → node_lock ws l.curr ≡ t + 1 → Held (view sz ws used) t l.pred
