@@ -18,8 +18,8 @@ use lset_words::{Call, HEAD, Key, Kind, Reply};
 #[derive(Clone, Copy)]
 pub struct FineList;
 
-/// The rows of the step table where a call continues after its decision at the first key that is not smaller than its
-/// own.
+/// The rows of the step table where a call continues after its walk: `adds` if the call will add its key, `removes` if
+/// it will remove its key, `leaves` if it can reply.
 const TARGETS: Targets = Targets {
     adds: 7,
     removes: 10,

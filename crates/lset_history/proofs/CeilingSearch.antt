@@ -15,8 +15,8 @@ use Rattle.lset_history.proofs.ChangeLaws.{present_past}
 abbrev pub CeilingAt : (ℕ → List ℕ) → ℕ → Option ℕ → ℕ → Type 0
 CeilingAt changes key found m = IsCeiling (λ j. is_present changes j m ≡ true) key found
 
--- States that none of these moments is after `a` and at or before `b`. If they are the moments at which a key changes,
--- the key does not change in this time.
+-- States that none of these moments is after `a` and at or before `b`. If a key changes at exactly these moments, it
+-- does not change in this time.
 abbrev IsQuiet : List ℕ → ℕ → ℕ → Type 0
 IsQuiet ms a b = All (λ m. a < m → m ≤ b → ⊥) ms
 

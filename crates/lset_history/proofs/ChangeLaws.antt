@@ -1,4 +1,4 @@
--- The effect of an additional change of a key on the moments at which the key is present.
+-- The effect of an additional change of a key on the moments when the key is present.
 use Rattle.std.proofs.lemmas.Grind.{common_steps}
 use Rattle.std.proofs.Common.{◌≡◌, ◌≢◌, ℕ, zero, suc, ◌<◌, ◌≤◌, Bool, true, false, not, List, [], ◌∷◌, ◌++◌, length, get_or}
 use Rattle.std.proofs.Common.{sym, refl, ap, ◌∙◌, arith}

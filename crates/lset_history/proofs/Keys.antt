@@ -35,7 +35,7 @@ has_none k xs e c = let f : has_key k xs ≡ true = has_true k xs c in absurd (c
 pub member_or_not : (k : ℕ) (xs : List ℕ) → Contains xs k ⊎ (Contains xs k → ⊥)
 member_or_not k xs = elim (cases_Bool (has_key k xs)) [ inl e ↦ inl (has_from k xs e) | inr e ↦ inr (has_none k xs e) ]
 
--- ---- Lemmas about adding or removing a key, where membership is a `Bool`
+-- ---- Lemmas about adding or removing a key, with membership as a `Bool`
 pub has_with : (k : ℕ) (xs : List ℕ) → has_key k (with_key k xs) ≡ true
 has_with k [] = rw (equal_test k k refl) refl
 has_with k (x ∷ xs) = elim (cases_Bool (nat_lt k x)) [
@@ -65,7 +65,7 @@ has_without_other k j (x ∷ xs) n = elim (cases_Bool (x == j)) [
   | inr f ↦ rw f (rw (has_without_other k j xs n) refl)
 ]
 
--- ---- Lemmas about adding or removing a key, where membership is a proposition
+-- ---- Lemmas about adding or removing a key, with membership as a proposition
 pub with_keeps : (k j : ℕ) (xs : List ℕ) → (j ≡ k) ⊎ Contains xs j → Contains (with_key k xs) j
 with_keeps k j xs h = elim (same_or_not k j) [
   | inl e ↦ has_from j (with_key k xs) (rw e (has_with j xs))

@@ -10,8 +10,8 @@ use Rattle.std.specs.BTreeMap.{BTreeMap, get, is_at}
 use Rattle.std.specs.BTreeSet.{BTreeSet, contains}
 use Rattle.lset_words.specs.SequentialSet.{has_key}
 
--- The opening keys, and the changes of each key: the increasing moments, from 1, at which the key was alternately
--- added and removed.
+-- The opening keys, and the changes of each key: the increasing moments, from 1, when the key was alternately added
+-- and removed.
 pub record ChangesValue : Type 0 where
   pub opening : List ℕ
   pub entries : List (ℕ × List ℕ)
@@ -30,7 +30,7 @@ moments_in (Some ms) = ms
 abbrev pub noted_of : ChangesValue → ℕ → List ℕ
 noted_of c key = moments_in (lookup (is_at (nat_cmp key)) c.entries)
 
--- Returns all moments at which the key was added or removed, including moment 0 if it is an opening key.
+-- Returns all moments when the key was added or removed, including moment 0 if it is an opening key.
 abbrev pub moments_of : ChangesValue → ℕ → List ℕ
 moments_of c key = opened_moments c.opening key ++ noted_of c key
 
@@ -46,14 +46,14 @@ abbrev pub state_after : Bool → List ℕ → Bool
 state_after present [] = present
 state_after present (m ∷ ms) = state_after (not present) ms
 
--- Returns whether a key is present at a moment. `changes` maps each key to the moments at which it changes.
+-- Returns whether a key is present at a moment. `changes` maps each key to the moments when the key changes.
 abbrev pub is_present : (ℕ → List ℕ) → ℕ → ℕ → Bool
 is_present changes key moment = state_at false (changes key) moment
 
 abbrev pub is_present_now : (ℕ → List ℕ) → ℕ → Bool
 is_present_now changes key = state_after false (changes key)
 
--- States that the moment is at least 1 and after every moment at which a key changes.
+-- States that the moment is at least 1, and after every moment when a key changes.
 abbrev pub IsLaterThanAll : (ℕ → List ℕ) → ℕ → Type 0
 IsLaterThanAll changes moment = (0 < moment) × ((key : ℕ) → All (λ m. m < moment) (changes key))
 
@@ -61,7 +61,7 @@ IsLaterThanAll changes moment = (0 < moment) × ((key : ℕ) → All (λ m. m < 
 abbrev pub with_change : (ℕ → List ℕ) → ℕ → ℕ → ℕ → List ℕ
 with_change changes key moment k = if k == key then changes k ++ moment ∷ [] else changes k
 
--- States that the last argument is the first moment from `first` to `last` at which P holds, or `None` if P holds at no
+-- States that the last argument is the first moment from `first` to `last` when `P` holds, or `None` if there is no
 -- such moment.
 abbrev pub IsFirst : (ℕ → Type 0) → ℕ → ℕ → Option ℕ → Type 0
 IsFirst P first last None = (m : ℕ) → first ≤ m → m ≤ last → P m → ⊥
@@ -72,7 +72,7 @@ abbrev pub is_same : Bool → Bool → Bool
 is_same true b = b
 is_same false b = not b
 
--- Returns the first `m` from `first` to `first + n` for which `f m` is `asked`, or `None` if there is no such `m`.
+-- Returns the first `m` from `first` to `first + n` such that `f m` is `asked`, or `None` if there is no such `m`.
 abbrev pub first_passing : Bool → (ℕ → Bool) → ℕ → ℕ → Option ℕ
 first_passing asked f first zero = if is_same asked (f first) then Some first else None
 first_passing asked f first (suc n) = if is_same asked (f first) then Some first else first_passing asked f (suc first) n

@@ -68,7 +68,7 @@ abbrev pub PutsInSome : OracleValue → List CallRecord → List Placed → Type
 PutsInSome o calls order = (place : ℕ) × (place < length order)
     × PutsIn (after_order o calls (take place order)) (placed_call calls order place).thread (placed_call calls order place).call
 
--- Returns the smaller of `smallest` and the moment when a call ends. `None` stands for no moment.
+-- Returns the smaller of `smallest` and the moment when a call ends. Each of them can be missing (`None`).
 abbrev pub smallest_with : Option ℕ → Option (ℕ × Reply) → Option ℕ
 smallest_with smallest None = smallest
 smallest_with None (Some end) = Some end.0

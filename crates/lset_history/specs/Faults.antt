@@ -1,5 +1,5 @@
--- The conditions under which an order of calls explains a history and its final keys, and the error to report if the
--- order does not.
+-- The definition of an order of calls that explains a history and its final keys, and the error to report for any
+-- other order.
 use Rattle.std.specs.Prelude.{◌≡◌, ◌≢◌, ℕ, ◌<◌, ◌≤◌, ◌⊎◌, List, map, take, length, All, IsSome, IsSomeAnd, slice_index_or}
 use Rattle.std.specs.List.Sorted.{IsStrictlyIncreasing}
 use Rattle.lset_words.specs.declared.Reply.{Reply}
@@ -65,7 +65,7 @@ pub record IsMissing (calls : List CallRecord) (order : List Placed) (number : �
 abbrev pub Passes : (ℕ → Type 0) → List Placed → Type 0
 Passes Refuses order = (place : ℕ) → place < length order → Refuses place → ⊥
 
--- States that `number` is the first call of the order for which a check finds an error.
+-- States that `number` is the first call of the order that fails a check.
 pub record RefusesFirst (Refuses : ℕ → Type 0) (order : List Placed) (number : ℕ) : Type 0 where
   pub place : ℕ
   pub inside : place < length order

@@ -1,5 +1,4 @@
--- The value of the Rust type `History`, and the conditions under which a history accepts the start or the end of a
--- call.
+-- The value of the Rust type `History`, and the conditions for the start and the end of a call in a history.
 use Rattle.std.specs.Prelude.{◌≡◌, ℕ, ◌<◌, ◌≤◌, ◌^◌, ◌==◌, ◌&&◌, max, Bool, true, false, List, [], ◌∷◌, ◌++◌, length, Option}
 use Rattle.std.specs.Prelude.{Some, None, is_none, All, IfSome, slice_index_or, slice_set}
 use Rattle.std.specs.List.{list_any}
@@ -25,7 +24,7 @@ pub record IsLater (calls : List CallRecord) (at : ℕ) : Type 0 where
   pub begins : All (λ (x : CallRecord). x.begun < at) calls
   pub ends : All (λ (x : CallRecord). IfSome x.ended (λ (e : ℕ × Reply). e.0 < at)) calls
 
--- The conditions under which a history accepts that `thread` begins a call at the moment `at`.
+-- The conditions for a start of a call by `thread` at the moment `at`.
 pub record MayBegin (h : HistoryValue) (thread at : ℕ) : Type 0 where
   pub of_a_thread : thread < h.opening.threads
   pub idle : has_open h.calls thread ≡ false
@@ -68,7 +67,7 @@ ended_with x end = record x { ended = Some end }
 abbrev pub with_ended : HistoryValue → ℕ → ℕ × Reply → HistoryValue
 with_ended h number end = record h { calls = slice_set h.calls number (ended_with (call_numbered h.calls number) end) }
 
--- Returns the moment at which a call ends, or 0 if the call is pending.
+-- Returns the moment when a call ends, or 0 if the call is pending.
 abbrev pub moment_of : Option (ℕ × Reply) → ℕ
 moment_of None = 0
 moment_of (Some end) = end.0
@@ -77,7 +76,7 @@ moment_of (Some end) = end.0
 abbrev pub last_moment : CallRecord → ℕ
 last_moment x = max x.begun (moment_of x.ended)
 
--- Returns the latest moment at which a call begins or ends, or 0 if there are no calls.
+-- Returns the latest moment when a call begins or ends, or 0 if there are no calls.
 abbrev pub latest_moment : List CallRecord → ℕ
 latest_moment [] = 0
 latest_moment (x ∷ xs) = max (last_moment x) (latest_moment xs)

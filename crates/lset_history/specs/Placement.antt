@@ -1,4 +1,4 @@
--- [Placement]: the order of a run's calls by their linearization points, the moments at which they take effect.
+-- [Placement]: the order of a run's calls by their linearization points (the moments when the calls take effect).
 use Rattle.std.specs.Prelude.{◌≡◌, ℕ, suc, ◌+◌, ◌*◌, ◌<◌, ◌≤◌, ◌⊎◌, Bool, true, false, if◌then◌else◌, List, [], ◌∷◌, map, length}
 use Rattle.std.specs.Prelude.{Option, Some, None, AllPairs, slice_index_or}
 use Rattle.std.specs.List.Sorted.{IsPermutation}

@@ -39,7 +39,7 @@ pub struct Changes {
     alloc: Global,
     /// The opening keys, in increasing order. The other fields do not mention moment 0.
     opening: Vec<u32>,
-    /// For each key that changed, the moments above 0 at which it was added and removed, alternately.
+    /// For each key that changed, the moments above 0 when it was added and removed, alternately.
     moments: BTreeMap<u32, Vec<u32>>,
     /// The key that was added or removed at each moment of a change. If an allocation fails in `note`, this map and
     /// `keys_now` can keep an entry for the change that was not recorded.
@@ -90,7 +90,7 @@ fn is_past(end: Option<u32>, key: u32) -> bool
     }
 }
 
-/// Appends a moment to the moments at which `key` changed. If an allocation fails, returns `AllocError` and changes
+/// Appends a moment to the moments when `key` changed. If an allocation fails, returns `AllocError` and changes
 /// nothing.
 fn push_moment(
     moments: &mut BTreeMap<u32, Vec<u32>>,
@@ -162,7 +162,7 @@ impl Changes {
         Ok(())
     }
 
-    /// Searches for the first moment from `from` to `to` at which `key` is present (if `present` is true) or absent.
+    /// Searches for the first moment from `from` to `to` when `key` is present (if `present` is true) or absent.
     /// Returns this moment, or `None`, and the number of recorded moments that the search compared. `from` must be at
     /// most `to`.
     ///
@@ -195,7 +195,7 @@ impl Changes {
         upto > 0 && self.opening[upto - 1] == key
     }
 
-    /// Returns the moments above 0 at which `key` was added and removed, in increasing order.
+    /// Returns the moments above 0 when `key` was added and removed, in increasing order.
     fn noted(&self, key: u32) -> &[u32]
         ensures value { result.now ≡ noted_of self.now key }
         ensures increases { IsStrictlyIncreasing result.now }

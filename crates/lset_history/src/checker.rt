@@ -107,7 +107,7 @@ fn is_below(end: Option<u32>, moment: u32) -> bool
     end.is_some_and(|end| end < moment)
 }
 
-/// Returns the smaller of `smallest` and the moment when a call ends. `None` stands for no moment.
+/// Returns the smaller of `smallest` and the moment when a call ends. Each of them can be missing (`None`).
 fn lesser(smallest: Option<u32>, ended: Option<(u32, Reply)>) -> Option<u32>
     ensures { result ≡ smallest_with smallest ended }
 {

@@ -2,7 +2,7 @@ ghost use Rattle.lset_history.specs.Laws.{PlacementLinearizes, EveryCallHasAPlac
 
 /// The placement theorem. If a run has an account (each event changes the keys as its call allows, and each reply is
 /// correct at some moment of its call), the order of its calls by their linearization points linearizes the run's
-/// history (Herlihy and Wing), and ends with the same keys as the run. The function does nothing.
+/// history (Herlihy and Wing), and leaves the same keys as the run. The function does nothing.
 pub fn placement_linearizes()
     ensures { PlacementLinearizes }
 {}

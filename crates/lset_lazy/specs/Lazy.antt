@@ -14,8 +14,8 @@ use Rattle.lset_steps.specs.Steps.{Table}
 use Rattle.lset_steps.specs.Rows.{own_slot, decided_on}
 use Rattle.lset_steps.specs.ReadRows.{begun_reading, read_action, read_fed, continued, leaves_with}
 
--- The rows of the step table where a call continues after its decision at the first key that is not smaller than its
--- own.
+-- The rows of the step table where a call continues after its walk: `adds` if the call will add its key, `removes` if
+-- it will remove its key, `leaves` if it can reply.
 abbrev pub targets : Targets
 targets = record { adds = 8; removes = 11; leaves = 13 }
 

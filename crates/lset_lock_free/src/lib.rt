@@ -23,8 +23,8 @@ use lset_words::{Call, HEAD, Key, Kind, Reply};
 #[derive(Clone, Copy)]
 pub struct LockFreeList;
 
-/// The rows of the step table where a call continues after its decision. A call that does not change the set replies
-/// at once (row 0).
+/// The rows of the step table where a call continues after its walk: `adds` if the call will add its key, `removes` if
+/// it will remove its key. A call that changes nothing ends at once (`leaves`, row 0).
 const TARGETS: Targets = Targets {
     adds: 5,
     removes: 8,

@@ -28,7 +28,8 @@ contents_at T op es = contents_of (views T op es)
 abbrev pub counts_at : Table → Opening → (ℕ → Event) → Counts
 counts_at T op es = counts_of (views T op es)
 
--- States that the log and the thread's private state agree on whether a call is pending, and on which call this is.
+-- States that the log and the thread's private state agree about the thread's pending call: whether the thread has
+-- one, and which call it is.
 pub record Tied (open_now : Bool) (call : Call) (l : Local) : Type 0 where
   pub closed : l.pc ≡ 0 → open_now ≡ false
   pub opened : l.pc ≢ 0 → (open_now ≡ true) × (l.call ≡ call)

@@ -52,8 +52,8 @@ ceiling_key l seen =
     else if seen == tail_word then leaves_with Nothing (record l { ckey = seen })
     else continued (record l { pc = 25; ckey = seen })
 
--- Returns the next state of a `ceiling` that has read the mark of the node where it stopped. The call replies with the
--- node's key or, if the node is marked, starts again from the head.
+-- Returns the next state of a `ceiling` that has stopped at a node and read its mark. The call replies with the node's
+-- key or, if the node is marked, starts again from the head.
 abbrev pub ceiling_mark : Local → ℕ → Fed
 ceiling_mark l seen = if seen % 2 == 0 then leaves_with (ceiling_at l.ckey) l else continued (record l { pc = 23; curr = 0 })
 

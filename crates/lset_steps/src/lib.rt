@@ -131,8 +131,8 @@ pub trait Machine {
     ghost lawful: { Lawful table };
 }
 
-/// A list set whose `contains` takes no lock and writes nothing, so that it never waits for another thread (Herlihy and
-/// Shavit's wait-free `contains`).
+/// A list set with a `contains` that takes no lock and writes nothing. Therefore a `contains` never waits for another
+/// thread (Herlihy and Shavit's wait-free `contains`).
 pub trait OpenReads: Machine {
     /// Returns the maximum number of steps that a `contains` makes, whatever the other threads do. Each step is a load.
     fn bound(layout: &Layout) -> u64

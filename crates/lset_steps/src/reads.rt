@@ -6,8 +6,8 @@ use crate::rows::{TAIL_WORD, begun, ceiling_at, key_index, link_index};
 use crate::{Action, Fed, Local};
 use lset_words::{Call, Reply};
 
-/// Returns the private state of a thread that begins a call, at the first row for this kind of call. `contains` and
-/// `ceiling` have rows of their own, which take no lock and write nothing (Herlihy and Shavit's wait-free `contains`).
+/// Returns the private state of a thread that begins a call, at the first row for this kind of call. The rows for
+/// `contains` and `ceiling` take no lock and write nothing (Herlihy and Shavit's wait-free `contains`).
 #[inline(always)]
 pub fn begun_reading(call: Call, local: &Local) -> Local
     ensures { result ≡ begun_reading call local.now }
@@ -20,7 +20,7 @@ pub fn begun_reading(call: Call, local: &Local) -> Local
     begun(pc, call, local)
 }
 
-/// Returns the outcome of a step after which the call continues in the given private state.
+/// Returns the outcome of a step if the call continues in the given private state.
 #[inline(always)]
 pub fn continued(local: Local) -> Fed
     ensures { result ≡ continued local }
@@ -55,7 +55,7 @@ pub fn read_action(local: &Local) -> Action
     }
 }
 
-/// Returns the outcome of a step in which a `ceiling` read the key word `seen`. The call continues with the next node
+/// Returns the outcome of a step of a `ceiling` that read the key word `seen`. The call continues with the next node
 /// if the key is smaller than the call's, replies `Nothing` at the tail, and otherwise reads the node's mark.
 #[inline(always)]
 fn ceiling_key(local: &Local, seen: u64) -> Fed
@@ -74,8 +74,8 @@ fn ceiling_key(local: &Local, seen: u64) -> Fed
     }
 }
 
-/// Returns the outcome of a step in which a `ceiling` read the mark of the node at which it stopped. The call replies
-/// with the node's key or, if the node is marked, starts again from the head.
+/// Returns the outcome of a step of a `ceiling` that read the mark of the node where the call stopped. The call
+/// replies with the node's key or, if the node is marked, starts again from the head.
 #[inline(always)]
 fn ceiling_mark(local: &Local, seen: u64) -> Fed
     ensures { result ≡ ceiling_mark local.now seen }

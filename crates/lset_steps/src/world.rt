@@ -383,7 +383,7 @@ impl<M: Machine> World<M> {
         }
     }
 
-    /// Makes the next step of thread `t`, whose private state is `local`.
+    /// Makes the next step of thread `t`. `local` is the private state of this thread.
     #[inline(always)]
     fn go_holding(&mut self, t: u32, local: Local) -> Told
         requires call { Enabled self.old.state (Event.Go t) }

@@ -1,5 +1,5 @@
--- Histories of calls, and what it means for an order of calls to linearize a history (Herlihy and Wing). Pending calls
--- can be completed by a reply or left out.
+-- Histories of calls, and the definition of an order of calls that linearizes a history (Herlihy and Wing). Pending
+-- calls can be completed by a reply or left out.
 use Rattle.std.specs.Prelude.{◌≡◌, ◌≢◌, ℕ, ◌<◌, List, map, length, Some, None, Contains, All, AllPairs, IfSome}
 use Rattle.std.specs.Prelude.{IsSomeAnd, slice_index_or}
 use Rattle.lset_words.specs.declared.Call.TheVariants as call
@@ -32,12 +32,12 @@ pub record Follows (y x : CallRecord) : Type 0 where
   -- If both calls are made by one thread, `y` ends before `x` begins.
   pub none_open : y.thread ≡ x.thread → IsSomeAnd y.ended (λ (e : ℕ × Reply). e.0 < x.begun)
 
--- The conditions under which call `x` can be appended to the calls `earlier` of a history.
+-- The conditions for appending call `x` to the calls `earlier` of a history.
 pub record MayFollow (threads : ℕ) (earlier : List CallRecord) (x : CallRecord) : Type 0 where
   pub call : IsCall threads x
   pub follows : All (λ y. Follows y x) earlier
 
--- [History]: numbered calls that come from a sequence of starts and ends, no two at the same moment.
+-- [History]: the numbered calls of a sequence of starts and ends, each at a moment of its own.
 pub record IsHistory (threads : ℕ) (calls : List CallRecord) : Type 0 where
   pub each : All (IsCall threads) calls
   pub pairs : AllPairs Follows calls

@@ -1,6 +1,6 @@
 -- The log of a run, and the calls in the log. Entry k of a log is the event between moments k and k + 1. Moment k is
--- the state after the first k events. An entry records what a user of the set can see of an event: the start of a
--- call, the change of a key, or a reply. An entry mentions no nodes and no locks.
+-- the state after the first k events. An entry records the part of an event that a user of the set can see: the start
+-- of a call, the change of a key, or a reply. An entry mentions no nodes and no locks.
 use Rattle.std.specs.Prelude.{ℕ, zero, suc, ◌==◌, ◌||◌, ◌&&◌, Bool, true, false, if◌then◌else◌, List, [], ◌∷◌, ◌++◌, map, Option}
 use Rattle.std.specs.Prelude.{Some, None, is_none}
 use Rattle.lset_words.specs.declared.Key.{Key}

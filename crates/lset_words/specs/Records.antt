@@ -30,7 +30,7 @@ thread_of (fresh t) = t
 thread_of (called r c) = thread_of r
 thread_of (gathered r g) = thread_of r
 
--- Returns the calls that the record's thread made itself, in the order in which it made them.
+-- Returns the calls that the record's thread made itself, from the first to the last.
 abbrev pub own_calls : Record → List CallMade
 own_calls (fresh t) = []
 own_calls (called r c) = own_calls r ++ c ∷ []

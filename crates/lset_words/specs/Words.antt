@@ -24,7 +24,7 @@ pub record IsWithin (s : Sizes) : Type 0 where
   pub small : s.quota ≤ MOST_QUOTA
   pub opens : s.opening ≤ MOST_OPENING
 
--- The parameters with which a set opens: the number of threads, the number of slots per thread (the quota), and the
+-- The parameters of a set when it opens: the number of threads, the number of slots per thread (the quota), and the
 -- opening keys.
 pub record Opening : Type 0 where
   pub threads : ℕ
@@ -38,7 +38,7 @@ sizes o = record { threads = o.threads; quota = o.quota; opening = length o.keys
 abbrev pub empty : ℕ → ℕ → Opening
 empty threads quota = record { threads = threads; quota = quota; keys = [] }
 
--- The conditions on the parameters with which a set opens: the sizes are within their limits, and the opening keys are
+-- The conditions on the parameters of a set when it opens: the sizes are within their limits, and the opening keys are
 -- below 2^32 and strictly increasing.
 pub record Opens (o : Opening) : Type 0 where
   pub within : IsWithin (sizes o)
