@@ -30,7 +30,7 @@ next_action l =
     else Store 0 0
 
 -- Returns the thread's private state after it has loaded the key word of curr. If the key is smaller than the call's,
--- the walk continues. Otherwise the call decides.
+-- the walk continues. Otherwise the call has a reply or will change the set.
 abbrev pub at_key : ℕ → Local → Local
 at_key seen l =
     if nat_lt seen (target l.call) then record l { pc = 4; ckey = seen }

@@ -49,7 +49,7 @@ pub fn next_action(local: &Local) -> Action
 }
 
 /// Returns the thread's private state after it has read the key word `seen`. If the key is smaller than the call's,
-/// the walk continues. Otherwise the call decides.
+/// the walk continues. Otherwise the call has a reply or will change the set.
 #[inline(always)]
 fn at_key(local: &Local, seen: u64) -> Local
     ensures { result ≡ at_key seen local.now }

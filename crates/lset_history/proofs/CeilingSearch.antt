@@ -167,7 +167,7 @@ module _ (changes : ℕ → List ℕ) (key : ℕ) (found : Option ℕ) (from mom
     | inr g ↦ against_is_not changes key found j m ((s m g).stays j m e g (omega arith)) h
   ]
 
-  -- ---- The results of the search
+  -- ---- Lemmas about the results of the search
   pub past_the_end : (to : ℕ) → to < moment → IsFirst (CeilingAt changes key found) from to None
   past_the_end to l = λ m a b h. let k = (s moment (omega arith)).before m a (omega arith) in
       against_is_not changes key found k.0 m k.1 h

@@ -1,4 +1,4 @@
--- The invariant of a history still holds after a call begins or ends.
+-- Proof that the invariant of the Rust type `History` still holds after a call begins or ends.
 use Rattle.std.proofs.Common.{◌≡◌, ℕ, suc, zero, ◌<◌, ◌≤◌, ◌^◌, ◌≢◌, ◌==◌, ◌&&◌, ◌||◌, Bool, true, false, List, [], ◌∷◌, ◌++◌}
 use Rattle.std.proofs.Common.{length, get_or, max, Option, Some, None, is_none, is_some, not, refl, sym, ap, ◌∙◌, subst}
 use Rattle.std.proofs.Common.{arith, inl, inr, ◌⊎◌, replicate}

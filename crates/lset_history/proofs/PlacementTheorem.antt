@@ -1,4 +1,4 @@
--- The placement theorem: the order of a run's calls by their linearization points linearizes the history, and ends with
+-- The placement theorem: the order of a run's calls by their linearization points linearizes the history, and leaves
 -- the same keys as the run.
 use Rattle.std.proofs.Common.{◌≡◌, ◌≢◌, ℕ, zero, suc, ◌<◌, ◌≤◌, true, false, inl, inr, List, [], ◌∷◌, sym, refl, subst, ap}
 use Rattle.std.proofs.Common.{◌∙◌, arith, length, map}

@@ -46,8 +46,8 @@ IsBelow j (Some end) = j < end
 abbrev pub IsSomeThere : (ℕ → List ℕ) → ℕ → Option ℕ → ℕ → Type 0
 IsSomeThere changes key end moment = (j : ℕ) × (key ≤ j) × IsBelow j end × (is_present changes j moment ≡ true)
 
--- States that each key from `key` to just below `end` that is present after the last change of the set was absent at
--- this moment.
+-- States for each key from `key` to just below `end`: if the key is present after the last change of the set, it was
+-- absent at this moment.
 abbrev pub CameAfter : (ℕ → List ℕ) → ℕ → Option ℕ → ℕ → Type 0
 CameAfter changes key end moment = (j : ℕ) → key ≤ j → IsBelow j end → is_present_now changes j ≡ true →
     is_present changes j moment ≡ false

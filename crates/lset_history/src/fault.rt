@@ -4,8 +4,8 @@ ghost use Rattle.lset_history.specs.declared.fault.OrderFault.TheVariants.{Memor
 use std::alloc::AllocError;
 use thiserror::Error;
 
-/// An error of `History::begin` or `History::end`. If several apply, the first in this order is returned. The history
-/// is then unchanged.
+/// An error of `History::begin` or `History::end`. If several errors apply, the first in this order is returned. The
+/// history is then unchanged.
 #[derive(Clone, Copy, Debug, PartialEq, Eq, Error)]
 pub enum HistoryFault {
     /// The history has no thread with this number.
@@ -35,7 +35,7 @@ pub enum OrderFault {
     /// The call is in the order more than once.
     #[error("call {0} stands twice")]
     Twice(u32),
-    /// This completed call is not in the order. If several are missing, the smallest number is reported.
+    /// This completed call is not in the order. If several calls are missing, the smallest number is reported.
     #[error("call {0} has ended and does not stand in the order")]
     Missing(u32),
     /// The history has another reply for this call, or the sequential set returns another reply after the earlier

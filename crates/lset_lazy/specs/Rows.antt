@@ -34,7 +34,8 @@ decides (Remove k) l = if l.ckey == target (Remove k) then continued (goes_to 11
 decides (Contains k) l = if l.ckey == target (Contains k) then leaves (Some True) l else leaves (Some False) l
 decides (Ceiling k) l = leaves (Some (ceiling_at l.ckey)) l
 
--- Returns the outcome of the last step of an attempt: the call ends with its reply or, if it has none, starts again.
+-- Returns the outcome of the step that releases the last lock. The call ends with its reply. If it has no reply, it
+-- starts again.
 abbrev pub answers_or_walks : Option Reply → Local → Fed
 answers_or_walks None l = on_to 1 l
 answers_or_walks (Some r) l = leaves_with r l
@@ -43,7 +44,7 @@ pub record LazyRows (T : Table) : Type 0 where
   pub reading : HasReading T
   -- A walk starts with a load of the head's link.
   pub row_1 : Does T 1 (λ l. Load (link_index 0)) (λ l seen. continued (record l { pc = 2; pred = 0; curr = seen / 2 })) nothing
-  -- The walk loads the key of `curr`. It continues as long as the key is smaller than the call's.
+  -- The walk loads the key of `curr`. The walk continues as long as this key is smaller than the call's.
   pub row_2 : Does T 2 (λ l. Load (key_index l.curr))
       (λ l seen. if nat_lt seen (target l.call) then continued (record l { pc = 3; ckey = seen })
       else continued (record l { pc = 4; ckey = seen }))
@@ -58,11 +59,11 @@ pub record LazyRows (T : Table) : Type 0 where
   pub row_5 : Does T 5 (λ l. Exchange (lock_index l.curr) 0 (l.thread + 1))
       (λ l seen. if seen == 0 then on_to 6 l else on_to 5 l)
       nothing
-  -- The call checks that the link of `pred` leads to `curr` and that `pred` is not marked. Otherwise, it releases the
-  -- locks.
+  -- The call checks that the link of `pred` leads to `curr` and that `pred` is not marked. If this is not true, the
+  -- call releases the locks and starts again.
   pub row_6 : Does T 6 (λ l. Load (link_index l.pred)) (λ l seen. if seen == 2 * l.curr then on_to 7 l else leaves None l) nothing
-  -- The call checks that `curr` is not marked. If `curr` is unmarked, the call decides what to do. Otherwise, the call
-  -- releases the locks and starts again.
+  -- The call checks that `curr` is not marked. If `curr` is unmarked, the call has a reply or will change the set.
+  -- Otherwise the call releases the locks and starts again.
   pub row_7 : Does T 7 (λ l. Load (link_index l.curr))
       (λ l seen. if seen % 2 == 0 then decides l.call (record l { succ = seen / 2 }) else leaves None l)
       nothing

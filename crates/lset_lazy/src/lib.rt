@@ -108,8 +108,8 @@ fn at_pred(local: &Local, seen: u64) -> Local
     }
 }
 
-/// Returns the thread's private state after it has read the link of `curr`. If `curr` is not marked, the call decides;
-/// otherwise validation fails.
+/// Returns the thread's private state after it has read the link of `curr`. If `curr` is not marked, the call has a
+/// reply or will change the set. Otherwise validation fails.
 #[inline(always)]
 fn at_curr(local: &Local, seen: u64) -> Local
     ensures { result ≡ at_curr seen local.now }

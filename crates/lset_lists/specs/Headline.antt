@@ -1,5 +1,5 @@
--- [Headline, as a law]: the main theorem. Every run, of any length, is linearizable: one order of its calls explains
--- it.
+-- [Headline, as a law]: the main theorem. Every run, of any length, is linearizable: some order of its calls explains
+-- the run.
 use Rattle.std.specs.Prelude.{◌≡◌, ℕ, List, map}
 use Rattle.lset_words.specs.declared.history.CallRecord.{CallRecord}
 use Rattle.lset_words.specs.declared.history.Placed.{Placed}

@@ -18,7 +18,7 @@ use lset_steps::Machine;
 use lset_words::Kind;
 pub use theorem::{placement_explains_runs, runs_are_linearizable};
 
-/// One of the five lists, as a machine.
+/// One of the five lists, as a machine (a table of steps).
 pub trait List: Machine {
     /// Lemma: the list has the step table of its kind. The function does nothing.
     fn has_the_table_of_its_kind()

@@ -38,12 +38,13 @@ abbrev pub at_link : ℕ → Local → Fed
 at_link seen l =
     if seen % 2 == 0 then continued (record l { pc = 4; succ = seen / 2 }) else continued (record l { pc = 3; succ = seen / 2 })
 
--- Returns the outcome of a step that contains the call's decision: the call continues, or ends with its reply.
+-- Returns the outcome of the last step of a walk: the call ends with its reply, or continues at the row for adding or
+-- removing its key.
 abbrev pub decision_of : Local → Fed
 decision_of l = record { local = l; answer = if l.pc == 0 then l.reply else None }
 
 -- Returns the outcome of the step that has loaded the key word of curr. If the key is smaller than the call's, the
--- walk continues. Otherwise the call decides.
+-- walk continues. Otherwise the call ends with a reply, or will change the set.
 abbrev pub at_key : ℕ → Local → Fed
 at_key seen l =
     if nat_lt seen (target l.call) then continued (record l { pc = 2; pred = l.curr; curr = l.succ })

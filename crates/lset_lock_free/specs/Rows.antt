@@ -52,8 +52,8 @@ pub record LockFreeRows (T : Table) : Type 0 where
   pub row_3 : Does T 3 (λ l. Exchange (link_index l.pred) (2 * l.curr) (2 * l.succ))
       (λ l seen. if seen == 2 * l.curr then continued (record l { pc = 2; curr = l.succ }) else on_to 1 l)
       nothing
-  -- If `curr` is not marked, the walk loads the key of `curr`. Then the walk continues with the next node, or the call
-  -- decides.
+  -- If `curr` is not marked, the walk loads the key of `curr`. If this key is smaller than the call's, the walk
+  -- continues with the next node. Otherwise the call ends with a reply, or will change the set.
   pub row_4 : Does T 4 (λ l. Load (key_index l.curr))
       (λ l seen. if nat_lt seen (target l.call) then continued (record l { pc = 2; pred = l.curr; curr = l.succ })
       else decides l.call l seen)

@@ -79,7 +79,8 @@ fn at_link(local: &Local, seen: u64) -> Fed
     })
 }
 
-/// Returns the outcome of a step that contains the call's decision: the call continues, or ends with its reply.
+/// Returns the outcome of the last step of a walk: the call ends with its reply, or continues at the row for adding or
+/// removing its key.
 #[inline(always)]
 fn decision_of(local: Local) -> Fed
     ensures { result ≡ decision_of local }
@@ -89,7 +90,7 @@ fn decision_of(local: Local) -> Fed
 }
 
 /// Returns the outcome of the step that has read the key word `seen`. If the key is smaller than the call's, the walk
-/// continues. Otherwise the call decides.
+/// continues. Otherwise the call ends with a reply, or will change the set.
 #[inline(always)]
 fn at_key(local: &Local, seen: u64) -> Fed
     ensures { result ≡ at_key seen local.now }

@@ -150,7 +150,7 @@ which_row p from upto d = grind arith
 gives_back : (l : Local) (a : ℕ) → l.pc ≡ 14 → l.pred ≡ a → optimistic.next l ≡ Store (lock_index a) 0
 gives_back l a e f = rw (e, f) refl
 
--- ---- Lemmas about one event
+-- ---- Lemmas about the thread's private state after one event
 module _ (s : State) (t : ℕ) where
   other_local : (u : ℕ) (l : Local) → t ≢ u → slice_index_or (slice_set s.locals u l) t (idle 0 0) ≡ local_of s t
   other_local u l d = get_or-set_other s.locals u t l (idle 0 0) d

@@ -58,7 +58,7 @@ at_node seen l =
     else record l { pc = 6 }
 
 -- Returns the thread's private state after the second walk has arrived at pred and loaded pred's link. If the link
--- leads to curr, the call decides; otherwise validation fails.
+-- leads to curr, the call has a reply or will change the set. Otherwise validation fails.
 abbrev pub at_link : ℕ → Local → Local
 at_link seen l = if seen / 2 == l.curr then decided_on targets l.ckey l else gives_up l
 

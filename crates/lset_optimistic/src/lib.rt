@@ -138,7 +138,7 @@ fn at_node(local: &Local, seen: u64) -> Local
 }
 
 /// Returns the thread's private state after it has read the link of pred. If the link still leads to curr, the call
-/// decides; otherwise validation fails.
+/// has a reply or will change the set. Otherwise validation fails.
 #[inline(always)]
 fn at_link(local: &Local, seen: u64) -> Local
     ensures { result ≡ at_link seen local.now }

@@ -1,5 +1,6 @@
--- Lemmas about the decision of a call at two neighbours in the chain: pred has a smaller key than the call's, and
--- curr, the next node, does not. Shared by the proofs of all lists with calls that decide in this way.
+-- Lemmas about the end of a walk at two neighbours in the chain: pred has a smaller key than the call's, and curr, the
+-- next node, does not. The call now has a reply or will change the set. Shared by the proofs of all lists with such
+-- walks.
 use Rattle.std.specs.Prelude.{◌≡◌, ◌≢◌, ℕ, ◌*◌, ◌/◌, ◌%◌, ◌<◌, ◌≤◌, ◌⊎◌, Bool, true, false, Some, None, List, [], ◌==◌, nat_lt, refl}
 use Rattle.std.proofs.Common.{arith, inl, inr, sym, ◌∙◌, ap}
 use Rattle.lset_words.proofs.Numbers.{same_number, other_number, lower_number, not_lower_number}
@@ -13,8 +14,8 @@ use Rattle.lset_steps.proofs.Memory.{Memory}
 use Rattle.lset_steps.proofs.QuietMove.{chain_on}
 use Rattle.lset_steps.proofs.Replies.{Adding, Removing, decided_cases, absent_between, ceiling_fits}
 
--- After the decision, either the call has a reply that is correct now, or `Adding` or `Removing` holds, as the rows
--- for adding or removing require.
+-- At the end of its walk, either the call has a reply that is correct now, or `Adding` or `Removing` holds, as the
+-- rows for adding or removing require.
 pub decides : {marks : Bool} {sz : Sizes} {ws : List ℕ} {used : ℕ → ℕ} (m : Memory marks sz ws used) (t : ℕ) {pred curr : ℕ}
     (rows : Targets) (c : ℕ) (l : Local) → InChain (view sz ws used) pred → pred ≢ 1 → node_link ws pred ≡ 2 * curr
     → node_key ws pred < target l.call → node_link ws curr % 2 ≡ 0 → c ≡ node_key ws curr → target l.call ≤ c

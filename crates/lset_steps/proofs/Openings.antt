@@ -26,7 +26,7 @@ opening_local op t h = get_or-map-range_with_len (idle op.quota) 0 op.threads t 
 pub none_used : (op : Opening) (t : ℕ) → t < op.threads → used_in (opening op) t ≡ 0
 none_used op t h = ap (λ (l : Local). l.used) (opening_local op t h)
 
--- ---- The words of a list when it opens, node by node
+-- ---- Lemmas about the words of a list when it opens, node by node
 key_word : (op : Opening) (a : ℕ) → opening_word op (key_index a) ≡ opening_key op a
 key_word op a =
     let e : key_index a / 3 - 1 ≡ a = omega arith in

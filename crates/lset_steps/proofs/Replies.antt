@@ -1,4 +1,4 @@
--- The replies that are correct when a call decides, and lemmas that the proofs of all step tables use.
+-- The replies that are correct at the end of a walk, and lemmas that the proofs of all step tables use.
 use Rattle.std.specs.Prelude.{◌≡◌, ◌≢◌, ℕ, ◌+◌, ◌-◌, ◌/◌, ◌%◌, ◌<◌, ◌≤◌, ◌⊎◌, Bool, true, false, Option, Some, None, [], ◌||◌, refl}
 use Rattle.std.proofs.Common.{arith, inl, inr, sym, ap, subst, ◌∙◌}
 use Rattle.lset_words.specs.declared.Call.{Call}
@@ -106,7 +106,7 @@ or_false false = refl
 abbrev pub fed : Local → Option Reply → Fed
 fed l a = record { local = l; answer = a }
 
--- A thread's registers stay in range when it begins a call.
+-- A thread's registers (the nodes and key words in its private state) stay in range when it begins a call.
 pub registers_begun : (sz : Sizes) (t pc : ℕ) (call : Call) (l : Local) → target call < tail_word → Registers sz t l
     → Registers sz t (begun pc call l)
 registers_begun sz t pc call l low r =
@@ -114,12 +114,14 @@ registers_begun sz t pc call l low r =
     let smallest : 0 ≤ tail_word = omega arith in
     assumption
 
--- A thread's registers stay in range when a successful add uses up a slot and stores the reply `True`.
+-- A thread's registers (the nodes and key words in its private state) stay in range when a successful add uses up a
+-- slot and stores the reply `True`.
 pub keep_more : (sz : Sizes) (t p : ℕ) (l : Local) → l.used < sz.quota → Registers sz t l
     → Registers sz t (record l { pc = p; reply = Some True; used = l.used + 1 })
 keep_more sz t p l room r = let most : l.used + 1 ≤ sz.quota = omega (arith, room) in assumption
 
--- A thread's registers stay in range when a successful add uses up a slot, and no reply is stored.
+-- A thread's registers (the nodes and key words in its private state) stay in range when a successful add uses up a
+-- slot, and no reply is stored.
 pub keep_used : (sz : Sizes) (t p : ℕ) (l : Local) → l.used < sz.quota → Registers sz t l
     → Registers sz t (record l { pc = p; used = l.used + 1 })
 keep_used sz t p l room r = let most : l.used + 1 ≤ sz.quota = omega (arith, room) in assumption

@@ -60,7 +60,8 @@ module _ (vs : ℕ → View) {start now t pred : ℕ} {v : View} (present : vs n
     node_published = l.grows node x.node_published;
   }
 
-  -- If thread `t` loads the link of the node that its second walk has reached, the assertion holds for the next node.
+  -- If `SecondWalk` holds for a node, and thread `t` loads the link of this node, then `SecondWalk` holds for the next
+  -- node.
   pub second_walk_goes : {node : ℕ} → Course vs now → IsOrdered v → node ≢ 1 → SecondWalk vs start now v t pred node
       → SecondWalk vs start (suc now) v t pred (v.link node / 2)
   second_walk_goes {node} course ord inn x = record {

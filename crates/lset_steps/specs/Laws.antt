@@ -60,8 +60,8 @@ pub record StateLaws (marks : Bool) (sz : Sizes) (s : State) : Type 0 where
   pub marked : UnmarkedInChain marks (view_of sz s)
   pub unmarked : marks ≡ false → (i : ℕ) → i < node_count sz → (view_of sz s).link i % 2 ≡ 0
 
--- States that the action of thread t uses locks properly. It writes a lock word only to take the lock, by an exchange
--- of 0 for t + 1, or to release a lock that t holds, by a store of 0.
+-- States that the action of thread t uses locks properly. The action writes a lock word only to take the lock, by an
+-- exchange of 0 for t + 1, or to release a lock that t holds, by a store of 0.
 abbrev pub LockUse : List ℕ → ℕ → Action → Type 0
 LockUse ws t (Load w) = Unit {0}
 LockUse ws t (Store w v) = IsLockWord w → (v ≡ 0) × (slice_index ws w ≡ t + 1)

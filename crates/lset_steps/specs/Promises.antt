@@ -22,8 +22,8 @@ use Rattle.lset_steps.specs.Chain.{View, InContent, IsChain, InChain, UnmarkedIn
 use Rattle.lset_steps.specs.Laws.{Registers, IsLockWord, LockUse, word_named, views}
 use Rattle.lset_steps.specs.Worlds.{IsContent}
 
--- [In range]: states that the registers of thread t are in range and that, if the thread has a pending call, its next
--- step accesses a word of the table.
+-- [In range]: states that the registers of thread `t` (the nodes and key words in its private state) are in range. If
+-- the thread has a pending call, its next step accesses a word of the table.
 pub record ThreadInRange (T : Table) (sz : Sizes) (t : ℕ) (l : Local) : Type 0 where
   pub registers : Registers sz t l
   pub action : l.pc ≢ 0 → word_named (T.next l) < word_count sz
@@ -99,8 +99,8 @@ abbrev pub SeenInThePast : Table → Type 0
 SeenInThePast T = (op : Opening) (last j k b : ℕ) (es : ℕ → Event) → Run T op es last → j ≤ k → k ≤ last
     → InChain (views T op es j) b → Seen (views T op es) j k b ((views T op es k).link b)
 
--- [Unmarked in chain]: states that in a list that marks nodes, a node that has been in the chain (published) and is not
--- marked is in the chain, at every moment.
+-- [Unmarked in chain]: states that in a list that marks nodes, at every moment, each published node (one that has been
+-- in the chain) without a mark is still in the chain. In any other list, no published node has a mark.
 abbrev pub UnmarkedNodesInChain : Table → Type 0
 UnmarkedNodesInChain T = (op : Opening) (last k : ℕ) (es : ℕ → Event) → Run T op es last → k ≤ last
     → UnmarkedInChain T.marks (views T op es k)

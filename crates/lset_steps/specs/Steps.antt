@@ -1,5 +1,5 @@
--- [Machine] and [Run]: a list set as a table of steps, the states of the list, and runs of single steps by several
--- threads.
+-- [Machine] and [Run]: list sets as tables of steps, the states of a list, and runs, in which several threads make
+-- single steps.
 use Rattle.std.specs.Prelude.{◌≡◌, ◌≢◌, ℕ, ◌<◌, ◌*◌, ◌+◌, ◌-◌, ◌/◌, ◌%◌, nat_lt, Bool, if◌then◌else◌, List, map, length, Option}
 use Rattle.std.specs.Prelude.{None, ◌==◌, slice_index, slice_index_or, slice_set, zero, suc}
 use Rattle.std.specs.List.{range_with_len}
@@ -81,7 +81,7 @@ opening op = record {
   locals = map (idle op.quota) (range_with_len 0 op.threads);
 }
 
--- Returns the opening with these sizes and keys.
+-- Returns the parameters of a set that opens with these sizes and these keys.
 abbrev pub opening_of : Sizes → List ℕ → Opening
 opening_of sz keys = record { threads = sz.threads; quota = sz.quota; keys = keys }
 
@@ -126,8 +126,8 @@ abbrev pub state_at : Table → Opening → (ℕ → Event) → ℕ → State
 state_at T op es zero = opening op
 state_at T op es (suc k) = after T (state_at T op es k) (es k)
 
--- States that the first `last` events are a run: the set opens within the limits, and each event is enabled in the
--- state before it.
+-- States that the first `last` events are a run: the set opens with parameters within the limits, and each event is
+-- possible (enabled) in the state before it.
 pub record Run (T : Table) (op : Opening) (es : ℕ → Event) (last : ℕ) : Type 0 where
   pub opens : Opens op
   pub enabled : (k : ℕ) → k < last → Enabled (state_at T op es k) (es k)

@@ -47,7 +47,7 @@ abbrev pub StepResult : Table → WorldState → Event → Result Told StepFault
 StepResult T w e (Ok answer) w' = Enabled w.state e × (w' ≡ record w { state = after T w.state e }) × (answer ≡ told T w.state e)
 StepResult T w e (Err cause) w' = Refused w e cause × (w' ≡ w)
 
--- Returns the keys of those nodes of the list that are not marked, without head and tail.
+-- Returns the keys of the unmarked nodes among these nodes, without head and tail.
 abbrev pub keys_in : View → List ℕ → List ℕ
 keys_in v [] = []
 keys_in v (b ∷ bs) = if nat_lt 1 b && v.link b % 2 == 0 then (v.key b - 1) ∷ keys_in v bs else keys_in v bs
@@ -57,7 +57,7 @@ keys_in v (b ∷ bs) = if nat_lt 1 b && v.link b % 2 == 0 then (v.key b - 1) ∷
 abbrev pub IsContent : View → List ℕ → Type 0
 IsContent v keys = ((ns : List ℕ) × IsChain v ns × (keys ≡ keys_in v ns)) × IsStrictlyIncreasing keys
 
--- Returns the keys of the nodes in the list, without head and tail, each with its node's mark.
+-- Returns the keys of these nodes, without head and tail, each with its node's mark.
 abbrev pub chain_keys : View → List ℕ → List ChainKey
 chain_keys v [] = []
 chain_keys v (b ∷ bs) =

@@ -21,8 +21,8 @@ ghost use Rattle.lset_steps.specs.Promises.{
 
 use crate::{Machine, OpenReads};
 
-/// Lemma: at each moment of a run, the registers of each thread are in range, and the next step of a pending call
-/// accesses a word of the table.
+/// Lemma: at each moment of a run, the registers of each thread (the nodes and key words in its private state) are in
+/// range, and the next step of a pending call accesses a word of the table.
 pub fn in_range<M: Machine>()
     ensures { InRange M.table }
 {}
@@ -64,9 +64,9 @@ pub fn seen_in_the_past<M: Machine>()
     ensures { SeenInThePast M.table }
 {}
 
-/// Lemma: in a list that marks nodes before it unlinks them, every node that has been in the chain (published) and has
-/// no mark is still in the chain. In any other list, no such node has a mark. (Heller and others, for their lazy
-/// list.)
+/// Lemma: in a list that marks nodes before it unlinks them, every published node (one that has been in the chain)
+/// without a mark is still in the chain. In any other list, no published node has a mark. (Heller and others, for
+/// their lazy list.)
 pub fn unmarked_nodes_in_chain<M: Machine>()
     ensures { UnmarkedNodesInChain M.table }
 {}
@@ -76,9 +76,9 @@ pub fn no_link_is_marked<M: Machine>()
     ensures { NoLinkIsMarked M.table }
 {}
 
-/// Lemma: the keys of the set change only in a step whose effect names a key, and only by this key. Only an `Add` of
-/// the key can add it, and only while its thread is below its quota. Only a `Remove` of the key can remove it. A call
-/// changes the set at most once. (Herlihy and Shavit's linearization points of calls that change the set.)
+/// Lemma: the keys of the set change only in a step that has a key as its effect, and only by this key. Only an `Add`
+/// of the key can add it, and only while its thread is below its quota. Only a `Remove` of the key can remove it. A
+/// call changes the set at most once. (Herlihy and Shavit's linearization points of calls that change the set.)
 pub fn named_change<M: Machine>()
     ensures { NamedChange M.table }
 {}

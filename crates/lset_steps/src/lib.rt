@@ -16,9 +16,9 @@ mod world;
 use lset_words::{Call, Key, Kind, Layout, Reply};
 pub use world::{ChainKey, StepFault, World, opening_words};
 
-/// The private state of a thread: its number, its quota and how many slots it has used; its call and the reply; the
-/// program counter `pc`, which is the next row of the step table (0 if no call is pending); and the registers `pred` to
-/// `ckey`.
+/// The private state of a thread: its number, its quota and its number of used slots; its call and the reply; the
+/// program counter `pc`, which is the next row of the step table (0 if no call is pending); and the registers `pred`
+/// to `ckey`, which are nodes and key words.
 #[derive(Clone, Copy)]
 pub struct Local {
     pub thread: u32,

@@ -55,9 +55,8 @@ pub fn ceiling_at(word: u64) -> Reply
     }
 }
 
-/// The rows of a step table for the decision of a call that has reached its position in the list: `adds` for an `add`
-/// that will add its key, `removes` for a `remove` that will remove its key, and `leaves` for all calls that can reply
-/// now.
+/// The rows of a step table where a call continues after its walk: `adds` if the call will add its key, `removes` if
+/// it will remove its key, and `leaves` if it can reply.
 #[derive(Clone, Copy)]
 pub struct Targets {
     pub adds: u8,

@@ -1,4 +1,4 @@
--- Proof that reading inverts writing for every form of line: a line is read as some values if and only if the line is
+-- Proof that reading inverts writing for every form of line: reading a line returns values if and only if the line is
 -- the spelling of these values.
 use Rattle.std.proofs.Common.{◌≡◌, ℕ, ◌<◌, true, false, List, [], ◌∷◌, Option, Some, None, refl, ap, ◌∙◌, arith, codes, length}
 use Rattle.std.proofs.lemmas.Bool.{and_parts, and_left}

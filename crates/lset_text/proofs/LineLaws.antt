@@ -143,8 +143,8 @@ ended : {S : Type 0} (g : Grammar S) (line : ℕ) (other : Cause) (b : Bool) (s 
 ended g line other true s t e = (refl, map_fault_ok (fault line) (g.ends s) t e)
 ended g line other false s t e = absurd cc
 
--- Suppose that each accepted line preserves `P`, and that the text of a state grows by each accepted line. Then the
--- lines that were read are the text of the last state, and `P` holds for this state.
+-- Suppose that each accepted line preserves `P`, and is appended to the text of the state. Then the lines that were
+-- read are the text of the last state, and `P` holds for this state.
 pub lines_hold : {S : Type 0} (g : Grammar S) (P : S → Type 0) (text : S → List (List ℕ))
     → ((s t : S) (x : List ℕ) → P s → g.step s x ≡ Ok t → P t × (text t ≡ text s ++ x ∷ []))
     → ((s t : S) → g.ends s ≡ Ok t → s ≡ t)

@@ -112,7 +112,8 @@ text_again g P free h xs t title_free is start leads at_end =
           ∙ lines_again g.lines first_line (g.start h) t xs leads at_end,
     )
 
--- A file that was written in a version is read in that version, since its first line is the title of that version.
+-- If a file was written in a version of its format, it is read in this version, since its first line is the title of
+-- the version.
 pub version_again : {S : Type 0} (g : Version → TextGrammar S) → bytes_eq (g One).title (g Two).title ≡ false
     → (v : Version) (h : Header) (rest : List (List ℕ)) → version_in (g Two).title (header_lines (g v).title h ++ rest) ≡ v
 version_again g other One h rest = rw other refl

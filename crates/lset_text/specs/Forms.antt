@@ -126,8 +126,8 @@ abbrev pub IsForm : Form → Type 0
 IsForm [] = ⊥
 IsForm (p ∷ f) = IsPiece p × ArePieces f
 
--- Reading inverts writing, for every form: a line is read as some values if and only if the version can spell these
--- values and the line is their spelling.
+-- States that reading inverts writing for every form of line: reading a line returns values if and only if the version
+-- can spell these values and the line is their spelling.
 abbrev pub FormsReadBack : Type 0
 FormsReadBack = (v : Version) (f : Form) (line : List ℕ) (t : Told f) → IsForm f
     → (AllFit v f t → told_in v f (cut_at 32 (line_with f t)) ≡ Some t)

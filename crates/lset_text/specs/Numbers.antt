@@ -9,7 +9,6 @@ use Rattle.std.specs.Str.Parse.{digits_value}
 abbrev pub is_number : List ℕ → Bool
 is_number piece = nat_lt 0 (length piece) && (all_ascii_digits piece && (length piece == 1 || not (slice_index piece 0 == 48)))
 
--- Returns whether `n` is from `low` to `high`.
 abbrev pub is_between : ℕ → ℕ → ℕ → Bool
 is_between low high n = nat_le low n && nat_le n high
 

@@ -1,4 +1,4 @@
--- Whole files: a header, then lines.
+-- Definitions for whole files: a header, then lines.
 use Rattle.std.specs.Prelude.{ℕ, ◌+◌, List, Result}
 use Rattle.lset_text.specs.declared.words.Version.{Version}
 use Rattle.lset_text.specs.declared.words.Version.TheVariants.{Two}

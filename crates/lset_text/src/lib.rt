@@ -1,4 +1,4 @@
-//! What all file formats have in common: lines and fields, numbers, names, the four header lines, and the lines of
+//! The common parts of all file formats: lines and fields, numbers, names, the four header lines, and the lines of
 //! opening keys.
 #![tactic(auto)]
 

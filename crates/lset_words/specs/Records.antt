@@ -24,7 +24,6 @@ abbrev pub with_calls : Record → List CallMade → Record
 with_calls r [] = r
 with_calls r (c ∷ cs) = with_calls (called r c) cs
 
--- Returns the thread of a record.
 abbrev pub thread_of : Record → ℕ
 thread_of (fresh t) = t
 thread_of (called r c) = thread_of r

@@ -34,7 +34,7 @@ pub record Opening : Type 0 where
 abbrev pub sizes : Opening → Sizes
 sizes o = record { threads = o.threads; quota = o.quota; opening = length o.keys }
 
--- Returns an opening without keys.
+-- Returns the parameters of a set that opens empty, with this number of threads and this quota.
 abbrev pub empty : ℕ → ℕ → Opening
 empty threads quota = record { threads = threads; quota = quota; keys = [] }
 
