@@ -313,7 +313,7 @@ module _ (op : Opening) (last : ℕ) (log : Log) (contents : Contents) (counts :
         each s q h i b p = no_end q.traced.ended q.moment s.traced.begun (during i).in_call (rw (numbered q i, numbered s h) at p)
             (omega (arith, (during h).from, (comes_on s q h i b).0))
 
-    -- ---- The order has each completed call, and no call that the history lacks
+    -- ---- The order has each completed call, and only calls of the history
     is_known : All (λ (p : Placed). p.call < length history) (map placed_of sorted)
     is_known = All-from_recursion (λ (p : Placed). p.call < length history) (map placed_of sorted)
         (all_map placed_of (λ (p : Placed). p.call < length history) sorted

@@ -55,7 +55,8 @@ abbrev pub ShowsReading : Outline → Type 1
 ShowsReading At = (q t : ℕ) (vs : ℕ → View) (first now : ℕ) (v : View) (done : Bool) (l : Local) → IsReadRow l.pc
     → At q t vs first now v done l → Reading vs first now done l
 
--- When a `contains` or a `ceiling` loads a link, the node was in the chain with this link at some moment of the call.
+-- If a `contains` or a `ceiling` loads the link of a node, the node was in the chain with this link at some moment of
+-- the call.
 loads_seen : (T : Table) (At : Outline) → Discipline T T.marks At → HasReadRows T → ShowsReading At
     → (op : Opening) (last k t a : ℕ) (es : ℕ → Event) → Run T op es last → k ≤ last → t < op.threads
     → (local_of (state_at T op es k) t).pc ≢ 0 → IsRead (local_of (state_at T op es k) t).call

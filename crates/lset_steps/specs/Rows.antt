@@ -1,5 +1,5 @@
--- Definitions for the rows of all step tables: the nodes that they use, and the decision of a call at the first key
--- that is not smaller than its own.
+-- Definitions for the rows of all step tables: the nodes that they use, and the way a call continues when its walk
+-- reaches a key that is not smaller than its own.
 use Rattle.std.specs.Prelude.{ℕ, ◌-◌, ◌<◌, ◌≤◌, Bool, if◌then◌else◌, Option, Some, None, ◌==◌, nat_lt}
 use Rattle.lset_words.specs.declared.TheConstants.{MOST_THREADS, MOST_QUOTA, MOST_NODES}
 use Rattle.lset_words.specs.declared.Call.{Call}

@@ -112,8 +112,8 @@ module _ (q t : ℕ) (vs : ℕ → View) (first now : ℕ) (v w : View) (done : 
       (outcome_on done q vs first now t l.call l.reply o)
   stays (at15 e c o) = at15 e (s.locks l.curr c) (outcome_on done q vs first now t l.call l.reply o)
 
--- If the second walk has reached pred, and pred's link leads to curr, the call decides rightly: its reply is correct
--- now, or it will add or remove its key.
+-- If the second walk has reached pred, and pred's link leads to curr, then the call has a reply that is correct now,
+-- or it will add or remove its key.
 pub decision : {sz : Sizes} {t : ℕ} {ws : List ℕ} {used : ℕ → ℕ} (m : Memory false sz ws used) (l : Local) → t < sz.threads →
     Registers sz t l
     → l.used ≡ used t → Window (view sz ws used) l → node_lock ws l.curr ≡ t + 1 → Held (view sz ws used) t l.pred
