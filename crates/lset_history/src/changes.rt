@@ -237,8 +237,8 @@ impl Changes {
     }
 
     /// Returns whether key `other` refutes that, at `moment`, `found` is the smallest key of the set at or above `key`
-    /// (if `found` is `None`: that no such key is in the set). A key below `found` refutes this if the key is present;
-    /// `found` itself does if it is absent.
+    /// (if `found` is `None`: that no such key is in the set). A key from `key` to just below `found` refutes this if
+    /// it is present; `found` itself does if it is absent.
     fn is_against(&self, key: u32, found: Option<u32>, other: u32, moment: u32) -> bool
         ensures { result ≡ is_against (moments_of self.now) key found other moment }
     {

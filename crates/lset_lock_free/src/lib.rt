@@ -32,7 +32,7 @@ const TARGETS: Targets = Targets {
 };
 
 /// Returns the next word access of a thread with a pending call. The thread's program counter is its row of the step
-/// table. The numbers in `local` must be small, as they are in every run.
+/// table. The numbers in `local` must be small (`IsSmall`), as they are in every run.
 #[inline(always)]
 pub fn next_action(local: &Local) -> Action
     requires { IsSmall local.now }
