@@ -48,7 +48,8 @@ pub later_pushed : {X T : Type 0} (xs : List X) (x : X) (s t : T) → t ≡ late
 later_pushed [] x s t = refl
 later_pushed (y ∷ ys) x s t = refl
 
--- ---- If each item's line changes the state as required, so do all lines of a section within the section's limit
+-- ---- If reading each item's line adds the item to the state, reading a section adds all its items, up to the
+-- section's limit
 
 pub section_leads : {S X : Type 0} (g : Grammar S) (state : List X → S) (line : X → List ℕ) (P : X → Type 0) (most : ℕ)
     (xs : List X) → length xs ≤ most → AllByRecursion P xs

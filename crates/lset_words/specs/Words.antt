@@ -51,7 +51,7 @@ RefusesSizes s fault.Threads = (s.threads ≡ 0) ⊎ (MOST_THREADS < s.threads)
 RefusesSizes s fault.Quota = (0 < s.threads) × (s.threads ≤ MOST_THREADS) × (MOST_QUOTA < s.quota)
 RefusesSizes s fault.Opening = (0 < s.threads) × (s.threads ≤ MOST_THREADS) × (s.quota ≤ MOST_QUOTA) × (MOST_OPENING < s.opening)
 
--- Returns the word that stores a user's key in a node: the key plus 1. Word 0 is the head's.
+-- Returns the word that stores a user's key in a node: the key plus 1. The head's word is 0.
 abbrev pub key_word_of : Key → ℕ
 key_word_of k = k.0 + 1
 
