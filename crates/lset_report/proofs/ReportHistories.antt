@@ -19,10 +19,9 @@ use Rattle.lset_words.specs.History.{MayFollow, IsHistory}
 use Rattle.lset_words.specs.Words.{empty}
 use Rattle.lset_history.specs.History.{HistoryValue, with_begun}
 use Rattle.lset_history.proofs.CallByCall.{history_begun}
-use Rattle.lset_report.specs.declared.reading.calls_so_far.CallsSoFar.{CallsSoFar}
 use Rattle.lset_report.specs.ReportReading.{ends_at, is_entry, is_taken, begins_later, ended_before, is_idle, ends_later}
 use Rattle.lset_report.specs.ReportReading.{may_follow}
-use Rattle.lset_report.specs.ReportCalls.{threads_of, end_moment, is_open, is_last_end, Tracks}
+use Rattle.lset_report.specs.ReportCalls.{end_moment, is_open, is_last_end, Tracks}
 
 -- ---- Lemmas: the Boolean test decides the proposition MayFollow
 
@@ -207,62 +206,48 @@ none_at : (n m : ℕ) → 0 < m → is_last_end (replicate n 0) m ≡ false
 none_at zero m some = refl
 none_at (suc n) m some = or_from _ _ (ne_eqb 0 m (λ same. absurd (omega (arith, some, same)))) (none_at n m some)
 
-pub tracks_none : (s : CallsSoFar) (threads quota : ℕ) → s.history ≡ record { opening = empty threads quota; calls = [] }
-    → s.last_begun ≡ 0 → s.last_ends.items ≡ replicate threads 0 → s.busy.items ≡ replicate threads false → Tracks s
-tracks_none s threads quota none last_is ends_are busy_is =
-    let calls_are : s.history.calls ≡ [] = ap (λ (h : HistoryValue). h.calls) none in
-    let seats : threads_of s ≡ threads = ap (λ (h : HistoryValue). h.opening.threads) none in
-    record {
-      begins = λ m. rw (calls_are, last_is) (and-true (ltb 0 m));
-      taken = λ m past. rw (calls_are, ends_are) (sym (none_at threads m (omega (arith, past, last_is))));
-      ends = ap length ends_are ∙ length-replicate threads 0 ∙ sym seats;
-      each = ap length busy_is ∙ length-replicate threads false ∙ sym seats;
-      idle = λ u m seat some.
-          let low : u < threads = omega (arith, seat, seats) in
-          rw (calls_are, ends_are, busy_is) (sym (ap (λ b. is_over b (get_or (replicate threads 0) u 0) m)
-          (get_or-replicate threads u false false low)
-          ∙ ap (λ end. is_over false end m) (get_or-replicate threads u 0 0 low) ∙ lt-ltb 0 m some));
-    }
+pub tracks_none : (h : HistoryValue) (threads quota : ℕ) → h ≡ record { opening = empty threads quota; calls = [] }
+    → Tracks h 0 (replicate threads 0) (replicate threads false)
+tracks_none h threads quota none = rw none (record {
+  begins = λ m. and-true (ltb 0 m);
+  taken = λ m past. sym (none_at threads m past);
+  ends = length-replicate threads 0;
+  each = length-replicate threads false;
+  idle = λ u m low some. sym (ap (λ b. is_over b (get_or (replicate threads 0) u 0) m) (get_or-replicate threads u false false low)
+      ∙ ap (λ end. is_over false end m) (get_or-replicate threads u 0 0 low) ∙ lt-ltb 0 m some);
+})
 
-pub tracks_more : (s t : CallsSoFar) (x : CallRecord) → Tracks s → may_follow (threads_of s) s.history.calls x ≡ true
-    → t.history ≡ with_begun s.history x → t.last_begun ≡ x.begun
-    → t.last_ends.items ≡ set s.last_ends.items x.thread (end_moment x.ended)
-    → t.busy.items ≡ set s.busy.items x.thread (is_open x.ended) → Tracks t
-tracks_more s t x old may pushed last_is ends_are busy_is =
-    let parts = may_parts (threads_of s) s.history.calls x may in
-    let calls : List CallRecord = s.history.calls in
-    let ends : List ℕ = s.last_ends.items in
-    let busy : List Bool = s.busy.items in
-    let calls_are : t.history.calls ≡ calls ++ x ∷ [] = ap (λ (h : HistoryValue). h.calls) pushed in
-    let seats : threads_of t ≡ threads_of s = ap (λ (h : HistoryValue). h.opening.threads) pushed in
+pub tracks_more : (h after : HistoryValue) (last : ℕ) (ends : List ℕ) (busy : List Bool) (x : CallRecord) → Tracks h last ends busy
+    → may_follow h.opening.threads h.calls x ≡ true → after ≡ with_begun h x
+    → Tracks after x.begun (set ends x.thread (end_moment x.ended)) (set busy x.thread (is_open x.ended))
+tracks_more h after last ends busy x old may pushed =
+    let parts = may_parts h.opening.threads h.calls x may in
     let low : x.thread < length ends = omega (arith, parts.low, old.ends) in
     let low_busy : x.thread < length busy = omega (arith, parts.low, old.each) in
-    let later : s.last_begun < x.begun = ltb-true _ _ (sym (old.begins x.begun) ∙ parts.begins) in
+    let later : last < x.begun = ltb-true _ _ (sym (old.begins x.begun) ∙ parts.begins) in
     let counted : 0 < x.begun = omega (arith, later) in
     let over = sym (old.idle x.thread x.begun parts.low counted) ∙ parts.idle in
     let before : get_or ends x.thread 0 < x.begun = ltb-true _ _ (and_parts (not (get_or busy x.thread false)) _ over).1 in
-    record {
-      begins = λ m. rw (calls_are, last_is) (begins_pushed calls x s.last_begun old.begins parts.begins m);
-      taken = λ m past.
-          let after : x.begun < m = omega (arith, past, last_is) in
-          rw (calls_are, ends_are) (taken_pushed calls x m after
-          ∙ ap (λ b. b || ends_at m x.ended) (old.taken m (omega (arith, later, after)))
-          ∙ ap (λ b. is_last_end ends m || b) (sym (end_is m x.ended (omega (arith, counted, after))))
+    rw pushed (record {
+      begins = λ m. begins_pushed h.calls x last old.begins parts.begins m;
+      taken = λ m past. taken_pushed h.calls x m past
+          ∙ ap (λ b. b || ends_at m x.ended) (old.taken m (omega (arith, later, past)))
+          ∙ ap (λ b. is_last_end ends m || b) (sym (end_is m x.ended (omega (arith, counted, past))))
           ∙ sym (last_end_set ends x.thread m (end_moment x.ended) low
-          (ne_eqb (get_or ends x.thread 0) m (λ same. absurd (omega (arith, before, after, same))))));
-      ends = ap length ends_are ∙ length-set ends x.thread (end_moment x.ended) ∙ old.ends ∙ sym seats;
-      each = ap length busy_is ∙ length-set busy x.thread (is_open x.ended) ∙ old.each ∙ sym seats;
-      idle = λ u m seat some. rw (calls_are, ends_are, busy_is) (⊎_elim
+          (ne_eqb (get_or ends x.thread 0) m (λ same. absurd (omega (arith, before, past, same)))));
+      ends = length-set ends x.thread (end_moment x.ended) ∙ old.ends;
+      each = length-set busy x.thread (is_open x.ended) ∙ old.each;
+      idle = λ u m seat some. ⊎_elim
           (λ (same : u ≡ x.thread). rw (
             same,
             get_or-set_same busy x.thread (is_open x.ended) false low_busy,
             get_or-set_same ends x.thread (end_moment x.ended) 0 low,
           )
-          (idle_own calls x m (get_or busy x.thread false) (get_or ends x.thread 0) parts.ends over (old.idle x.thread m parts.low some)))
+          (idle_own h.calls x m (get_or busy x.thread false) (get_or ends x.thread 0) parts.ends over (old.idle x.thread m parts.low some)))
           (λ (other : u ≢ x.thread). rw (
             get_or-set_other busy x.thread u (is_open x.ended) false other,
             get_or-set_other ends x.thread u (end_moment x.ended) 0 other,
           )
-          (idle_other calls x u m other ∙ old.idle u m (omega arith) some))
-          (cases_eq u x.thread));
-    }
+          (idle_other h.calls x u m other ∙ old.idle u m seat some))
+          (cases_eq u x.thread);
+    })

@@ -3,11 +3,8 @@ use Rattle.std.specs.Prelude.{◌≡◌, ℕ, ◌<◌, ◌&&◌, ◌==◌, nat_l
 use Rattle.std.specs.List.{list_any}
 use Rattle.lset_words.specs.declared.Reply.{Reply}
 use Rattle.lset_words.specs.declared.history.CallRecord.{CallRecord}
-use Rattle.lset_report.specs.declared.reading.calls_so_far.CallsSoFar.{CallsSoFar}
+use Rattle.lset_history.specs.History.{HistoryValue}
 use Rattle.lset_report.specs.ReportReading.{begins_later, is_taken, is_idle}
-
-abbrev pub threads_of : CallsSoFar → ℕ
-threads_of s = s.history.opening.threads
 
 -- Returns the moment when a call ended, or 0 if the call is pending.
 abbrev pub end_moment : Option (ℕ × Reply) → ℕ
@@ -33,14 +30,14 @@ ends_well_by ends x = ends_apart ends x.begun x.ended
 
 -- The invariant of a report reader: the fields of CallsSoFar suffice to decide whether a call can follow the calls read
 -- so far.
-pub record Tracks (s : CallsSoFar) : Type 0 where
-  -- The field `last_begun` is the moment when the last call started.
-  pub begins : (m : ℕ) → begins_later s.history.calls m ≡ nat_lt s.last_begun m
+pub record Tracks (h : HistoryValue) (last_begun : ℕ) (last_ends : List ℕ) (busy : List Bool) : Type 0 where
+  -- `last_begun` is the moment when the last call started.
+  pub begins : (m : ℕ) → begins_later h.calls m ≡ nat_lt last_begun m
   -- If m is after `last_begun`, a call starts or ends at moment m if and only if some thread's last call ends at m.
-  pub taken : (m : ℕ) → s.last_begun < m → is_taken s.history.calls m ≡ is_last_end s.last_ends.items m
+  pub taken : (m : ℕ) → last_begun < m → is_taken h.calls m ≡ is_last_end last_ends m
   -- `last_ends` and `busy` have an entry for each thread. A thread t can start a call at moment m if its last call is
   -- not pending (`busy`) and ended before m (`last_ends`).
-  pub ends : length s.last_ends.items ≡ threads_of s
-  pub each : length s.busy.items ≡ threads_of s
-  pub idle : (t m : ℕ) → t < threads_of s → 0 < m
-      → is_idle s.history.calls t m ≡ (not (slice_index_or s.busy.items t false) && nat_lt (slice_index_or s.last_ends.items t 0) m)
+  pub ends : length last_ends ≡ h.opening.threads
+  pub each : length busy ≡ h.opening.threads
+  pub idle : (t m : ℕ) → t < h.opening.threads → 0 < m
+      → is_idle h.calls t m ≡ (not (slice_index_or busy t false) && nat_lt (slice_index_or last_ends t 0) m)

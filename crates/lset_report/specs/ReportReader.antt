@@ -1,8 +1,5 @@
 -- The state of a report reader in contracts: the part of the report that has been read.
 use Rattle.std.specs.Prelude.{◌≡◌, ◌≢◌, ◌⊎◌, ◌≤◌, ◌+◌, ℕ, List, [], length, slice_index_or, Result, Ok, Err}
-use Rattle.std.specs.List.Sorted.{IsStrictlyIncreasing}
-use Rattle.lset_words.specs.declared.TheConstants.{MOST_OPENING}
-use Rattle.lset_words.specs.Words.{empty}
 use Rattle.lset_text.specs.declared.causes.Cause.{Cause}
 use Rattle.lset_text.specs.declared.causes.Cause.TheVariants.{Memory}
 use Rattle.lset_text.specs.declared.causes.LineFault.{LineFault}
@@ -15,7 +12,6 @@ use Rattle.lset_report.specs.declared.reading.report_lines.Line.{Line}
 use Rattle.lset_report.specs.declared.reading.report_lines.Line.TheVariants.{End}
 use Rattle.lset_report.specs.Texts.{last_line}
 use Rattle.lset_report.specs.ReportReading.{line_after, SoFar, step}
-use Rattle.lset_report.specs.ReportCalls.{Tracks}
 
 -- Returns the report that consists of the lines read so far.
 abbrev pub so_far : Reader → ReportValue
@@ -23,18 +19,12 @@ so_far s = record {
   version = s.version;
   kind = s.header.kind;
   history = record {
-    opening = record { threads = s.header.threads; quota = s.header.quota; keys = s.opening.items };
+    opening = record s.calls.history.opening { keys = s.opening.items };
     calls = s.calls.history.calls;
   };
   order = s.order.items;
   keys = s.keys.items;
 }
-
-pub record Holds (s : Reader) : Type 0 where
-  pub increasing : IsStrictlyIncreasing s.opening.items
-  pub few : length s.opening.items ≤ MOST_OPENING
-  pub tracks : Tracks s.calls
-  pub opens : s.calls.history.opening ≡ empty s.header.threads s.header.quota
 
 -- Returns the section that the reader has reached, and the report read so far.
 abbrev pub state : Reader → SoFar

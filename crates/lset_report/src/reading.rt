@@ -1,4 +1,6 @@
-ghost use Rattle.std.specs.Prelude.{◌≡◌, ◌≢◌, IfOk, OnOk, OnErr, MatchResult, Ok};
+ghost use Rattle.std.specs.Prelude.{◌≡◌, ◌≢◌, ◌≤◌, length, IfOk, OnOk, OnErr, MatchResult, Ok};
+ghost use Rattle.std.specs.List.Sorted.{IsStrictlyIncreasing};
+ghost use Rattle.lset_words.specs.declared.TheConstants.{MOST_OPENING};
 ghost use Rattle.lset_text.specs.Parts.{cut_at};
 ghost use Rattle.lset_text.specs.Headers.{IsHeader};
 ghost use Rattle.lset_text.specs.Lines.{lines_from};
@@ -19,7 +21,6 @@ ghost use Rattle.lset_report.specs.ReportReading.{
   grammar,
   ReportsReadBack,
 };
-ghost use Rattle.lset_report.specs.ReportReader.{Holds, GoesOn, ReadsLine, so_far, state};
 
 mod calls_so_far;
 mod report_lines;
@@ -48,6 +49,8 @@ pub(crate) struct Reader {
     pub calls: CallsSoFar,
     pub order: Vec<Placed>,
     pub keys: Vec<u32>,
+    ghost increasing: { IsStrictlyIncreasing opening.items },
+    ghost few: { length opening.items ≤ MOST_OPENING },
 }
 
 /// Returns the maximum number of final keys in a report of this version.
@@ -61,9 +64,10 @@ fn most_keys(version: Version) -> usize
 }
 
 impl Reader {
+    ghost use Rattle.lset_report.specs.ReportReader.{GoesOn, ReadsLine, so_far, state};
+
     fn new(alloc: Global, version: Version, header: Header) -> Result<Reader, AllocError>
         requires { IsHeader header }
-        ensures holds { IfOk result (λ s. Holds s) }
         ensures section { IfOk result (λ s. s.section ≡ Section.Opening) }
         ensures nothing { IfOk result (λ s. so_far s ≡ no_lines version header) }
     {
@@ -80,7 +84,6 @@ impl Reader {
 
     /// Returns whether `number` is the next call number and the call `made` can follow the calls read so far.
     fn is_next(&self, number: u32, made: CallRecord) -> bool
-        requires { Holds self.now }
         ensures { result ≡ is_next (so_far self.now) number made }
     {
         number as usize == self.calls.history.calls().len() && self.calls.may_follow(made)
@@ -90,7 +93,6 @@ impl Reader {
     /// line must not be full, an opening key must be greater than the previous opening key, and a call must be able to
     /// follow the previous calls.
     fn judged(&self, line: Line) -> Result<Line, Cause>
-        requires { Holds self.now }
         ensures { result ≡ judged (so_far self.now) line }
     {
         let (count, most) = match line {
@@ -111,17 +113,13 @@ impl Reader {
     }
 
     fn line_after(&self, line: &[u8]) -> Result<Line, Cause>
-        requires { Holds self.now }
         ensures { result ≡ line_after self.now.section (so_far self.now) line.now }
     {
         self.judged(line_of_report(self.version, self.section, line)?)
     }
 
     fn put(&mut self, line: Line) -> Result<(), AllocError>
-        requires holds { Holds self.old }
-        requires good { judged (so_far self.old) line ≡ Ok line }
-        ensures holds { OnOk result (Holds self.new) }
-        ensures header { OnOk result (self.new.header ≡ self.old.header) }
+        requires { judged (so_far self.old) line ≡ Ok line }
         ensures section { OnOk result (self.new.section ≡ section_after line) }
         ensures told { OnOk result (so_far self.new ≡ with_line (so_far self.old) line) }
         ensures asked { OnErr result (line ≢ Line.End) }
@@ -138,10 +136,7 @@ impl Reader {
     }
 
     fn read_line(&mut self, number: u64, text: &[u8]) -> Result<(), LineFault>
-        requires { Holds self.old }
-        ensures holds { OnOk result (Holds self.new) }
-        ensures header { OnOk result (self.new.header ≡ self.old.header) }
-        ensures told { ReadsLine self.old self.new number text.now result }
+        ensures { ReadsLine self.old self.new number text.now result }
     {
         let line = match self.line_after(text) {
             Ok(line) => line,
@@ -155,10 +150,7 @@ impl Reader {
 
     /// Reads all lines after the header into this reader. Stops at the first line with an error.
     fn read_lines(&mut self, text: &[u8]) -> Result<(), LineFault>
-        requires { Holds self.old }
-        ensures holds { OnOk result (Holds self.new) }
-        ensures header { OnOk result (self.new.header ≡ self.old.header) }
-        ensures told { GoesOn (state self.new) result (cut_at 10 text.now)
+        ensures { GoesOn (state self.new) result (cut_at 10 text.now)
             (lines_from grammar first_line (state self.old) (cut_at 10 text.now)) }
     {
         let mut number = FIRST_LINE;
@@ -178,8 +170,6 @@ impl Reader {
     }
 
     fn into_report(self) -> Report
-        requires holds { Holds self }
-        requires header { IsHeader self.header }
         ensures { view result ≡ so_far self }
     {
         let calls = self.calls;

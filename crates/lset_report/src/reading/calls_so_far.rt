@@ -2,7 +2,7 @@ ghost use Rattle.std.specs.Prelude.{◌≡◌, [], true, IfOk, OnOk};
 ghost use Rattle.lset_words.specs.Words.{IsWithin, empty};
 ghost use Rattle.lset_history.specs.History.{with_begun};
 ghost use Rattle.lset_report.specs.ReportReading.{may_follow};
-ghost use Rattle.lset_report.specs.ReportCalls.{Tracks, threads_of, end_moment, is_open, is_last_end, ends_well_by};
+ghost use Rattle.lset_report.specs.ReportCalls.{Tracks, end_moment, is_open, is_last_end, ends_well_by};
 
 use lset_history::History;
 use lset_words::CallRecord;
@@ -20,6 +20,8 @@ pub(crate) struct CallsSoFar {
     pub last_ends: Vec<u32>,
     /// For each thread, states whether its last call is pending.
     pub busy: Vec<bool>,
+    ghost within: { IsWithin (record { threads = history.opening.threads; quota = history.opening.quota; opening = 0 }) },
+    ghost tracks: { Tracks history last_begun last_ends.items busy.items },
 }
 
 fn end_moment(made: CallRecord) -> u32
@@ -44,8 +46,7 @@ impl CallsSoFar {
     /// Creates a value without calls, for `threads` threads that can each add `quota` keys. Allocates.
     pub fn new(alloc: Global, threads: u32, quota: u32) -> Result<CallsSoFar, AllocError>
         requires { IsWithin (record { threads = threads; quota = quota; opening = 0 }) }
-        ensures tracks { IfOk result (λ s. Tracks s) }
-        ensures none { IfOk result (λ s. s.history ≡ record { opening = empty threads quota; calls = [] }) }
+        ensures { IfOk result (λ s. s.history ≡ record { opening = empty threads quota; calls = [] }) }
     {
         Ok(CallsSoFar {
             history: History::new(alloc, threads, quota),
@@ -75,8 +76,7 @@ impl CallsSoFar {
     /// call can only start or end at this moment if it is the end of some thread's last call. It therefore suffices to
     /// compare with these ends, and no set of moments is stored.
     pub fn may_follow(&self, made: CallRecord) -> bool
-        requires { Tracks self.now }
-        ensures { result ≡ may_follow (threads_of self.now) self.now.history.calls made }
+        ensures { result ≡ may_follow self.now.history.opening.threads self.now.history.calls made }
     {
         let thread = made.thread as usize;
         if thread >= self.last_ends.len() {
@@ -91,10 +91,8 @@ impl CallsSoFar {
 
     /// Appends a call that can follow these calls. Can allocate.
     pub fn push(&mut self, made: CallRecord) -> Result<(), AllocError>
-        requires tracks { Tracks self.old }
-        requires may { may_follow (threads_of self.old) self.old.history.calls made ≡ true }
-        ensures tracks { OnOk result (Tracks self.new) }
-        ensures pushed { OnOk result (self.new.history ≡ with_begun self.old.history made) }
+        requires { may_follow self.old.history.opening.threads self.old.history.calls made ≡ true }
+        ensures { OnOk result (self.new.history ≡ with_begun self.old.history made) }
     {
         self.history.push(made)?;
         self.last_begun = made.begun;

@@ -26,7 +26,7 @@ returns-in_err-read_lines c =
     let title = c.as_bytes.ensures.value ∙ c.title.ensures in
     rw (p.1, p.2) (whole_text c.args.bytes.now c.version_told-version.result c.version_told-version.ensures
     c.in_ok-header.rest.now c.in_ok-header.header (rw title at c.in_ok-header.ensures.exact) c.in-Ok.reader _
-    c.in-Ok.ensures.section c.in-Ok.ensures.nothing c.in_err-read_lines.ensures.told)
+    c.in-Ok.ensures.section c.in-Ok.ensures.nothing c.in_err-read_lines.ensures)
 
 pub returns : goal.returns
 returns c =
@@ -34,5 +34,5 @@ returns c =
     report_is c.args.bytes.now c.version_told-version.result c.version_told-version.ensures c.in_ok-header.rest.now
     c.in_ok-header.header (rw title at c.in_ok-header.ensures.exact) c.in-Ok.reader c.in-Ok.ensures.section
     c.in-Ok.ensures.nothing
-    ∙ ap (λ (r : Result SoFar LineFault). r >>= report_told) c.in_ok-read_lines.ensures.told
+    ∙ ap (λ (r : Result SoFar LineFault). r >>= report_told) c.in_ok-read_lines.ensures
     ∙ ap (λ (r : ReportValue). Ok r) (sym c.into_report.ensures)

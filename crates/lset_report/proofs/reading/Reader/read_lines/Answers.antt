@@ -14,47 +14,43 @@ use Rattle.lset_report.proofs.reading.Reader.read_lines.Goals as goal
 pub loop-rest-init : goal.loop-rest-init
 loop-rest-init c = record {
   stands = starts grammar first_line c.args.text.now (state c.args.self.now);
-  holds = c.requires;
-  header = refl;
   lines_left = omega arith;
 }
 
-pub returns-in_default-clause-told : goal.returns-in_default-clause-told
-returns-in_default-clause-told c =
+pub returns-in_default : goal.returns-in_default
+returns-in_default c =
     let some = eqb-false _ _ (sym c.is_empty.ensures ∙ c.loop-rest-test.true) in
     inl (rw c.unended.ensures
     (not_ended grammar first_line c.args.text.now (AllOf c.args.text.now (state c.args.self.now)) c.loop-rest.number
     (state c.loop-rest.self) c.loop-rest.rest.now c.in_default.ensures.parts some c.loop-rest.invariant.stands))
 
-pub returns-in_err-read_line-clause-told : goal.returns-in_err-read_line-clause-told
-returns-in_err-read_line-clause-told c =
+pub returns-in_err-read_line : goal.returns-in_err-read_line
+returns-in_err-read_line c =
     let p = err_from_is_err_and c.from_residual.result c.from_residual.ensures.1 in
     rw (p.1, p.2)
     (stops_at c.args.text.now (state c.args.self.now) (state c.loop-rest.self) c.loop-rest.number c.loop-rest.rest.now
     c.in-Some.first.now c.in-Some.after.now c.in_err-read_line.field-0.0 c.in-Some.ensures.parts
-    c.in_err-read_line.ensures.told c.loop-rest.invariant.stands)
+    c.in_err-read_line.ensures c.loop-rest.invariant.stands)
 
 pub loop-rest-preserved : goal.loop-rest-preserved
 loop-rest-preserved c =
     record {
       stands = goes_on grammar first_line c.args.text.now (AllOf c.args.text.now (state c.args.self.now)) c.loop-rest.number
           (state c.loop-rest.self) (state c.read_line.new.self) c.loop-rest.rest.now c.in-Some.first.now c.in-Some.after.now
-          c.in-Some.ensures.parts c.in-Some.ensures.shorter c.in_ok-read_line.ensures.told c.loop-rest.invariant.stands;
-      holds = c.in_ok-read_line.ensures.holds;
-      header = c.in_ok-read_line.ensures.header ∙ c.loop-rest.invariant.header;
+          c.in-Some.ensures.parts c.in-Some.ensures.shorter c.in_ok-read_line.ensures c.loop-rest.invariant.stands;
       lines_left = omega (arith, c.loop-rest.invariant.lines_left, c.in-Some.ensures.shorter);
     }
 
-pub returns-in-Done-clause-told : goal.returns-in-Done-clause-told
-returns-in-Done-clause-told c =
+pub returns-in-Done : goal.returns-in-Done
+returns-in-Done c =
     let none = eqb-true _ _ (sym c.is_empty.ensures ∙ c.loop-rest-test.false) in
     let ended : ends (state c.loop-rest.self) ≡ Ok (state c.loop-rest.self) = rw c.in-Done.is refl in
     is_done grammar first_line c.args.text.now (AllOf c.args.text.now (state c.args.self.now)) c.loop-rest.number
     (state c.loop-rest.self) c.loop-rest.rest.now none c.loop-rest.invariant.stands
     ∙ ap (map_fault (fault c.loop-rest.number)) ended
 
-pub returns-in_default-section-clause-told : goal.returns-in_default-section-clause-told
-returns-in_default-section-clause-told c =
+pub returns-in_default-section : goal.returns-in_default-section
+returns-in_default-section c =
     let unended : ends (state c.loop-rest.self) ≡ Err NotEnded = search rules in
     let none = eqb-true _ _ (sym c.is_empty.ensures ∙ c.loop-rest-test.false) in
     inl (rw c.unended-in_default-section.ensures
