@@ -32,20 +32,10 @@ module _ {X : Type 0} (P Q : X → Type 0) where
   some_imply f (x ∷ xs) (inl a) = inl (f x a)
   some_imply f (x ∷ xs) (inr a) = inr (some_imply f xs a)
 
-  pub some_of_all : (xs : List X) → SomeOf P xs → AllByRecursion Q xs → SomeOf (λ x. P x × Q x) xs
-  some_of_all [] a b = a
-  some_of_all (x ∷ xs) (inl a) b = inl (a, b.0)
-  some_of_all (x ∷ xs) (inr a) b = inr (some_of_all xs a b.1)
-
 module _ {X Y : Type 0} (f : X → Y) where
   pub all_map : (P : Y → Type 0) (xs : List X) → AllByRecursion (λ x. P (f x)) xs → AllByRecursion P (map f xs)
   all_map P [] a = tt
   all_map P (x ∷ xs) a = (a.0, all_map P xs a.1)
-
-  pub some_map : (P : Y → Type 0) (xs : List X) → SomeOf (λ x. P (f x)) xs → SomeOf P (map f xs)
-  some_map P [] a = a
-  some_map P (x ∷ xs) (inl a) = inl a
-  some_map P (x ∷ xs) (inr a) = inr (some_map P xs a)
 
   pub pairs_map : (R : Y → Y → Type 0) (xs : List X) → Pairs (λ x y. R (f x) (f y)) xs → Pairs R (map f xs)
   pairs_map R [] a = tt
@@ -77,14 +67,6 @@ module _ {X : Type 0} (P : X → Type 0) where
   pub some_last : (xs : List X) (y : X) → P y → SomeOf P (xs ++ y ∷ [])
   some_last [] y a = inl a
   some_last (x ∷ xs) y a = inr (some_last xs y a)
-
-  pub some_at : (xs : List X) (d : X) → SomeOf P xs → (i : ℕ) × (i < length xs) × P (get_or xs i d)
-  some_at [] d a = absurd a
-  some_at (x ∷ xs) d (inl a) = (0, omega arith, a)
-  some_at (x ∷ xs) d (inr a) =
-      let r : (i : ℕ) × (i < length xs) × P (get_or xs i d) = some_at xs d a in
-      let l : r.0 < length xs = r.1 in
-      (suc r.0, omega arith, r.2)
 
   pub all_at : (xs : List X) (d : X) (i : ℕ) → i < length xs → AllByRecursion P xs → P (get_or xs i d)
   all_at [] d i l a = absurd (omega arith)
@@ -135,10 +117,6 @@ module _ {X : Type 0} (R : X → X → Type 0) where
     | inl b ↦ rw b (all_filter (R x) p xs a.0, pairs_filter p xs a.1)
     | inr b ↦ rw b (pairs_filter p xs a.1)
   ]
-
-  pub pairs_last : (xs : List X) (y : X) → Pairs R xs → AllByRecursion (λ x. R x y) xs → Pairs R (xs ++ y ∷ [])
-  pairs_last [] y a b = (tt, tt)
-  pairs_last (x ∷ xs) y a b = (all-append (R x) xs (y ∷ []) a.0 (b.0, tt), pairs_last xs y a.1 b.1)
 
   pub pairs_std : (xs : List X) → Pairs R xs → AllPairs R xs
   pairs_std [] a = λ i j d l m. absurd (omega arith)

@@ -106,7 +106,3 @@ all_behind n ls i k past ahead =
     let a : k ≤ length (events_from n ls) = ahead.within in
     let b : length (drop k (events_from n ls)) ≡ length (events_from n ls) - k = length-drop k (events_from n ls) in grind
     (arith, common_steps)
-
-pub few_behind : (n : ℕ) (ls : List Line) (k most : ℕ) (next : LineEvent) → sum_by event_count ls ≤ most
-    → ComesNext (events_from n ls) k next → k < most
-few_behind n ls k most next few there = grind (arith, length_of_events)

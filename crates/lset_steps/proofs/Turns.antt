@@ -177,11 +177,6 @@ pub record Follows (T : Table) (P : Protocol T.marks) (At : Outline) : Type 1 wh
 abbrev pub Keeping : (View → Type 0) → Outline → Outline
 Keeping Always At q t vs first now v done l = At q t vs first now v done l × Always v
 
-pub own_part : {At : Outline} {Always : View → Type 0} {sz : Sizes} {t : ℕ} {vs : ℕ → View} {first now : ℕ} {ws : List ℕ}
-    {used : ℕ → ℕ} {done : Bool} {l : Local}
-    → Thread (Keeping Always At) sz t vs first now ws used done l → Thread At sz t vs first now ws used done l
-own_part th = record { registers = th.registers; counts = th.counts; begun = th.begun; at = th.at.0 }
-
 pub keeping : {T : Table} {P : Protocol T.marks} {At : Outline} (Always : View → Type 0) {sz : Sizes} {t : ℕ} {vs : ℕ → View}
     {first now : ℕ} {ws : List ℕ} {used : ℕ → ℕ} {done : Bool} {l : Local}
     → ((a : Action) (ws' : List ℕ) (used' : ℕ → ℕ) (change : Option (Key × Bool))
