@@ -1,7 +1,7 @@
 -- Properties of the calls in the log of a run at each moment, if each event is a valid start of a call or a valid step.
-use Rattle.std.proofs.Common.{rules, ◌≡◌, ◌≢◌, ℕ, zero, suc, ◌<◌, ◌≤◌, ◌⊎◌, Bool, true, false, ◌||◌, inl, inr, List, [], ◌∷◌, ◌++◌, map, length}
-use Rattle.std.proofs.Common.{sym, refl, ap, ◌∙◌, arith}
-use Rattle.std.specs.Prelude.{slice_index_or, Option, Some, None, is_some, IfSome, IsSomeAnd, All, AllPairs, if◌then◌else◌}
+use Rattle.std.proofs.Common.{rules, ◌≡◌, ◌≢◌, ℕ, zero, suc, ◌<◌, ◌≤◌, ◌⊎◌, Bool, true, false, ◌||◌, ◌&&◌, inl, inr, List, [], ◌∷◌, ◌++◌, map, length}
+use Rattle.std.proofs.Common.{sym, refl, ap, subst, ◌∙◌, arith}
+use Rattle.std.specs.Prelude.{slice_index_or, Option, Some, None, is_some, is_none, IfSome, IsSomeAnd, All, AllPairs, if◌then◌else◌}
 use Rattle.std.proofs.lemmas.Bool.{cases_Bool}
 use Rattle.std.proofs.lemmas.Bool.Decides.{nat_tests}
 use Rattle.std.proofs.lemmas.List.{length-append, length-map, get_or-map, get_or_append_left, get_or_push}
@@ -9,13 +9,14 @@ use Rattle.std.proofs.lemmas.List.Elements.{All-push, All-map, All-weaker}
 use Rattle.std.proofs.lemmas.List.Quantifiers.{all_pairs_push}
 use Rattle.lset_words.specs.declared.Call.{Call}
 use Rattle.lset_words.specs.declared.Reply.{Reply}
-use Rattle.lset_words.specs.Log.{Log, Entry, Change, TracedCall, last_call, begun_at, is_open, has_changed, is_change, calls_at}
-use Rattle.lset_words.specs.Log.{calls_after, open_after, changed_after, is_under_way, traced_on, changed_by, ended_by}
+use Rattle.lset_words.specs.Log.{Log, Entry, Change, TracedCall, last_call, is_open, has_changed, is_change, calls_at}
+use Rattle.lset_words.specs.Log.{LastCall, maker, last_at, calls_after, is_under_way, traced_on, changed_by, ended_by}
 use Rattle.lset_words.specs.Log.Entry.{began, stepped}
-use Rattle.lset_words.specs.Account.{Contents, Counts, MayChange, RightReply, Enters, Account}
+use Rattle.lset_words.specs.Account.{Contents, Counts, MayChange, RightReply, Steps, Enters, Account}
 use Rattle.lset_history.specs.Placement.{traced_at, no_traced}
 use Rattle.lset_words.specs.Words.{Opening}
-use Rattle.lset_words.proofs.Numbers.{equal_test, unequal_test, same_or_not}
+use Rattle.lset_words.proofs.Numbers.{equal_test, same_or_not}
+use Rattle.lset_words.proofs.LastCalls.{last_own, last_other}
 
 -- A run: its log and, at each moment, the keys of the set and each thread's number of successful adds.
 pub record Run : Type 1 where
@@ -56,13 +57,13 @@ pub record EndAt (r : Run) (thread : ℕ) (call : Call) (begun : ℕ) (changed :
   pub after_change : (m : ℕ) → changed ≡ Some m → m ≤ end
   pub right : RightReply (is_some changed) r.quota r.contents r.counts begun end thread call (Some reply)
 
--- States that at moment `k` the log has this call as the thread's pending call, begun at `begun`, and that the call
+-- States that the last call of a thread is this call, that the call is pending and began at `begun`, and that the call
 -- has made a change if and only if `changed` is not `None`.
-pub record OpenAt (r : Run) (k thread : ℕ) (call : Call) (begun : ℕ) (changed : Option ℕ) : Type 0 where
-  pub is : is_open r.log thread k ≡ true
-  pub call_is : last_call r.log thread k ≡ call
-  pub begun_is : begun_at r.log thread k ≡ begun
-  pub changed_is : has_changed r.log thread k ≡ is_some changed
+pub record OpenAt (last : LastCall) (call : Call) (begun : ℕ) (changed : Option ℕ) : Type 0 where
+  pub is : last.pending ≡ true
+  pub call_is : last.call ≡ call
+  pub begun_is : last.begun ≡ begun
+  pub changed_is : last.changed ≡ is_some changed
 
 -- States that the call `x`, in its state at moment `k`, agrees with the log: its begin, its change and its end are
 -- entries of the log.
@@ -71,7 +72,7 @@ pub record Traced (r : Run) (k : ℕ) (x : TracedCall) : Type 0 where
   pub begins : Beginning r x.thread x.call x.begun
   pub already : x.begun ≤ k
   pub changes : (m : ℕ) → x.changed ≡ Some m → (m ≤ k) × ChangeAt r x.thread x.call x.begun m
-  pub is_open : x.ended ≡ None → OpenAt r k x.thread x.call x.begun x.changed
+  pub is_open : x.ended ≡ None → OpenAt (last_at r.log x.thread k) x.call x.begun x.changed
   pub ends : (m : ℕ) (reply : Reply) → x.ended ≡ Some (m, reply)
       → (m ≤ k) × EndAt r x.thread x.call x.begun x.changed m reply
 
@@ -102,32 +103,17 @@ pub record Calls (r : Run) (k : ℕ) (xs : List TracedCall) : Type 0 where
   pub changers : (j t : ℕ) (change : Change) (reply : Option Reply) → j < k → r.log j ≡ stepped t (Some change) reply
       → SomeCall (λ x. x.changed ≡ Some (suc j)) xs
 
--- ---- The effect of a log entry on the functions that compute a thread's pending call from the log
-pub open_is : (log : Log) (k : ℕ) (e : Entry) → log k ≡ e → (t : ℕ) → is_open log t (suc k) ≡ open_after e t (is_open log t k)
-open_is log k e at t = rw at refl
-
-pub changed_is : (log : Log) (k : ℕ) (e : Entry) → log k ≡ e → (t : ℕ)
-    → has_changed log t (suc k) ≡ changed_after e t (has_changed log t k)
-changed_is log k e at t = rw at refl
-
 -- ---- A log entry of another thread does not change a pending call
-abbrev thread_of : Entry → ℕ
-thread_of (began t call) = t
-thread_of (stepped t change reply) = t
-
-stays_open : {r : Run} {k t begun : ℕ} {call : Call} {changed : Option ℕ} (e : Entry) → r.log k ≡ e → thread_of e ≢ t
-    → OpenAt r k t call begun changed → OpenAt r (suc k) t call begun changed
-stays_open e at other o = grind (arith, nat_tests)
-
 -- A log entry does not affect a call that is completed or belongs to another thread.
-waits : {r : Run} {k : ℕ} {x : TracedCall} → (x.ended ≡ None → thread_of (r.log k) ≢ x.thread) → Traced r k x
+waits : {r : Run} {k : ℕ} {x : TracedCall} → (x.ended ≡ None → maker (r.log k) ≢ x.thread) → Traced r k x
     → Traced r (suc k) x
-waits other t = record {
+waits {r} {k} {x} other t = record {
   of_a_thread = t.of_a_thread;
   begins = t.begins;
   already = omega arith;
   changes = λ m e. (omega (arith, t.changes m e), (t.changes m e).1);
-  is_open = λ e. stays_open _ refl (other e) (t.is_open e);
+  is_open = λ e. subst (λ c. OpenAt c x.call x.begun x.changed) (sym (last_other r.log x.thread k refl (other e)))
+      (t.is_open e);
   ends = λ m y e. (omega (arith, t.ends m y e), (t.ends m y e).1);
 }
 
@@ -136,16 +122,15 @@ abbrev pub new_call : ℕ → ℕ → Call → TracedCall
 new_call k t call = record { thread = t; call = call; begun = suc k; changed = None; ended = None }
 
 begins : {r : Run} {k t : ℕ} {call : Call} → r.log k ≡ began t call → t < r.threads → Traced r (suc k) (new_call k t call)
-begins {k = k} {t = t} e l =
-    let f = equal_test t t refl in
-    record {
-      of_a_thread = l;
-      begins = record { before = k; is = refl; entry = e };
-      already = omega arith;
-      changes = λ m c. absurd cc;
-      is_open = λ c. record { is = rw (e, f) refl; call_is = rw (e, f) refl; begun_is = rw (e, f) refl; changed_is = rw (e, f) refl };
-      ends = λ m y c. absurd cc;
-    }
+begins {r} {k} {t} {call} e l = record {
+  of_a_thread = l;
+  begins = record { before = k; is = refl; entry = e };
+  already = omega arith;
+  changes = λ m c. absurd cc;
+  is_open = λ c. subst (λ x. OpenAt x call (suc k) None) (sym (last_own r.log t k e refl))
+      (record { is = refl; call_is = refl; begun_is = refl; changed_is = refl });
+  ends = λ m y c. absurd cc;
+}
 
 starts : {r : Run} {k t : ℕ} {call : Call} {x : TracedCall} → is_open r.log t k ≡ false → Traced r k x → Later x (new_call k t call)
 starts {k = k} {t = t} {x = x} shut p = record { begins = omega arith; one_thread = λ same. ended x.ended refl same }
@@ -161,7 +146,7 @@ after_beginning {r} {k} {t} {call} {xs} e l shut h = record {
   pairs = all_pairs_push Later xs (new_call k t call) h.pairs (λ i d m. starts shut (h.each i d m));
   opens = λ u o. elim (same_or_not t u) [
     | inl same ↦ (length xs, omega (arith, long), rw last (same, refl))
-    | inr other ↦ kept (IsOpenOf u) (h.opens u (rw (e, unequal_test t u other) at o))
+    | inr other ↦ kept (IsOpenOf u) (h.opens u (sym (ap (λ (x : LastCall). x.pending) (last_other r.log u k e other)) ∙ o))
   ];
   changers = λ j u change reply m f. kept (λ x. x.changed ≡ Some (suc j)) (h.changers j u change reply (before m f) f);
 }
@@ -184,16 +169,6 @@ after_beginning {r} {k} {t} {call} {xs} e l shut h = record {
     before : {j u : ℕ} {change : Change} {reply : Option Reply} → j < suc k → r.log j ≡ stepped u (Some change) reply → j < k
     before m f = search rules
 
--- A step of thread `t` between moments k and k + 1: the log entry, the change that the pending call may make, and a
--- correct reply.
-pub record Stepping (r : Run) (k t : ℕ) (change : Option Change) (reply : Option Reply) : Type 0 where
-  pub entry : r.log k ≡ stepped t change reply
-  pub of_a_thread : t < r.threads
-  pub under_way : is_open r.log t k ≡ true
-  pub may : MayChange r.quota (r.counts k t) (last_call r.log t k) (has_changed r.log t k) change
-  pub right : RightReply (has_changed r.log t (suc k)) r.quota r.contents r.counts (begun_at r.log t k) (suc k) t
-      (last_call r.log t k) reply
-
 abbrev pub step_of : ℕ → ℕ → Option Change → Option Reply → TracedCall → TracedCall
 step_of k t change reply x = if is_under_way t x then traced_on (suc k) change reply x else x
 
@@ -212,6 +187,11 @@ changed_as m n (Some c) before e = inr (c, refl, cc)
 ended_as : (m n : ℕ) (reply : Option Reply) (y : Reply) → ended_by m reply ≡ Some (n, y) → (reply ≡ Some y) × (n ≡ m)
 ended_as m n reply y e = (grind arith, grind arith)
 
+stays : (b : Bool) (reply : Option Reply) → (b && is_none reply) ≡ true → (b ≡ true) × (reply ≡ None)
+stays true None e = (refl, refl)
+stays true (Some y) e = absurd cc
+stays false reply e = absurd cc
+
 not_ended : (m : ℕ) (reply : Option Reply) → ended_by m reply ≡ None → reply ≡ None
 not_ended m reply e = grind arith
 
@@ -225,13 +205,15 @@ may_be quota count call here b (key, true) e m = (sym e ∙ m.0, refl, m.2)
 may_be quota count call here b (key, false) e m = (sym e ∙ m.0, refl)
 
 -- Lemmas about the pending call `x` of the thread that makes the step.
-module _ {r : Run} {k : ℕ} {change : Option Change} {reply : Option Reply} {x : TracedCall} (s : Stepping r k x.thread change reply)
-    (none : x.ended ≡ None) (p : Traced r k x) where
-  here : OpenAt r k x.thread x.call x.begun x.changed
+module _ {r : Run} {k : ℕ} {change : Option Change} {reply : Option Reply} {x : TracedCall}
+    (entry : r.log k ≡ stepped x.thread change reply)
+    (s : Steps r.threads r.quota r.log r.contents r.counts k x.thread change reply) (none : x.ended ≡ None) (p : Traced r k x) where
+  here : OpenAt (last_at r.log x.thread k) x.call x.begun x.changed
   here = p.is_open none
 
   now : has_changed r.log x.thread (suc k) ≡ is_some (changed_by (suc k) change x.changed)
-  now = rw (s.entry, equal_test x.thread x.thread refl, here.changed_is) (has_now (suc k) change x.changed)
+  now = ap (λ (z : LastCall). z.changed) (last_own r.log x.thread k entry refl)
+      ∙ rw here.changed_is (has_now (suc k) change x.changed)
 
   changes : (m : ℕ) → changed_by (suc k) change x.changed ≡ Some m → (m ≤ suc k) × ChangeAt r x.thread x.call x.begun m
   changes m e = elim (changed_as (suc k) m change x.changed e) [
@@ -244,7 +226,7 @@ module _ {r : Run} {k : ℕ} {change : Option Change} {reply : Option Reply} {x 
         later = omega (arith, p.already);
         change = o.0;
         reply = reply;
-        entry = rw o.1 at s.entry;
+        entry = rw o.1 at entry;
         may = may_be _ _ _ _ _ o.0 here.call_is (rw o.1 at s.may);
       },
     )
@@ -256,12 +238,14 @@ module _ {r : Run} {k : ℕ} {change : Option Change} {reply : Option Reply} {x 
     begins = p.begins;
     already = omega (arith, p.already);
     changes = changes;
-    is_open = λ e. record {
-      is = rw (s.entry, not_ended (suc k) reply e) here.is;
-      call_is = rw s.entry here.call_is;
-      begun_is = rw s.entry here.begun_is;
-      changed_is = now;
-    };
+    is_open = λ e. subst (λ z. OpenAt z x.call x.begun (changed_by (suc k) change x.changed))
+        (sym (last_own r.log x.thread k entry refl))
+        (record {
+          is = rw (here.is, not_ended (suc k) reply e) refl;
+          call_is = here.call_is;
+          begun_is = here.begun_is;
+          changed_is = rw here.changed_is (has_now (suc k) change x.changed);
+        });
     ends = λ m y e. let w = ended_as (suc k) m reply y e in rw w.1 (
       omega arith,
       record {
@@ -269,18 +253,19 @@ module _ {r : Run} {k : ℕ} {change : Option Change} {reply : Option Reply} {x 
         is = refl;
         later = omega (arith, p.already);
         change = change;
-        entry = rw w.0 at s.entry;
+        entry = rw w.0 at entry;
         after_change = λ n c. (changes n c).0;
         right = rw (w.0, now, here.begun_is, here.call_is) at s.right;
       },
     );
   }
 
-module _ {r : Run} {k t : ℕ} {change : Option Change} {reply : Option Reply} (s : Stepping r k t change reply) where
+module _ {r : Run} {k t : ℕ} {change : Option Change} {reply : Option Reply} (entry : r.log k ≡ stepped t change reply)
+    (s : Steps r.threads r.quota r.log r.contents r.counts k t change reply) where
   traced_step : (x : TracedCall) → Traced r k x → Traced r (suc k) (step_of k t change reply x)
   traced_step x p = elim (cases_Bool (is_under_way t x)) [
-    | inl u ↦ rw u (let w = way_of t x u in steps (rw w.0 at s) w.1 p)
-    | inr u ↦ rw u (waits (λ none. rw s.entry (λ same. let way = is_way t x (sym same) none in cc)) p)
+    | inl u ↦ rw u (let w = way_of t x u in steps (rw w.0 at entry) (rw w.0 at s) w.1 p)
+    | inr u ↦ rw u (waits (λ none. rw entry (λ same. let way = is_way t x (sym same) none in cc)) p)
   ]
 
   later_step : (x y : TracedCall) → Later x y → Later (step_of k t change reply x) (step_of k t change reply y)
@@ -325,7 +310,7 @@ module _ {r : Run} {k t : ℕ} {change : Option Change} {reply : Option Reply} (
     each = All-map (Traced r (suc k)) f xs (All-weaker (Traced r k) (λ x. Traced r (suc k) (f x)) traced_step xs h.each);
     pairs = λ i j d l m. rw (at i d (omega (arith, length-map xs f)), at j d (omega (arith, length-map xs f)))
         (later_step _ _ (h.pairs i j d l (omega (arith, length-map xs f))));
-    opens = λ u o. let w = opens_as u reply (is_open r.log u k) (rw s.entry at o) in let c = h.opens u w.0 in
+    opens = λ u o. let w = opens_as u o in let c = h.opens u w.0 in
         mapped (IsOpenOf u) c.0 c.1 (open_step u _ w.1 c.2);
     changers = λ j u here told l e. elim (same_or_not j k) [
       | inl now ↦ (let c = h.opens t s.under_way in
@@ -344,8 +329,12 @@ module _ {r : Run} {k t : ℕ} {change : Option Change} {reply : Option Reply} (
       mapped : (P : TracedCall → Type 0) (i : ℕ) → i < length xs → P (f (traced_at xs i)) → SomeCall P (map f xs)
       mapped P i l p = (i, omega (arith, length-map xs f), rw (at i no_traced l) p)
 
-      opens_as : (u : ℕ) (y : Option Reply) (b : Bool) → open_after (stepped t change y) u b ≡ true → (b ≡ true) × (t ≡ u → y ≡ None)
-      opens_as u y b o = (grind (arith, nat_tests), grind (arith, nat_tests))
+      opens_as : (u : ℕ) → is_open r.log u (suc k) ≡ true → (is_open r.log u k ≡ true) × (t ≡ u → reply ≡ None)
+      opens_as u o = elim (same_or_not t u) [
+        | inl y ↦ (let w = stays _ reply (sym (ap (λ (x : LastCall). x.pending) (last_own r.log u k entry y)) ∙ o) in
+            (w.0, λ z. w.1))
+        | inr y ↦ (sym (ap (λ (x : LastCall). x.pending) (last_other r.log u k entry y)) ∙ o, λ z. absurd (y z))
+      ]
 
 -- At each moment of a run, the list of the run's calls has the properties in `Calls`. Proof by induction on the
 -- moments.
@@ -360,5 +349,4 @@ calls_of op last log contents counts a (suc k) l = enter (log k) refl (a.enters 
         → Calls (run_of op.threads op.quota log contents counts) k (calls_at log k)
         → Calls (run_of op.threads op.quota log contents counts) (suc k) (calls_after (suc k) e (calls_at log k))
     enter (began t call) e h c = after_beginning e h.of_a_thread h.idle c
-    enter (stepped t change reply) e h c =
-        after_step (record { entry = e; of_a_thread = h.of_a_thread; under_way = h.under_way; may = h.may; right = h.right }) c
+    enter (stepped t change reply) e h c = after_step e h c

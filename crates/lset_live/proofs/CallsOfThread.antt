@@ -8,12 +8,13 @@ use Rattle.lset_words.proofs.Numbers.{same_or_not, equal_test, unequal_test, sam
 use Rattle.lset_words.specs.declared.Reply.{Reply}
 use Rattle.lset_words.specs.declared.history.CallRecord.{CallRecord}
 use Rattle.lset_words.specs.Log.{Log, Entry, Change, TracedCall, is_under_way, traced_on, ended_by, calls_after, calls_at}
-use Rattle.lset_words.specs.Log.{record_of, history_at}
+use Rattle.lset_words.specs.Log.{record_of, history_at, LastCall, maker, last_after, last_at}
 use Rattle.lset_words.specs.Log.Entry.{began, stepped}
 use Rattle.lset_history.proofs.Calls.{way_of}
 use Rattle.lset_rule.specs.declared.view.OwnCall.{OwnCall}
 use Rattle.lset_rule.specs.declared.view.PendingCall.{PendingCall}
-use Rattle.lset_rule.specs.Runs.{under_next, done_next, under_at, done_at, under_after, ending}
+use Rattle.lset_rule.specs.Runs.{pending_of, done_next, under_at, done_at, under_after, ending}
+use Rattle.lset_rule.proofs.OneMoreEvent.{under_step}
 
 abbrev pub of_thread : ℕ → List CallRecord → List CallRecord
 of_thread u xs = filter (λ (x : CallRecord). x.thread == u) xs
@@ -109,36 +110,41 @@ abbrev pub MayBegin : Entry → ℕ → Option PendingCall → Type 0
 MayBegin (began t c) u o = t ≡ u → o ≡ None
 MayBegin (stepped t ch a) u o = Unit {0}
 
-pub thread_next : (m : ℕ) (e : Entry) (u : ℕ) (xs : List TracedCall) (done : List OwnCall) (o : Option PendingCall) → MayBegin e u o
-    → of_thread u (map record_of xs) ≡ thread_records u done o
-    → of_thread u (map record_of (calls_after m e xs)) ≡ thread_records u (done_next m e u o done) (under_next m e u o)
-thread_next m (began t c) u xs done o may h =
+pub thread_next : (m : ℕ) (e : Entry) (u : ℕ) (xs : List TracedCall) (done : List OwnCall) (last : LastCall)
+    → MayBegin e u (pending_of last)
+    → of_thread u (map record_of xs) ≡ thread_records u done (pending_of last)
+    → of_thread u (map record_of (calls_after m e xs)) ≡ thread_records u (done_next m e u (pending_of last) done)
+    (pending_of (if maker e == u then last_after m e last else last))
+thread_next m (began t c) u xs done last may h =
     ap (of_thread u) (map-append record_of xs _) ∙ (filter-append (λ (x : CallRecord). x.thread == u) (map record_of xs) _
     ∙ (ap (λ l. l ++ of_thread u (x ∷ [])) h ∙ by_test (t == u) refl))
   where
     x : CallRecord
     x = record { thread = t; call = c; begun = m; ended = None }
 
-    by_test : (b : Bool) → (t == u) ≡ b → thread_records u done o
-        ++ cond b (record { thread = t; call = c; begun = m; ended = None } ∷ []) [] ≡ thread_records u done (if b
-        then Some (record { call = c; begun = m; steps = 0 }) else o)
+    by_test : (b : Bool) → (t == u) ≡ b → thread_records u done (pending_of last)
+        ++ cond b (record { thread = t; call = c; begun = m; ended = None } ∷ []) []
+        ≡ thread_records u done (pending_of (if b then last_after m (began t c) last else last))
     by_test true e = let is : t ≡ u = same_number t u e in
         (λ i. thread_records u done (may is i) ++ record { thread = is i; call = c; begun = m; ended = None } ∷ [])
         ∙ ap (λ l. l ++ record { thread = u; call = c; begun = m; ended = None } ∷ [])
         (append-nil (map (ended_record u) done))
-    by_test false e = append-nil (thread_records u done o)
-thread_next m (stepped t ch a) u xs done o may h = ⊎_elim
+    by_test false e = append-nil (thread_records u done (pending_of last))
+thread_next m (stepped t ch a) u xs done last may h = ⊎_elim
     (λ (y : t ≡ u). let yes : (t == u) ≡ true = equal_test t u y in
     ap (λ z. of_thread u (map record_of (map (on m ch a z) xs))) y
-    ∙ (step_own m ch a u xs ∙ (ap (map (ends m ch a)) h ∙ (open_step m u ch a done o
-    ∙ (λ i. thread_records u (if sym yes i then done ++ ending a o m else done) (if sym yes i then under_after a o else o))))))
+    ∙ (step_own m ch a u xs ∙ (ap (map (ends m ch a)) h ∙ (open_step m u ch a done (pending_of last)
+    ∙ ap (thread_records u (done ++ ending a (pending_of last) m)) (sym (under_step m t ch a last))
+    ∙ (λ i. thread_records u (if sym yes i then done ++ ending a (pending_of last) m else done)
+    (pending_of (if sym yes i then last_after m (stepped t ch a) last else last)))))))
     (λ (y : t ≢ u). let no : (t == u) ≡ false = unequal_test t u y in
     step_other m ch a t u y xs ∙ (h
-    ∙ (λ i. thread_records u (if sym no i then done ++ ending a o m else done) (if sym no i then under_after a o else o))))
+    ∙ (λ i. thread_records u (if sym no i then done ++ ending a (pending_of last) m else done)
+    (pending_of (if sym no i then last_after m (stepped t ch a) last else last)))))
     (same_or_not t u)
 
 pub thread_calls : (log : Log) (u last : ℕ) → ((k : ℕ) → k < last → MayBegin (log k) u (under_at log u k)) → (k : ℕ) → k ≤ last
     → of_thread u (history_at log k) ≡ thread_records u (done_at log u k) (under_at log u k)
 thread_calls log u last may zero l = refl
-thread_calls log u last may (suc k) l = thread_next (suc k) (log k) u (calls_at log k) (done_at log u k) (under_at log u k)
+thread_calls log u last may (suc k) l = thread_next (suc k) (log k) u (calls_at log k) (done_at log u k) (last_at log u k)
     (may k (omega arith)) (thread_calls log u last may k (omega arith))

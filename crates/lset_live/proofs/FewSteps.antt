@@ -3,6 +3,8 @@ use Rattle.std.proofs.Common.{◌≡◌, ◌≢◌, ℕ, suc, ◌+◌, ◌<◌, 
 use Rattle.std.proofs.Common.{Option, Some, None, refl, sym, ap, ◌∙◌, subst, arith, length-append}
 use Rattle.std.proofs.lemmas.List.{same_from_push}
 use Rattle.lset_words.proofs.Numbers.{equal_test, if_same}
+use Rattle.lset_words.specs.Log.{last_at}
+use Rattle.lset_words.proofs.LastCalls.{last_own}
 use Rattle.lset_words.specs.declared.Key.{Key}
 use Rattle.lset_words.specs.declared.Call.{Call}
 use Rattle.lset_words.specs.declared.Call.TheVariants.{Contains}
@@ -22,8 +24,8 @@ use Rattle.lset_rule.specs.declared.view.View.{View}
 use Rattle.lset_rule.specs.Calls.{Makes}
 use Rattle.lset_rule.specs.Seats.{TableSeat}
 use Rattle.lset_rule.specs.Pasts.{calls_of, root}
-use Rattle.lset_rule.specs.Runs.{Here, done_at, done_next, ending, own, under_after, under_at, under_next}
-use Rattle.lset_rule.proofs.OneMoreEvent.{Tied, tied}
+use Rattle.lset_rule.specs.Runs.{Here, done_at, done_next, ending, own, pending_of, under_after, under_at}
+use Rattle.lset_rule.proofs.OneMoreEvent.{Tied, tied, under_step}
 use Rattle.lset_live.specs.Dated.{record_of}
 use Rattle.lset_live.proofs.DatedRecords.{root_is}
 use Rattle.lset_live.proofs.SeenExplained.{seat_at}
@@ -91,8 +93,9 @@ module _ (T : Table) (law : Lawful T) (reads : BoundedReads T) (key : Key) (v : 
   Done k = done_at (log_of T w.shape es) w.thread k
 
   under_now : under_after (told T S (Go w.thread)).answer (Under n) ≡ None
-  under_now = sym (ap (λ e. under_next (suc n) (entry_of T S e) w.thread (Under n)) last_is
-      ∙ if_same w.thread w.thread refl (under_after (told T S (Go w.thread)).answer (Under n)) (Under n))
+  under_now = sym (ap pending_of (last_own (log_of T w.shape es) w.thread n (ap (λ e. entry_of T S e) last_is) refl)
+      ∙ under_step (suc n) w.thread (told T S (Go w.thread)).change (told T S (Go w.thread)).answer
+      (last_at (log_of T w.shape es) w.thread n))
       ∙ ap (λ k. under_at (log_of T w.shape es) w.thread k) (sym long) ∙ ap (λ (h : Here). h.under) m.stands.own ∙ m.idle
 
   done_now : Done n ++ ending (told T S (Go w.thread)).answer (Under n) (suc n) ≡ calls_of w.thread v.past ++ made ∷ []

@@ -8,7 +8,7 @@ use Rattle.lset_words.proofs.Numbers.{same_or_not, if_same, if_other}
 use Rattle.lset_words.specs.declared.Call.{Call}
 use Rattle.lset_words.specs.declared.Reply.{Reply}
 use Rattle.lset_words.specs.Words.{target, Sizes, Opening, sizes}
-use Rattle.lset_words.specs.Log.{Log, begun_at, has_changed, is_change, begun_after, changed_after}
+use Rattle.lset_words.specs.Log.{Log, LastCall, begun_at, has_changed, is_change, maker, last_after, last_at}
 use Rattle.lset_steps.specs.declared.Local.{Local}
 use Rattle.lset_steps.specs.declared.Event.{Event}
 use Rattle.lset_steps.specs.declared.Event.TheVariants.{Begin, Go}
@@ -172,9 +172,9 @@ module _ (op : Opening) (last : ℕ) (es : ℕ → Event) (r : Run optimistic op
 
   -- States that if a thread has a reply, has changed nothing and is about to release a lock, then its reply is correct
   -- at the moment of a load that the thread has already made.
-  abbrev Settled : ℕ → ℕ → Bool → Local → Type 0
-  Settled now first done l = (reply : Reply) → 14 ≤ l.pc → l.reply ≡ Some reply → done ≡ false
-      → FitsAtALoad op es first now t l.call reply
+  abbrev Settled : ℕ → LastCall → Local → Type 0
+  Settled now x l = (reply : Reply) → 14 ≤ l.pc → l.reply ≡ Some reply → x.changed ≡ false
+      → FitsAtALoad op es x.begun now t l.call reply
 
   later : {now first : ℕ} {call : Call} {reply : Reply} → FitsAtALoad op es first now t call reply
       → FitsAtALoad op es first (suc now) t call reply
@@ -188,18 +188,19 @@ module _ (op : Opening) (last : ℕ) (es : ℕ → Event) (r : Run optimistic op
     fits = x.fits;
   }
 
-  settled_on : (now : ℕ) {first first' : ℕ} {done done' : Bool} {l l' : Local} → first' ≡ first → done' ≡ done → l' ≡ l
-      → Settled now first done l → Settled (suc now) first' done' l'
-  settled_on now {first} {first'} {done} {done'} {l} {l'} a b c s =
-      subst (λ x. Settled (suc now) x done' l') (sym a) (subst (λ x. Settled (suc now) first x l') (sym b)
-      (subst (λ x. Settled (suc now) first done x) (sym c) (λ reply h y u. later (s reply h y u))))
+  settled_on : (now : ℕ) {x x' : LastCall} {l l' : Local} → x' ≡ x → l' ≡ l → Settled now x l → Settled (suc now) x' l'
+  settled_on now {x} {x'} {l} {l'} a b s = subst (λ z. Settled (suc now) z l') (sym a)
+      (subst (λ z. Settled (suc now) x z) (sym b) (λ reply h y u. later (s reply h y u)))
+
+  abbrev next : ℕ → Event → LastCall
+  next k e = if maker (entry_of optimistic (S k) e) == t then last_after (suc k) (entry_of optimistic (S k) e) (last_at L t k)
+      else last_at L t k
 
   abbrev After : ℕ → Event → Type 0
-  After k e = Settled (suc k) (begun_after (suc k) (entry_of optimistic (S k) e) t (begun_at L t k))
-      (changed_after (entry_of optimistic (S k) e) t (has_changed L t k)) (local_of (after optimistic (S k) e) t)
+  After k e = Settled (suc k) (next k e) (local_of (after optimistic (S k) e) t)
 
   abbrev Now : ℕ → Type 0
-  Now k = Settled k (begun_at L t k) (has_changed L t k) (local_of (S k) t)
+  Now k = Settled k (last_at L t k) (local_of (S k) t)
 
   own_step : (k : ℕ) → k < last → es k ≡ Go t → Enabled (S k) (Go t) → Now k → After k (Go t)
   own_step k lt goes en settled reply h y u =
@@ -208,11 +209,13 @@ module _ (op : Opening) (last : ℕ) (es : ℕ → Event) (r : Run optimistic op
       let th = known op last es r t tn k (omega arith) in
       let same : local_of (after optimistic (S k) (Go t)) t ≡ local_after l seen =
       get_or-set_same (S k).locals t (local_after l seen) (idle 0 0) en.0 in
+      let own : next k (Go t) ≡ last_after (suc k) (entry_of optimistic (S k) (Go t)) (last_at L t k) = if_same t t refl _ _ in
       let unchanged : (has_changed L t k || is_change (optimistic.effect l seen)) ≡ false =
-      sym (if_same t t refl (has_changed L t k || is_change (optimistic.effect l seen)) (has_changed L t k)) ∙ u in
+      sym (ap (λ (x : LastCall). x.changed) own) ∙ u in
       let reply_is : (local_after l seen).reply ≡ Some reply = ap (λ (x : Local). x.reply) (sym same) ∙ y in
       let same_call : (local_after l seen).call ≡ l.call = (optimistic_lawful.steps op last k t es r lt goes).same_call in
-      subst (λ (x : Local). FitsAtALoad op es (begun_at L t k) (suc k) t x.call reply) (sym same)
+      subst (λ (x : LastCall). FitsAtALoad op es x.begun (suc k) t (local_of (after optimistic (S k) (Go t)) t).call reply)
+      (sym own) (subst (λ (x : Local). FitsAtALoad op es (begun_at L t k) (suc k) t x.call reply) (sym same)
       (subst (λ x. FitsAtALoad op es (begun_at L t k) (suc k) t x reply) (sym same_call)
       (elim (came l seen th.at en.1 reply (subst (λ (x : Local). 14 ≤ x.pc) same h) reply_is) [
         | inl e ↦ (let fit = fits_at op last es r t tn k lt goes e reply reply_is in record {
@@ -229,7 +232,10 @@ module _ (op : Opening) (last : ℕ) (es : ℕ → Event) (r : Run optimistic op
           | inr e ↦ later (settled reply (let at : l.pc ≡ 14 = e.0 in omega arith) e.1
               (was_false (has_changed L t k) (is_change (optimistic.effect l seen)) unchanged))
         ]
-      ]))
+      ])))
+
+  other : (k : ℕ) (e : Event) → maker (entry_of optimistic (S k) e) ≢ t → next k e ≡ last_at L t k
+  other k e d = if_other (maker (entry_of optimistic (S k) e)) t d _ _
 
   settle : (k : ℕ) → k < last → (e : Event) → es k ≡ e → Enabled (S k) e → Now k → After k e
   settle k lt (Begin u call) goes en settled = elim (same_or_not u t) [
@@ -239,15 +245,13 @@ module _ (op : Opening) (last : ℕ) (es : ℕ → Event) (r : Run optimistic op
         subst (λ x. slice_index_or (slice_set (S k).locals x m) t (idle 0 0) ≡ m) (sym e)
         (get_or-set_same (S k).locals t m (idle 0 0) (subst (λ x. x < length (S k).locals) e en.0)) in
         let at : 14 ≤ m.pc = subst (λ (x : Local). 14 ≤ x.pc) same h in too_early at (omega arith)))
-    | inr d ↦ settled_on k (if_other u t d (suc k) (begun_at L t k)) (if_other u t d false (has_changed L t k))
+    | inr d ↦ settled_on k (other k (Begin u call) d)
         (get_or-set_other (S k).locals u t (optimistic.begin call (local_of (S k) u)) (idle 0 0) (λ f. d (sym f))) settled
   ]
   settle k lt (Go u) goes en settled = elim (same_or_not u t) [
     | inl e ↦ subst (λ x. After k (Go x)) (sym e)
         (own_step k lt (subst (λ x. es k ≡ Go x) e goes) (subst (λ x. Enabled (S k) (Go x)) e en) settled)
-    | inr d ↦ settled_on k refl
-        (if_other u t d (has_changed L t k || is_change (optimistic.effect (local_of (S k) u) (seen_next optimistic (S k) u)))
-        (has_changed L t k))
+    | inr d ↦ settled_on k (other k (Go u) d)
         (get_or-set_other (S k).locals u t (local_after (local_of (S k) u) (seen_next optimistic (S k) u)) (idle 0 0)
         (λ f. d (sym f))) settled
   ]

@@ -4,7 +4,7 @@ use Rattle.std.proofs.Common.{arith, inl, inr, sym, ◌∙◌, ap, subst, zero, 
 use Rattle.std.proofs.lemmas.List.FromFn.{get_or-map-range_with_len}
 use Rattle.lset_words.proofs.Numbers.{same_or_not}
 use Rattle.lset_words.specs.declared.Key.{Key}
-use Rattle.lset_words.specs.Log.{begun_at, has_changed}
+use Rattle.lset_words.specs.Log.{last_at, begun_at, has_changed}
 use Rattle.lset_words.specs.Words.{link_index, word_count, Opening, sizes}
 use Rattle.lset_steps.specs.declared.Event.{Event}
 use Rattle.lset_steps.specs.declared.Event.TheVariants.{Begin, Go}
@@ -37,8 +37,8 @@ plain_after marks v w change p even (removes pred curr k is u x y2 z) = elim (sa
 module _ (T : Table) (At : Outline) (d : Discipline T T.marks At) (op : Opening) (es : ℕ → Event) (last : ℕ)
     (r : Run T op es last) where
   abbrev Known : ℕ → Type 1
-  Known k = Inv T.marks At (sizes op) (views T op es) k (state_at T op es k) (λ u. begun_at (log_of T op es) u k)
-      (λ u. has_changed (log_of T op es) u k)
+  Known k = Inv T.marks At (sizes op) (views T op es) k (state_at T op es k)
+      (λ u. last_at (log_of T op es) u k)
 
   known : (k : ℕ) → k ≤ last → Known k
   known k l = inv_at T T.marks At d op es last r k l

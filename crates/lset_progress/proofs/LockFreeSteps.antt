@@ -9,7 +9,7 @@ use Rattle.lset_words.specs.declared.Key.{Key}
 use Rattle.lset_words.specs.declared.Reply.{Reply}
 use Rattle.lset_words.specs.declared.Reply.TheVariants.{True}
 use Rattle.lset_words.specs.Words.{Opening, sizes, key_of}
-use Rattle.lset_words.specs.Log.{begun_at, has_changed, is_change}
+use Rattle.lset_words.specs.Log.{last_at, begun_at, has_changed, is_change}
 use Rattle.lset_words.specs.Account.{MayChange}
 use Rattle.lset_steps.specs.declared.Event.{Event}
 use Rattle.lset_steps.specs.declared.Event.TheVariants.{Go}
@@ -34,7 +34,7 @@ use Rattle.lset_progress.proofs.HeadPlain.{the_step, words_are, the_move}
 -- The invariant of LockFreeList at moment k of a run.
 abbrev pub Known : Opening → ℕ → (ℕ → Event) → Type 1
 Known op k es = Inv true At (sizes op) (views lock_free op es) k (state_at lock_free op es k)
-    (λ u. begun_at (log_of lock_free op es) u k) (λ u. has_changed (log_of lock_free op es) u k)
+    (λ u. last_at (log_of lock_free op es) u k)
 
 pub keeps : Discipline lock_free true At
 keeps = discipline_of lock_free (no_locks true) At lock_free_follows

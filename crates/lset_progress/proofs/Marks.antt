@@ -8,7 +8,7 @@ use Rattle.lset_words.proofs.Numbers.{same_or_not}
 use Rattle.lset_words.specs.declared.Call.TheVariants.{Ceiling}
 use Rattle.lset_words.specs.declared.Key.{Key}
 use Rattle.lset_words.specs.Words.{link_index, lock_index, node_count, target, Opening, sizes, key_of}
-use Rattle.lset_words.specs.Log.{begun_at, has_changed}
+use Rattle.lset_words.specs.Log.{last_at, begun_at, has_changed}
 use Rattle.lset_steps.specs.declared.Action.TheVariants.{Store}
 use Rattle.lset_steps.specs.declared.Event.{Event}
 use Rattle.lset_steps.specs.declared.Event.TheVariants.{Begin, Go}
@@ -62,8 +62,8 @@ pub record Marking (T : Table) (At : Outline) : Type 1 where
 module _ (T : Table) (At : Outline) (follows : Discipline T T.marks At) (rows : Marking T At) where
   -- The invariant of the list at moment k of a run.
   abbrev Known : Opening → ℕ → (ℕ → Event) → Type 1
-  Known op k es = Inv T.marks At (sizes op) (views T op es) k (state_at T op es k) (λ u. begun_at (log_of T op es) u k)
-      (λ u. has_changed (log_of T op es) u k)
+  Known op k es = Inv T.marks At (sizes op) (views T op es) k (state_at T op es k)
+      (λ u. last_at (log_of T op es) u k)
 
   known : (op : Opening) (last k : ℕ) (es : ℕ → Event) → Run T op es last → k ≤ last → Known op k es
   known op last k es r l = inv_at T T.marks At follows op es last r k l

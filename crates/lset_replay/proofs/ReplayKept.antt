@@ -8,13 +8,14 @@ use Rattle.lset_words.specs.declared.Call.{Call}
 use Rattle.lset_words.specs.declared.Reply.{Reply}
 use Rattle.lset_words.specs.declared.history.CallRecord.{CallRecord}
 use Rattle.lset_words.specs.Log.{Log, Entry, Change, TracedCall, calls_at, calls_after, history_at, record_of, is_open}
-use Rattle.lset_words.specs.Log.{has_changed}
+use Rattle.lset_words.specs.Log.{LastCall, has_changed}
+use Rattle.lset_words.proofs.LastCalls.{last_own, last_other}
 use Rattle.lset_words.specs.Log.Entry.{began}
 use Rattle.lset_words.specs.Account.{Contents, Counts, Enters}
 use Rattle.lset_history.specs.Placement.{traced_at, no_traced, IsSmallestFit}
-use Rattle.lset_words.proofs.Numbers.{same_or_not, below_or_not, if_same, if_other}
+use Rattle.lset_words.proofs.Numbers.{same_or_not, below_or_not}
 use Rattle.lset_words.specs.Words.{Opening}
-use Rattle.lset_history.proofs.Calls.{open_is, changed_is, new_call}
+use Rattle.lset_history.proofs.Calls.{new_call}
 use Rattle.lset_replay.proofs.OpenCalls.{OpenNumber, open_new, open_began, length_began}
 use Rattle.lset_replay.specs.declared.places.OpenCall.{OpenCall}
 use Rattle.lset_replay.specs.declared.places.Linearized.{Linearized}
@@ -167,10 +168,9 @@ module _ (op : Opening) (log : Log) (contents : Contents) (counts : Counts) (k t
   begun_idle : (u : ℕ) → u < op.threads → is_open log u (suc k) ≡ false →
       open_call_at (begun_on (suc k) t call s).under_way u ≡ None
   begun_idle u l e = elim (same_or_not t u) [
-    | inl y ↦ absurd (let g = sym (if_same t u y true (is_open log u k)) ∙ sym (open_is log k (began t call) at u) ∙ e in cc)
+    | inl y ↦ absurd (let g = sym (ap (λ (x : LastCall). x.pending) (last_own log u k at y)) ∙ e in cc)
     | inr d ↦ (get_or-set_other s.under_way t u _ None (λ z. d (sym z))
-        ∙ f.idle u l (sym (if_other t u d true (is_open log u k))
-        ∙ sym (open_is log k (began t call) at u) ∙ e))
+        ∙ f.idle u l (sym (ap (λ (x : LastCall). x.pending) (last_other log u k at d)) ∙ e))
   ]
 
   begun_busy : (u : ℕ) → u < op.threads → is_open log u (suc k) ≡ true
@@ -188,12 +188,12 @@ module _ (op : Opening) (log : Log) (contents : Contents) (counts : Counts) (k t
         steady = λ g m a b. ap (λ z. counts z u) (let from : suc k ≤ m = a in let now : m ≡ suc k = omega arith in now);
       },
     ))
-    | inr d ↦ (let w = f.busy u l (sym (if_other t u d true (is_open log u k)) ∙ sym (open_is log k (began t call) at u) ∙ e) in (
+    | inr d ↦ (let w = f.busy u l (sym (ap (λ (x : LastCall). x.pending) (last_other log u k at d)) ∙ e) in (
       w.0,
       get_or-set_other s.under_way t u _ None (λ z. d (sym z)) ∙ w.1,
       watched_next log contents counts k u w.0
           (λ g. (
-            sym (changed_is log k (began t call) at u ∙ if_other t u d false (has_changed log u k)) ∙ g,
+            sym (ap (λ (x : LastCall). x.changed) (last_other log u k at d)) ∙ g,
             en.same_counts u l,
           )) w.2
           (subst (λ xs. OpenNumber xs u w.0.number w.0.call w.0.begun) (sym (calls_are log k (began t call) at))

@@ -1,20 +1,21 @@
 -- Proof: after the next step, the recorder still describes the run.
-use Rattle.std.proofs.Common.{◌≡◌, ◌≢◌, ℕ, suc, ◌<◌, ◌≤◌, true, false, ◌||◌, inl, inr, List, length, map, set, sym, refl}
+use Rattle.std.proofs.Common.{◌≡◌, ℕ, suc, ◌<◌, ◌≤◌, true, false, ◌||◌, ◌&&◌, inl, inr, List, length, map, set, sym, refl}
 use Rattle.std.proofs.Common.{subst, ap, ◌∙◌, arith, get_or-set_same, get_or-set_other}
-use Rattle.std.specs.Prelude.{All, ◌-◌, Option, Some, None}
+use Rattle.std.specs.Prelude.{All, ◌-◌, Option, Some, None, is_none}
 use Rattle.std.proofs.lemmas.List.{map-set, set-get_or}
 use Rattle.std.proofs.lemmas.Bool.{or_parts, or_from}
 use Rattle.std.proofs.Math.ListN.{get_or-map}
 use Rattle.lset_words.specs.declared.Reply.{Reply}
 use Rattle.lset_words.specs.Log.{Log, Change, TracedCall, traced_on, changed_by, ended_by, calls_at, calls_after, history_at}
-use Rattle.lset_words.specs.Log.{record_of, last_call, begun_at, is_open, has_changed, is_change, open_after}
+use Rattle.lset_words.specs.Log.{LastCall, record_of, last_call, begun_at, is_open, has_changed, is_change, last_after, last_at}
+use Rattle.lset_words.proofs.LastCalls.{last_own, last_other}
 use Rattle.lset_words.specs.Log.Entry.{stepped}
 use Rattle.lset_words.specs.Account.{Contents, Counts, FitsSometime, RightReply, Enters, Account, count_after}
 use Rattle.lset_history.specs.Placement.{traced_at, no_traced, IsSmallestFit}
 use Rattle.lset_words.specs.History.{no_call}
-use Rattle.lset_words.proofs.Numbers.{same_or_not, if_same, if_other}
+use Rattle.lset_words.proofs.Numbers.{same_or_not}
 use Rattle.lset_words.specs.Words.{Opening}
-use Rattle.lset_history.proofs.Calls.{Run, Traced, OpenAt, open_is, changed_is, run_of, calls_of}
+use Rattle.lset_history.proofs.Calls.{Run, Traced, OpenAt, run_of, calls_of}
 use Rattle.lset_replay.proofs.OpenCalls.{OpenNumber, open_stepped, length_stepped, step_sets}
 use Rattle.lset_replay.specs.declared.places.OpenCall.{OpenCall}
 use Rattle.lset_replay.specs.declared.places.Linearized.{Linearized}
@@ -114,7 +115,7 @@ module _ (op : Opening) (last : ℕ) (log : Log) (contents : Contents) (counts :
   traced : Traced run k here
   traced = (calls_of op last log contents counts account k below).each number_here no_traced number.below
 
-  told : OpenAt run k here.thread here.call here.begun here.changed
+  told : OpenAt (last_at log here.thread k) here.call here.begun here.changed
   told = traced.is_open number.open_call.1
 
   calls_next : calls_at log (suc k) ≡ set (calls_at log k) number_here (traced_on (suc k) ch r here)
@@ -124,11 +125,13 @@ module _ (op : Opening) (last : ℕ) (log : Log) (contents : Contents) (counts :
   open_next : open_call_at changed.under_way t ≡ Some watching
   open_next = changed_open (suc k) t ch s t (Some watching) open_now.1
 
+  own : last_at log t (suc k) ≡ last_after (suc k) (stepped t ch r) (last_at log t k)
+  own = last_own log t k at refl
+
   quiet_here : has_changed log t (suc k) ≡ false → (has_changed log t k ≡ false) × (counts (suc k) t ≡ counts k t)
   quiet_here e =
       let w : (has_changed log t k ≡ false) × (is_change ch ≡ false) = or_parts (has_changed log t k) (is_change ch)
-      (sym (if_same t t refl (has_changed log t k || is_change ch) (has_changed log t k))
-      ∙ sym (changed_is log k (stepped t ch r) at t) ∙ e) in
+      (sym (ap (λ (x : LastCall). x.changed) own) ∙ e) in
       (w.0, en.own_count ∙ no_count ch (counts k t) w.1)
 
   step_history : kept.calls ≡ history_at log (suc k)
@@ -148,35 +151,33 @@ module _ (op : Opening) (last : ℕ) (log : Log) (contents : Contents) (counts :
   step_bounded = subst IsBounded (sym kept_changes) (changed_bounded contents k s.changes f.upto f.keys ch en.content
       (λ j m l c. low m j (omega arith) c) f.bounded)
 
-  idle_by : (a : Option Reply) (u : ℕ) → u < op.threads → open_after (stepped t ch a) u (is_open log u k) ≡ false
-      → open_call_at (ended_on (suc k) t a changed).under_way u ≡ None
-  idle_by None u l e = changed_open (suc k) t ch s u None (f.idle u l e)
-  idle_by (Some a) u l e = elim (same_or_not t u) [
-    | inl y ↦ subst (λ z. open_call_at (ended_on (suc k) t (Some a) changed).under_way z ≡ None) y
-        (ended_seat (suc k) t a changed (grind arith))
-    | inr d ↦ (ended_others (suc k) t (Some a) changed u (λ z. d (sym z))
-        ∙ changed_open (suc k) t ch s u None (f.idle u l (sym (if_other t u d false (is_open log u k)) ∙ e)))
+  idle_here : (a : Option Reply) → ((last_at log t k).pending && is_none a) ≡ false
+      → open_call_at (ended_on (suc k) t a changed).under_way t ≡ None
+  idle_here None e = absurd (let g : true ≡ false = rw en.under_way at e in cc)
+  idle_here (Some a) e = ended_seat (suc k) t a changed (grind arith)
+
+  step_idle : (u : ℕ) → u < op.threads → is_open log u (suc k) ≡ false → open_call_at kept.under_way u ≡ None
+  step_idle u l e = elim (same_or_not t u) [
+    | inl y ↦ subst (λ z. open_call_at kept.under_way z ≡ None) y (idle_here r (sym (ap (λ (x : LastCall). x.pending) own)
+        ∙ subst (λ z. is_open log z (suc k) ≡ false) (sym y) e))
+    | inr d ↦ (ended_others (suc k) t r changed u (λ z. d (sym z)) ∙ changed_open (suc k) t ch s u None
+        (f.idle u l (sym (ap (λ (x : LastCall). x.pending) (last_other log u k at d)) ∙ e)))
   ]
 
-  open_other : (a : Option Reply) (u : ℕ) → t ≢ u → open_after (stepped t ch a) u (is_open log u k) ≡ true →
-      is_open log u k ≡ true
-  open_other None u d e = e
-  open_other (Some a) u d e = sym (if_other t u d false (is_open log u k)) ∙ e
-
-  open_here : (a : Option Reply) → open_after (stepped t ch a) t (is_open log t k) ≡ true
+  open_here : (a : Option Reply) → ((last_at log t k).pending && is_none a) ≡ true
       → (open_call_at (ended_on (suc k) t a changed).under_way t ≡ Some watching)
       × OpenNumber (calls_after (suc k) (stepped t ch a) (calls_at log k)) t number_here watching.call watching.begun
   open_here None e = (
     open_next,
     open_stepped k t t ch None (calls_at log k) number_here watching.call watching.begun (inl refl) number,
   )
-  open_here (Some a) e = absurd (let g : false ≡ true = sym (if_same t t refl false (is_open log t k)) ∙ e in cc)
+  open_here (Some a) e = absurd (let g : false ≡ true = rw en.under_way at e in cc)
 
   step_busy : (u : ℕ) → u < op.threads → is_open log u (suc k) ≡ true
       → (o : OpenCall) × (open_call_at kept.under_way u ≡ Some o) × IsWatched log contents counts (suc k) u o
   step_busy u l e = elim (same_or_not t u) [
     | inl y ↦ rw (← y) (
-        let stays = open_here r (sym (open_is log k (stepped t ch r) at t)
+        let stays = open_here r (sym (ap (λ (x : LastCall). x.pending) own)
         ∙ subst (λ z. is_open log z (suc k) ≡ true) (sym y) e) in (
           watching,
           stays.0,
@@ -185,13 +186,12 @@ module _ (op : Opening) (last : ℕ) (log : Log) (contents : Contents) (counts :
               (sym (calls_are log k (stepped t ch r) at)) stays.1),
         )
         )
-    | inr d ↦ (let w = f.busy u l (open_other r u d (sym (open_is log k (stepped t ch r) at u) ∙ e)) in (
+    | inr d ↦ (let w = f.busy u l (sym (ap (λ (x : LastCall). x.pending) (last_other log u k at d)) ∙ e) in (
       w.0,
       ended_others (suc k) t r changed u (λ z. d (sym z)) ∙ changed_open (suc k) t ch s u (Some w.0) w.1,
       watched_next log contents counts k u w.0
           (λ g. (
-            sym (changed_is log k (stepped t ch r) at u ∙ if_other t u d (has_changed log u k || is_change ch)
-                (has_changed log u k)) ∙ g,
+            sym (ap (λ (x : LastCall). x.changed) (last_other log u k at d)) ∙ g,
             en.other_counts u l (λ z. d (sym z)),
           )) w.2
           (subst (λ xs. OpenNumber xs u w.0.number w.0.call w.0.begun) (sym (calls_are log k (stepped t ch r) at))
@@ -204,8 +204,7 @@ module _ (op : Opening) (last : ℕ) (log : Log) (contents : Contents) (counts :
   fits_first e g a h =
       let th : here.thread ≡ t = number.open_call.0 in
       let unchanged : has_changed log t k ≡ false = subst (λ z. has_changed log z k ≡ false) th (cc (told.changed_is, e)) in
-      let still : has_changed log t (suc k) ≡ false = changed_is log k (stepped t ch r) at t
-      ∙ if_same t t refl (has_changed log t k || is_change ch) (has_changed log t k)
+      let still : has_changed log t (suc k) ≡ false = ap (λ (x : LastCall). x.changed) own
       ∙ ap (λ z. has_changed log t k || is_change z) g ∙ or_from (has_changed log t k) false unchanged refl in
       let call_same = subst (λ z. last_call log z k ≡ here.call) th told.call_is ∙ number.open_call.2 in
       let begun_same = subst (λ z. begun_at log z k ≡ here.begun) th told.begun_is ∙ number.open_call.3 in
@@ -267,7 +266,7 @@ module _ (op : Opening) (last : ℕ) (log : Log) (contents : Contents) (counts :
     upto = step_upto;
     keys = step_keys;
     bounded = step_bounded;
-    idle = λ u l e. idle_by r u l (sym (open_is log k (stepped t ch r) at u) ∙ e);
+    idle = step_idle;
     busy = step_busy;
     placed = step_placed;
   }

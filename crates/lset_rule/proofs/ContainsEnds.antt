@@ -1,6 +1,8 @@
 -- Proof: a `contains` on a list that marks nodes ends after a bounded number of steps.
 use Rattle.std.proofs.Common.{◌≡◌, ℕ, zero, suc, ◌+◌, ◌-◌, ◌<◌, ◌==◌, Bool, true, false, length, Option, Some, None, refl, sym}
-use Rattle.std.proofs.Common.{ap, ◌∙◌, subst, arith, if◌then◌else◌}
+use Rattle.std.proofs.Common.{ap, ◌∙◌, subst, arith, if◌then◌else◌, inl, inr}
+use Rattle.std.proofs.lemmas.Bool.{cases_Bool}
+use Rattle.lset_words.specs.Log.{LastCall, maker, last_after, last_at}
 use Rattle.lset_words.specs.declared.Key.{Key}
 use Rattle.lset_words.specs.declared.Call.{Call}
 use Rattle.lset_words.specs.declared.Call.TheVariants.{Contains}
@@ -9,12 +11,12 @@ use Rattle.lset_steps.specs.declared.Event.{Event}
 use Rattle.lset_steps.specs.declared.Event.TheVariants.{Begin, Go}
 use Rattle.lset_steps.specs.BoundedReads.{BoundedReads, steps_since, steps_after, most_reads}
 use Rattle.lset_steps.specs.declared.Fed.{Fed}
-use Rattle.lset_steps.specs.Steps.{Table, event_at, local_of, log_of}
+use Rattle.lset_steps.specs.Steps.{Table, event_at, state_at, local_of, log_of, entry_of}
 use Rattle.lset_steps.specs.Laws.{Lawful}
 use Rattle.lset_steps.specs.Promises.{IsContains}
 use Rattle.lset_rule.specs.declared.view.PendingCall.{PendingCall}
 use Rattle.lset_rule.specs.declared.view.View.{View}
-use Rattle.lset_rule.specs.Runs.{Here, under_after, under_next, under_at, end_of, log_by}
+use Rattle.lset_rule.specs.Runs.{Here, under_after, pending_of, end_of, log_by}
 use Rattle.lset_rule.proofs.CallKnows.{Comes, is_mid, mid_open}
 use Rattle.lset_rule.specs.Calls.{Goes, steps_of}
 use Rattle.lset_rule.proofs.OneMoreEvent.{Tied}
@@ -27,34 +29,26 @@ abbrev pub steps_left : Option Reply → ℕ → ℕ → ℕ
 steps_left (Some r) bound steps = 0
 steps_left None bound steps = bound - steps
 
--- States that n is the number of steps that the pending call has made.
-abbrev Counted : Option PendingCall → ℕ → Type 0
-Counted None n = Unit {0}
-Counted (Some u) n = u.steps ≡ n
+-- The steps of a thread's last call, counted in the log, are those counted in the events.
+counted : (T : Table) (k : Opening) (es : ℕ → Event) (t j : ℕ) → (last_at (log_of T k es) t j).steps ≡ steps_since es t j
+counted T k es t zero = refl
+counted T k es t (suc j) = by_event (es j) (counted T k es t j)
+  where
+    by_event : (e : Event) → (last_at (log_of T k es) t j).steps ≡ steps_since es t j
+        → (if maker (entry_of T (state_at T k es j) e) == t
+        then last_after (suc j) (entry_of T (state_at T k es j) e) (last_at (log_of T k es) t j)
+        else last_at (log_of T k es) t j).steps ≡ steps_after e t (steps_since es t j)
+    by_event (Begin u c) h = elim (cases_Bool (u == t)) [ inl y ↦ rw y refl | inr y ↦ rw y h ]
+    by_event (Go u) h = elim (cases_Bool (u == t)) [ inl y ↦ rw y (ap (λ z. z + 1) h) | inr y ↦ rw y h ]
 
-counted_step : (a : Option Reply) (o : Option PendingCall) (n : ℕ) → Counted o n → Counted (under_after a o) (n + 1)
-counted_step (Some r) o n h = tt
-counted_step None None n h = tt
-counted_step None (Some u) n h = ap (λ z. z + 1) h
-
-counted_by : (b : Bool) (x y : Option PendingCall) (n m : ℕ) → Counted x n → Counted y m →
-    Counted (if b then x else y) (if b then n else m)
-counted_by true x y n m h k = h
-counted_by false x y n m h k = k
-
-counted_next : (T : Table) (k : Opening) (es : ℕ → Event) (j : ℕ) (e : Event) (t : ℕ) (o : Option PendingCall) (n : ℕ) → es j ≡ e →
-    Counted o n
-    → Counted (under_next (suc j) (log_of T k es j) t o) (steps_after e t n)
-counted_next T k es j (Begin u c) t o n is h =
-    rw is (counted_by (u == t) (Some (record { call = c; begun = suc j; steps = 0 })) o 0 n refl h)
-counted_next T k es j (Go u) t o n is h = rw is (counted_by (u == t) _ o (n + 1) n (counted_step _ o n h) h)
-
-counted : (T : Table) (k : Opening) (es : ℕ → Event) (t j : ℕ) → Counted (under_at (log_of T k es) t j) (steps_since es t j)
-counted T k es t zero = tt
-counted T k es t (suc j) = counted_next T k es j (es j) t (under_at _ t j) (steps_since es t j) refl (counted T k es t j)
-
-counted_is : (o : Option PendingCall) (u : PendingCall) (n : ℕ) → Counted o n → o ≡ Some u → u.steps ≡ n
-counted_is o u n h e = subst (λ z. Counted z n) e h
+counted_is : (x : LastCall) (u : PendingCall) → pending_of x ≡ Some u → u.steps ≡ x.steps
+counted_is x u = known x.pending
+  where
+    known : (b : Bool) → (if b then Some (record { call = x.call; begun = x.begun; steps = x.steps }) else None) ≡ Some u
+        → u.steps ≡ x.steps
+    known true e = let same : record { call = x.call; begun = x.begun; steps = x.steps } ≡ u = cc in
+        sym (ap (λ (z : PendingCall). z.steps) same)
+    known false e = absurd cc
 
 pub not_yet : (m : Table) (law : Lawful m) → BoundedReads m → (key : Key) (v w : View) (f : Fed) → v.spent ≡ false →
     Comes m (Contains key) v f w → f.answer ≡ None
@@ -66,9 +60,8 @@ not_yet m law ends key v w f sp come none =
     let few = (ends w.shape (length w.seen) (length w.seen) w.thread (event_at w.seen) at.0.run (omega arith) at.0.thread
     at.0.open_call (subst (λ (c : Call). IsContains c) (sym tied.1) tt)).few in
     let is : mid.0.steps ≡ steps_since (event_at w.seen) w.thread (length w.seen) =
-    counted_is (under_at (log_by m w.shape w.seen) w.thread (length w.seen)) _
-    (steps_since (event_at w.seen) w.thread (length w.seen)) (counted m w.shape (event_at w.seen) w.thread (length w.seen))
-    (ap (λ (x : Here). x.under) mid.1.own ∙ mid.0.under) in
+    counted_is (last_at (log_by m w.shape w.seen) w.thread (length w.seen)) _
+    (ap (λ (x : Here). x.under) mid.1.own ∙ mid.0.under) ∙ counted m w.shape (event_at w.seen) w.thread (length w.seen) in
     let low : mid.0.steps < most_reads (sizes w.shape) = subst (λ z. z < most_reads (sizes w.shape)) (sym is) few in
     subst (λ (s : _). steps_of w.under < most_reads (sizes s)) mid.0.same.1
     (subst (λ z. z < most_reads (sizes w.shape)) (sym (ap steps_of mid.0.under)) low)

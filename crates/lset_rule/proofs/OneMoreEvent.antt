@@ -1,28 +1,31 @@
 -- Proofs about appending an event to a run: how the event changes the state of each thread.
-use Rattle.std.proofs.Common.{◌≡◌, ◌≢◌, ⊎_elim, ℕ, zero, suc, ◌+◌, ◌<◌, ◌≤◌, ◌==◌, Bool, true, false, List, [], ◌∷◌, ◌++◌, length}
+use Rattle.std.proofs.Common.{◌≡◌, ◌≢◌, inl, inr, ℕ, zero, suc, ◌+◌, ◌<◌, ◌≤◌, ◌==◌, Bool, true, false, List, [], ◌∷◌, ◌++◌, length}
 use Rattle.std.proofs.Common.{Option, Some, None, refl, sym, ap, ◌∙◌, subst, arith, slice_index, slice_set, get_or-set_other}
 use Rattle.std.proofs.Common.{get_or-set_same, if◌then◌else◌, length-append}
-use Rattle.std.proofs.lemmas.List.FromFn.{get_or-map-range_with_len}
+use Rattle.std.specs.Prelude.{◌&&◌, is_none}
 use lib.Seq.{set-get_or}
 use prog.Atomic.{either}
 use Rattle.lset_words.proofs.Numbers.{same_or_not, equal_test, unequal_test}
 use Rattle.lset_words.specs.declared.Call.{Call}
 use Rattle.lset_words.specs.declared.Reply.{Reply}
-use Rattle.lset_words.specs.Log.{Log}
+use Rattle.lset_words.specs.Log.{Log, LastCall, Change, maker, last_after, last_at}
+use Rattle.lset_words.specs.Log.Entry.{stepped}
+use Rattle.lset_words.proofs.LastCalls.{last_own, last_other}
 use Rattle.lset_steps.specs.declared.Local.{Local}
 use Rattle.lset_steps.specs.declared.Action.{Action}
 use Rattle.lset_steps.specs.declared.Action.TheVariants.{Load, Store, Exchange}
 use Rattle.lset_steps.specs.declared.Fed.{Fed}
 use Rattle.lset_steps.specs.declared.Event.{Event}
 use Rattle.lset_steps.specs.declared.Event.TheVariants.{Begin, Go}
-use Rattle.lset_steps.specs.Steps.{Table, State, Run, Enabled, state_at, event_at, after, local_of, log_of, entry_of, idle}
+use Rattle.lset_steps.specs.Steps.{Table, State, Run, Enabled, state_at, event_at, after, local_of, log_of, entry_of, told, idle}
 use Rattle.lset_steps.specs.Steps.{seen_by, seen_next, left_by}
-use Rattle.lset_steps.specs.Laws.{Lawful, StateLaws, StepAt, Answered, views, word_named}
+use Rattle.lset_steps.specs.Laws.{Lawful, StateLaws, word_named}
 use Rattle.lset_steps.specs.Worlds.{thread_of}
 use Rattle.lset_steps.proofs.MoreEvents.{state_agree, run_more}
+use Rattle.lset_steps.proofs.RunAccount as account
 use Rattle.lset_rule.specs.declared.view.OwnCall.{OwnCall}
 use Rattle.lset_rule.specs.declared.view.PendingCall.{PendingCall}
-use Rattle.lset_rule.specs.Runs.{Here, here, under_after, ending, under_next, done_next, under_at, done_at, here_at, log_by}
+use Rattle.lset_rule.specs.Runs.{Here, here, under_after, ending, done_next, pending_of, under_at, done_at, here_at, log_by}
 use Rattle.lset_rule.specs.Runs.{end_of, at_end, IsRunOf}
 use Rattle.lset_words.specs.Words.{Opening, sizes}
 
@@ -66,15 +69,27 @@ found_is ws (Load w) = refl
 found_is ws (Store w v) = refl
 found_is ws (Exchange w old new) = refl
 
-pub under_agree : (f g : Log) (t k : ℕ) → ((j : ℕ) → j < k → g j ≡ f j) → under_at g t k ≡ under_at f t k
-under_agree f g t zero h = refl
-under_agree f g t (suc k) h = ap (λ e. under_next (suc k) e t (under_at g t k)) (h k (omega arith))
-    ∙ ap (λ u. under_next (suc k) (f k) t u) (under_agree f g t k (λ j l. h j (omega arith)))
+under_case : (a : Option Reply) (b : Bool) (u : PendingCall)
+    → (if b && is_none a then Some (record u { steps = u.steps + 1 }) else None) ≡ under_after a (if b then Some u else None)
+under_case None true u = refl
+under_case None false u = refl
+under_case (Some r) true u = refl
+under_case (Some r) false u = refl
+
+-- How a step of a thread changes its pending call.
+pub under_step : (m t : ℕ) (ch : Option Change) (a : Option Reply) (x : LastCall)
+    → pending_of (last_after m (stepped t ch a) x) ≡ under_after a (pending_of x)
+under_step m t ch a x = under_case a x.pending (record { call = x.call; begun = x.begun; steps = x.steps })
+
+last_agree : (f g : Log) (t k : ℕ) → ((j : ℕ) → j < k → g j ≡ f j) → last_at g t k ≡ last_at f t k
+last_agree f g t zero h = refl
+last_agree f g t (suc k) h = ap (λ e. if maker e == t then last_after (suc k) e (last_at g t k) else last_at g t k) (h k (omega arith))
+    ∙ ap (λ x. if maker (f k) == t then last_after (suc k) (f k) x else x) (last_agree f g t k (λ j l. h j (omega arith)))
 
 pub done_agree : (f g : Log) (t k : ℕ) → ((j : ℕ) → j < k → g j ≡ f j) → done_at g t k ≡ done_at f t k
 done_agree f g t zero h = refl
 done_agree f g t (suc k) h = ap (λ e. done_next (suc k) e t (under_at g t k) (done_at g t k)) (h k (omega arith))
-    ∙ (ap (λ u. done_next (suc k) (f k) t u (done_at g t k)) (under_agree f g t k (λ j l. h j (omega arith)))
+    ∙ (ap (λ x. done_next (suc k) (f k) t (pending_of x) (done_at g t k)) (last_agree f g t k (λ j l. h j (omega arith)))
     ∙ ap (λ d. done_next (suc k) (f k) t (under_at f t k) d) (done_agree f g t k (λ j l. h j (omega arith))))
 
 -- ---- Lemmas about the state of a thread after an event is appended to a run
@@ -83,15 +98,10 @@ module _ (T : Table) (op : Opening) (es : ℕ → Event) (k t : ℕ) where
       → here_at T op es t (suc k) ≡ begins T (here_at T op es t k) c (suc k)
   at_begin c e lt =
       let s : State = state_at T op es k in
-      let b : (t == t) ≡ true = equal_test t t refl in
       let l : local_of (after T s (es k)) t ≡ T.begin c (local_of s t) = ap (λ z. local_of (after T s z) t) e
       ∙ get_or-set_same s.locals t (T.begin c (local_of s t)) (idle 0 0) lt in
-      let u : under_next (suc k) (entry_of T s (es k)) t (under_at (log_of T op es) t k) ≡ Some (record {
-        call = c;
-        begun = suc k;
-        steps = 0;
-      }) =
-      ap (λ z. under_next (suc k) (entry_of T s z) t (under_at (log_of T op es) t k)) e ∙ pick_yes (t == t) _ _ b in
+      let u : under_at (log_of T op es) t (suc k) ≡ Some (record { call = c; begun = suc k; steps = 0 }) =
+      ap pending_of (last_own (log_of T op es) t k (ap (λ z. entry_of T s z) e) refl) in
       let d : done_next (suc k) (entry_of T s (es k)) t (under_at (log_of T op es) t k) (done_at (log_of T op es) t k) ≡ done_at
       (log_of T op es) t k =
       ap (λ z. done_next (suc k) (entry_of T s z) t (under_at (log_of T op es) t k) (done_at (log_of T op es) t k)) e in
@@ -106,9 +116,9 @@ module _ (T : Table) (op : Opening) (es : ℕ → Event) (k t : ℕ) where
       let b : (t == t) ≡ true = equal_test t t refl in
       let l : local_of (after T s (es k)) t ≡ f.local = ap (λ z. local_of (after T s z) t) e
       ∙ get_or-set_same s.locals t f.local (idle 0 0) lt in
-      let u : under_next (suc k) (entry_of T s (es k)) t (under_at (log_of T op es) t k) ≡ under_after f.answer
-      (under_at (log_of T op es) t k) =
-      ap (λ z. under_next (suc k) (entry_of T s z) t (under_at (log_of T op es) t k)) e ∙ pick_yes (t == t) _ _ b in
+      let u : under_at (log_of T op es) t (suc k) ≡ under_after f.answer (under_at (log_of T op es) t k) =
+      ap pending_of (last_own (log_of T op es) t k (ap (λ z. entry_of T s z) e) refl)
+      ∙ under_step (suc k) t (told T s (Go t)).change f.answer (last_at (log_of T op es) t k) in
       let d : done_next (suc k) (entry_of T s (es k)) t (under_at (log_of T op es) t k) (done_at (log_of T op es) t k)
       ≡ done_at (log_of T op es) t k ++ ending f.answer (under_at (log_of T op es) t k) (suc k) =
       ap (λ z. done_next (suc k) (entry_of T s z) t (under_at (log_of T op es) t k) (done_at (log_of T op es) t k)) e
@@ -119,9 +129,9 @@ module _ (T : Table) (op : Opening) (es : ℕ → Event) (k t : ℕ) where
   other_local s (Begin u c) ne = get_or-set_other s.locals u t (T.begin c (local_of s u)) (idle 0 0) ne
   other_local s (Go u) ne = get_or-set_other s.locals u t (T.feed (local_of s u) (seen_next T s u)).local (idle 0 0) ne
 
-  other_under : (s : State) (e : Event) (o : Option PendingCall) → t ≢ thread_of e → under_next (suc k) (entry_of T s e) t o ≡ o
-  other_under s (Begin u c) o ne = pick_not (u == t) _ _ (unequal_test u t (λ z. ne (sym z)))
-  other_under s (Go u) o ne = pick_not (u == t) _ _ (unequal_test u t (λ z. ne (sym z)))
+  maker_is : (s : State) (e : Event) → maker (entry_of T s e) ≡ thread_of e
+  maker_is s (Begin u c) = refl
+  maker_is s (Go u) = refl
 
   other_done : (s : State) (e : Event) (o : Option PendingCall) (d : List OwnCall) → t ≢ thread_of e →
       done_next (suc k) (entry_of T s e) t o d ≡ d
@@ -132,7 +142,8 @@ module _ (T : Table) (op : Opening) (es : ℕ → Event) (k t : ℕ) where
   at_other ne =
       let s : State = state_at T op es k in
       let l = other_local s (es k) ne in
-      let u = other_under s (es k) (under_at (log_of T op es) t k) ne in
+      let u : under_at (log_of T op es) t (suc k) ≡ under_at (log_of T op es) t k =
+      ap pending_of (last_other (log_of T op es) t k refl (λ z. ne (sym z ∙ maker_is s (es k)))) in
       let d = other_done s (es k) (under_at (log_of T op es) t k) (done_at (log_of T op es) t k) ne in
       λ i. here (l i) (u i) (d i)
 
@@ -142,54 +153,22 @@ abbrev pub Tied : Option PendingCall → Local → Type 0
 Tied None l = l.pc ≡ 0
 Tied (Some u) l = (l.pc ≢ 0) × (l.call ≡ u.call)
 
-module _ (T : Table) (law : Lawful T) (op : Opening) (es : ℕ → Event) (last : ℕ) (r : Run T op es last) where
-  len_locals : (k : ℕ) → k ≤ last → length (state_at T op es k).locals ≡ op.threads
-  len_locals k l = (law.states op last k es r l).locals
+tied_by : (b : Bool) (u : PendingCall) (l : Local) → (l.pc ≡ 0 → b ≡ false) → (l.pc ≢ 0 → (b ≡ true) × (l.call ≡ u.call))
+    → Tied (if b then Some u else None) l
+tied_by true u l closed opened =
+    let busy : l.pc ≢ 0 = λ e. (let no : true ≡ false = closed e in cc) in (busy, (opened busy).1)
+tied_by false u l closed opened = elim (same_or_not l.pc 0) [
+  | inl e ↦ e
+  | inr busy ↦ absurd (let no : false ≡ true = (opened busy).0 in cc)
+]
 
-  tied_answer : (a : Option Reply) (done : Bool) (first now t : ℕ) (c : Call) (l : Local) (u : PendingCall) → l.call ≡ u.call
-      → Answered done op.quota (views T op es) first now t c l.pc a → Tied (under_after a (Some u)) l
-  tied_answer None done first now t c l u same h = (h, same)
-  tied_answer (Some x) done first now t c l u same h = h.0
-
-  tied_go : (t k : ℕ) → k < last → es k ≡ Go t → (u : PendingCall) → under_at (log_of T op es) t k ≡ Some u →
-      (local_of (state_at T op es k) t).call ≡ u.call
-      → let f : Fed = T.feed (local_of (state_at T op es k) t) (seen_next T (state_at T op es k) t) in
-      Tied (under_after f.answer (under_at (log_of T op es) t k)) f.local
-  tied_go t k l e u is same =
-      let st : StepAt T op es k t = law.steps op last k t es r l e in
-      let f : Fed = T.feed (local_of (state_at T op es k) t) (seen_next T (state_at T op es k) t) in
-      subst (λ o. Tied (under_after f.answer o) f.local) (sym is)
-      (tied_answer f.answer _ _ _ t (local_of (state_at T op es k) t).call f.local u (st.same_call ∙ same) st.answered)
-
-  under_some : (o : Option PendingCall) (l : Local) → Tied o l → l.pc ≢ 0 → (u : PendingCall) × (o ≡ Some u) × (l.call ≡ u.call)
-  under_some None l t ne = absurd (ne t)
-  under_some (Some u) l t ne = (u, refl, t.1)
-
-  tied_by : (t k : ℕ) → t < op.threads → k < last → (e : Event) → es k ≡ e →
-      Tied (here_at T op es t k).under (here_at T op es t k).local
-      → Tied (here_at T op es t (suc k)).under (here_at T op es t (suc k)).local
-  tied_by t k th l (Begin u c) e ti = ⊎_elim
-      (λ (y : t ≡ u). let h = at_begin T op es k t c (e ∙ ap (λ z. Begin z c) (sym y))
-      (subst (λ z. t < z) (sym (len_locals k (omega arith))) th) in
-      subst (λ (z : Here). Tied z.under z.local) (sym h) (
-        (law.begins c (local_of (state_at T op es k) t)).opened,
-        (law.begins c (local_of (state_at T op es k) t)).called,
-      ))
-      (λ (y : t ≢ u). let h = at_other T op es k t (λ z. y (z ∙ ap thread_of e)) in
-      subst (λ (z : Here). Tied z.under z.local) (sym h) ti) (same_or_not t u)
-  tied_by t k th l (Go u) e ti = ⊎_elim
-      (λ (y : t ≡ u). let e' : es k ≡ Go t = e ∙ ap (λ z. Go z) (sym y) in
-      let h = at_go T op es k t e' (subst (λ z. t < z) (sym (len_locals k (omega arith))) th) in
-      let on = under_some (under_at (log_of T op es) t k) (local_of (state_at T op es k) t) ti
-      (subst (λ z. Enabled (state_at T op es k) z) e' (r.enabled k l)).1 in
-      subst (λ (z : Here). Tied z.under z.local) (sym h) (tied_go t k l e' on.0 on.1 on.2))
-      (λ (y : t ≢ u). let h = at_other T op es k t (λ z. y (z ∙ ap thread_of e)) in
-      subst (λ (z : Here). Tied z.under z.local) (sym h) ti) (same_or_not t u)
-
-  pub tied : (t k : ℕ) → t < op.threads → k ≤ last → Tied (here_at T op es t k).under (here_at T op es t k).local
-  tied t zero th l = ap (λ (x : Local). x.pc) (get_or-map-range_with_len (idle op.quota) 0 op.threads t t (idle 0 0) th
-      (omega arith))
-  tied t (suc k) th l = tied_by t k th (omega arith) (es k) refl (tied t k th (omega arith))
+pub tied : (T : Table) → Lawful T → (op : Opening) (es : ℕ → Event) (last : ℕ) → Run T op es last → (t k : ℕ) → t < op.threads
+    → k ≤ last → Tied (here_at T op es t k).under (here_at T op es t k).local
+tied T law op es last r t k th upto =
+    let x = last_at (log_of T op es) t k in
+    let agree = account.tied T law op es last r t th k upto in
+    tied_by x.pending (record { call = x.call; begun = x.begun; steps = x.steps }) (local_of (state_at T op es k) t)
+    agree.closed agree.opened
 
 -- ---- Lemmas about appending events to a list of events
 event_before : (es : List Event) (e : Event) (j : ℕ) → j < length es → event_at (es ++ e ∷ []) j ≡ event_at es j
@@ -220,7 +199,7 @@ module _ (T : Table) (k : Opening) (es : List Event) (e : Event) where
   here_before t =
       let l : local_of (state_at T k more (length es)) t ≡ local_of (end_of T k es) t =
       ap (λ s. local_of s t) (states_before (length es) (omega arith)) in
-      let u = under_agree (log_by T k es) (log_of T k more) t (length es) logs_before in
+      let u = ap pending_of (last_agree (log_by T k es) (log_of T k more) t (length es) logs_before) in
       let d = done_agree (log_by T k es) (log_of T k more) t (length es) logs_before in
       λ i. here (l i) (u i) (d i)
 

@@ -1,9 +1,11 @@
 -- Proofs that compare the calls of each thread in a seat's record with the calls that the thread has made in the run.
-use Rattle.std.proofs.Common.{◌≡◌, ◌≢◌, ◌⊎◌, inl, inr, ℕ, zero, suc, ◌<◌, ◌≤◌, ◌==◌, Bool, true, false, if◌then◌else◌, cond, List, [], ◌∷◌}
+use Rattle.std.proofs.Common.{◌≡◌, ◌≢◌, ◌⊎◌, inl, inr, ℕ, zero, suc, ◌<◌, ◌≤◌, Bool, true, false, if◌then◌else◌, cond, List, [], ◌∷◌}
 use Rattle.std.proofs.Common.{◌++◌, Option, Some, None, refl, sym, ap, ◌∙◌, subst, arith, eq-eqb, ne_eqb, append-nil, append_assoc}
 use Rattle.lset_words.specs.declared.Reply.{Reply}
-use Rattle.lset_words.specs.Log.{Log, Entry}
+use Rattle.lset_words.specs.Log.{Log, Entry, LastCall, maker, last_after, last_at, begun_at}
 use Rattle.lset_words.specs.Log.Entry.{began, stepped}
+use Rattle.lset_words.proofs.Numbers.{same_or_not}
+use Rattle.lset_words.proofs.LastCalls.{last_own, last_other}
 use Rattle.lset_steps.specs.declared.Event.{Event}
 use Rattle.lset_rule.specs.declared.view.OwnCall.{OwnCall}
 use Rattle.lset_rule.specs.declared.view.PendingCall.{PendingCall}
@@ -13,7 +15,7 @@ use Rattle.lset_rule.specs.declared.view.View.{View}
 use Rattle.lset_steps.specs.Steps.{Table}
 use Rattle.lset_rule.specs.Pasts.{root, calls_of, Before, GatheredBefore, InOrder, Apart, IsIn}
 use Rattle.lset_steps.specs.Worlds.{thread_of}
-use Rattle.lset_rule.specs.Runs.{Here, here, at_end, own, under_after, under_next, under_at, ending, StartsWith}
+use Rattle.lset_rule.specs.Runs.{Here, here, at_end, own, under_after, under_at, ending, StartsWith}
 use Rattle.lset_rule.proofs.OneMoreEvent.{end_other}
 use Rattle.lset_rule.specs.Views.{HasThread, HasAside, AreIdle, InTime}
 use Rattle.lset_rule.specs.Rule.{IsQuiet}
@@ -60,29 +62,28 @@ abbrev pub BegunBy : Option PendingCall → ℕ → Type 0
 BegunBy None n = Unit {0}
 BegunBy (Some u) n = u.begun ≤ n
 
-begun_later : (o : Option PendingCall) (n : ℕ) → BegunBy o n → BegunBy o (suc n)
-begun_later None n h = tt
-begun_later (Some u) n h = let first : u.begun ≤ n = h in omega arith
-
-begun_if : (b : Bool) (x y : Option PendingCall) (n : ℕ) → BegunBy x n → BegunBy y n → BegunBy (if b then x else y) n
-begun_if true x y n h k = h
-begun_if false x y n h k = k
-
-begun_after : (a : Option Reply) (o : Option PendingCall) (n : ℕ) → BegunBy o n → BegunBy (under_after a o) n
-begun_after (Some r) o n h = tt
-begun_after None None n h = tt
-begun_after None (Some u) n h = h
-
-begun_next : (e : Entry) (t n : ℕ) (o : Option PendingCall) → BegunBy o n → BegunBy (under_next (suc n) e t o) (suc n)
-begun_next (began u c) t n o h =
-    let now : suc n ≤ suc n = omega arith in
-    begun_if (u == t) (Some (record { call = c; begun = suc n; steps = 0 })) o (suc n) now (begun_later o n h)
-begun_next (stepped u change answer) t n o h =
-    begun_if (u == t) (under_after answer o) o (suc n) (begun_after answer o (suc n) (begun_later o n h)) (begun_later o n h)
+begun_low : (log : Log) (t n : ℕ) → begun_at log t n ≤ n
+begun_low log t zero = omega arith
+begun_low log t (suc n) = elim (same_or_not (maker (log n)) t) [
+  | inl y ↦ subst (λ (x : LastCall). x.begun ≤ suc n) (sym (last_own log t n refl y)) (own (log n) (begun_low log t n))
+  | inr y ↦ subst (λ (x : LastCall). x.begun ≤ suc n) (sym (last_other log t n refl y))
+      (let first : begun_at log t n ≤ n = begun_low log t n in omega arith)
+]
+  where
+    own : (e : Entry) → begun_at log t n ≤ n → (last_after (suc n) e (last_at log t n)).begun ≤ suc n
+    own (began u c) first = omega arith
+    own (stepped u change answer) first = omega arith
 
 pub begun_by : (log : Log) (t n : ℕ) → BegunBy (under_at log t n) n
-begun_by log t zero = tt
-begun_by log t (suc n) = begun_next (log n) t n (under_at log t n) (begun_by log t n)
+begun_by log t n = known (last_at log t n).pending
+  where
+    known : (b : Bool) → BegunBy (if b then Some (record {
+      call = (last_at log t n).call;
+      begun = begun_at log t n;
+      steps = (last_at log t n).steps;
+    }) else None) n
+    known true = begun_low log t n
+    known false = tt
 
 -- Returns the calls that the own thread of a seat made, without the calls in records that were merged into the seat's
 -- record.

@@ -3,7 +3,7 @@
 use Rattle.std.specs.Prelude.{◌≡◌, ℕ, zero, suc, ◌+◌, ◌==◌, if◌then◌else◌, List, [], ◌∷◌, ◌++◌, length, Option, Some, None}
 use Rattle.lset_words.specs.declared.Reply.{Reply}
 use Rattle.lset_words.specs.declared.history.CallRecord.{CallRecord}
-use Rattle.lset_words.specs.Log.{Log, Entry, history_at}
+use Rattle.lset_words.specs.Log.{Log, Entry, LastCall, last_at, history_at}
 use Rattle.lset_words.specs.Log.Entry.{began, stepped}
 use Rattle.lset_steps.specs.declared.Local.{Local}
 use Rattle.lset_steps.specs.declared.Event.{Event}
@@ -40,21 +40,19 @@ ending (Some r) (Some u) n = own u r n ∷ []
 ending (Some r) None n = []
 ending None u n = []
 
--- `under_next` returns the pending call of thread t after event n; its last argument is the pending call before the
--- event. `done_next` returns the completed calls of thread t after event n.
-abbrev pub under_next : ℕ → Entry → ℕ → Option PendingCall → Option PendingCall
-under_next n (began u c) t before = if u == t then Some (record { call = c; begun = n; steps = 0 }) else before
-under_next n (stepped u change answer) t before = if u == t then under_after answer before else before
-
+-- Returns the completed calls of thread t after event n. `open_now` is its pending call before the event.
 abbrev pub done_next : ℕ → Entry → ℕ → Option PendingCall → List OwnCall → List OwnCall
 done_next n (began u c) t open_now before = before
 done_next n (stepped u change answer) t open_now before = if u == t then before ++ ending answer open_now n else before
 
+-- Returns the last call of a thread, or None if it is completed or the thread has made no call.
+abbrev pub pending_of : LastCall → Option PendingCall
+pending_of x = if x.pending then Some (record { call = x.call; begun = x.begun; steps = x.steps }) else None
+
 -- `under_at` returns the pending call of thread t after the first k events in a log. `done_at` returns its completed
 -- calls.
 abbrev pub under_at : Log → ℕ → ℕ → Option PendingCall
-under_at log t zero = None
-under_at log t (suc k) = under_next (suc k) (log k) t (under_at log t k)
+under_at log t k = pending_of (last_at log t k)
 
 abbrev pub done_at : Log → ℕ → ℕ → List OwnCall
 done_at log t zero = []

@@ -15,7 +15,9 @@ use Rattle.lset_steps.specs.declared.Event.{Event}
 use Rattle.lset_steps.specs.declared.Event.TheVariants.{Begin, Go}
 use Rattle.lset_steps.specs.Steps.{log_of, entry_of, Table, State, opening, idle, local_of, after, left_by, seen_by, seen_next, Enabled}
 use Rattle.lset_steps.specs.Steps.{Run, state_at}
-use Rattle.lset_words.specs.Log.{is_change, begun_at, has_changed, begun_after, changed_after}
+use Rattle.lset_words.specs.Log.{Log, LastCall, is_change, begun_at, has_changed, maker, last_after, last_at}
+use Rattle.lset_words.specs.Log.Entry.{began}
+use Rattle.lset_words.proofs.LastCalls.{last_own}
 use Rattle.lset_steps.specs.Chain.{View, view, IsOrdered, Changed, UnlinkedStays, node_link, contents_of, counts_of}
 use Rattle.lset_steps.proofs.Moves.{Move, KeepsNodes, KeepsMarked, Course}
 use Rattle.lset_words.specs.Account.{FitsSometime, MayChange, count_after}
@@ -152,13 +154,14 @@ put_other s t u l h = get_or-set_other s.locals t u l (idle 0 0) h
 
 -- The invariant of a run at moment `k`: properties of the words, and for each thread the assertion of the proof
 -- outline at its row.
-pub record Inv (marks : Bool) (At : Outline) (sz : Sizes) (vs : ℕ → View) (k : ℕ) (s : State) (first : ℕ → ℕ)
-    (done : ℕ → Bool) : Type 1 where
+pub record Inv (marks : Bool) (At : Outline) (sz : Sizes) (vs : ℕ → View) (k : ℕ) (s : State) (calls : ℕ → LastCall) :
+    Type 1 where
   pub memory : Memory marks sz s.words (used_in s)
   pub locals : length s.locals ≡ sz.threads
   pub course : Course vs k
   pub present : vs k ≡ view_of sz s
-  pub threads : (u : ℕ) → u < sz.threads → Thread At sz u vs (first u) k s.words (used_in s) (done u) (local_of s u)
+  pub threads : (u : ℕ) → u < sz.threads
+      → Thread At sz u vs (calls u).begun k s.words (used_in s) (calls u).changed (local_of s u)
 
 module _ (T : Table) (marks : Bool) (At : Outline) (d : Discipline T marks At) (op : Opening) (lim : Opens op) (vs : ℕ → View) where
   thread_to : (u k : ℕ) {ws ws' : List ℕ} {used used' : ℕ → ℕ} {f f' : ℕ} {b b' : Bool} {l l' : Local} → ws' ≡ ws
@@ -171,8 +174,9 @@ module _ (T : Table) (marks : Bool) (At : Outline) (d : Discipline T marks At) (
       (subst (λ x. Thread At (sizes op) u vs f k ws used x l') (sym e4)
       (subst (λ x. Thread At (sizes op) u vs f k ws used b x) (sym e5) h))))
 
-  opens : vs 0 ≡ view_of (sizes op) (opening op) → Inv marks At (sizes op) vs 0 (opening op) (λ u. 0) (λ u. false)
-  opens e = record {
+  opens : (log : Log) → vs 0 ≡ view_of (sizes op) (opening op)
+      → Inv marks At (sizes op) vs 0 (opening op) (λ u. last_at log u 0)
+  opens log e = record {
     memory = opening_memory op lim marks;
     locals = length-map-range_with_len (idle op.quota) 0 op.threads;
     course = course_zero vs (rw e (opening_ordered op lim));
@@ -199,12 +203,13 @@ module _ (T : Table) (marks : Bool) (At : Outline) (d : Discipline T marks At) (
         });
   }
 
-  begin_step : (k : ℕ) (s : State) (first : ℕ → ℕ) (done : ℕ → Bool) (t : ℕ) (call : Call)
-      → Inv marks At (sizes op) vs k s first done → Enabled s (Begin t call)
+  begin_step : (k : ℕ) (s : State) (calls : ℕ → LastCall) (t : ℕ) (call : Call)
+      → Inv marks At (sizes op) vs k s calls → Enabled s (Begin t call)
       → vs (suc k) ≡ view_of (sizes op) (after T s (Begin t call))
-      → Inv marks At (sizes op) vs (suc k) (after T s (Begin t call)) (λ u. if t == u then suc k else first u)
-      (λ u. if t == u then false else done u)
-  begin_step k s first done t call i en e =
+      → Inv marks At (sizes op) vs (suc k) (after T s (Begin t call))
+      (λ u. if t == u then last_after (suc k) (began t call) (calls u) else calls u)
+  begin_step k s calls t call i en e =
+      let next : ℕ → LastCall = λ u. if t == u then last_after (suc k) (began t call) (calls u) else calls u in
       let l' : Local = T.begin call (local_of s t) in
       let s' : State = after T s (Begin t call) in
       let used_is : used_in s' ≡ used_in s = λ j u. same_used u j in
@@ -218,27 +223,27 @@ module _ (T : Table) (marks : Bool) (At : Outline) (d : Discipline T marks At) (
             (λ b p o. ap (λ x. x.link b) now_is) (subst (λ x. IsOrdered x) (sym now_is) (i.course.ordered k (omega arith)));
         present = e;
         threads = λ u h. elim (same_or_not u t) [
-          | inl y ↦ (let x : Thread At (sizes op) t vs (first t) k s.words (used_in s) (done t) (local_of s t) = i.threads t th in
+          | inl y ↦ (let x = i.threads t th in
               let at_t : Thread At (sizes op) t vs (suc k) (suc k) s.words (used_in s) false l' = record {
                 registers = d.begin_registers (sizes op) t call (local_of s t) en.2 x.registers;
                 counts = (d.begun call (local_of s t)).used ∙ x.counts;
                 begun = omega arith;
                 at = d.begins op.quota t vs (suc k) (view (sizes op) s.words (used_in s)) call (local_of s t) (e ∙ view_is)
-                    i.memory.ordered i.memory.head_key (first t, k, done t, x.at);
+                    i.memory.ordered i.memory.head_key ((calls t).begun, k, (calls t).changed, x.at);
               } in
-              subst (λ z. Thread At (sizes op) z vs (if t == z then suc k else first z) (suc k) s'.words (used_in s')
-              (if t == z then false else done z) (local_of s' z)) (sym y)
-              (thread_to t (suc k) refl used_is (pick_yes (t == t) (suc k) (first t) (equal_test t t refl))
-              (pick_yes (t == t) false (done t) (equal_test t t refl)) (put_same s t l' en.0) at_t))
-          | inr y ↦ (let x : Thread At (sizes op) u vs (first u) k s.words (used_in s) (done u) (local_of s u) = i.threads u h in
-              let f : (t == u) ≡ false = unequal_test t u (λ z. y (sym z)) in
-              thread_to u (suc k) refl used_is (pick_not (t == u) (suc k) (first u) f)
-              (pick_not (t == u) false (done u) f) (put_other s t u l' y) (record {
+              let own : next t ≡ last_after (suc k) (began t call) (calls t) = pick_yes (t == t) _ _ (equal_test t t refl) in
+              subst (λ z. Thread At (sizes op) z vs (next z).begun (suc k) s'.words (used_in s') (next z).changed
+              (local_of s' z)) (sym y) (thread_to t (suc k) refl used_is (ap (λ (c : LastCall). c.begun) own)
+              (ap (λ (c : LastCall). c.changed) own) (put_same s t l' en.0) at_t))
+          | inr y ↦ (let x = i.threads u h in
+              let same : next u ≡ calls u = pick_not (t == u) _ _ (unequal_test t u (λ z. y (sym z))) in
+              thread_to u (suc k) refl used_is (ap (λ (c : LastCall). c.begun) same)
+              (ap (λ (c : LastCall). c.changed) same) (put_other s t u l' y) (record {
                 registers = x.registers;
                 counts = x.counts;
-                begun = (let b : first u ≤ k = x.begun in omega arith);
-                at = d.waits op.quota u vs (first u) k (view (sizes op) s.words (used_in s)) (done u) (local_of s u) i.present
-                    x.at;
+                begun = (let b : (calls u).begun ≤ k = x.begun in omega arith);
+                at = d.waits op.quota u vs (calls u).begun k (view (sizes op) s.words (used_in s)) (calls u).changed
+                    (local_of s u) i.present x.at;
               }))
         ];
       }
@@ -250,17 +255,18 @@ module _ (T : Table) (marks : Bool) (At : Outline) (d : Discipline T marks At) (
         | inr y ↦ ap (λ (l : Local). l.used) (put_other s t u (T.begin call (local_of s t)) y)
       ]
 
-  moves : (k : ℕ) (s : State) (first : ℕ → ℕ) (done : ℕ → Bool) (t : ℕ) → Inv marks At (sizes op) vs k s first done →
-      Enabled s (Go t)
-      → StepOf T marks At (sizes op) t vs first k s.words (used_in s) done (local_of s)
-  moves k s first done t i en = d.goes (sizes op) t vs first k s.words (used_in s) done (local_of s)
+  moves : (k : ℕ) (s : State) (calls : ℕ → LastCall) (t : ℕ) → Inv marks At (sizes op) vs k s calls → Enabled s (Go t)
+      → StepOf T marks At (sizes op) t vs (λ u. (calls u).begun) k s.words (used_in s) (λ u. (calls u).changed) (local_of s)
+  moves k s calls t i en = d.goes (sizes op) t vs (λ u. (calls u).begun) k s.words (used_in s) (λ u. (calls u).changed)
+      (local_of s)
       (record { limits = lim.within; memory = i.memory; course = i.course; present = i.present }) i.threads (rw i.locals at en.0)
       en.1
 
   -- Lemmas about the state after a step of thread `t`.
-  module _ (k : ℕ) (s : State) (first : ℕ → ℕ) (done : ℕ → Bool) (t : ℕ) (i : Inv marks At (sizes op) vs k s first done)
+  module _ (k : ℕ) (s : State) (calls : ℕ → LastCall) (t : ℕ) (i : Inv marks At (sizes op) vs k s calls)
       (en : Enabled s (Go t))
-      (m : StepOf T marks At (sizes op) t vs first k s.words (used_in s) done (local_of s)) where
+      (m : StepOf T marks At (sizes op) t vs (λ u. (calls u).begun) k s.words (used_in s) (λ u. (calls u).changed)
+      (local_of s)) where
     th : t < op.threads
     th = rw i.locals at en.0
 
@@ -303,9 +309,10 @@ module _ (T : Table) (marks : Bool) (At : Outline) (d : Discipline T marks At) (
     move' = moved marks (sizes op) s.words (used_in s) i.memory t th m.action m.words' m.used' m.effect m.change
 
     go_step : vs (suc k) ≡ view_of (sizes op) (after T s (Go t))
-        → Inv marks At (sizes op) vs (suc k) (after T s (Go t)) first
-        (λ u. if t == u then done u || is_change (T.effect (local_of s t) (seen_next T s t)) else done u)
+        → Inv marks At (sizes op) vs (suc k) (after T s (Go t))
+        (λ u. if t == u then last_after (suc k) (entry_of T s (Go t)) (calls u) else calls u)
     go_step e =
+        let next : ℕ → LastCall = λ u. if t == u then last_after (suc k) (entry_of T s (Go t)) (calls u) else calls u in
         let now_is : vs (suc k) ≡ view (sizes op) m.words' m.used' = e ∙ view_is in
         let g : KeepsNodes (view_of (sizes op) s) (view (sizes op) m.words' m.used') =
         goes_on marks (sizes op) s.words (used_in s) i.memory t th m.action m.words' m.used' m.effect m.change in
@@ -321,49 +328,47 @@ module _ (T : Table) (marks : Bool) (At : Outline) (d : Discipline T marks At) (
               (subst (λ x. IsOrdered x) (sym now_is) memory'.ordered);
           present = e;
           threads = λ u h. elim (same_or_not u t) [
-            | inl y ↦ (let x : Thread At (sizes op) t vs (first t) k s.words (used_in s) (done t) (local_of s t) =
-                i.threads t th in
-                let at_t : Thread At (sizes op) t vs (first t) (suc k) m.words' m.used' (done t || is_change m.effect)
-                m.local' = record {
+            | inl y ↦ (let x = i.threads t th in
+                let at_t : Thread At (sizes op) t vs (calls t).begun (suc k) m.words' m.used'
+                ((calls t).changed || is_change m.effect) m.local' = record {
                   registers = m.registers;
                   counts = m.counts;
-                  begun = (let b : first t ≤ k = x.begun in omega arith);
+                  begun = (let b : (calls t).begun ≤ k = x.begun in omega arith);
                   at = m.own;
                 } in
-                subst (λ z. Thread At (sizes op) z vs (first z) (suc k) (after T s (Go t)).words (used_in (after T s (Go t)))
-                (if t == z then done z || is_change (T.effect (local_of s t) (seen_next T s t)) else done z)
-                (local_of (after T s (Go t)) z)) (sym y)
-                (thread_to t (suc k) words_are used_is refl
-                (pick_yes (t == t) (done t || is_change (T.effect (local_of s t) (seen_next T s t))) (done t)
-                (equal_test t t refl) ∙ ap (λ c. done t || is_change c) told_is) local_is at_t))
-            | inr y ↦ (let x : Thread At (sizes op) u vs (first u) k s.words (used_in s) (done u) (local_of s u) =
-                i.threads u h in
+                let own : next t ≡ last_after (suc k) (entry_of T s (Go t)) (calls t) =
+                pick_yes (t == t) _ _ (equal_test t t refl) in
+                subst (λ z. Thread At (sizes op) z vs (next z).begun (suc k) (after T s (Go t)).words
+                (used_in (after T s (Go t))) (next z).changed (local_of (after T s (Go t)) z)) (sym y)
+                (thread_to t (suc k) words_are used_is (ap (λ (c : LastCall). c.begun) own)
+                (ap (λ (c : LastCall). c.changed) own ∙ ap (λ c. (calls t).changed || is_change c) told_is) local_is at_t))
+            | inr y ↦ (let x = i.threads u h in
                 let c : m.used' u ≡ used_in s u = others_counted marks (sizes op) s.words (used_in s) i.memory t th u y
                 m.action m.words' m.used' m.effect m.change in
-                thread_to u (suc k) words_are used_is refl
-                (pick_not (t == u) (done u || is_change (T.effect (local_of s t) (seen_next T s t))) (done u)
-                (unequal_test t u (λ z. y (sym z)))) (local_other u y) (record {
+                let same : next u ≡ calls u = pick_not (t == u) _ _ (unequal_test t u (λ z. y (sym z))) in
+                thread_to u (suc k) words_are used_is (ap (λ (c : LastCall). c.begun) same)
+                (ap (λ (c : LastCall). c.changed) same) (local_other u y) (record {
                   registers = x.registers;
                   counts = x.counts ∙ sym c;
-                  begun = (let b : first u ≤ k = x.begun in omega arith);
+                  begun = (let b : (calls u).begun ≤ k = x.begun in omega arith);
                   at = m.others u h y;
                 }))
           ];
         }
 
     pub stepped_by : (es : ℕ → Event) → vs ≡ views T op es → state_at T op es k ≡ s → es k ≡ Go t
-        → first t ≡ begun_at (log_of T op es) t k → done t ≡ has_changed (log_of T op es) t k
+        → calls t ≡ last_at (log_of T op es) t k
         → StepLaws T op es k t s (local_of s t) (T.effect (local_of s t) (seen_next T s t))
-    stepped_by es ve se ee fe de =
-        let x : Thread At (sizes op) t vs (first t) k s.words (used_in s) (done t) (local_of s t) = i.threads t th in
+    stepped_by es ve se ee ce =
         let now_is : views T op es (suc k) ≡ view (sizes op) m.words' m.used' = ap (λ z. view_of (sizes op) (after T z (es k))) se
         ∙ ap (λ z. view_of (sizes op) (after T s z)) ee ∙ view_is in
         let was : views T op es k ≡ view_of (sizes op) s = ap (λ z. view_of (sizes op) z) se in
-        let first_is : begun_at (log_of T op es) t (suc k) ≡ first t = rw ee (sym fe) in
-        let done_is : has_changed (log_of T op es) t (suc k) ≡ (done t || is_change m.effect) =
-        rw (ee, se) (pick_yes (t == t) (has_changed (log_of T op es) t k || is_change
-        (T.effect (local_of s t) (seen_next T s t))) (has_changed (log_of T op es) t k) (equal_test t t refl)
-        ∙ ap (λ c. has_changed (log_of T op es) t k || is_change c) told_is ∙ ap (λ b. b || is_change m.effect) (sym de)) in
+        let own : last_at (log_of T op es) t (suc k) ≡ last_after (suc k) (entry_of T s (Go t)) (calls t) =
+        last_own (log_of T op es) t k (ap (λ z. entry_of T z (es k)) se ∙ ap (λ z. entry_of T s z) ee) refl
+        ∙ ap (λ c. last_after (suc k) (entry_of T s (Go t)) c) (sym ce) in
+        let first_is : begun_at (log_of T op es) t (suc k) ≡ (calls t).begun = ap (λ (c : LastCall). c.begun) own in
+        let done_is : has_changed (log_of T op es) t (suc k) ≡ ((calls t).changed || is_change m.effect) =
+        ap (λ (c : LastCall). c.changed) own ∙ ap (λ c. (calls t).changed || is_change c) told_is in
         record {
           in_table = rw m.acts (named_in marks _ s.words _ i.memory t th m.action m.words' m.used' m.effect m.change);
           lock_use = rw m.acts (lock_use marks _ s.words _ i.memory t th m.action m.words' m.used' m.effect m.change);
@@ -374,7 +379,8 @@ module _ (T : Table) (marks : Bool) (At : Outline) (d : Discipline T marks At) (
               (move-changed marks _ _ i.memory.ordered m.effect move')));
           by_call = subst (λ c. MayChange op.quota (local_of s t).used (local_of s t).call
               (has_changed (log_of T op es) t k) c) (sym told_is)
-              (subst (λ b. MayChange op.quota (local_of s t).used (local_of s t).call b m.effect) de m.by_call);
+              (subst (λ b. MayChange op.quota (local_of s t).used (local_of s t).call b m.effect)
+              (ap (λ (c : LastCall). c.changed) ce) m.by_call);
           counts = ap (λ f. f.local.used) fed ∙ m.counts
               ∙ mine_counted marks _ s.words _ i.memory t th m.action m.words' m.used' m.effect m.change
               ∙ ap (λ c. count_after c (used_in s t)) (sym told_is);
@@ -382,41 +388,38 @@ module _ (T : Table) (marks : Bool) (At : Outline) (d : Discipline T marks At) (
               (begun_at (log_of T op es) t (suc k)) (suc k) t (local_of s t).call f.local.pc f.answer) (sym fed)
               (subst (λ b. Answered b op.quota (views T op es) (begun_at (log_of T op es) t (suc k)) (suc k) t
               (local_of s t).call m.local'.pc m.answer) (sym done_is)
-              (subst (λ b. Answered (done t || is_change m.effect) op.quota (views T op es) b (suc k) t (local_of s t).call
+              (subst (λ b. Answered ((calls t).changed || is_change m.effect) op.quota (views T op es) b (suc k) t (local_of s t).call
               m.local'.pc m.answer) (sym first_is)
-              (subst (λ w. Answered (done t || is_change m.effect) op.quota w (first t) (suc k) t (local_of s t).call
+              (subst (λ w. Answered ((calls t).changed || is_change m.effect) op.quota w (calls t).begun (suc k) t (local_of s t).call
               m.local'.pc m.answer) ve
-              (answered_on (done t || is_change m.effect) op.quota vs (first t) k t _ m.local'.pc m.answer m.answered))));
+              (answered_on ((calls t).changed || is_change m.effect) op.quota vs (calls t).begun k t _ m.local'.pc m.answer m.answered))));
         }
 
 -- Proof that the invariant of a run implies the law of the machine.
 module _ (T : Table) (marks : Bool) (At : Outline) (d : Discipline T marks At) (op : Opening) (es : ℕ → Event) (last : ℕ)
     (r : Run T op es last) where
   next_inv : (k : ℕ) (e : Event) → es k ≡ e → Enabled (state_at T op es k) e
-      → Inv marks At (sizes op) (views T op es) k (state_at T op es k) (λ u. begun_at (log_of T op es) u k)
-      (λ u. has_changed (log_of T op es) u k)
+      → Inv marks At (sizes op) (views T op es) k (state_at T op es k) (λ u. last_at (log_of T op es) u k)
       → Inv marks At (sizes op) (views T op es) (suc k) (after T (state_at T op es k) e)
-      (λ u. begun_after (suc k) (entry_of T (state_at T op es k) e) u (begun_at (log_of T op es) u k))
-      (λ u. changed_after (entry_of T (state_at T op es k) e) u (has_changed (log_of T op es) u k))
+      (λ u. if maker (entry_of T (state_at T op es k) e) == u
+      then last_after (suc k) (entry_of T (state_at T op es k) e) (last_at (log_of T op es) u k)
+      else last_at (log_of T op es) u k)
   next_inv k (Begin t call) ee en i = begin_step T marks At d op r.opens (views T op es) k (state_at T op es k)
-      (λ u. begun_at (log_of T op es) u k) (λ u. has_changed (log_of T op es) u k) t call i en
+      (λ u. last_at (log_of T op es) u k) t call i en
       (ap (λ z. view_of (sizes op) (after T (state_at T op es k) z)) ee)
   next_inv k (Go t) ee en i = go_step T marks At d op r.opens (views T op es) k (state_at T op es k)
-      (λ u. begun_at (log_of T op es) u k) (λ u. has_changed (log_of T op es) u k) t i en
-      (moves T marks At d op r.opens (views T op es) k (state_at T op es k) (λ u. begun_at (log_of T op es) u k)
-      (λ u. has_changed (log_of T op es) u k) t i en)
+      (λ u. last_at (log_of T op es) u k) t i en
+      (moves T marks At d op r.opens (views T op es) k (state_at T op es k) (λ u. last_at (log_of T op es) u k) t i en)
       (ap (λ z. view_of (sizes op) (after T (state_at T op es k) z)) ee)
 
   pub inv_at : (k : ℕ) → k ≤ last
-      → Inv marks At (sizes op) (views T op es) k (state_at T op es k) (λ u. begun_at (log_of T op es) u k)
-      (λ u. has_changed (log_of T op es) u k)
-  inv_at zero l = opens T marks At d op r.opens (views T op es) refl
+      → Inv marks At (sizes op) (views T op es) k (state_at T op es k) (λ u. last_at (log_of T op es) u k)
+  inv_at zero l = opens T marks At d op r.opens (views T op es) (log_of T op es) refl
   inv_at (suc k) l = next_inv k (es k) refl (r.enabled k (omega arith)) (inv_at k (omega arith))
 
   in_order_at : (k : ℕ) → k ≤ last → StateLaws marks (sizes op) (state_at T op es k)
   in_order_at k l =
-      let i : Inv marks At (sizes op) (views T op es) k (state_at T op es k) (λ u. begun_at (log_of T op es) u k)
-      (λ u. has_changed (log_of T op es) u k) = inv_at k l in
+      let i : Inv marks At (sizes op) (views T op es) k (state_at T op es k) (λ u. last_at (log_of T op es) u k) = inv_at k l in
       record {
         words = i.memory.words;
         locals = i.locals;
@@ -431,31 +434,26 @@ module _ (T : Table) (marks : Bool) (At : Outline) (d : Discipline T marks At) (
 
   stepped_at : (k t : ℕ) → k < last → es k ≡ Go t → StepAt T op es k t
   stepped_at k t l ee =
-      let i : Inv marks At (sizes op) (views T op es) k (state_at T op es k) (λ u. begun_at (log_of T op es) u k)
-      (λ u. has_changed (log_of T op es) u k) = inv_at k (omega arith) in
+      let i : Inv marks At (sizes op) (views T op es) k (state_at T op es k) (λ u. last_at (log_of T op es) u k) = inv_at k (omega arith) in
       let en : Enabled (state_at T op es k) (Go t) = subst (λ z. Enabled (state_at T op es k) z) ee (r.enabled k l) in
       stepped_by T marks At d op r.opens (views T op es) k (state_at T op es k)
-      (λ u. begun_at (log_of T op es) u k) (λ u. has_changed (log_of T op es) u k) t i en
-      (moves T marks At d op r.opens (views T op es) k (state_at T op es k) (λ u. begun_at (log_of T op es) u k)
-      (λ u. has_changed (log_of T op es) u k) t i en) es refl refl ee refl refl
+      (λ u. last_at (log_of T op es) u k) t i en
+      (moves T marks At d op r.opens (views T op es) k (state_at T op es k) (λ u. last_at (log_of T op es) u k) t i en) es refl refl ee refl
 
   keeps_marks : (k : ℕ) → k < last → (e : Event) → es k ≡ e → (b : ℕ) → (views T op es k).published b
       → (views T op es k).link b % 2 ≡ 1
       → (view_of (sizes op) (after T (state_at T op es k) e)).link b ≡ (views T op es k).link b
   keeps_marks k l (Begin t call) ee b p o = refl
   keeps_marks k l (Go t) ee b p o =
-      let i : Inv marks At (sizes op) (views T op es) k (state_at T op es k) (λ u. begun_at (log_of T op es) u k)
-      (λ u. has_changed (log_of T op es) u k) = inv_at k (omega arith) in
+      let i : Inv marks At (sizes op) (views T op es) k (state_at T op es k) (λ u. last_at (log_of T op es) u k) = inv_at k (omega arith) in
       let en : Enabled (state_at T op es k) (Go t) = subst (λ z. Enabled (state_at T op es k) z) ee (r.enabled k l) in
       let m : StepOf T marks At (sizes op) t (views T op es) (λ u. begun_at (log_of T op es) u k) k
       (state_at T op es k).words (used_in (state_at T op es k)) (λ u. has_changed (log_of T op es) u k)
-      (local_of (state_at T op es k)) = moves T marks At d op r.opens _ k _ (λ u. begun_at (log_of T op es) u k)
-      (λ u. has_changed (log_of T op es) u k) t i en in
+      (local_of (state_at T op es k)) = moves T marks At d op r.opens _ k _ (λ u. last_at (log_of T op es) u k) t i en in
       let w : (after T (state_at T op es k) (Go t)).words ≡ m.words' = words_are T marks At d op r.opens _ k _
-      (λ u. begun_at (log_of T op es) u k) (λ u. has_changed (log_of T op es) u k) t i en m in
+      (λ u. last_at (log_of T op es) u k) t i en m in
       ap (λ x. node_link x b) w ∙ marked_stays marks _ _ i.memory.ordered m.effect
-      (move' T marks At d op r.opens _ k _ (λ u. begun_at (log_of T op es) u k)
-      (λ u. has_changed (log_of T op es) u k) t i en m) b p o
+      (move' T marks At d op r.opens _ k _ (λ u. last_at (log_of T op es) u k) t i en m) b p o
 
   later_by : (j i c k : ℕ) → k ≡ j + c → k ≤ last → (views T op es j).published i
       → UnlinkedStays marks (views T op es j) (views T op es k) i

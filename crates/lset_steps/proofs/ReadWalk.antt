@@ -1,10 +1,11 @@
 -- Proof that each node that a `contains` or a `ceiling` without locks passes was in the chain at some moment of the
 -- call.
-use Rattle.std.specs.Prelude.{◌≡◌, ◌≢◌, ℕ, zero, suc, ◌<◌, ◌≤◌, Bool, if◌then◌else◌, ◌==◌, refl}
+use Rattle.std.specs.Prelude.{◌≡◌, ◌≢◌, ℕ, zero, suc, ◌<◌, ◌≤◌, Bool, refl}
 use Rattle.std.proofs.Common.{arith, inl, inr, sym, ◌∙◌, ap, subst}
-use Rattle.lset_words.proofs.Numbers.{same_or_not, if_same, if_other}
+use Rattle.lset_words.proofs.Numbers.{same_or_not}
+use Rattle.lset_words.proofs.LastCalls.{last_own, last_other}
 use Rattle.lset_words.specs.Words.{key_index, link_index, Opening, sizes}
-use Rattle.lset_words.specs.Log.{Log, Entry, begun_at, last_call, has_changed}
+use Rattle.lset_words.specs.Log.{Log, Entry, LastCall, begun_at, last_call, has_changed, maker, last_at}
 use Rattle.lset_words.specs.Log.Entry.{began, stepped}
 use Rattle.lset_steps.specs.declared.Local.{Local}
 use Rattle.lset_steps.specs.declared.Action.TheVariants.{Load}
@@ -63,8 +64,8 @@ loads_seen : (T : Table) (At : Outline) → Discipline T T.marks At → HasReadR
     → T.next (local_of (state_at T op es k) t) ≡ Load (link_index a)
     → Seen (views T op es) (begun_at (log_of T op es) t k) k a ((views T op es k).link a)
 loads_seen T At d rows shows op last k t a es r l th busy reads next =
-    let i : Inv T.marks At (sizes op) (views T op es) k (state_at T op es k) (λ u. begun_at (log_of T op es) u k)
-    (λ u. has_changed (log_of T op es) u k) = inv_at T T.marks At d op es last r k l in
+    let i : Inv T.marks At (sizes op) (views T op es) k (state_at T op es k)
+    (λ u. last_at (log_of T op es) u k) = inv_at T T.marks At d op es last r k l in
     seen_now T rows (views T op es) (begun_at (log_of T op es) t k) k i.course (has_changed (log_of T op es) t k)
     (local_of (state_at T op es k) t) a next
     (shows op.quota t (views T op es) (begun_at (log_of T op es) t k) k (views T op es k) (has_changed (log_of T op es) t k)
@@ -77,18 +78,19 @@ record SameCall (log : Log) (t at k : ℕ) : Type 0 where
   call : last_call log t k ≡ last_call log t at
 
 same_call_on : (log : Log) (t at k : ℕ) (e : Entry) → log k ≡ e → at ≤ k → begun_at log t (suc k) ≤ at → SameCall log t k (suc k)
-same_call_on log t at k (stepped u change reply) is le from = record { begun = rw is refl; call = rw is refl }
-same_call_on log t at k (began u call) is le from =
-    let first : begun_at log t (suc k) ≡ (if u == t then suc k else begun_at log t k) = rw is refl in
-    let last : last_call log t (suc k) ≡ (if u == t then call else last_call log t k) = rw is refl in
-    elim (same_or_not u t) [
-      | inl y ↦ absurd (let own : begun_at log t (suc k) ≡ suc k = first ∙ if_same u t y (suc k) (begun_at log t k) in
-          omega arith)
-      | inr y ↦ record {
-        begun = first ∙ if_other u t y (suc k) (begun_at log t k);
-        call = last ∙ if_other u t y call (last_call log t k);
-      }
-    ]
+same_call_on log t at k e is le from = elim (same_or_not (maker e) t) [
+  | inl y ↦ own e is y
+  | inr y ↦
+      (let same = last_other log t k is y in
+      record { begun = ap (λ (x : LastCall). x.begun) same; call = ap (λ (x : LastCall). x.call) same })
+]
+  where
+    own : (e : Entry) → log k ≡ e → maker e ≡ t → SameCall log t k (suc k)
+    own (stepped u change reply) is y =
+        let same = last_own log t k is y in
+        record { begun = ap (λ (x : LastCall). x.begun) same; call = ap (λ (x : LastCall). x.call) same }
+    own (began u call) is y = absurd (
+        let now : begun_at log t (suc k) ≡ suc k = ap (λ (x : LastCall). x.begun) (last_own log t k is y) in omega arith)
 
 same_call : (log : Log) (t at k : ℕ) → at ≤ k → begun_at log t k ≤ at → SameCall log t at k
 same_call log t at zero le from =

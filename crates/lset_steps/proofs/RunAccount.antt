@@ -1,14 +1,15 @@
 -- Proof that every run of a machine that satisfies its law has an account, a record of the effect of each event on the
 -- set.
-use Rattle.std.specs.Prelude.{◌≡◌, ◌≢◌, ℕ, ◌<◌, ◌≤◌, Bool, true, false, ◌==◌, Option, Some, None, length, refl}
+use Rattle.std.specs.Prelude.{◌≡◌, ◌≢◌, ℕ, ◌<◌, ◌≤◌, Bool, true, false, ◌==◌, if◌then◌else◌, Option, Some, None, length, refl}
 use Rattle.std.proofs.Common.{arith, inl, inr, sym, ◌∙◌, ap, subst, zero, suc}
 use Rattle.std.proofs.lemmas.List.FromFn.{get_or-map-range_with_len}
 use Rattle.lset_words.proofs.Numbers.{same_or_not, equal_test, unequal_test}
 use Rattle.lset_words.specs.declared.Key.{Key}
 use Rattle.lset_words.specs.declared.Call.{Call}
 use Rattle.lset_words.specs.declared.Reply.{Reply}
-use Rattle.lset_words.specs.Log.{begun_at, has_changed, last_call, is_open, open_after, call_after}
+use Rattle.lset_words.specs.Log.{LastCall, begun_at, has_changed, last_call, maker, last_after, last_at}
 use Rattle.lset_words.specs.Log.Entry.{stepped}
+use Rattle.lset_words.proofs.LastCalls.{last_own}
 use Rattle.lset_words.specs.Account.{Account, Enters, Contents, Counts, MayChange, RightReply}
 use Rattle.lset_steps.specs.declared.Local.{Local}
 use Rattle.lset_steps.specs.declared.Event.{Event}
@@ -28,97 +29,78 @@ contents_at T op es = contents_of (views T op es)
 abbrev pub counts_at : Table → Opening → (ℕ → Event) → Counts
 counts_at T op es = counts_of (views T op es)
 
--- States that the log and the thread's private state agree about the thread's pending call: whether the thread has
--- one, and which call it is.
-pub record Tied (open_now : Bool) (call : Call) (l : Local) : Type 0 where
-  pub closed : l.pc ≡ 0 → open_now ≡ false
-  pub opened : l.pc ≢ 0 → (open_now ≡ true) × (l.call ≡ call)
+-- States that the log and the thread's private state agree about the thread's last call: whether the call is pending,
+-- and which call it is.
+pub record Tied (x : LastCall) (l : Local) : Type 0 where
+  pub closed : l.pc ≡ 0 → x.pending ≡ false
+  pub opened : l.pc ≢ 0 → (x.pending ≡ true) × (l.call ≡ x.call)
 
-tied_to : {o o' : Bool} {c c' : Call} {l l' : Local} → o' ≡ o → c' ≡ c → l' ≡ l → Tied o c l → Tied o' c' l'
-tied_to {o} {o'} {c} {c'} {l} {l'} a b d t =
-    subst (λ x. Tied x c' l') (sym a) (subst (λ x. Tied o x l') (sym b) (subst (λ x. Tied o c x) (sym d) t))
-
-abbrev left_open : Option Reply → Bool → Bool
-left_open None old = old
-left_open (Some r) old = false
-
-open_other : (a : Option Reply) (ch : Option (Key × Bool)) (u t : ℕ) (old : Bool) → (u == t) ≡ false
-    → open_after (stepped u ch a) t old ≡ old
-open_other None ch u t old e = refl
-open_other (Some r) ch u t old e = pick_not (u == t) false old e
-
-open_same : (a : Option Reply) (ch : Option (Key × Bool)) (t : ℕ) (old : Bool)
-    → open_after (stepped t ch a) t old ≡ left_open a old
-open_same None ch t old = refl
-open_same (Some r) ch t old = pick_yes (t == t) false old (equal_test t t refl)
+tied_to : {x x' : LastCall} {l l' : Local} → x' ≡ x → l' ≡ l → Tied x l → Tied x' l'
+tied_to {x} {x'} {l} {l'} a b t = subst (λ z. Tied z l') (sym a) (subst (λ z. Tied x z) (sym b) t)
 
 module _ (T : Table) (law : Lawful T) (op : Opening) (es : ℕ → Event) (last : ℕ) (r : Run T op es last) where
-  after_answer : (a : Option Reply) (done : Bool) (vs : ℕ → View) (first now t : ℕ) (call : Call) (l : Local) (old : Bool)
-      → old ≡ true → l.call ≡ call
-      → Answered done op.quota vs first now t call l.pc a → Tied (left_open a old) call l
-  after_answer None done vs first now t call l old o c a = record { closed = λ e. absurd (a e); opened = λ e. (o, c) }
-  after_answer (Some x) done vs first now t call l old o c a = record { closed = λ e. refl; opened = λ e. absurd (e a.0) }
+  after_answer : (a : Option Reply) (ch : Option (Key × Bool)) (done : Bool) (vs : ℕ → View) (first now t : ℕ) (call : Call)
+      (l : Local) (x : LastCall) → x.pending ≡ true → l.call ≡ x.call
+      → Answered done op.quota vs first now t call l.pc a → Tied (last_after now (stepped t ch a) x) l
+  after_answer None ch done vs first now t call l x o c a = record {
+    closed = λ e. absurd (a e);
+    opened = λ e. (rw o refl, c);
+  }
+  after_answer (Some y) ch done vs first now t call l x o c a = record {
+    closed = λ e. rw o refl;
+    opened = λ e. absurd (e a.0);
+  }
 
   go_tied : (t k : ℕ) → t < length (state_at T op es k).locals
-      → (is_open (log_of T op es) t k ≡ true) × ((local_of (state_at T op es k) t).call ≡ last_call (log_of T op es) t k)
+      → (last_at (log_of T op es) t k).pending ≡ true
+      → (local_of (state_at T op es k) t).call ≡ last_call (log_of T op es) t k
       → StepAt T op es k t
-      → Tied (open_after (entry_of T (state_at T op es k) (Go t)) t (is_open (log_of T op es) t k))
-      (last_call (log_of T op es) t k) (local_of (after T (state_at T op es k) (Go t)) t)
-  go_tied t k len was st =
-      let l : Local = local_of (state_at T op es k) t in
-      let l' : Local = (T.feed l (seen_next T (state_at T op es k) t)).local in
-      let a : Option Reply = (T.feed l (seen_next T (state_at T op es k) t)).answer in
-      tied_to (open_same (told T (state_at T op es k) (Go t)).answer (told T (state_at T op es k) (Go t)).change t
-      (is_open (log_of T op es) t k)) (sym was.1)
-      (put_same (state_at T op es k) t (T.feed (local_of (state_at T op es k) t)
-      (seen_next T (state_at T op es k) t)).local len)
-      (after_answer (T.feed (local_of (state_at T op es k) t) (seen_next T (state_at T op es k) t)).answer
-      (has_changed (log_of T op es) t (suc k)) (views T op es) (begun_at (log_of T op es) t (suc k)) (suc k) t
-      (local_of (state_at T op es k) t).call
-      (T.feed (local_of (state_at T op es k) t) (seen_next T (state_at T op es k) t)).local
-      (is_open (log_of T op es) t k) was.0 st.same_call st.answered)
+      → Tied (last_after (suc k) (entry_of T (state_at T op es k) (Go t)) (last_at (log_of T op es) t k))
+      (local_of (after T (state_at T op es k) (Go t)) t)
+  go_tied t k len open_now call_is st =
+      let fed = T.feed (local_of (state_at T op es k) t) (seen_next T (state_at T op es k) t) in
+      tied_to refl (put_same (state_at T op es k) t fed.local len)
+      (after_answer fed.answer (told T (state_at T op es k) (Go t)).change (has_changed (log_of T op es) t (suc k))
+      (views T op es) (begun_at (log_of T op es) t (suc k)) (suc k) t (local_of (state_at T op es k) t).call fed.local
+      (last_at (log_of T op es) t k) open_now (st.same_call ∙ call_is) st.answered)
 
   tied_step : (t : ℕ) → t < op.threads → (k : ℕ) → k < last → (e : Event) → es k ≡ e → Enabled (state_at T op es k) e
-      → Tied (is_open (log_of T op es) t k) (last_call (log_of T op es) t k) (local_of (state_at T op es k) t)
-      → Tied (open_after (entry_of T (state_at T op es k) e) t (is_open (log_of T op es) t k))
-      (call_after (entry_of T (state_at T op es k) e) t (last_call (log_of T op es) t k))
+      → Tied (last_at (log_of T op es) t k) (local_of (state_at T op es k) t)
+      → Tied (if maker (entry_of T (state_at T op es k) e) == t
+      then last_after (suc k) (entry_of T (state_at T op es k) e) (last_at (log_of T op es) t k)
+      else last_at (log_of T op es) t k)
       (local_of (after T (state_at T op es k) e) t)
   tied_step t th k l (Begin u call) ee en h = elim (same_or_not t u) [
-    | inl y ↦ (let b : (u == t) ≡ true = equal_test u t (sym y) in
+    | inl y ↦ (
         let lo : local_of (after T (state_at T op es k) (Begin u call)) t
         ≡ T.begin call (local_of (state_at T op es k) u) =
         ap (λ z. local_of (after T (state_at T op es k) (Begin u call)) z) y
         ∙ put_same (state_at T op es k) u (T.begin call (local_of (state_at T op es k) u)) en.0 in
         let bg = law.begins call (local_of (state_at T op es k) u) in
-        tied_to (pick_yes (u == t) true (is_open (log_of T op es) t k) b)
-        (pick_yes (u == t) call (last_call (log_of T op es) t k) b) lo
+        tied_to (pick_yes (u == t) _ _ (equal_test u t (sym y))) lo
         (record { closed = λ e. absurd (bg.opened e); opened = λ e. (refl, bg.called) }))
-    | inr y ↦ (let b : (u == t) ≡ false = unequal_test u t (λ z. y (sym z)) in
-        tied_to (pick_not (u == t) true (is_open (log_of T op es) t k) b)
-        (pick_not (u == t) call (last_call (log_of T op es) t k) b)
-        (put_other (state_at T op es k) u t (T.begin call (local_of (state_at T op es k) u)) y) h)
+    | inr y ↦ tied_to (pick_not (u == t) _ _ (unequal_test u t (λ z. y (sym z))))
+        (put_other (state_at T op es k) u t (T.begin call (local_of (state_at T op es k) u)) y) h
   ]
   tied_step t th k l (Go u) ee en h = elim (same_or_not t u) [
-    | inl y ↦ (let b : (u == t) ≡ true = equal_test u t (sym y) in
+    | inl y ↦ (
         let en' : Enabled (state_at T op es k) (Go t) = subst (λ z. Enabled (state_at T op es k) (Go z)) (sym y) en in
         let st : StepAt T op es k t = law.steps op last k t es r l (ee ∙ ap (λ z. Go z) (sym y)) in
         let was = h.opened en'.1 in
-        subst (λ z. Tied (open_after (entry_of T (state_at T op es k) (Go z)) t (is_open (log_of T op es) t k))
-        (last_call (log_of T op es) t k) (local_of (after T (state_at T op es k) (Go z)) t)) y
-        (go_tied t k en'.0 was st))
-    | inr y ↦ (let b : (u == t) ≡ false = unequal_test u t (λ z. y (sym z)) in
-        tied_to (open_other (told T (state_at T op es k) (Go u)).answer (told T (state_at T op es k) (Go u)).change
-        u t (is_open (log_of T op es) t k) b) refl
+        tied_to (pick_yes (u == t) _ _ (equal_test u t (sym y))) refl
+        (subst (λ z. Tied (last_after (suc k) (entry_of T (state_at T op es k) (Go z)) (last_at (log_of T op es) t k))
+        (local_of (after T (state_at T op es k) (Go z)) t)) y (go_tied t k en'.0 was.0 was.1 st)))
+    | inr y ↦ tied_to (pick_not (u == t) _ _ (unequal_test u t (λ z. y (sym z))))
         (put_other (state_at T op es k) u t (T.feed (local_of (state_at T op es k) u)
-        (seen_next T (state_at T op es k) u)).local y) h)
+        (seen_next T (state_at T op es k) u)).local y) h
   ]
 
   opening_local : (t : ℕ) → t < op.threads → local_of (state_at T op es 0) t ≡ idle op.quota t
   opening_local t h = get_or-map-range_with_len (idle op.quota) 0 op.threads t t (idle 0 0) h (omega arith)
 
   pub tied : (t : ℕ) → t < op.threads → (k : ℕ) → k ≤ last
-      → Tied (is_open (log_of T op es) t k) (last_call (log_of T op es) t k) (local_of (state_at T op es k) t)
-  tied t th zero l = tied_to refl refl (opening_local t th) (record { closed = λ e. refl; opened = λ e. absurd (e refl) })
+      → Tied (last_at (log_of T op es) t k) (local_of (state_at T op es k) t)
+  tied t th zero l = tied_to refl (opening_local t th) (record { closed = λ e. refl; opened = λ e. absurd (e refl) })
   tied t th (suc k) l = tied_step t th k (omega arith) (es k) refl (r.enabled k (omega arith)) (tied t th k (omega arith))
 
 right_reply : (done : Bool) (q : ℕ) (vs : ℕ → View) (first now t : ℕ) (call : Call) (pc : ℕ) (a : Option Reply)
@@ -186,7 +168,8 @@ module _ (T : Table) (law : Lawful T) (op : Opening) (es : ℕ → Event) (last 
       }
     where
       begun_go : (k t : ℕ) → es k ≡ Go t → begun_at (log_of T op es) t (suc k) ≡ begun_at (log_of T op es) t k
-      begun_go k t ee = rw ee refl
+      begun_go k t ee = ap (λ (x : LastCall). x.begun)
+          (last_own (log_of T op es) t k (ap (λ z. entry_of T (state_at T op es k) z) ee) refl)
 
   pub account_of : Account op last (log_of T op es) (contents_at T op es) (counts_at T op es)
   account_of = record {

@@ -1,4 +1,5 @@
 pub mod Bounds
 pub mod Numbers
 pub mod IncreasingLists
+pub mod LastCalls
 pub mod RecordLaws

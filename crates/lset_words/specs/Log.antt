@@ -1,7 +1,7 @@
 -- The log of a run, and the calls in the log. Entry k of a log is the event between moments k and k + 1. Moment k is
 -- the state after the first k events. An entry records the part of an event that a user of the set can see: the start
 -- of a call, the change of a key, or a reply. An entry mentions no nodes and no locks.
-use Rattle.std.specs.Prelude.{ℕ, zero, suc, ◌==◌, ◌||◌, ◌&&◌, Bool, true, false, if◌then◌else◌, List, [], ◌∷◌, ◌++◌, map, Option}
+use Rattle.std.specs.Prelude.{ℕ, zero, suc, ◌+◌, ◌==◌, ◌||◌, ◌&&◌, Bool, true, false, if◌then◌else◌, List, [], ◌∷◌, ◌++◌, map, Option}
 use Rattle.std.specs.Prelude.{Some, None, is_none}
 use Rattle.lset_words.specs.declared.Key.{Key}
 use Rattle.lset_words.specs.declared.Call.{Call}
@@ -63,42 +63,43 @@ record_of x = record { thread = x.thread; call = x.call; begun = x.begun; ended 
 abbrev pub history_at : Log → ℕ → List CallRecord
 history_at log k = map record_of (calls_at log k)
 
--- Returns the last call of thread `t` after an event, pending or completed. `before` is the last call before the
--- event. The next three functions compute, in the same way, the moment just after that call began, whether it is
--- pending, and whether it has made a change.
-abbrev pub call_after : Entry → ℕ → Call → Call
-call_after (began u call) t before = if u == t then call else before
-call_after (stepped u change reply) t before = before
-
-abbrev pub begun_after : ℕ → Entry → ℕ → ℕ → ℕ
-begun_after moment (began u call) t before = if u == t then moment else before
-begun_after moment (stepped u change reply) t before = before
-
-abbrev pub open_after : Entry → ℕ → Bool → Bool
-open_after (began u call) t before = if u == t then true else before
-open_after (stepped u change None) t before = before
-open_after (stepped u change (Some reply)) t before = if u == t then false else before
-
 abbrev pub is_change : Option Change → Bool
 is_change None = false
 is_change (Some change) = true
 
-abbrev pub changed_after : Entry → ℕ → Bool → Bool
-changed_after (began u call) t before = if u == t then false else before
-changed_after (stepped u change reply) t before = if u == t then before || is_change change else before
+-- The last call of a thread, pending or completed: the call, the moment just after it began, whether it has changed the
+-- set, whether it is pending, and the number of its steps.
+pub record LastCall : Type 0 where
+  pub call : Call
+  pub begun : ℕ
+  pub changed : Bool
+  pub pending : Bool
+  pub steps : ℕ
+
+-- Returns the thread that makes the event.
+abbrev pub maker : Entry → ℕ
+maker (began t call) = t
+maker (stepped t change reply) = t
+
+-- Returns the last call of a thread after an entry of the thread. `moment` is the moment just after the entry.
+abbrev pub last_after : ℕ → Entry → LastCall → LastCall
+last_after moment (began t call) x = record { call = call; begun = moment; changed = false; pending = true; steps = 0 }
+last_after moment (stepped t change reply) x =
+    record x { changed = x.changed || is_change change; pending = x.pending && is_none reply; steps = x.steps + 1 }
+
+-- Returns the last call of thread `t` at moment k. Before its first call, nothing is pending.
+abbrev pub last_at : Log → ℕ → ℕ → LastCall
+last_at log t zero = record { call = Contains (record { 0 = 0 }); begun = 0; changed = false; pending = false; steps = 0 }
+last_at log t (suc k) = if maker (log k) == t then last_after (suc k) (log k) (last_at log t k) else last_at log t k
 
 abbrev pub last_call : Log → ℕ → ℕ → Call
-last_call log t zero = Contains (record { 0 = 0 })
-last_call log t (suc k) = call_after (log k) t (last_call log t k)
+last_call log t k = (last_at log t k).call
 
 abbrev pub begun_at : Log → ℕ → ℕ → ℕ
-begun_at log t zero = 0
-begun_at log t (suc k) = begun_after (suc k) (log k) t (begun_at log t k)
+begun_at log t k = (last_at log t k).begun
 
 abbrev pub is_open : Log → ℕ → ℕ → Bool
-is_open log t zero = false
-is_open log t (suc k) = open_after (log k) t (is_open log t k)
+is_open log t k = (last_at log t k).pending
 
 abbrev pub has_changed : Log → ℕ → ℕ → Bool
-has_changed log t zero = false
-has_changed log t (suc k) = changed_after (log k) t (has_changed log t k)
+has_changed log t k = (last_at log t k).changed
