@@ -72,7 +72,7 @@ def answers(program, refuse):
     for number in range(1, REFUSED):
         status, line, fault = ran_where(refuse, REFUSED, program, input=f"{REFUSED - number}\n")
         assert (status, fault) == (0, ""), f"with block {number} refused: {line}"
-        told.append(line.rstrip("\n").removesuffix(" wanted memory"))
+        told.append(line.rstrip("\n").removesuffix(" asked for memory"))
         if told[-1] == LAST_CALL:
             return told[:-1]
     raise AssertionError(f"block {REFUSED - 1} is that of a call, so there are more: raise REFUSED")

@@ -266,7 +266,7 @@ def the_history_has_no_such_call(case, call, last):
     return there_is_no_such_call(case, call) and int(last) == len(case.calls) - 1
 
 
-@of_show(r"refused Twice (\d+): it stands at places (\d+) and (\d+)")
+@of_show(r"refused Twice (\d+): it is at places (\d+) and (\d+)")
 def the_call_has_these_two_places(case, call, first, second):
     return case.places(call)[:2] == [int(first), int(second)]
 
@@ -288,7 +288,7 @@ def the_set_returns_another_reply(case, call, place, says, after, keys, answer):
     return here and keys_in(keys) == sorted(case.before_place(int(place)).keys) and case.answer_at(int(place)) == answer != says
 
 
-@of_show(r"refused TooEarly (\d+): it begins at (\d+) and stands before call (\d+), which ended at (\d+)")
+@of_show(r"refused TooEarly (\d+): it begins at (\d+) and is ordered before call (\d+), which ended at (\d+)")
 def the_call_is_placed_before_one_that_had_ended(case, call, begin, other, end):
     return case.is_early(call, other) and (case.calls[int(call)].begin, case.calls[int(other)].end) == (int(begin), int(end))
 

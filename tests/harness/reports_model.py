@@ -42,14 +42,14 @@ def faults_of(report):
     numbers = [it for it, _ in report.order]
     has = f"calls 0 to {len(report.calls) - 1}" if report.calls else "no calls"
     yield from (Refusal(f"Unknown {it}: the history has {has}", None, it) for it in numbers if it >= len(report.calls))
-    yield from (about(f"Twice {it}: it stands at places {numbers.index(it) + 1} and {at + 1}", it)
+    yield from (about(f"Twice {it}: it is at places {numbers.index(it) + 1} and {at + 1}", it)
                 for at, it in enumerate(numbers) if it in numbers[:at])
     yield from (about(f"Missing {it}: it ended at {end} with {reply} and has no place", it)
                 for it, (end, reply) in sorted(report.ends.items()) if it not in numbers)
     yield from (about(f"WrongReply {it}: {why}", it) for it, why in wrong_replies(report))
     for at, it in enumerate(numbers):
         begun = report.calls[it].begun
-        yield from (about(f"TooEarly {it}: it begins at {begun} and stands before call {other}, which ended at {report.ends[other][0]}", other)
+        yield from (about(f"TooEarly {it}: it begins at {begun} and is ordered before call {other}, which ended at {report.ends[other][0]}", other)
                     for other in numbers[at:] if other in report.ends and report.ends[other][0] < begun)
     yield from wrong_sets(report)
 

@@ -12,10 +12,10 @@ pub enum HistoryFault {
     #[error("no such thread")]
     NoThread,
     /// The thread already has a pending call.
-    #[error("the thread has an open call")]
+    #[error("the thread already has a pending call")]
     Busy,
     /// The history has no call with this number, or the call has already ended.
-    #[error("no open call has this number")]
+    #[error("no pending call has this number")]
     NotOpen,
     /// The moment is 0, or not after the start and the end of every call in the history.
     #[error("the moment is 0, or not above every earlier one")]
@@ -33,20 +33,20 @@ pub enum OrderFault {
     #[error("no call has the number {0}")]
     Unknown(u32),
     /// The call is in the order more than once.
-    #[error("call {0} stands twice")]
+    #[error("call {0} is in the order twice")]
     Twice(u32),
     /// This completed call is not in the order. If several calls are missing, the smallest number is reported.
-    #[error("call {0} has ended and does not stand in the order")]
+    #[error("call {0} has ended and is not in the order")]
     Missing(u32),
     /// The history has another reply for this call, or the sequential set returns another reply after the earlier
     /// calls of the order.
     #[error("call {0} has another reply")]
     WrongReply(u32),
     /// In the order, this call comes before a call that had already ended when this call began.
-    #[error("call {0} stands before a call that it follows")]
+    #[error("call {0} is ordered before a call that had ended when it began")]
     TooEarly(u32),
     /// The final keys differ from the keys of the sequential set after all calls, or do not increase strictly.
-    #[error("the keys are not those that the order leaves, in increasing order")]
+    #[error("the keys are not the final keys of the order, or do not increase")]
     WrongSet,
     /// An allocation failed.
     #[error("out of memory")]

@@ -62,7 +62,7 @@ pub enum StreamFault {
     #[error("a call before it ends at one of its moments")]
     Taken,
     /// The thread already has a pending call when this call starts.
-    #[error("its thread has a call pending")]
+    #[error("its thread already has a pending call")]
     Busy,
     /// An allocation failed.
     #[error("out of memory")]

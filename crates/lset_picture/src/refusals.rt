@@ -63,7 +63,7 @@ fn put_reason(out: &mut String, refusal: &Refusal, told: &[u32]) -> Result<(), A
         } => {
             write!(
                 out,
-                "Twice {call}: it stands at places {first} and {second}"
+                "Twice {call}: it is at places {first} and {second}"
             )
         }
         Refusal::Missing {
@@ -104,7 +104,7 @@ fn put_reason(out: &mut String, refusal: &Refusal, told: &[u32]) -> Result<(), A
             ended,
         } => write!(
             out,
-            "TooEarly {call}: it begins at {begun} and stands before call {other}, which ended at {ended}"
+            "TooEarly {call}: it begins at {begun} and is ordered before call {other}, which ended at {ended}"
         ),
         Refusal::WrongSet { left } => put_sets(out, left, told),
     }

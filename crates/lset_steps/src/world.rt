@@ -24,10 +24,10 @@ pub enum StepFault {
     #[error("no such thread")]
     NoThread,
     /// The thread already has a pending call, so it cannot begin another.
-    #[error("a call of the thread is open")]
+    #[error("the thread already has a pending call")]
     Busy,
     /// The thread has no pending call, so it cannot make a step.
-    #[error("no call of the thread is open")]
+    #[error("the thread has no pending call")]
     Idle,
 }
 

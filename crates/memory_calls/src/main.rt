@@ -62,9 +62,9 @@ fn take_blocks(alloc: Global, count: u32) -> Result<(), AllocError> {
 /// calls, and the line states that.
 fn told(alloc: Global, calls: &Calls, blocks: u32) -> (&'static str, &'static str) {
     match calls.refused {
-        Some(name) => (name, " wanted memory"),
+        Some(name) => (name, " asked for memory"),
         None if take_blocks(alloc, blocks).is_err() => ("still to be refused", ""),
-        None => ("no call wanted memory", ""),
+        None => ("no call asked for memory", ""),
     }
 }
 
