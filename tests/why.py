@@ -82,7 +82,7 @@ def test_an_operation_that_alone_is_wrong_is_named_with_a_cause(program, path):
     said = ran(program, "judge", path).stdout
     assert "\ncontains(3) returned true, expected false\n" in said
     assert "only contains is wrong: 20 of its 20 answers (found an absent key, and never missed a present key)\n" in said
-    assert "\nan add of the key ran during 0 of them, a remove of the key during 20, only changes of other keys that returned true during 0, none of these during 0\n" in said
+    assert "\n20 of them overlapped another add or remove of their key, 0 only changes of other keys, 0 none of these\n" in said
     assert "\nlikely: contains does not look at what remove changes first" in said
 
 
@@ -91,14 +91,14 @@ def test_a_few_contradictions_are_listed(program, path):
     calls = [Call(thread, "add", key, 10 * key + thread, 10 * key + 5 + thread, "true") for key in (3, 5) for thread in range(2)]
     path.write_text(text_of(calls, [], [3, 5]))
     said = ran(program, "judge", path).stdout
-    assert "\n2 contradictions: key 3 added twice from 30 to 36; key 5 added twice from 50 to 56\n" in said, said
+    assert "\nat least 2 contradictions: key 3 added twice from 30 to 36; key 5 added twice from 50 to 56\n" in said, said
 
 
 def test_a_key_that_is_lost_without_a_call_is_named_and_has_a_recording(program, path):
     """Tests key 5, which is present at first and absent at the end. No call has this key."""
     path.write_text(text_of([Call(0, "add", 1, 1, 2, "true")], [5], [1]))
     said, alone = ran(program, "judge", path).stdout, ran(program, "judge", "--only", "5", path)
-    assert "\nkey 5 was lost: key 5 is absent at the end\n" in said and "\n1 contradiction: key 5 lost by the end\n" in said, said
+    assert "\nkey 5 was lost: key 5 is absent at the end\n" in said and "\nat least 1 contradiction: key 5 lost by the end\n" in said, said
     assert (alone.stdout, alone.returncode) == ("listset-calls 1\nopening 5\nend\n", 0), alone
     assert ran(program, "judge", "--only", "7", path).returncode == 2
 

@@ -454,8 +454,6 @@ function isWrongAlone(it) {
   });
 }
 
-const bothTrue = (tally) => tally["two adds true"] + tally["two removes true"];
-
 // Decides whether a contains or remove that returned false contradicts an earlier call that left the key, and is one of a kind.
 const isMissed = (it, isOfKind) => it.calls.some((call) => call.operation !== "add" && call.reply === "false"
   && ofKey(it, call.key).some((first) => first.ended !== null && first.ended < call.begun && leaves(first) && isOfKind(first) && isNoneBetween(it, call.key, "remove", first.begun, call.ended)));
@@ -466,6 +464,23 @@ const isFoundAgain = (it) => it.calls.some((call) => call.ended !== null && !isC
 
 const IN_LIST = { "two adds true": "added twice", "two removes true": "removed twice" }; // the words of a short list
 const TALLIED = ["lost", "came back", "two adds true", "two removes true", "one wrong answer", "none of these"];
+// The words for each kind in the sentence that counts contradictions.
+const KINDS = {
+  "where a key was lost": "lost", "where a key came back": "came back", "with two adds that both returned true": "two adds true",
+  "with two removes that both returned true": "two removes true", "with one wrong answer": "one wrong answer", "of no such kind": "none of these",
+};
+// Returns for each completed change by an operation whether the next call of the key sees it. Leaves out changes that an opposite one can have undone.
+function nextCallsSee(calls, operation) {
+  const state = operation === "add";
+  const isOpposite = (call) => isChange(call) && (call.operation === "add") !== state;
+  return calls.filter((call) => call.operation === operation && call.reply === "true").flatMap((change) => {
+    const [next] = calls.filter(({ begun }) => begun > change.ended).sort((one, other) => one.begun - other.begun);
+    if (next === undefined || next.ended === null) return [];
+    const until = isOpposite(next) ? next.begun - 0.5 : next.ended;
+    return calls.some((one) => isOpposite(one) && inTime(one, change.begun, until)) ? [] : [needsKey(next) === state];
+  });
+}
+
 // Returns the next completed call of an operation on the key of an answer, if no change of the key ran between the two.
 function nextCall(it, answer, operation) {
   const next = ofKey(it, answer.key).filter((call) => call.operation === operation && call.ended !== null && call.begun > answer.ended).sort((one, other) => one.begun - other.begun)[0];
@@ -521,34 +536,37 @@ const OF_WHY = [
       why.told = wrongAnswers(it, "contains", aside !== undefined);
       return why.told !== null && isTold(it, why.told, ["contains", atLeast, count, of, found, missed]);
     }],
-  [/^fact (at least )?(\d+) contradictions?(?: of (?:(\d+) of |all )?(\d+) keys)?; (.*)$/, (it, [atLeast, count, hit, all, kinds], why) => {
+  [/^fact at least (\d+) contradictions?: (\d+ (?:where|with|of no) .*)$/, (it, [count, kinds], why) => {
     why.tally = Object.fromEntries(TALLIED.map((kind) => [kind, 0]));
-    for (const [kind, many] of kinds.split("; ").map((one) => one.split(": "))) why.tally[kind] = Number(many);
-    const refused = keysOf(it).filter((key) => !hasOrderOf(it, key)).length;
-    const isSum = Object.keys(why.tally).length === TALLIED.length && Object.values(why.tally).reduce((sum, many) => sum + many, 0) === Number(count);
-    const isOfKeys = all === undefined || (Number(hit ?? all) === refused && Number(all) === keysOf(it).length);
-    return isSum && isOfKeys && (atLeast !== undefined || Number(count) >= refused);
+    for (const [, many, kind] of kinds.split(" + ").map((one) => /^(\d+) (.*)$/.exec(one))) why.tally[KINDS[kind]] = Number(many);
+    return Object.keys(why.tally).length === TALLIED.length && Object.values(why.tally).reduce((sum, many) => sum + many, 0) === Number(count);
   }],
-  [/^fact at (\d+) of (\d+) losses and returns another key was changed \(by an add at (\d+), by a remove at (\d+)\), at (\d+) of (\d+) a call that returned false can have done it$/, (it, [beside, timed, added, removed, silent, gone]) => {
-    const isBesideBy = (count, operations) => Number(count) === 0 || keysOf(it).some((key) => !hasOrderOf(it, key) && it.calls.some((one) => one.key !== key && operations.includes(one.operation) && one.reply === "true"));
-    const [some, ofAdds, ofRemoves] = [beside, added, removed].map(Number);
-    const isBeside = isBesideBy(beside, ["add", "remove"]) && isBesideBy(added, ["add"]) && isBesideBy(removed, ["remove"]) && Math.max(ofAdds, ofRemoves) <= some && some <= ofAdds + ofRemoves;
-    const isSilent = Number(silent) === 0 || it.calls.some((one) => one.operation !== "contains" && one.reply === "false" && !hasOrderOf(it, one.key));
-    return Number(beside) <= Number(timed) && Number(timed) <= Number(gone) && Number(silent) <= Number(gone) && isBeside && isSilent;
+  [/^fact (\d+) of (\d+) keys are hit: the next call did not see (\d+) of (\d+) adds and (\d+) of (\d+) removes that returned true \(counted if no opposite change ran meanwhile\)$/, (it, [hit, all, ...counts]) => {
+    const refused = keysOf(it).filter((key) => !hasOrderOf(it, key));
+    const seen = ["add", "remove"].map((operation) => refused.flatMap((key) => nextCallsSee(ofKey(it, key), operation)));
+    const isOfKeys = Number(hit) === refused.length && Number(all) === new Set([...keysOf(it), ...it.padding.map(({ key }) => key)]).size;
+    return isOfKeys && `${counts.map(Number)}` === `${seen.flatMap((some) => [some.filter((isSeen) => !isSeen).length, some.length])}`;
   }],
+  [/^fact of (\d+) losses and returns that calls show, (\d+) overlapped a change of another key \(of 100 other times: (\d+)\)$/, (it, [all, some, usual], { tally }) => {
+    const isBeside = keysOf(it).some((key) => !hasOrderOf(it, key) && it.calls.some((one) => one.key !== key && isChange(one) && one.reply === "true"));
+    return Number(some) <= Number(all) && Number(all) <= tally.lost + tally["came back"] && (Number(some) === 0 || isBeside) && Number(usual) <= 100;
+  }],
+  [/^fact at (\d+) of (\d+) losses and returns another key was lost or came back at the same time \(of 100 other times: (\d+)\)$/, (it, [some, all, usual]) =>
+    Number(some) <= Number(all) && (Number(some) === 0 || keysOf(it).filter((key) => !hasOrderOf(it, key)).length >= 2) && Number(usual) <= 100],
   [/^fact (at least )?(\d+) contradictions?: (.*)$/, (it, [atLeast, count, listed], why) => {
     const told = listed.split("; ");
     why.tally = Object.fromEntries(TALLIED.map((kind) => [kind, told.filter((one) => one.includes(` ${IN_LIST[kind] ?? kind} `)).length]));
     const isOfEach = keysOf(it).every((key) => hasOrderOf(it, key) || told.some((one) => one.startsWith(`key ${key} `)));
     return told.length === Number(count) && told.every((one) => isListed(it, one)) && (atLeast !== undefined || isOfEach);
   }],
-  [/^fact an add of the key ran during (\d+) of them, a remove of the key during (\d+), only changes of other keys that returned true during (\d+), none of these during (\d+)$/, (it, found, { told }) => {
-    const [isAdded, isRemoved] = ["add", "remove"].map((operation) => (call) => runsDuring(it, call, (one) => one.key === call.key && one.operation === operation));
-    const isSame = (call) => isAdded(call) || isRemoved(call);
-    const isBeside = (call) => runsDuring(it, call, (one) => one.key !== call.key && one.reply === "true");
-    const kinds = [isAdded, isRemoved, (call) => !isSame(call) && isBeside(call), (call) => !isSame(call) && !isBeside(call)];
-    return `${kinds.map((kind) => told.wrong.filter(kind).length)}` === `${found.map(Number)}`;
-  }],
+  [/^fact (\d+) of them overlapped another add or remove of their key, (\d+) only changes of other keys, (\d+) none of these(?: \(of 100 other answers: (\d+), (\d+), (\d+)\))?$/,
+    (it, [same, other, none, ...usual], { told }) => {
+      const isSame = (call) => runsDuring(it, call, (one) => one.key === call.key);
+      const isBeside = (call) => runsDuring(it, call, (one) => one.key !== call.key && one.reply === "true");
+      const kinds = [isSame, (call) => !isSame(call) && isBeside(call), (call) => !isSame(call) && !isBeside(call)];
+      const isWhole = usual[0] === undefined || usual.reduce((sum, share) => sum + Number(share), 0) === 100;
+      return isWhole && `${kinds.map((kind) => told.wrong.filter(kind).length)}` === `${[same, other, none].map(Number)}`;
+    }],
   [/^fact an? (add|remove)( and a remove)? of the key ran during it$/, (it, [operation, both], { told }) => {
     const operations = both === undefined ? [operation] : ["add", "remove"];
     const isSaid = (call) => ["add", "remove"].every((one) => runsDuring(it, call, (other) => other.key === call.key && other.operation === one) === operations.includes(one));
@@ -574,16 +592,17 @@ const OF_WHY = [
     const next = told.wrong.map((answer) => [answer, nextCall(it, answer, operation)]).filter(([, one]) => one !== undefined).map(([, one]) => told.wrong.includes(one));
     return told.isAll && next.filter((isWrong) => !isWrong).length === Number(right) && next.filter((isWrong) => isWrong).length === Number(wrong);
   }],
-  [/^fact headline and picture are of a contradiction that ends later than the first one \(key (\d+), moment (\d+)\)$/, (it, [key, moment], why) => {
-    // (a contradiction with the final state ends with the recording)
-    const isLater = why.isOfEnd || why.shown.some(({ call }) => (call.ended ?? LAST) > Number(moment));
-    const isFirst = keysOf(it).every((one) => hasOrder(knownBy(ofKey(it, one), Number(moment) - 1), one, opens(it, one)));
-    return isLater && isFirst && !hasOrder(knownBy(ofKey(it, Number(key)), Number(moment)), Number(key), opens(it, Number(key)));
+  [/^fact headline and picture are of another contradiction than the verdict$/, (it, found, why) => {
+    // the first moment up to which the calls of a key have no order
+    const moments = keysOf(it).flatMap((key) => ofKey(it, key).flatMap(({ ended }) => ended ?? [])).sort((one, other) => one - other);
+    const first = moments.find((moment) => keysOf(it).some((key) => !hasOrder(knownBy(ofKey(it, key), moment), key, opens(it, key)))) ?? LAST;
+    const isOfFirst = ({ call }) => hasOrder(knownBy(ofKey(it, call.key), first), call.key, opens(it, call.key));
+    return why.isOfEnd || why.shown.some(isOfFirst) || Math.max(...why.shown.map(({ call }) => call.ended ?? LAST)) !== first;
   }],
   [/^(?:fact|because) at (\d+) of (\d+)(?: wrong answers)? no two calls overlapped(?:: perhaps one thread alone is enough)?$/, (it, [some, all]) => Number(some) <= Number(all) && isWrongAlone(it)],
-  [/^because (\d+) of (\d+) are two (add|remove)s that both returned true, \d+ are two (?:add|remove)s$/, (it, [some, all, operation]) => Number(some) <= Number(all) &&
+  [/^because (\d+) of (\d+) contradictions are two (add|remove)s that both returned true, \d+ are two (?:add|remove)s$/, (it, [some, all, operation]) => Number(some) <= Number(all) &&
     it.calls.some((one) => one.operation === operation && one.reply === "true" && it.calls.some((two) => two !== one && two.key === one.key && two.operation === operation && two.reply === "true"))],
-  [/^because (\d+) of (\d+) are two calls that both returned true$/, (it, [some, all]) => Number(some) <= Number(all) &&
+  [/^because (\d+) of (\d+) contradictions are two overlapping calls that both returned true$/, (it, [some, all]) => Number(some) <= Number(all) &&
     it.calls.some((one) => isChange(one) && one.reply === "true" && it.calls.some((two) => two !== one && two.key === one.key && two.operation === one.operation && two.reply === "true"))],
   [/^because at (\d+) of (\d+) losses and returns another key was lost or came back at the same time$/, (it, [some, all]) =>
     Number(some) <= Number(all) && keysOf(it).filter((key) => !hasOrderOf(it, key)).length >= 2],
@@ -632,11 +651,11 @@ const OF_WHY = [
     const moment = ofKey(it, key)[Number(count)]?.begun ?? LAST;
     return moment === LAST || hasOrderOf(it, key) || !hasOrder(knownBy(ofKey(it, key), moment), key, opens(it, key));
   })],
-  ...[/^because at (\d+) of (?:the )?(\d+) losses /, /^because at (\d+) of (\d+) losses and returns one other reply gives an order; two calls true: (\d+)$/,
-    /^because at (\d+) of (\d+) losses and returns a call that returned false can have done it; two calls true: (\d+)$/,
+  ...[/^because at (\d+) of (?:the )?(\d+) losses /, /^because at (\d+) of (\d+) losses and returns the opposite reply of one call would give an order$/,
+    /^because at (\d+) of (\d+) losses and returns a call that returned false can have made the change$/,
     /^because at (\d+) of (\d+) losses and returns no change of another key that returned true was running$/,
     /^because at (\d+) of (\d+) losses and returns a smaller key was removed, and (?:the smallest key is never hit|at \d+ any other key)$/].map((pattern) =>
-    [pattern, (it, [some, all, both], { tally }) => Number(some) <= Number(all) && Number(all) <= tally.lost + tally["came back"] && (both === undefined || Number(both) === bothTrue(tally))]),
+    [pattern, (it, [some, all], { tally }) => Number(some) <= Number(all) && Number(all) <= tally.lost + tally["came back"]]),
   [/^because keys are lost \((\d+)\)( and never come back)?, and at (\d+)(?: of (\d+))? losses (?:beside one|that a call shows)/, (it, [lost, never, some, all], { tally }) =>
     Number(lost) === tally.lost && Number(some) <= Number(all ?? lost) && (never === undefined || (tally["came back"] === 0 && (tally["none of these"] > 0 || !isFoundAgain(it))))],
   [/^because keys come back \((\d+)\), (\d+) times after a remove that returned true(, and are never lost)?$/, (it, [back, after, never], { tally }) =>
@@ -645,8 +664,16 @@ const OF_WHY = [
     Number(back) === tally["came back"] && Number(lost) === tally.lost && Number(some) <= Number(all) && (only === undefined || !isMissed(it, () => true))],
   [/^because at (\d+) of (\d+) no two calls overlapped(?:, and keys differ by up to (\d+))?$/, (it, [some, all, span]) => Number(some) <= Number(all) && isWrongAlone(it)
     && (span === undefined || Number(span) === Math.max(...keysOf(it)) - Math.min(...keysOf(it)))],
-  [/^because keys (?:are lost|come back) \((\d+)\) (?:and come back|and are lost|more than they come back) \((\d+)\)(?:, two calls return true \((\d+)\))?, (?:and )?at (\d+) of (\d+) /, (it, [one, other, both, some, all], { tally }) =>
-    [tally.lost, tally["came back"]].sort().join() === [Number(one), Number(other)].sort().join() && Number(some) <= Number(all) && (both === undefined || Number(both) === bothTrue(tally))],
+  [/^because keys are lost \((\d+)\) (?:and|more than they) come back \((\d+)\), and (?:at )?(\d+) of (\d+) /, (it, [lost, back, some, all], { tally }) =>
+    tally.lost === Number(lost) && tally["came back"] === Number(back) && Number(some) <= Number(all)],
+  [/^because (\d+) of (\d+) undone changes overlapped a change of another key that can have written an older state back$/, (it, [some, all], { tally }) => Number(some) <= Number(all) && Number(all) <= tally.lost + tally["came back"]],
+  [/^because the next call of the key did not see (\d+) of (\d+) adds and (\d+) of (\d+) removes, although no opposite change ran meanwhile$/, (it, found) => {
+    const seen = ["add", "remove"].map((operation) => keysOf(it).filter((key) => !hasOrderOf(it, key)).flatMap((key) => nextCallsSee(ofKey(it, key), operation)));
+    return `${found.map(Number)}` === `${seen.flatMap((some) => [some.filter((isSeen) => !isSeen).length, some.length])}`;
+  }],
+  [/^because (\d+) of (\d+) lost adds began during a remove of their key or at most 20 moments later \(of all adds of these keys: (\d+) of (\d+)\)$/, (it, [some, all, usual, adds], { tally }) =>
+    Number(some) <= Number(all) && Number(all) <= tally.lost && Number(usual) <= Number(adds)],
+  [/^because (\d+) of (\d+) wrong answers, of more than one operation, overlapped a change of another key$/, (it, [some, all], { tally }) => Number(some) <= Number(all) && Number(all) <= tally["one wrong answer"]],
   [/^because another key was lost at (\d+) of the (\d+) removes after which their key came back$/, (it, [some, all], { tally }) => Number(some) <= Number(all) && Number(all) <= tally["came back"]],
   [/^because (\d+) keys are hit, each once$/, (it, [count]) => keysOf(it).filter((key) => !hasOrderOf(it, key)).length === Number(count)],
   [/^because keys are lost \((\d+)\) and added twice \((\d+)\), none comes back, and none is removed twice$/, (it, [lost, twice], { tally }) =>

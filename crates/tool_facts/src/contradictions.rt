@@ -32,7 +32,7 @@ impl Clash {
         }
     }
 
-    /// Returns the moment at which the first call of the contradiction began.
+    /// Returns when the first call of the contradiction began.
     pub fn begun(&self) -> u64 {
         match (self.stretch, self.first, self.second) {
             (Some(stretch), _, _) => stretch.read.map_or(stretch.begun, |read| read.begun),
@@ -43,7 +43,7 @@ impl Clash {
     }
 }
 
-/// The state in which a call needs the key, or the final state, with its begin and end.
+/// The presence of the key that a call needs, or the final presence, with the call's begin and end.
 #[derive(Clone, Copy)]
 struct Need {
     second: Option<Made>,

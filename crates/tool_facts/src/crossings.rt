@@ -9,7 +9,7 @@ pub struct Crossings {
 }
 
 impl Crossings {
-    /// Computes the crossings of calls, which must be in the order in which they began. Allocates.
+    /// Computes the crossings of calls. The calls must be ordered by begin. Allocates.
     pub fn of(alloc: Global, calls: &[Made]) -> Result<Crossings, AllocError> {
         let mut counts = Vec::new(alloc);
         let (mut count, mut latest) = (0u32, 0u64);

@@ -1,4 +1,4 @@
-//! The facts about a refused recording, from which the message and the guess are made.
+//! Facts about a refused recording. The message and the guess are made from these facts.
 
 use crate::fullness::Fullness;
 use crate::key_calls::KeyCalls;
@@ -16,7 +16,7 @@ use std::alloc::{AllocError, Global};
 /// The facts for the guess.
 #[derive(Clone, Copy)]
 pub struct Evidence {
-    /// Two keys whose calls are linearizable if they are taken as calls of one key.
+    /// Two keys. Together, as calls of one key, their calls are linearizable.
     pub merged: Option<(u32, u32)>,
     pub odd: Option<Odd>,
     pub tally: Tally,
@@ -58,7 +58,7 @@ const MOST_MOMENTS: u64 = 200;
 /// The minimum number of losses that are compared with the number of keys.
 const LEAST_LOST: u64 = 10;
 
-/// Returns the contradictions in which a call shows that a key was lost or came back, in the order of time.
+/// Returns the contradictions of lost and returned keys that a call shows, ordered by time.
 fn gone_of(alloc: Global, places: &[Place]) -> Result<Vec<Place>, AllocError> {
     let mut gone = Vec::new(alloc);
     for place in places {
@@ -70,7 +70,7 @@ fn gone_of(alloc: Global, places: &[Place]) -> Result<Vec<Place>, AllocError> {
     Ok(gone)
 }
 
-/// Returns those of some contradictions that have a symptom.
+/// Returns the contradictions that have this symptom.
 fn of_symptom(alloc: Global, places: &[Place], symptom: Symptom) -> Result<Vec<Place>, AllocError> {
     let mut found = Vec::new(alloc);
     for place in places {
@@ -81,7 +81,7 @@ fn of_symptom(alloc: Global, places: &[Place], symptom: Symptom) -> Result<Vec<P
     Ok(found)
 }
 
-/// Returns the contradictions that the opposite reply of one call would repair, in the order of time.
+/// Returns the contradictions that the opposite reply of one call would repair, ordered by time.
 fn replies_of(alloc: Global, places: &[Place]) -> Result<Vec<Place>, AllocError> {
     let mut found = Vec::new(alloc);
     for place in places {
@@ -94,7 +94,7 @@ fn replies_of(alloc: Global, places: &[Place]) -> Result<Vec<Place>, AllocError>
     Ok(found)
 }
 
-/// Returns those of `gone` in which a call shows within `MOST_MOMENTS` that a key was lost.
+/// Returns the lost keys of `gone` that a call shows within `MOST_MOMENTS`.
 fn losses_of(alloc: Global, gone: &[Place]) -> Result<Vec<Place>, AllocError> {
     let mut losses = Vec::new(alloc);
     for place in gone {
@@ -106,8 +106,8 @@ fn losses_of(alloc: Global, gone: &[Place]) -> Result<Vec<Place>, AllocError> {
     Ok(losses)
 }
 
-/// Returns whether the first contradiction of a refused key is among these, which are in the order of time. Otherwise all
-/// of them begin after the moment up to which the key's calls have no order.
+/// Returns whether the first contradiction of a refused key is among these contradictions, ordered by time. Otherwise
+/// all of them begin after the first moment up to which the key's calls have no order.
 fn has_first(places: &[Place], refused: Refused) -> bool {
     match places.first() {
         Some(place) => place.clash.begun() <= refused.moment,
@@ -129,6 +129,7 @@ fn add_key(
         found.tally.add_change(key, place, neighbours);
         found.places.push(*place)?;
     }
+    found.tally.add_followed(key);
     let bound = bound_of(alloc, key, &places, neighbours)?;
     found.bound.add(bound, places.len());
     if !has_first(&places, refused) {
@@ -138,7 +139,7 @@ fn add_key(
     Ok(())
 }
 
-/// Adds the counts for which the contradictions of all keys are needed.
+/// Adds the counts that need the contradictions of all keys.
 fn add_all(
     alloc: Global,
     found: &mut Found,

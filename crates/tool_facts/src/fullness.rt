@@ -3,10 +3,10 @@ use crate::runs::Runs;
 use lset_words::Presence;
 use std::alloc::{AllocError, Global};
 
-/// How many keys are known to be present at each moment: those whose last completed call left them present.
+/// The number of keys known to be present at each moment: the last completed call of such a key left the key present.
 #[derive(Drop)]
 pub struct Fullness {
-    /// The moments at which the number changes, in increasing order.
+    /// The moments when the number changes, in increasing order.
     ends: Vec<u64>,
     counts: Vec<u64>,
     first: u64,
@@ -67,8 +67,7 @@ impl Fullness {
             .unwrap_or(self.first)
     }
 
-    /// Returns the percentage of calls, in a sample, at whose begin between `least` and `most` keys are known to be
-    /// present.
+    /// Returns the percentage of calls, in a sample, that began while `least` to `most` keys were known to be present.
     pub fn share_between(&self, calls: &[Made], least: u64, most: u64) -> u64 {
         let step = calls.len().checked_div(SAMPLED).unwrap_or(0);
         let (mut count, mut tried, mut next) = (0u64, 0u64, 0usize);

@@ -2,8 +2,7 @@ use crate::made_calls::{Made, Operation};
 use lset_words::Presence;
 use std::alloc::{AllocError, Global};
 
-/// The changes of a key to one state, in the order in which they began. Each has the latest end of all changes up to
-/// it.
+/// The changes of a key to one state, ordered by begin. `latest[i]` is the latest end of the first i + 1 changes.
 #[derive(Drop)]
 struct Makers {
     begins: Vec<u64>,
@@ -95,7 +94,7 @@ pub struct KeyCalls {
 }
 
 impl KeyCalls {
-    /// Indexes the calls of a key for searches. The calls must be in the order in which they began. Allocates.
+    /// Indexes the calls of a key for searches. The calls must be ordered by begin. Allocates.
     pub fn new(
         alloc: Global,
         key: u32,

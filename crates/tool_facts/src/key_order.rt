@@ -57,8 +57,8 @@ impl Pending {
     }
 }
 
-/// What the rule knows of a key: its state, the moment of its last change, and the ends of the pending changes that
-/// have not taken effect.
+/// The state of the rule for a key: the key's presence, the moment of the last change, and the ends of the pending
+/// changes that have not taken effect.
 #[derive(Drop)]
 pub struct KeyState {
     state: Presence,
@@ -173,7 +173,7 @@ impl KeyState {
         Ok(())
     }
 
-    /// Processes all ends before a moment. Returns the first end up to which the calls are not linearizable.
+    /// Processes all ends before a moment. Returns the first end such that the calls up to this end are not linearizable.
     pub fn end_before(&mut self, pending: &mut Pending, at: u64) -> Option<u64> {
         for _ in 0..pending.len() {
             let call = pending.next_before(at)?;
@@ -194,7 +194,7 @@ impl KeyState {
     }
 }
 
-/// Returns the first moment up to which a key's calls, in the order in which they began, are not linearizable. Returns
+/// Returns the first moment such that the calls up to it are not linearizable. `calls` must be ordered by begin. Returns
 /// `NEVER` if the calls are linearizable but no order leaves the final state, and `None` if nothing is wrong.
 /// Allocates.
 pub fn failing_moment(

@@ -33,8 +33,8 @@ fn quiet_starts(alloc: Global, calls: &[Made]) -> Result<Vec<usize>, AllocError>
     Ok(starts)
 }
 
-/// Returns the state in which all orders of some calls leave the key. Returns `None` if both states are possible, or
-/// neither.
+/// Returns the presence of the key after some calls, if all orders of the calls agree. Returns `None` if both are
+/// possible, or neither.
 fn only_state(
     alloc: Global,
     calls: &[Made],

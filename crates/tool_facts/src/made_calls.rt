@@ -3,7 +3,7 @@ use lset_text::call_word;
 use lset_words::{Call, Key, Presence, Reply};
 use std::alloc::AllocError;
 
-/// The end of a pending call, or of a call whose reply is unknown.
+/// The end of a pending call, and of a call with an unknown reply.
 pub const NEVER: u64 = u64::MAX;
 
 /// An operation of a set.
@@ -116,7 +116,7 @@ impl Made {
         self.operation != Operation::Contains && self.reply != Some(false)
     }
 
-    /// Returns the state into which the call brought its key, or may have brought it.
+    /// Returns the presence that the call gave its key, or can have given; `None` if the call changed nothing.
     pub fn makes(self) -> Option<Presence> {
         if !self.changes() {
             return None;
@@ -128,7 +128,7 @@ impl Made {
         }
     }
 
-    /// Returns the state in which a completed call leaves its key; `None` if the reply is unknown.
+    /// Returns the presence of the key after a completed call; `None` if the reply is unknown.
     pub fn leaves(self) -> Option<Presence> {
         let needs = self.needs()?;
         Some(self.makes().unwrap_or(needs))

@@ -43,7 +43,7 @@ fn are_one(alloc: Global, runs: &Runs<'_>, one: u32, two: u32) -> Result<bool, A
     has_order(alloc, &calls, opening, None)
 }
 
-/// Returns the first of these keys whose calls are linearizable together with those of the key `one`.
+/// Returns the first of these keys that, as one key together with the key `one`, has linearizable calls.
 fn partner_of(
     alloc: Global,
     runs: &Runs<'_>,
@@ -58,7 +58,7 @@ fn partner_of(
     Ok(None)
 }
 
-/// Returns two refused keys whose calls are linearizable as calls of one key. If there are more than `MOST_PAIRED`
+/// Returns two refused keys that have linearizable calls as one key. If there are more than `MOST_PAIRED`
 /// refused keys, tries only pairs with the first one. Allocates.
 pub fn merged_keys(
     alloc: Global,

@@ -4,7 +4,7 @@ use std::alloc::{AllocError, Global};
 /// The maximum number of earlier changes that are checked.
 const MOST_BACK: usize = 100_000;
 
-/// The completed changes of all keys, in the order in which they began. `latest[i]` is the latest end of the first i + 1
+/// The completed changes of all keys, ordered by begin. `latest[i]` is the latest end of the first i + 1
 /// changes.
 #[derive(Drop)]
 pub struct Neighbours {
@@ -68,14 +68,8 @@ impl Neighbours {
         self.has(key, since, until, Sought::RemoveOfSmallerKey)
     }
 
-    /// Returns whether a completed change of another key overlaps `change` and began at `since` or later.
-    pub fn has_since(&self, change: Made, since: u64) -> bool {
-        let sought = Sought::OfOtherKeySince(since);
-        self.has(change.key, change.begun, change.ended, sought)
-    }
-
     /// Returns `true` if a completed change of the sought kind overlaps the time from `since` to `until`.
-    fn has(&self, key: u32, since: u64, until: u64, sought: Sought) -> bool {
+    pub(crate) fn has(&self, key: u32, since: u64, until: u64, sought: Sought) -> bool {
         let end = self.changes.partition_point(|call| call.begun <= until);
         let changes = self.changes.get(..end).unwrap_or(&[]);
         let latest = self.latest.get(..end).unwrap_or(&[]);
@@ -93,9 +87,10 @@ impl Neighbours {
 
 /// Which changes a search looks for.
 #[derive(Clone, Copy)]
-enum Sought {
+pub(crate) enum Sought {
     OfOtherKey,
     OfOtherKeyBy(Operation),
+    /// A change of another key that began at this moment or later.
     OfOtherKeySince(u64),
     RemoveOfSmallerKey,
 }

@@ -1,5 +1,4 @@
-//! Finds the faulty operation: without its answers (those of its calls that change nothing), all calls are
-//! linearizable.
+//! Finds the odd operation: without its answers (its calls that changed nothing), all calls are linearizable.
 
 use crate::key_order::{KeyState, Pending, has_order};
 use crate::made_calls::{Made, NEVER, Operation};
@@ -195,7 +194,7 @@ impl WrongAnswers {
         }
     }
 
-    /// Adds the wrong answers for a key whose other calls are linearizable. Allocates.
+    /// Adds the wrong answers for a key. The key's other calls must be linearizable. Allocates.
     pub fn add_of_key(
         &mut self,
         alloc: Global,

@@ -1,4 +1,4 @@
-//! Facts about the odd operation: how many of its answers are wrong, what ran during them, and what the next answers were.
+//! Facts about the odd operation: the number of wrong answers, the calls that ran during them, and the next answers.
 
 use crate::contradictions::{Clash, clash_of};
 use crate::crossings::Crossings;
@@ -43,9 +43,9 @@ pub struct Odd {
     pub same_adds: u64,
     /// The number of wrong answers during which another remove of the key ran, whatever it returned.
     pub same_removes: u64,
-    /// The number of wrong answers before which the change that they did not see had ended, made by the same thread.
+    /// The number of wrong answers that did not see a change of their own thread, although the change had ended.
     pub by_same: u64,
-    /// The number of wrong answers before which the change that they did not see had ended, made by another thread.
+    /// The number of wrong answers that did not see a change of another thread, although the change had ended.
     pub by_others: u64,
     /// The most moments between the end of such a change and the begin of the wrong answer.
     pub latest: u64,
@@ -55,17 +55,19 @@ pub struct Odd {
     pub active: u64,
     /// The number of wrong answers during which another add or remove ran, of any key and whatever it returned.
     pub writing: u64,
-    /// During how many of 100 of its calls another add or remove ran, of any key and whatever it returned.
+    /// During how many of 100 of its other answers another add or remove ran, of any key and whatever it returned.
     pub usually_writing: u64,
-    /// During how many of 100 of its calls a change of another key ran.
+    /// During how many of 100 of its other answers a change of another key ran.
     pub usual: u64,
-    /// During how many of 100 of its calls another add or remove of the key, or a change of another key ran.
+    /// During how many of 100 of its other answers another add or remove of the key ran.
+    pub usually_same: u64,
+    /// During how many of 100 of its other answers another add or remove of the key, or a change of another key ran.
     pub usually_active: u64,
-    /// The number of wrong answers after which the next call of the operation, with no change of the key between, was right.
+    /// The number of wrong answers followed by a right call of the operation, with no change of the key between.
     pub then_right: u64,
-    /// The number of wrong answers after which the next call of the operation, with no change of the key between, was wrong.
+    /// The number of wrong answers followed by a wrong call of the operation, with no change of the key between.
     pub then_wrong: u64,
-    /// The number of wrong answers whose contradiction was looked at.
+    /// The number of wrong answers that were checked for `apart`.
     pub placed: u64,
     /// Of `placed`: at the contradiction, no call of the recording began while another call was running.
     pub apart: u64,
@@ -75,7 +77,7 @@ pub struct Odd {
     pub keys: u64,
     /// Whether the operation never found any of these keys, and found others.
     pub never_finds: bool,
-    /// The number of wrong answers before which the last call of the key by the same thread left it as answered.
+    /// The number of wrong answers that agree with the last earlier call of the key by the same thread.
     pub own: u64,
     /// The number of wrong answers that were compared with the other keys.
     pub compared: u64,
@@ -157,14 +159,6 @@ fn wrong_answers(
 /// The minimum number of answers of an operation that is blamed although the final keys are ignored.
 const LEAST_ANSWERS: u64 = 10;
 
-/// Returns whether the operation has many answers, and most of them are right. If the final keys are ignored, only such an
-/// operation is blamed: a few answers can be right against all other calls, for example if an `add` was lost.
-fn is_mostly_right(runs: &Runs<'_>, found: &OddFound) -> bool {
-    let wrong = u64::try_from(found.answers.wrong.len()).unwrap_or(u64::MAX);
-    let of = count_answers(&runs.recorded.calls, found.operation);
-    of >= LEAST_ANSWERS && wrong.saturating_mul(2) < of
-}
-
 /// Returns the odd operation. `None` if no operation alone is wrong. Allocates.
 pub fn find_odd(
     alloc: Global,
@@ -180,7 +174,11 @@ pub fn find_odd(
     for (operation, aside) in tries {
         if is_odd(alloc, runs, refused, operation, aside)? {
             let found = wrong_answers(alloc, runs, refused, operation, aside)?;
-            let is_blamed = !aside || is_mostly_right(runs, &found);
+            let wrong = u64::try_from(found.answers.wrong.len()).unwrap_or(u64::MAX);
+            let of = count_answers(&runs.recorded.calls, operation);
+            // (a few answers can be right against all other calls, for example if an `add` was lost)
+            let is_mostly_right = of >= LEAST_ANSWERS && wrong.saturating_mul(2) < of;
+            let is_blamed = !aside || is_mostly_right;
             if is_blamed && !found.answers.wrong.is_empty() {
                 return Ok(Some(found));
             }
@@ -192,7 +190,7 @@ pub fn find_odd(
 /// The maximum number of adds and removes that are searched for one that overlaps an answer.
 const MOST_WRITERS: usize = 100_000;
 
-/// The adds and removes among some calls, whatever they returned, in the order in which they began. `latest[i]` is the
+/// The adds and removes among some calls, whatever they returned, ordered by begin. `latest[i]` is the
 /// latest end of the first i + 1 of them.
 #[derive(Drop)]
 struct Writers {
@@ -309,6 +307,7 @@ fn odd_of(found: &OddFound) -> Odd {
         writing: 0,
         usually_writing: 0,
         usual: 0,
+        usually_same: 0,
         usually_active: 0,
         then_right: 0,
         then_wrong: 0,
@@ -327,7 +326,7 @@ fn odd_of(found: &OddFound) -> Odd {
 }
 
 /// Adds one to a count.
-fn more(count: &mut u64) {
+pub(crate) fn more(count: &mut u64) {
     *count = count.saturating_add(1);
 }
 
@@ -354,7 +353,8 @@ pub fn places_of_odd(
         if sound_key != Some(call.key) {
             sound_key = Some(call.key);
             more(&mut odd.keys);
-            finds = finds || is_found(runs.made_of(call.key), found.operation);
+            let mut made = runs.made_of(call.key).iter();
+            finds = finds || made.any(|one| has_found(*one, found.operation));
             sound = Some(sound_calls(alloc, runs, call.key, found)?);
         }
         if let Some(sound) = &sound {
@@ -375,9 +375,9 @@ pub fn places_of_odd(
             }
         }
     }
-    count_usual(runs, &mut odd, neighbours, &writers);
+    count_usual(runs, &mut odd, neighbours, &writers, &begins);
     odd.of = count_answers(calls, found.operation);
-    odd.never_finds = !finds && is_found(calls, found.operation);
+    odd.never_finds = !finds && calls.iter().any(|one| has_found(*one, found.operation));
     if odd.operation == Operation::Contains && odd.found == 0 {
         compare_keys(alloc, runs, &found.answers.wrong, &mut odd)?;
     }
@@ -484,7 +484,7 @@ fn is_left_present(calls: &[Made], opening: Presence, moment: u64) -> bool {
     left == Some(Presence::Present)
 }
 
-/// The maximum number of keys of a recording whose wrong answers are compared with larger keys.
+/// Wrong answers are compared with larger keys only in recordings with at most this many keys.
 const MOST_KEYS: usize = 16;
 
 /// Returns whether no larger key is shown present just before a call.
@@ -554,46 +554,46 @@ fn compare_keys(
 /// The number of answers that are sampled.
 const SAMPLED: usize = 500;
 
-/// Counts during how many of 100 calls of the odd operation, in a sample, other changes ran.
-fn count_usual(runs: &Runs<'_>, odd: &mut Odd, neighbours: &Neighbours, writers: &Writers) {
+/// Counts during how many of 100 answers of the odd operation, in a sample, other changes ran. Leaves out the wrong
+/// answers, which have these begins.
+fn count_usual(
+    runs: &Runs<'_>,
+    odd: &mut Odd,
+    neighbours: &Neighbours,
+    writers: &Writers,
+    wrong: &[u64],
+) {
     let calls = &runs.recorded.calls;
-    let (mut beside, mut active, mut writing) = (0u64, 0u64, 0u64);
+    let (mut beside, mut same, mut active, mut writing) = (0u64, 0u64, 0u64, 0u64);
     let (mut tried, mut next) = (0u64, 0usize);
     let step = calls.len().checked_div(SAMPLED).unwrap_or(0);
     for (index, call) in calls.iter().enumerate() {
-        if index >= next && call.operation == odd.operation {
+        let is_sampled = index >= next && is_answer(*call, odd.operation);
+        if is_sampled && wrong.binary_search(&call.begun).is_err() {
             next = index.saturating_add(step);
-            more(&mut tried);
             let is_beside = neighbours.overlap(call.key, call.begun, call.ended, None);
-            if is_beside {
-                more(&mut beside);
-            }
-            if is_beside || runs_beside(runs.made_of(call.key), *call) {
-                more(&mut active);
-            }
-            if writers.overlap(*call, None) {
-                more(&mut writing);
-            }
+            let is_same = runs_beside(runs.made_of(call.key), *call);
+            tried = tried.saturating_add(1);
+            beside = beside.saturating_add(u64::from(is_beside));
+            same = same.saturating_add(u64::from(is_same));
+            active = active.saturating_add(u64::from(is_beside || is_same));
+            writing = writing.saturating_add(u64::from(writers.overlap(*call, None)));
         }
     }
-    odd.usually_writing = writing.saturating_mul(100).checked_div(tried).unwrap_or(0);
-    odd.usual = beside.saturating_mul(100).checked_div(tried).unwrap_or(0);
-    odd.usually_active = active.saturating_mul(100).checked_div(tried).unwrap_or(0);
+    odd.usually_writing = percent(writing, tried);
+    odd.usual = percent(beside, tried);
+    odd.usually_same = percent(same, tried);
+    odd.usually_active = percent(active, tried);
+}
+
+/// Returns `some` of `all` in percent; 0 if `all` is 0.
+pub(crate) fn percent(some: u64, all: u64) -> u64 {
+    some.saturating_mul(100).checked_div(all).unwrap_or(0)
 }
 
 /// Returns whether a call of an operation found its key present.
 fn has_found(call: Made, operation: Operation) -> bool {
     call.operation == operation && call.needs() == Some(Presence::Present)
-}
-
-/// Returns whether any call of an operation found its key present.
-fn is_found(calls: &[Made], operation: Operation) -> bool {
-    for call in calls {
-        if has_found(*call, operation) {
-            return true;
-        }
-    }
-    false
 }
 
 /// Counts a wrong answer, and the changes that ran during it.
@@ -635,7 +635,7 @@ fn count_answer(sound: &Sound, call: Made, odd: &mut Odd, neighbours: &Neighbour
     }
 }
 
-/// A wrong answer comes soon after a change if at most this many moments are between them.
+/// A wrong answer is soon after a change if at most this many moments are between the two.
 const SOON: u64 = 50;
 
 /// Counts who made the change to the state `was` that a wrong answer did not see, and how long before, if that change

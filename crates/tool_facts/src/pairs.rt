@@ -1,5 +1,5 @@
-//! Finds pairs of keys that undo each other's changes: when one of them is lost or comes back, a change of the other one
-//! overlapped the change before, more often than changes of any third key.
+//! Finds pairs of keys that undo each other's changes: before one key is lost or returns, a change of the other one
+//! overlapped the undone change, more often than changes of any third key.
 
 use crate::key_calls::KeyCalls;
 use crate::made_calls::Made;

@@ -33,7 +33,7 @@ pub struct Repairs {
     /// If any one of these adds and removes, which returned false, were missing, the calls around the contradiction
     /// would be linearizable.
     pub dropped: Vec<Made>,
-    /// Whether one more change between the two contradicting calls would make the calls around them linearizable.
+    /// Whether an additional change between the two contradicting calls would make the surrounding calls linearizable.
     pub change: bool,
 }
 
@@ -76,7 +76,7 @@ fn calls_around(
     }))
 }
 
-/// Returns the moment before which `ahead` calls begin after a contradiction; `NEVER` if no further call begins.
+/// Returns the begin of the call number `ahead` (from 0) after a contradiction; `NEVER` if there is none.
 fn moment_ahead(key: &KeyCalls, clash: &Clash, ahead: usize) -> u64 {
     key.after(clash.until)
         .get(ahead)
@@ -111,7 +111,7 @@ impl Around {
         self.is_explained(alloc, &calls)
     }
 
-    /// Returns `true` if the calls are linearizable with one more change between the two contradicting calls.
+    /// Returns `true` if an additional change between the two contradicting calls makes the calls linearizable.
     fn is_repaired_by_change(&self, alloc: Global, clash: &Clash) -> Result<bool, AllocError> {
         let change = Made {
             begun: clash.begun(),
@@ -148,8 +148,8 @@ fn add(calls: &mut Vec<Made>, call: Made) -> Result<(), AllocError> {
     Ok(())
 }
 
-/// Returns the calls for which the opposite reply is tried: the contradicting calls, and calls that returned false at
-/// the same time.
+/// Returns the calls to try with the opposite reply: the contradicting calls, and calls that returned false at the
+/// same time.
 fn candidates(alloc: Global, key: &KeyCalls, clash: &Clash) -> Result<Vec<Made>, AllocError> {
     let mut found = Vec::new(alloc);
     for call in [clash.first, clash.second].into_iter().flatten() {

@@ -4,7 +4,7 @@ use lset_words::Presence;
 use std::alloc::{AllocError, Global};
 use std::io::Read;
 
-/// A recording: the opening keys, the calls in the order in which they began, and the final keys.
+/// A recording: the opening keys, the calls ordered by begin, and the final keys.
 #[derive(Drop)]
 pub struct Recorded {
     pub opening: Vec<u32>,

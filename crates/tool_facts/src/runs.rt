@@ -13,7 +13,7 @@ pub struct Runs<'a> {
     keys: Vec<u32>,
     /// For each key in `keys`, the index after its last call in `calls`.
     ends: Vec<usize>,
-    /// The calls, grouped by key; the calls of each key are in the order in which they began.
+    /// The calls, grouped by key. The calls of each key are ordered by begin.
     calls: Vec<Made>,
 }
 
@@ -38,7 +38,7 @@ fn place_of(keys: &[u32], key: u32) -> usize {
 }
 
 impl KeyTable {
-    /// Creates the table for calls whose largest key is not small.
+    /// Creates the table for calls with a large key.
     fn sorted(alloc: Global, calls: &[Made]) -> Result<KeyTable, AllocError> {
         let mut keys = Vec::new(alloc);
         for call in calls {
@@ -150,7 +150,7 @@ impl<'a> Runs<'a> {
         }
     }
 
-    /// Returns a key's calls in the order in which they began.
+    /// Returns a key's calls, ordered by begin.
     pub fn made_of(&self, key: u32) -> &[Made] {
         let place = self.place(key);
         if place == usize::MAX {

@@ -2,7 +2,8 @@ use crate::crossings::Crossings;
 use crate::fullness::Fullness;
 use crate::key_calls::KeyCalls;
 use crate::made_calls::{Made, Operation, other};
-use crate::neighbours::Neighbours;
+use crate::neighbours::{Neighbours, Sought};
+use crate::odd_facts::{more, percent};
 use crate::symptoms::{Place, Symptom};
 use lset_words::Presence;
 use std::alloc::{AllocError, Global};
@@ -87,6 +88,22 @@ pub struct Tally {
     pub unadded: u64,
     /// Of `unadded`, those where another key came back during the add.
     pub swapped_adds: u64,
+    /// Of `placed`: the add began at most `SOON` moments after the last remove of its key had ended.
+    pub soon: u64,
+    /// Of the adds of the refused keys that returned true, those that began so soon after a remove.
+    pub adds_soon: u64,
+    /// The adds of the refused keys that returned true.
+    pub adds: u64,
+    /// The adds that returned true, if no remove could have changed the key up to the next call of the key.
+    pub followed_adds: u64,
+    /// Of `followed_adds`, those that the next call did not see.
+    pub unseen_adds: u64,
+    /// The removes that returned true, if no add could have changed the key up to the next call of the key.
+    pub followed_removes: u64,
+    /// Of `followed_removes`, those that the next call did not see.
+    pub unseen_removes: u64,
+    /// Of `missed`: a change of another key overlapped the wrong answer.
+    pub missed_beside: u64,
     /// At how many contradictions, of all kinds, no call of the recording began while another call was running.
     pub apart: u64,
     /// The number of refused keys.
@@ -103,9 +120,12 @@ const MOST_LOSSES: usize = 64;
 /// The maximum number of changes of other keys among which the cause of a loss is searched.
 const MOST_BESIDE: usize = 6;
 
-/// Adds one to a count.
-fn more(count: &mut u64) {
-    *count = count.saturating_add(1);
+/// An add begins soon after a remove of its key if at most this many moments are between them.
+const SOON: u64 = 20;
+
+/// Returns whether a change began soon after an earlier one had ended.
+fn is_soon(change: Made, before: Option<Made>) -> bool {
+    before.is_some_and(|before| change.begun <= before.ended.saturating_add(SOON))
 }
 
 impl Tally {
@@ -173,14 +193,51 @@ impl Tally {
         let before = key.change_before(other(was), change.begun);
         let since = before.map_or(0, |before| before.begun);
         more(&mut self.made);
-        if neighbours.has_since(change, since) {
+        let (begun, ended) = (change.begun, change.ended);
+        if neighbours.has(change.key, begun, ended, Sought::OfOtherKeySince(since)) {
             more(&mut self.fits);
         }
         if place.symptom == Symptom::Lost {
             self.add_placed(change, neighbours);
+            self.soon = self.soon.saturating_add(u64::from(is_soon(change, before)));
         }
         if key.has_change_beside(change) {
             more(&mut self.own);
+        }
+    }
+
+    /// Counts the completed changes of a key, and those that the next call of the key did not see.
+    pub fn add_followed(&mut self, key: &KeyCalls) {
+        for change in &key.calls {
+            let Some(state) = change.makes().filter(|_| change.reply.is_some()) else {
+                continue;
+            };
+            if state == Presence::Present {
+                let before = key.change_before(Presence::Absent, change.begun);
+                more(&mut self.adds);
+                self.adds_soon = self
+                    .adds_soon
+                    .saturating_add(u64::from(is_soon(*change, before)));
+            }
+            let Some(next) = key.after(change.ended).first() else {
+                continue;
+            };
+            let until = if next.makes() == Some(other(state)) {
+                next.begun.saturating_sub(1)
+            } else {
+                next.ended
+            };
+            if next.reply.is_none() || key.may_become(other(state), change.begun, until) {
+                continue;
+            }
+            let unseen = u64::from(next.needs() == Some(other(state)));
+            if state == Presence::Present {
+                more(&mut self.followed_adds);
+                self.unseen_adds = self.unseen_adds.saturating_add(unseen);
+            } else {
+                more(&mut self.followed_removes);
+                self.unseen_removes = self.unseen_removes.saturating_add(unseen);
+            }
         }
     }
 
@@ -215,28 +272,16 @@ impl Tally {
                 more(&mut removes);
             }
         }
-        self.usually_with_add = adds.saturating_mul(100).checked_div(tried).unwrap_or(0);
-        self.usually_with_remove = removes.saturating_mul(100).checked_div(tried).unwrap_or(0);
+        self.usually_with_add = percent(adds, tried);
+        self.usually_with_remove = percent(removes, tried);
     }
 
     /// Counts the wrong replies at whose time another key had one. `replies` must be ordered by time.
     pub fn add_replies(&mut self, replies: &[Place]) {
-        let (mut beside, mut tried) = (0u64, 0u64);
-        for place in replies {
-            let (since, until) = (place.clash.begun(), place.clash.until);
-            more(&mut self.replies);
-            if has_beside(place.key, since, until, replies) {
-                more(&mut self.crossed_replies);
-            }
-            for later in LATER {
-                let (since, until) = (since.saturating_add(later), until.saturating_add(later));
-                more(&mut tried);
-                if has_beside(place.key, since, until, replies) {
-                    more(&mut beside);
-                }
-            }
-        }
-        self.usually_crossed = beside.saturating_mul(100).checked_div(tried).unwrap_or(0);
+        self.replies = u64::try_from(replies.len()).unwrap_or(u64::MAX);
+        let (together, usually) = count_together(replies);
+        self.crossed_replies = together;
+        self.usually_crossed = usually;
     }
 
     /// Counts the lost keys during whose add another key came back. `returns` must be ordered by time.
@@ -325,21 +370,9 @@ impl Tally {
     /// Counts how often several keys were lost or came back at the same time, and how often that is so by chance. `gone`
     /// has all contradictions in which a call shows that a key was lost or came back, ordered by time.
     pub fn add_together(&mut self, gone: &[Place]) {
-        let (mut beside, mut tried) = (0u64, 0u64);
-        for place in gone {
-            let (since, until) = (place.clash.begun(), place.clash.until);
-            if has_beside(place.key, since, until, gone) {
-                more(&mut self.together);
-            }
-            for later in LATER {
-                let (since, until) = (since.saturating_add(later), until.saturating_add(later));
-                more(&mut tried);
-                if has_beside(place.key, since, until, gone) {
-                    more(&mut beside);
-                }
-            }
-        }
-        self.usually_together = beside.saturating_mul(100).checked_div(tried).unwrap_or(0);
+        let (together, usually) = count_together(gone);
+        self.together = together;
+        self.usually_together = usually;
     }
 
     /// Counts what else ran during each contradiction. `calls` are all calls of the recording. `losses` are all
@@ -358,6 +391,10 @@ impl Tally {
         self.add_usual(calls, neighbours);
         for place in places {
             self.add_time(alloc, place, neighbours)?;
+            if let (Symptom::Missed(_), Some(wrong)) = (place.symptom, place.wrong) {
+                let is_beside = neighbours.overlap(wrong.key, wrong.begun, wrong.ended, None);
+                self.missed_beside = self.missed_beside.saturating_add(u64::from(is_beside));
+            }
             if crossings.has_none(calls, place.clash.since, place.clash.until) {
                 more(&mut self.apart);
             }
@@ -381,6 +418,26 @@ impl Tally {
         self.least_full = least;
         self.usually_full = full.share_between(calls, least, u64::MAX);
     }
+}
+
+/// Returns how many contradictions share time with one of another key, and in how many of 100 other periods of the same
+/// lengths there is one of another key. `places` must be ordered by time.
+fn count_together(places: &[Place]) -> (u64, u64) {
+    let (mut together, mut beside, mut tried) = (0u64, 0u64, 0u64);
+    for place in places {
+        let (since, until) = (place.clash.begun(), place.clash.until);
+        if has_beside(place.key, since, until, places) {
+            more(&mut together);
+        }
+        for later in LATER {
+            let (since, until) = (since.saturating_add(later), until.saturating_add(later));
+            more(&mut tried);
+            if has_beside(place.key, since, until, places) {
+                more(&mut beside);
+            }
+        }
+    }
+    (together, percent(beside, tried))
 }
 
 /// Returns `true` if one of some contradictions, of another key, shares time with the period from `since` to `until`.
@@ -419,5 +476,5 @@ fn usual_share(places: &[Place], neighbours: &Neighbours) -> u64 {
             }
         }
     }
-    beside.saturating_mul(100).checked_div(tried).unwrap_or(0)
+    percent(beside, tried)
 }

@@ -48,7 +48,7 @@ fn is_change(made: StreamCall) -> bool
     )
 }
 
-/// Returns the state (present or absent) in which a call needs the key. `leaves` is the state after the call. A call
+/// Returns the presence of the key that a call needs. `leaves` is the state after the call. A call
 /// that changes the key needs the other state, any other call the same state.
 fn need_of(changes: bool, leaves: Presence) -> Presence
     ensures { result ≡ lines.need_of changes leaves }
@@ -56,7 +56,7 @@ fn need_of(changes: bool, leaves: Presence) -> Presence
     if changes { other(leaves) } else { leaves }
 }
 
-/// Returns the moment at which a call ended; if the call is pending, the moment at which it began.
+/// Returns when a call ended; if the call is pending, returns when it began.
 fn end_of(made: StreamCall) -> u64
     ensures { result ≡ lines.end_of made.begun made.ended }
 {
@@ -201,7 +201,7 @@ fn final_text(alloc: Global, key: u32, need: Presence) -> Result<Vec<u8>, AllocE
     }
 }
 
-/// Returns line 1 of 3: the first call and the state in which it leaves the key. If `first` is `None`, returns the
+/// Returns line 1 of 3: the first call and the key's presence after it. If `first` is `None`, returns the
 /// key's state at the start.
 fn first_line(
     alloc: Global,
@@ -222,7 +222,7 @@ fn first_line(
     }
 }
 
-/// Returns line 2 of 3: the second call and the state in which it needs the key. If `second` is `None`, returns the
+/// Returns line 2 of 3: the second call and the presence of the key that it needs. If `second` is `None`, returns the
 /// key's state at the end.
 fn second_line(
     alloc: Global,
@@ -283,7 +283,7 @@ fn ends_text(alloc: Global, from: u64) -> Result<Vec<u8>, AllocError>
     Ok(text.into_bytes())
 }
 
-/// Returns the words for the time in which no call changes the key: between two calls, before one, or after one.
+/// Returns the words for the period without a change of the key: between two calls, before one, or after one.
 fn time_text(
     alloc: Global,
     first: Option<StreamCall>,
@@ -348,7 +348,7 @@ fn needs_key(alloc: Global, key: u32) -> Result<Vec<u8>, AllocError>
     Ok(text.into_bytes())
 }
 
-/// Returns the words for the state in which a call needs the key and the state in which it leaves the key.
+/// Returns the words for the presence that a call needs, and the presence that it leaves.
 #[tactic(auto, unfolding(crate::specs::Clashes::needs_and_leaves))]
 fn needs_and_leaves(
     alloc: Global,

@@ -45,7 +45,7 @@ fn is_reply_to(call: Call, reply: Reply) -> bool {
     }
 }
 
-/// Finds the first completed call whose reply no set can return.
+/// Finds the first completed call with a reply that no set can return.
 fn no_such_reply(calls: &[CallRecord]) -> Option<Claim> {
     for (number, made) in calls.iter().enumerate() {
         if let Some((_, reply)) = made.ended
@@ -102,7 +102,7 @@ pub fn claim_on(alloc: Global, picture: &Picture) -> Result<Claim, AllocError> {
     }
 }
 
-/// Returns the lines about a call whose reply no set can return.
+/// Returns the lines about a call with a reply that no set can return.
 fn no_such_reply_text(
     alloc: Global,
     number: u32,

@@ -117,13 +117,13 @@ fn refused_text(
     Ok(text)
 }
 
-/// Returns the moment at which a contradiction ends. `None` without a contradiction, and for one with the final state.
+/// Returns when a contradiction ends. `None` without a contradiction, and for one with the final state.
 fn end_of(clash: Option<Clash>) -> Option<u64> {
     let (end, _) = clash?.second?.ended?;
     Some(end)
 }
 
-/// Returns a line that says that the contradiction ends later than the moment of the refusal; empty if it does not.
+/// Returns a line if the contradiction ends later than the moment of the refusal; otherwise an empty text.
 fn later_note(alloc: Global, refusal: Refusal, clash: Option<Clash>) -> Result<String, AllocError> {
     match (refusal.moment, end_of(clash)) {
         (Some(moment), Some(end)) if moment < end => format!(in alloc;

@@ -1,8 +1,8 @@
-//! Writes a diagnosis as a record, whose lines have a name and its values.
+//! Writes a diagnosis as a record. Each line has a name and its values.
 
 use crate::because::put_because;
 use crate::diagnosis::{Diagnosis, Mark};
-use crate::sentences::{cause_text, put_headline, put_known};
+use crate::sentences::{cause_text, put_first, put_headline, put_known};
 use std::alloc::{AllocError, Global};
 use tool_facts::{put_call, state_word};
 
@@ -50,6 +50,7 @@ pub fn diagnosis_record(alloc: Global, diagnosis: &Diagnosis) -> Result<String, 
         out.push_str("\n")?;
     }
     let mut facts = String::new(alloc);
+    put_first(&mut facts, diagnosis)?;
     put_known(&mut facts, diagnosis)?;
     put_lines(&mut out, "fact", facts.as_str())?;
     if let Some(cause) = diagnosis.cause {

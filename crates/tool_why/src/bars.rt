@@ -58,13 +58,13 @@ impl Bar {
         })
     }
 
-    /// Returns the smallest column in which the bar can end.
+    /// Returns the smallest column for the end of the bar.
     fn least_end(&self) -> usize {
         let width = self.head.len().saturating_add(self.tail.len());
         self.from.saturating_add(width)
     }
 
-    /// Writes the bar. The names of threads take up `names` columns, and the bars `width` columns.
+    /// Writes the bar. Names of threads are `names` columns wide, and bars `width` columns.
     fn put(&self, out: &mut String, names: usize, width: usize) -> Result<(), AllocError> {
         let (name, head, tail) = (&self.name, &self.head, &self.tail);
         let (from, note, begun) = (self.from, &self.note, self.call.begun);
@@ -195,7 +195,9 @@ pub(crate) fn put_picture(
     }
     place_all(alloc, &mut bars)?;
     let (names, width) = (names_of(&bars), width_of(&bars));
-    let gaps = bars.len().saturating_add(count_gaps(&bars, own)) <= most;
+    let rule = usize::from(!beside.is_empty());
+    let lines = bars.len().saturating_add(count_gaps(&bars, own));
+    let gaps = lines.saturating_add(rule) <= most;
     for (i, bar) in bars.iter().enumerate() {
         if i == own {
             put_rule(out, beside.len(), diagnosis.beside_count)?;

@@ -1,7 +1,7 @@
 //! The fact below a likely cause, after `because`.
 
+use crate::causes::Cause;
 use crate::diagnosis::Diagnosis;
-use crate::likely::Cause;
 use std::alloc::AllocError;
 use tool_facts::{Evidence, Odd, Tally};
 
@@ -129,25 +129,25 @@ fn put_because_of_calls(out: &mut String, tally: &Tally, cause: Cause) -> Result
             out,
             "at {crossed} of the {lost} losses a remove ran among the overlapping changes before"
         ),
-        Cause::EarlierLook => writeln!(
+        Cause::EarlierLook | Cause::AddUndone => writeln!(
             out,
-            "at {turned} of {gone} losses and returns one other reply gives an order; two calls true: {both}"
+            "at {turned} of {gone} losses and returns the opposite reply of one call would give an order"
         ),
         Cause::MadeAgain => writeln!(
             out,
-            "at {silent} of {gone} losses and returns a call that returned false can have done it; two calls true: {both}"
+            "at {silent} of {gone} losses and returns a call that returned false can have made the change"
         ),
         Cause::CheckThenAct | Cause::BothCheck => writeln!(
             out,
-            "{both} of {places} are two calls that both returned true"
+            "{both} of {places} contradictions are two overlapping calls that both returned true"
         ),
         Cause::AddChecks | Cause::OldCopyByAdd => writeln!(
             out,
-            "{adds} of {places} are two adds that both returned true, {removes} are two removes"
+            "{adds} of {places} contradictions are two adds that both returned true, {removes} are two removes"
         ),
         Cause::RemoveChecks | Cause::OldCopyByRemove => writeln!(
             out,
-            "{removes} of {places} are two removes that both returned true, {adds} are two adds"
+            "{removes} of {places} contradictions are two removes that both returned true, {adds} are two adds"
         ),
         _ => writeln!(out, "they disagree as long as nothing changes the key"),
     }
@@ -197,12 +197,35 @@ fn put_because_of_adds(out: &mut String, tally: &Tally, cause: Cause) -> Result<
     }
 }
 
-/// Writes the fact for a cause of calls that are mixed up.
+/// Writes the fact for a cause of changes that take effect late, or for another call.
 fn put_because_of_mixed(out: &mut String, tally: &Tally, cause: Cause) -> Result<(), AllocError> {
     let (replies, crossed) = (tally.replies, tally.crossed_replies);
     let some = tally.swapped.saturating_add(tally.swapped_adds);
     let all = tally.undone.saturating_add(tally.unadded);
     match cause {
+        Cause::EffectLate => {
+            let (unseen, adds) = (tally.unseen_adds, tally.followed_adds);
+            let (missed, removes) = (tally.unseen_removes, tally.followed_removes);
+            writeln!(
+                out,
+                "the next call of the key did not see {unseen} of {adds} adds and {missed} of {removes} removes, although no opposite change ran meanwhile"
+            )
+        }
+        Cause::RemovedLater => {
+            let (soon, placed, usual) = (tally.soon, tally.placed, tally.adds_soon);
+            let all = tally.adds;
+            writeln!(
+                out,
+                "{soon} of {placed} lost adds began during a remove of their key or at most 20 moments later (of all adds of these keys: {usual} of {all})"
+            )
+        }
+        Cause::MovedKeys => {
+            let (beside, missed) = (tally.missed_beside, tally.missed);
+            writeln!(
+                out,
+                "{beside} of {missed} wrong answers, of more than one operation, overlapped a change of another key"
+            )
+        }
         Cause::OtherReply | Cause::MixedCalls => writeln!(
             out,
             "{crossed} of {replies} contradictions that one other reply repairs share time with one of another key"
@@ -267,11 +290,12 @@ fn put_because_of_gone(
     cause: Cause,
 ) -> Result<(), AllocError> {
     let tally = &evidence.tally;
-    let (lost, back, timed, both) = (tally.lost, tally.came_back, tally.timed(), tally.both());
+    let (lost, back, timed) = (tally.lost, tally.came_back, tally.timed());
+    let (fits, made) = (tally.fits, tally.made);
     let (beside, alone, below, keys) = (tally.beside, tally.alone, tally.below, tally.keys);
     let (swapped, undone) = (tally.swapped, tally.undone);
     let (silent, gone) = (tally.silent, tally.gone());
-    let (added, removed, together) = (tally.added, tally.removed, tally.together);
+    let (removed, together) = (tally.removed, tally.together);
     match cause {
         Cause::ReplacedAtOnce => writeln!(
             out,
@@ -287,23 +311,19 @@ fn put_because_of_gone(
         ),
         Cause::OldCopy => writeln!(
             out,
-            "keys are lost ({lost}) and come back ({back}), two calls return true ({both}), and at {beside} of {timed} another key changes (by an add at {added}, by a remove at {removed})"
+            "{fits} of {made} undone changes overlapped a change of another key that can have written an older state back"
         ),
         Cause::OldLink => writeln!(
             out,
-            "keys are lost ({lost}) more than they come back ({back}), at {beside} of {timed} beside another change (by an add at {added}, by a remove at {removed})"
+            "keys are lost ({lost}) more than they come back ({back}), and {beside} of {timed} such contradictions overlap a change of another key"
         ),
         Cause::Unlinked if evidence.is_first_spared => writeln!(
             out,
             "at {below} of {timed} losses and returns a smaller key was removed, and the smallest key is never hit"
         ),
-        Cause::Unlinked => writeln!(
+        Cause::Unlinked | Cause::WrittenBack => writeln!(
             out,
             "at {below} of {timed} losses and returns a smaller key was removed, and at {removed} any other key"
-        ),
-        Cause::WrittenBack => writeln!(
-            out,
-            "keys come back ({back}) and are lost ({lost}), at {beside} of {timed} beside another change (by an add at {added}, by a remove at {removed})"
         ),
         Cause::OtherKey => writeln!(
             out,
@@ -332,6 +352,7 @@ pub(crate) fn put_because(
     match cause {
         Cause::FirstUse
         | Cause::GoesOn
+        | Cause::AddUndone
         | Cause::EarlierLook
         | Cause::MadeAgain
         | Cause::CheckThenAct
@@ -347,9 +368,13 @@ pub(crate) fn put_because(
         Cause::AddLost | Cause::SharedPlace | Cause::BehindUnlinked => {
             put_because_of_adds(out, &evidence.tally, cause)
         }
-        Cause::OtherReply | Cause::OtherCall | Cause::MixedCalls => {
-            put_because_of_mixed(out, &evidence.tally, cause)
-        }
+        Cause::OtherReply
+        | Cause::OtherCall
+        | Cause::MixedCalls
+        | Cause::Cancelled
+        | Cause::EffectLate
+        | Cause::RemovedLater
+        | Cause::MovedKeys => { put_because_of_mixed(out, &evidence.tally, cause) }
         Cause::SharedWord => put_because_of_pairs(out, evidence),
         Cause::KeptTwice | Cause::Overflow | Cause::OneThread => {
             put_because_of_one(out, evidence, cause)

@@ -7,10 +7,10 @@ use lset_words::{Key, Presence};
 use std::alloc::{AllocError, Global};
 use tool_facts::{KeyCalls, Made, NEVER, Recorded, stretches_of};
 
-/// The maximum number of calls in which a count is searched. The search takes quadratic time.
+/// A count is searched among at most this many calls. The search needs quadratic time.
 const MOST_COUNTED: usize = 4_000;
 
-/// The calls of a key in which a count is searched, and the key's state before them.
+/// The calls of a key that are searched for a count, and the key's presence before these calls.
 #[derive(Drop)]
 struct Counted {
     calls: Vec<StreamCall>,

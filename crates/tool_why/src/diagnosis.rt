@@ -1,6 +1,7 @@
 //! The diagnosis of a recording, and the calls of its picture.
 
-use crate::likely::{Cause, likely};
+use crate::causes::Cause;
+use crate::likely::likely;
 use lset_words::Presence;
 use std::alloc::{AllocError, Global};
 use tool_facts::{
@@ -41,9 +42,9 @@ pub struct Diagnosis {
     pub was: Presence,
     /// The call that contradicts `was`. `None` if the final state does.
     pub second: Option<Made>,
-    /// The call for which the other reply was expected.
+    /// The call that was expected to return the opposite reply.
     pub wrong: Option<Made>,
-    /// The key's calls in the picture, in the order in which they began.
+    /// The key's calls in the picture, ordered by begin.
     pub shown: Vec<Shown>,
     /// Changes of other keys that ran during the contradiction. Of many, those that the likely cause names are chosen first,
     /// then the longest.
@@ -57,8 +58,8 @@ pub struct Diagnosis {
     pub later: Option<Made>,
     pub evidence: Evidence,
     pub cause: Option<Cause>,
-    /// The key whose calls are the first not to be linearizable, and the first moment up to which they are not. The
-    /// moment is `NEVER` if only the final state is wrong.
+    /// The key that is refused first, and the first moment such that its calls up to it are not linearizable. The moment
+    /// is `NEVER` if only the final state is wrong.
     pub first_key: u32,
     pub first_moment: u64,
     /// The end of the contradiction in the picture; `NEVER` if the final state contradicts.
@@ -67,7 +68,7 @@ pub struct Diagnosis {
     pub is_first: bool,
 }
 
-/// The maximum duration, in moments, up to which the verdict's contradiction is preferred to a shorter one.
+/// The verdict's contradiction is preferred to a shorter one if it lasts at most this many moments.
 const SHORT: u64 = 300;
 
 /// The contradiction that the verdict names: the first refused key, the moment, and the contradiction, if the judge
@@ -79,18 +80,15 @@ struct Named {
     place: Option<Place>,
 }
 
-/// Returns whether two contradictions are between the same calls.
-fn are_same(one: &Clash, two: &Clash) -> bool {
-    one.first == two.first && one.second == two.second
-}
-
 impl Named {
     /// Returns whether a contradiction is between the calls that the verdict names, or of a wrong answer among them.
     fn has_calls_of(&self, place: &Place) -> bool {
         match self.clash {
             Some(clash) => {
                 let is_of = place.wrong == clash.first || place.wrong == clash.second;
-                are_same(&clash, &place.clash) || (place.wrong.is_some() && is_of)
+                let (first, second) = (place.clash.first, place.clash.second);
+                let are_same = first == clash.first && second == clash.second;
+                are_same || (place.wrong.is_some() && is_of)
             }
             None => false,
         }
@@ -189,7 +187,7 @@ fn is_beside(place: &Place, neighbours: &Neighbours, operation: Option<Operation
     neighbours.overlap(place.key, place.clash.begun(), place.clash.until, operation)
 }
 
-/// Returns whether a contradiction is an example of what a likely cause explains.
+/// Returns whether a contradiction is an example for a likely cause.
 fn shows(place: &Place, cause: Option<Cause>, is_odd: bool, neighbours: &Neighbours) -> bool {
     let (since, until) = (place.clash.begun(), place.clash.until);
     match cause {
@@ -223,7 +221,7 @@ fn shows(place: &Place, cause: Option<Cause>, is_odd: bool, neighbours: &Neighbo
             Some(wrong) => neighbours.overlap(wrong.key, wrong.begun, wrong.ended, None),
             None => true,
         },
-        _ => is_odd || place.is_gone() || matches!(place.symptom, Symptom::BothTrue(_)),
+        _ => is_odd || place.symptom != Symptom::Unclear,
     }
 }
 
@@ -425,8 +423,8 @@ pub(crate) const MOST_AROUND: usize = 1_000;
 /// A change is not shown beside a call that finds its state if it began more than this many moments earlier.
 const LONG_AGO: u64 = 200;
 
-/// Returns the time of a contradiction in which changes of other keys are shown: the time of a wrong answer if one of
-/// them ran during it.
+/// Returns the period for the changes of other keys in the picture: the time of the wrong answer if such a change ran
+/// during the answer, otherwise the time of the contradiction.
 fn time_of(place: &Place, neighbours: &Neighbours) -> (u64, u64) {
     match place.wrong {
         Some(wrong) if neighbours.overlap(place.key, wrong.begun, wrong.ended, None) => {
@@ -472,7 +470,12 @@ fn recorded_call(calls: &[Made], call: Made) -> Made {
 }
 
 impl Diagnosis {
-    /// Replaces the calls in the picture by those of a recording, in which pending calls have ended.
+    /// Returns whether headline and picture are about another contradiction than the verdict.
+    pub(crate) fn is_example(&self) -> bool {
+        !self.is_first && !self.shown.is_empty()
+    }
+
+    /// Replaces the calls in the picture by the recorded calls. There, pending calls can have ended.
     pub(crate) fn complete(&mut self, calls: &[Made]) {
         for one in &mut self.shown {
             one.call = recorded_call(calls, one.call);
@@ -652,7 +655,7 @@ impl Diagnosis {
         Ok(())
     }
 
-    /// Adds the later call that agrees, with the state in which it finds the key.
+    /// Adds the later call that agrees, and notes whether this call finds the key present.
     fn show_later(&mut self) -> Result<(), AllocError> {
         let Some(later) = self.later else {
             return Ok(());
@@ -698,7 +701,7 @@ impl Diagnosis {
         Ok(())
     }
 
-    /// Marks the state in which the contradicting call finds the key.
+    /// Notes whether the contradicting call finds the key present.
     fn mark_found(&mut self, clash: &Clash) {
         let Some(second) = clash.second else {
             return;

@@ -4,7 +4,7 @@ use crate::bars::put_picture;
 use crate::because::put_because;
 use crate::counted::count_in;
 use crate::diagnosis::{Diagnosis, diagnose};
-use crate::sentences::{cause_text, put_headline, put_known};
+use crate::sentences::{cause_text, put_first, put_headline, put_known};
 use lset_judge::Count;
 use std::alloc::{AllocError, Global};
 use std::io::Read;
@@ -56,7 +56,8 @@ pub fn diagnosis_text(
     let mut guess = String::new(alloc);
     put_guess(&mut guess, diagnosis)?;
     let facts = lines_of(&known).saturating_add(lines_of(&guess));
-    let taken = facts.saturating_add(used).saturating_add(1);
+    let headline = if diagnosis.is_example() { 2 } else { 1 };
+    let taken = facts.saturating_add(used).saturating_add(headline);
     let mut picture = String::new(alloc);
     if !diagnosis.shown.is_empty() {
         let room = MOST_LINES.saturating_sub(taken);
@@ -64,9 +65,9 @@ pub fn diagnosis_text(
         put_picture(alloc, &mut picture, diagnosis, room)?;
     }
     let lines = taken.saturating_add(lines_of(&picture));
-    let mut out = String::new(alloc);
-    out.push_str("\n")?;
+    let mut out = String::from_str(alloc, "\n")?;
     put_headline(&mut out, diagnosis)?;
+    put_first(&mut out, diagnosis)?;
     out.push_str(picture.as_str())?;
     out.push_str("\n")?;
     put_some(&mut out, known.as_str(), lines.saturating_sub(MOST_LINES))?;
@@ -89,7 +90,7 @@ pub struct Explained {
     pub text: String,
 }
 
-/// The number of calls from which on an explanation is of so many first calls alone, if these have no order.
+/// An explanation is about at most this many first calls, if these calls have no order.
 const MOST_EXPLAINED: usize = 1_000_000;
 
 /// Describes a diagnosis in an explanation. `recorded` has the calls as they ended later.

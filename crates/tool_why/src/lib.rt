@@ -5,6 +5,7 @@
 mod as_record;
 mod bars;
 mod because;
+mod causes;
 mod counted;
 mod diagnosis;
 mod explaining;

@@ -1,117 +1,7 @@
 //! Guesses the likely cause from the facts in the message. Makes no guess if nothing fits.
 
+use crate::causes::Cause;
 use tool_facts::{Evidence, Odd, Operation, Tally};
-
-/// A likely cause.
-#[derive(Clone, Copy)]
-pub enum Cause {
-    /// Two keys are treated as one.
-    TwoKeys,
-    /// `contains` does not check what `add` changes first.
-    NotSeenYet,
-    /// `contains` traverses while changes of other keys move its key.
-    MovedKeys,
-    /// A key is in the set twice, and a remove takes out one of the two.
-    KeptTwice,
-    /// An add of another key displaces a key.
-    Displaced,
-    /// A remove of another key carries out earlier removes.
-    Batch,
-    /// A remove removes a key other than its own.
-    OtherKey,
-    /// The set fails even without a race.
-    OneThread,
-    /// `contains` does not check what `remove` changes first.
-    MarkNotRead,
-    /// `contains` reads a copy from which removed keys disappear later.
-    TakenLater,
-    /// `contains` takes a shortcut that returns false too early.
-    Shortcut,
-    /// `contains` checks a size first.
-    SizeFirst,
-    /// `contains` reads a cache of its own thread.
-    ThreadCache,
-    /// `contains` reads a copy that is updated only after `add` and `remove` return.
-    LateCopy,
-    /// One key is treated differently from the others.
-    OneKey,
-    /// Some keys are treated unlike others.
-    SomeKeys,
-    /// `add` takes a removed node for a present one.
-    AddSeesRemoved,
-    /// `remove` takes a shortcut that returns false too early.
-    RemoveShortcut,
-    /// `remove` gives up although the key is present.
-    RemoveGivesUp,
-    /// Operations look for a key in two different places.
-    TwoPlaces,
-    /// Two first calls each create the same thing, and one is lost.
-    FirstUse,
-    /// A remove keeps writing after it has taken effect.
-    GoesOn,
-    /// The reply is not determined by the change itself.
-    EarlierLook,
-    /// A call is retried after it already took effect.
-    MadeAgain,
-    /// A check and the later write are not atomic.
-    CheckThenAct,
-    /// In `add` and in `remove` the check and the later write are not atomic.
-    BothCheck,
-    /// In `add` alone the check and the later write are not atomic.
-    AddChecks,
-    /// In `remove` alone the check and the later write are not atomic.
-    RemoveChecks,
-    /// A change is carried out a second time, after a later change of its key.
-    CarriedOutTwice,
-    /// A search leaves out the last key.
-    LastKey,
-    /// A search ends too early, also without a race.
-    EndsEarly,
-    /// `add` gives up although the key is absent.
-    AddGivesUp,
-    /// Calls of one key do not exclude each other.
-    NoLock,
-    /// A whole copy overwrites newer changes.
-    OldCopy,
-    /// A link is written without checking that it is current.
-    OldLink,
-    /// A node is linked to a node that is being removed.
-    Unlinked,
-    /// Keys are dropped if many are present.
-    Evicted,
-    /// A comparison of keys overflows.
-    Overflow,
-    /// A change of another key writes back an older state.
-    WrittenBack,
-    /// A table is replaced while calls still change the old one. Each key is hit once.
-    Replaced,
-    /// A table or copy is replaced while calls still change the old one. Several keys are hit at once.
-    ReplacedAtOnce,
-    /// `contains` finds a key whose add is not finished.
-    SeenEarly,
-    /// Two adds of different keys take the same place.
-    SharedPlace,
-    /// An add whose write was lost returns true.
-    AddLost,
-    /// A key is added behind a node that is being removed.
-    BehindUnlinked,
-    /// `add` alone writes an older copy back.
-    OldCopyByAdd,
-    /// `remove` alone writes an older copy back.
-    OldCopyByRemove,
-    /// Some keys share a word or bucket that is written back as a whole.
-    SharedWord,
-    /// A call returns the reply of another call.
-    OtherReply,
-    /// A call is carried out with the key of another call.
-    OtherCall,
-    /// Calls return the replies of other calls, or are carried out with their keys.
-    MixedCalls,
-    /// `contains` misses keys that other calls move, or takes a shortcut.
-    MovedOrShortcut,
-    /// `contains` finds keys that were removed just before: a mark, or a copy.
-    MarkOrCopy,
-}
 
 /// The minimum number of contradictions that indicate a rule.
 const ENOUGH: u64 = 5;
@@ -195,18 +85,21 @@ fn cause_of_misses(odd: &Odd) -> Option<Cause> {
         Some(Cause::Shortcut)
     } else if is_passing(odd) && is_least(odd.active, odd.wrong, 90) {
         Some(Cause::MovedKeys)
-    } else if is_beside_by_habit(odd) || (odd.missed >= 3 && !is_least(odd.active, odd.wrong, 80)) {
+    } else if odd.missed < LEAST_WRONG {
+        None
+    } else if is_beside_by_habit(odd) || !is_least(odd.active, odd.wrong, 80) {
         Some(if odd.is_exact {
             Cause::MovedOrShortcut
         } else {
             Cause::Shortcut
         })
-    } else if odd.missed >= 3 {
-        Some(Cause::MovedOrShortcut)
     } else {
-        None
+        Some(Cause::MovedOrShortcut)
     }
 }
+
+/// The minimum number of wrong answers for a guess, unless a fact holds for all of them or for nearly all.
+const LEAST_WRONG: u64 = 20;
 
 /// Returns whether many wrong answers are followed by another wrong answer, with no change of the key between.
 fn is_lasting(odd: &Odd) -> bool {
@@ -228,7 +121,7 @@ fn is_size(odd: &Odd) -> bool {
         && share_of_all(odd.usually_lonely, odd.lonely) < 50_000
 }
 
-/// Returns `true` if each thread answers what it saw last itself.
+/// Returns `true` if all wrong answers agree with the last earlier call of the key by their own thread.
 fn is_own(odd: &Odd) -> bool {
     odd.wrong >= 8 && odd.own == odd.wrong
 }
@@ -237,7 +130,8 @@ fn is_own(odd: &Odd) -> bool {
 fn cause_of_finds(odd: &Odd) -> Option<Cause> {
     let is_once_present = odd.by_same.saturating_add(odd.by_others) > 0;
     if odd.running.saturating_mul(2) >= odd.found {
-        Some(Cause::MarkNotRead)
+        let is_clear = odd.running == odd.found || odd.found >= LEAST_WRONG;
+        is_clear.then_some(Cause::MarkNotRead)
     } else if odd.found >= 3 && is_least(odd.starting, odd.found, 90) {
         Some(Cause::SeenEarly)
     } else if odd.starting.saturating_mul(2) < odd.found && is_once_present {
@@ -275,15 +169,17 @@ fn cause_of_contains(odd: &Odd) -> Option<Cause> {
 }
 
 /// Returns the likely cause if only `remove` is wrong.
-fn cause_of_remove(odd: &Odd) -> Cause {
+fn cause_of_remove(odd: &Odd) -> Option<Cause> {
     let is_beside = odd.beside == odd.missed && are_most(odd.adding, odd);
     let is_only_beside_adds = !is_least(odd.removing, odd.missed, 60);
     if odd.missed >= 3 && is_beside && is_only_beside_adds && is_no_chance(odd) {
-        Cause::RemoveShortcut
+        Some(Cause::RemoveShortcut)
     } else if needs_no_overlap(odd) {
-        Cause::EndsEarly
+        Some(Cause::EndsEarly)
+    } else if odd.missed >= LEAST_WRONG {
+        Some(Cause::RemoveGivesUp)
     } else {
-        Cause::RemoveGivesUp
+        None
     }
 }
 
@@ -314,7 +210,7 @@ fn cause_of_odd(odd: &Odd, keys: u64) -> Option<Cause> {
         Operation::Add => cause_of_add(odd),
         _ if odd.never_finds && is_often => Some(Cause::OneKey),
         _ if is_some && odd.is_exact && odd.missed > 0 && odd.found > 0 => Some(Cause::SomeKeys),
-        Operation::Remove => Some(cause_of_remove(odd)),
+        Operation::Remove => cause_of_remove(odd),
         Operation::Contains => cause_of_contains(odd),
     }
 }
@@ -365,7 +261,8 @@ fn is_at_once(tally: &Tally) -> bool {
     is_clear
         && tally.both().saturating_mul(20) <= tally.places
         && tally.timed() >= LEAST_AT_ONCE
-        && is_least(tally.together, tally.timed(), least.max(75))
+        && is_least(tally.came_back, tally.gone(), 25)
+        && is_least(tally.together, tally.timed(), least.max(65))
 }
 
 /// Returns whether many single replies are wrong, of calls that change nothing, and one other reply repairs nearly all
@@ -394,7 +291,7 @@ fn cause_of_old_state(evidence: &Evidence) -> Option<Cause> {
     if back == 0 && tally.both() == 0 && !is_with_change(tally) {
         None
     } else if lost >= back.saturating_mul(8) {
-        Some(cause_of_lost_adds(tally))
+        cause_of_lost_adds(evidence)
     } else if is_often_twice && is_mostly_lost {
         Some(old_copy(tally, Cause::OldLink))
     } else if is_least(replies, tally.places, 10) {
@@ -421,27 +318,32 @@ fn is_with_change(tally: &Tally) -> bool {
         || is_with(tally.with_remove, tally.placed, tally.usually_with_remove)
 }
 
-/// Returns the likely cause if keys are lost and hardly ever come back.
-fn cause_of_lost_adds(tally: &Tally) -> Cause {
+/// Returns the likely cause if keys are lost and hardly ever come back. `None` if few keys were lost, or if the keys have
+/// few calls: then a key can also be lost because a table or a bucket is made twice.
+fn cause_of_lost_adds(evidence: &Evidence) -> Option<Cause> {
+    let tally = &evidence.tally;
+    let calls = evidence.calls.checked_div(evidence.keys).unwrap_or(0);
     let is_add = is_with(tally.with_add, tally.placed, tally.usually_with_add);
     let is_remove = is_with(tally.with_remove, tally.placed, tally.usually_with_remove);
     let is_only_adds = tally.came_back == 0 && tally.both_removes == 0;
-    if is_only_adds
-        && tally.both_adds >= LEAST_BOTH
-        && is_share(tally.both_adds, tally.places, 10)
-    {
-        Cause::AddLost
+    let is_often_twice = is_share(tally.both_adds, tally.places, 10);
+    if tally.placed < 4 * ENOUGH || calls < MANY_CALLS {
+        None
+    } else if is_only_adds && tally.both_adds >= LEAST_BOTH && is_often_twice {
+        Some(Cause::AddLost)
     } else if is_add && !is_remove {
-        Cause::SharedPlace
+        Some(Cause::SharedPlace)
     } else if is_remove && !is_add {
-        Cause::BehindUnlinked
+        Some(Cause::BehindUnlinked)
+    } else if is_beside_by_chance(tally) && !is_add {
+        None
     } else {
-        Cause::OldLink
+        Some(Cause::OldLink)
     }
 }
 
-/// Returns which operation writes an older copy back: the one of which alone two calls return true. `other` if both do,
-/// or neither.
+/// Returns which operation writes an older copy back: only for this operation, two overlapping calls return true.
+/// Returns `other` if both operations do so, or neither.
 fn old_copy(tally: &Tally, other: Cause) -> Cause {
     let (adds, removes) = (tally.both_adds, tally.both_removes);
     if adds >= 2 * ENOUGH && adds >= removes.saturating_mul(10) {
@@ -459,7 +361,7 @@ fn has_crossed_replies(tally: &Tally) -> bool {
     tally.replies >= 4 * ENOUGH && is_least(tally.crossed_replies, tally.replies, least)
 }
 
-/// Returns whether keys are lost and come back, and beside that many single replies are wrong.
+/// Returns whether keys are lost and come back, and many single replies are wrong too.
 fn is_mixed(tally: &Tally) -> bool {
     let replies = tally.missed.saturating_add(tally.found);
     let is_both_ways = tally.lost.min(tally.came_back) >= 2 * ENOUGH;
@@ -468,7 +370,7 @@ fn is_mixed(tally: &Tally) -> bool {
         && is_least(
             tally.crossed_replies,
             tally.replies,
-            tally.usually_crossed.saturating_add(30),
+            tally.usually_crossed.saturating_add(10),
         )
 }
 
@@ -480,6 +382,53 @@ fn is_of_other_calls(tally: &Tally) -> bool {
     tally.swapped >= 4 && tally.swapped_adds >= 4 && is_least(some, all, 60)
 }
 
+/// Returns whether another key is lost while a remove runs that leaves its own key, and a wrong reply is rare.
+fn is_of_other_key(tally: &Tally) -> bool {
+    let replies = tally.missed.saturating_add(tally.found);
+    let is_beside = is_with(tally.with_remove, tally.placed, tally.usually_with_remove);
+    let is_written_over = is_least(tally.fits, tally.made, 60);
+    let least = if is_beside && is_least(tally.both_removes, tally.places, 10) {
+        50
+    } else {
+        60
+    };
+    let is_clear = !is_written_over || least == 50;
+    tally.swapped >= 4
+        && is_least(tally.swapped, tally.undone, least)
+        && is_clear
+        && !is_least(replies, tally.places, 10)
+}
+
+/// Returns the likely cause if changes do not take effect when their calls run: late, together with another call, or
+/// although the call returned false.
+fn cause_of_effects(tally: &Tally) -> Option<Cause> {
+    let (gone, lost) = (tally.gone(), tally.lost);
+    let is_late = is_share(tally.unseen_adds, tally.followed_adds, 25)
+        || is_share(tally.unseen_removes, tally.followed_removes, 25);
+    let many_unseen = tally.unseen_adds.max(tally.unseen_removes) >= 8 * ENOUGH;
+    let is_pair = is_least(tally.swapped, tally.undone, 75)
+        && is_share(tally.swapped_adds, tally.unadded, 55);
+    let is_beside = is_with(tally.with_remove, tally.placed, tally.usually_with_remove);
+    let is_only_back = lost == 0 && tally.both().saturating_mul(20) <= tally.places;
+    let usually_soon = tally.adds_soon.saturating_mul(100);
+    let usually_soon = usually_soon.checked_div(tally.adds).unwrap_or(0);
+    let is_after = is_with(tally.soon, tally.placed, usually_soon);
+    let is_only_lost = tally.came_back == 0
+        && tally.both().saturating_mul(20) <= tally.places
+        && !is_share(tally.crossed, lost, 60);
+    if is_late && many_unseen {
+        Some(Cause::EffectLate)
+    } else if tally.swapped >= ENOUGH && is_pair && is_beside {
+        Some(Cause::Cancelled)
+    } else if is_only_back && gone >= 4 * ENOUGH && is_least(tally.turned, gone, 97) {
+        Some(Cause::AddUndone)
+    } else if is_only_lost && lost >= 4 * ENOUGH && is_after {
+        Some(Cause::RemovedLater)
+    } else {
+        None
+    }
+}
+
 /// Returns the likely cause if keys were lost and came back.
 fn cause_of_gone(evidence: &Evidence) -> Option<Cause> {
     let tally = &evidence.tally;
@@ -487,7 +436,7 @@ fn cause_of_gone(evidence: &Evidence) -> Option<Cause> {
     if is_of_other_calls(tally) && !is_written_over {
         return Some(Cause::OtherCall);
     }
-    if tally.swapped >= 4 && is_least(tally.swapped, tally.undone, 60) && !is_written_over {
+    if is_of_other_key(tally) {
         return Some(Cause::OtherKey);
     }
     if tally.timed() < LEAST_TIMED {
@@ -534,7 +483,12 @@ fn is_unlinked(evidence: &Evidence) -> bool {
 /// Returns `true` if calls that returned false can account for nearly all contradicting changes.
 fn is_made_again(tally: &Tally) -> bool {
     let gone = tally.gone();
-    gone >= 2 * ENOUGH && tally.both() == 0 && is_share(tally.silent, gone, 70)
+    let replies = tally.missed.saturating_add(tally.found);
+    gone >= 2 * ENOUGH
+        && tally.both() == 0
+        && is_share(tally.silent, gone, 60)
+        && !has_crossed_replies(tally)
+        && !is_least(replies, tally.places, 10)
 }
 
 /// Returns `true` if replies are not determined by the changes themselves.
@@ -596,6 +550,7 @@ const LEAST_FULL: u64 = 4;
 /// return true, and other changes cannot have written the keys back.
 fn is_kept(tally: &Tally) -> bool {
     tally.came_back >= 4 * ENOUGH
+        && tally.others.saturating_mul(2) <= tally.places
         && is_least(tally.undone, tally.came_back, 90)
         && tally.both().saturating_mul(20) <= tally.places
         && !is_least(tally.fits, tally.made, 60)
@@ -709,6 +664,17 @@ fn is_enough(evidence: &Evidence) -> bool {
     evidence.calls >= LEAST_CALLS && answers >= LEAST_ANSWERS
 }
 
+/// Returns whether calls of several operations miss present keys, only while another key changes, and nearly no other
+/// contradictions exist.
+fn is_missed_beside(tally: &Tally) -> bool {
+    let (missed, gone) = (tally.missed, tally.gone());
+    missed >= 8
+        && tally.missed_beside == missed
+        && tally.found == 0
+        && tally.both() == 0
+        && gone.saturating_mul(10) <= tally.places
+}
+
 /// Returns the likely cause. Returns `None` if nothing fits, or if the recording is too small.
 pub(crate) fn likely(evidence: &Evidence) -> Option<Cause> {
     if !is_enough(evidence) {
@@ -724,11 +690,18 @@ pub(crate) fn likely(evidence: &Evidence) -> Option<Cause> {
         return Some(Cause::TwoPlaces);
     }
     let tally = &evidence.tally;
+    let effect = cause_of_effects(tally);
+    if effect.is_some() {
+        return effect;
+    }
+    if evidence.bound.is_some() && is_least(tally.gone(), tally.places, 30) {
+        return Some(Cause::SharedWord);
+    }
     if is_check_then_act(tally) {
         return Some(check_then_act(tally));
     }
-    if evidence.bound.is_some() {
-        return Some(Cause::SharedWord);
+    if is_missed_beside(tally) {
+        return Some(Cause::MovedKeys);
     }
     if is_unlinked(evidence) {
         return Some(Cause::Unlinked);

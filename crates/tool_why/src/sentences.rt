@@ -1,7 +1,7 @@
 //! The sentences of a diagnosis: headline, scope, duration, and the likely cause.
 
+use crate::causes::Cause;
 use crate::diagnosis::Diagnosis;
-use crate::likely::Cause;
 use lset_words::Presence;
 use std::alloc::AllocError;
 use tool_facts::{Made, NEVER, Odd, Operation, Place, Split, Symptom, Tally, other, state_word};
@@ -18,15 +18,12 @@ fn put_returned(out: &mut String, call: Made, expected: bool) -> Result<(), Allo
     out.push_str("\n")
 }
 
-/// Returns `true` if a call returned false although its operation makes the contradicting change.
-fn is_silent(diagnosis: &Diagnosis, call: Made) -> bool {
-    call.reply == Some(false) && call.operation == Operation::that_makes(other(diagnosis.was))
-}
-
 /// Writes the headline for a key that was lost or came back.
 fn put_gone(out: &mut String, diagnosis: &Diagnosis) -> Result<(), AllocError> {
     if let Some(call) = diagnosis.wrong {
-        if is_silent(diagnosis, call) {
+        // (the call returned false although its operation makes the contradicting change)
+        let operation = Operation::that_makes(other(diagnosis.was));
+        if call.reply == Some(false) && call.operation == operation {
             return put_returned(out, call, true);
         }
     }
@@ -92,12 +89,6 @@ pub(crate) fn put_headline(out: &mut String, diagnosis: &Diagnosis) -> Result<()
     }
 }
 
-/// Writes a count with its noun.
-fn put_count(out: &mut String, count: u64, one: &str, many: &str) -> Result<(), AllocError> {
-    let noun = if count == 1 { one } else { many };
-    write!(out, "{count} {noun}")
-}
-
 /// Returns the phrase for an operation's answers.
 fn answers_word(operation: Operation) -> &'static str {
     match operation {
@@ -107,7 +98,7 @@ fn answers_word(operation: Operation) -> &'static str {
     }
 }
 
-/// Writes what no answer of the faulty operation did, if all wrong answers are known.
+/// Writes that no answer was wrong in the other way, if all wrong answers are known.
 fn put_never(out: &mut String, odd: &Odd, what: &str) -> Result<(), AllocError> {
     if odd.is_exact {
         write!(out, ", and never {what}")?;
@@ -152,23 +143,30 @@ fn put_odd(out: &mut String, odd: &Odd) -> Result<(), AllocError> {
     out.push_str("\n")
 }
 
-/// Writes how many contradictions of a kind there are, unless there are none.
-fn put_kind(out: &mut String, kind: &str, count: u64) -> Result<(), AllocError> {
-    if count > 0 {
-        write!(out, "; {kind}: {count}")?;
+/// Writes how many contradictions of each kind there are. The numbers add up to the number of contradictions.
+fn put_kinds(out: &mut String, tally: &Tally) -> Result<(), AllocError> {
+    let kinds = [
+        (tally.lost, "where a key was lost"),
+        (tally.came_back, "where a key came back"),
+        (tally.both_adds, "with two adds that both returned true"),
+        (
+            tally.both_removes,
+            "with two removes that both returned true",
+        ),
+        (
+            tally.missed.saturating_add(tally.found),
+            "with one wrong answer",
+        ),
+        (tally.others, "of no such kind"),
+    ];
+    let mut mark = ": ";
+    for (count, kind) in kinds {
+        if count > 0 {
+            write!(out, "{mark}{count} {kind}")?;
+            mark = " + ";
+        }
     }
     Ok(())
-}
-
-/// Writes how many contradictions of each kind there are.
-fn put_kinds(out: &mut String, tally: &Tally) -> Result<(), AllocError> {
-    put_kind(out, "lost", tally.lost)?;
-    put_kind(out, "came back", tally.came_back)?;
-    put_kind(out, "two adds true", tally.both_adds)?;
-    put_kind(out, "two removes true", tally.both_removes)?;
-    let replies = tally.missed.saturating_add(tally.found);
-    put_kind(out, "one wrong answer", replies)?;
-    put_kind(out, "none of these", tally.others)
 }
 
 /// Returns the words for the symptom of a contradiction in a list of a few.
@@ -184,10 +182,8 @@ fn symptom_text(symptom: Symptom) -> &'static str {
     }
 }
 
-/// Writes each of a few contradictions: the key, the symptom, and the time. `is_all` says that there are no others.
-fn put_few(out: &mut String, few: &[Place], is_all: bool) -> Result<(), AllocError> {
-    out.push_str(if is_all { "" } else { "at least " })?;
-    put_count(out, places_len(few), "contradiction", "contradictions")?;
+/// Writes each of a few contradictions: the key, the symptom, and the time.
+fn put_few(out: &mut String, few: &[Place]) -> Result<(), AllocError> {
     let mut mark = ":";
     for place in few {
         let (key, since, symptom) = (place.key, place.clash.begun(), symptom_text(place.symptom));
@@ -202,35 +198,27 @@ fn put_few(out: &mut String, few: &[Place], is_all: bool) -> Result<(), AllocErr
     out.push_str("\n")
 }
 
-/// Returns the number of places.
-fn places_len(places: &[Place]) -> u64 {
-    u64::try_from(places.len()).unwrap_or(u64::MAX)
-}
-
-/// From this number of contradictions on there can be more of them.
-const MOST_PLACES: u64 = 20_000;
-
-/// Writes the number of contradictions, of keys, and of each kind.
+/// Writes the number of contradictions, of keys, and of each kind, and how many changes the recording has. Further
+/// contradictions can overlap those that are counted.
 fn put_tally(out: &mut String, diagnosis: &Diagnosis) -> Result<(), AllocError> {
-    let tally = &diagnosis.evidence.tally;
+    let evidence = &diagnosis.evidence;
+    let tally = &evidence.tally;
     if tally.places == 0 {
         return Ok(());
     }
+    let (count, mark) = (tally.places, if tally.places == 1 { "" } else { "s" });
+    write!(out, "at least {count} contradiction{mark}")?;
     if !diagnosis.few.is_empty() {
-        return put_few(out, &diagnosis.few, tally.unplaced == 0);
-    }
-    let (keys, all) = (tally.keys, diagnosis.evidence.keys);
-    let is_capped = tally.places >= MOST_PLACES;
-    let is_least = is_capped || tally.unplaced > 0;
-    out.push_str(if is_least { "at least " } else { "" })?;
-    put_count(out, tally.places, "contradiction", "contradictions")?;
-    if keys < all && !is_capped {
-        write!(out, " of {keys} of {all} keys")?;
-    } else if keys > 1 && !is_capped {
-        write!(out, " of all {keys} keys")?;
+        return put_few(out, &diagnosis.few);
     }
     put_kinds(out, tally)?;
-    out.push_str("\n")
+    let (keys, all) = (tally.keys, evidence.keys);
+    let (adds, removes) = (tally.followed_adds, tally.followed_removes);
+    let (lost, kept) = (tally.unseen_adds, tally.unseen_removes);
+    writeln!(
+        out,
+        "\n{keys} of {all} keys are hit: the next call did not see {lost} of {adds} adds and {kept} of {removes} removes that returned true (counted if no opposite change ran meanwhile)"
+    )
 }
 
 /// Writes how many calls of each operation found the key present and absent.
@@ -269,18 +257,20 @@ fn put_apart(out: &mut String, tally: &Tally) -> Result<(), AllocError> {
     )
 }
 
-/// Writes how often another key was changed at losses and returns, and how often a call that returned false can have
-/// made the change.
+/// Writes how many losses and returns overlap a change of another key, and the share at other times.
 fn put_gone_beside(out: &mut String, tally: &Tally) -> Result<(), AllocError> {
-    let (beside, timed) = (tally.beside, tally.timed());
-    let (silent, gone) = (tally.silent, tally.gone());
-    let (added, removed) = (tally.added, tally.removed);
+    let (beside, timed, usual) = (tally.beside, tally.timed(), tally.usual);
+    let (together, usually) = (tally.together, tally.usually_together);
     if timed == 0 {
         return Ok(());
     }
     writeln!(
         out,
-        "at {beside} of {timed} losses and returns another key was changed (by an add at {added}, by a remove at {removed}), at {silent} of {gone} a call that returned false can have done it"
+        "of {timed} losses and returns that calls show, {beside} overlapped a change of another key (of 100 other times: {usual})"
+    )?;
+    writeln!(
+        out,
+        "at {together} of {timed} losses and returns another key was lost or came back at the same time (of 100 other times: {usually})"
     )
 }
 
@@ -313,13 +303,19 @@ fn put_around(out: &mut String, odd: &Odd) -> Result<(), AllocError> {
     if odd.wrong == 1 {
         return put_around_one(out, odd);
     }
-    let (adds, removes) = (odd.same_adds, odd.same_removes);
-    let other = odd.active.saturating_sub(odd.same);
+    let (same, other) = (odd.same, odd.active.saturating_sub(odd.same));
     let none = odd.wrong.saturating_sub(odd.active);
-    writeln!(
+    write!(
         out,
-        "an add of the key ran during {adds} of them, a remove of the key during {removes}, only changes of other keys that returned true during {other}, none of these during {none}"
+        "{same} of them overlapped another add or remove of their key, {other} only changes of other keys, {none} none of these"
     )?;
+    if odd.wrong < odd.of {
+        let same = odd.usually_same;
+        let other = odd.usually_active.saturating_sub(same);
+        let none = 100u64.saturating_sub(odd.usually_active);
+        write!(out, " (of 100 other answers: {same}, {other}, {none})")?;
+    }
+    out.push_str("\n")?;
     put_unseen(out, odd)?;
     let (right, wrong, word) = (odd.then_right, odd.then_wrong, odd.operation.word());
     if odd.is_exact && right.saturating_add(wrong) > 0 {
@@ -343,15 +339,10 @@ fn put_unseen(out: &mut String, odd: &Odd) -> Result<(), AllocError> {
     )
 }
 
-/// Writes that the picture shows another contradiction than the verdict, if it does.
-fn put_first(out: &mut String, diagnosis: &Diagnosis) -> Result<(), AllocError> {
-    let (key, moment) = (diagnosis.first_key, diagnosis.first_moment);
-    let is_first = diagnosis.is_first || diagnosis.shown.is_empty();
-    if !is_first && moment < diagnosis.until && moment < NEVER {
-        writeln!(
-            out,
-            "headline and picture are of a contradiction that ends later than the first one (key {key}, moment {moment})"
-        )?;
+/// Writes a line if headline and picture are about another contradiction than the verdict.
+pub(crate) fn put_first(out: &mut String, diagnosis: &Diagnosis) -> Result<(), AllocError> {
+    if diagnosis.is_example() {
+        out.push_str("headline and picture are of another contradiction than the verdict\n")?;
     }
     Ok(())
 }
@@ -378,7 +369,7 @@ fn answers_cause_text(cause: Cause) -> &'static str {
         Cause::ThreadCache =>
             "contains reads a cache of its thread, which changes by other threads do not update",
         Cause::MovedKeys =>
-            "contains walks while other calls move its key (an array, a swap, a flush, a half moved bucket), and does not look again",
+            "the search walks while other calls move its key (an array, a swap, a flush, a half moved bucket), and does not look again",
         Cause::LateCopy =>
             "contains reads a copy that is updated after add and remove return (a cache, a replica)",
         Cause::OneKey => "a hash, a comparison, a filter or a limit treats a key unlike others",
@@ -420,7 +411,7 @@ pub(crate) fn cause_text(cause: Cause) -> &'static str {
         Cause::FirstUse =>
             "two first calls each create the same thing (a bucket, a node, a table), and one is lost",
         Cause::GoesOn =>
-            "remove continues to write after its effect (it unlinks or clears), and undoes an add",
+            "a remove undoes an add that overlaps it (it unlinks or clears after its effect, a helper repeats it, or the two cancel each other)",
         Cause::EarlierLook =>
             "the reply does not come from the change itself (from an earlier look, from a size)",
         Cause::MadeAgain =>
@@ -457,6 +448,14 @@ pub(crate) fn cause_text(cause: Cause) -> &'static str {
             "calls are mixed up: a call returns the reply of another call, or is carried out with its key (a combiner, a batch, a shared record)",
         Cause::OtherCall =>
             "a call is carried out with the key of another call (a combiner or a shared record that is read too late)",
+        Cause::EffectLate =>
+            "changes take effect only after their calls have returned (a queue, a worker, a late write)",
+        Cause::Cancelled =>
+            "an add and a remove of different keys cancel each other (an elimination slot that does not compare keys)",
+        Cause::AddUndone =>
+            "add returns false although it has inserted the key (a failed check without an undo, a second attempt)",
+        Cause::RemovedLater =>
+            "a remove deletes the key late or again, and takes out a newer add (a queue of deletions, a helper, an unlink)",
         Cause::OldLink =>
             "a link is written without a check that it is current (an insert behind an unlinked node, a head stored over another)",
         Cause::Unlinked =>
@@ -471,7 +470,6 @@ pub(crate) fn cause_text(cause: Cause) -> &'static str {
 
 /// Writes the scope and the duration.
 pub(crate) fn put_known(out: &mut String, diagnosis: &Diagnosis) -> Result<(), AllocError> {
-    put_first(out, diagnosis)?;
     match &diagnosis.evidence.odd {
         Some(odd) => {
             put_odd(out, odd)?;
