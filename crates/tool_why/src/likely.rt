@@ -401,8 +401,11 @@ fn is_of_other_key(tally: &Tally) -> bool {
 
 /// Returns the likely cause if changes do not take effect when their calls run: late, together with another call, or
 /// although the call returned false.
-fn cause_of_effects(tally: &Tally) -> Option<Cause> {
+fn cause_of_effects(evidence: &Evidence) -> Option<Cause> {
+    let tally = &evidence.tally;
     let (gone, lost) = (tally.gone(), tally.lost);
+    // (of refused keys with few calls many adds are unseen by choice)
+    let calls = evidence.calls.checked_div(evidence.keys).unwrap_or(0);
     let is_late = is_share(tally.unseen_adds, tally.followed_adds, 25)
         || is_share(tally.unseen_removes, tally.followed_removes, 25);
     let many_unseen = tally.unseen_adds.max(tally.unseen_removes) >= 8 * ENOUGH;
@@ -416,7 +419,7 @@ fn cause_of_effects(tally: &Tally) -> Option<Cause> {
     let is_only_lost = tally.came_back == 0
         && tally.both().saturating_mul(20) <= tally.places
         && !is_share(tally.crossed, lost, 60);
-    if is_late && many_unseen {
+    if is_late && many_unseen && calls >= MANY_CALLS {
         Some(Cause::EffectLate)
     } else if tally.swapped >= ENOUGH && is_pair && is_beside {
         Some(Cause::Cancelled)
@@ -690,7 +693,7 @@ pub(crate) fn likely(evidence: &Evidence) -> Option<Cause> {
         return Some(Cause::TwoPlaces);
     }
     let tally = &evidence.tally;
-    let effect = cause_of_effects(tally);
+    let effect = cause_of_effects(evidence);
     if effect.is_some() {
         return effect;
     }
