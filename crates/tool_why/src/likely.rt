@@ -415,7 +415,9 @@ fn cause_of_effects(evidence: &Evidence) -> Option<Cause> {
     let is_only_back = lost == 0 && tally.both().saturating_mul(20) <= tally.places;
     let usually_soon = tally.adds_soon.saturating_mul(100);
     let usually_soon = usually_soon.checked_div(tally.adds).unwrap_or(0);
-    let is_after = is_with(tally.soon, tally.placed, usually_soon);
+    let is_clear = tally.placed >= 20 * ENOUGH;
+    let least = usually_soon.saturating_add(if is_clear { 12 } else { 20 });
+    let is_after = is_share(tally.soon, tally.placed, least);
     let is_only_lost = tally.came_back == 0
         && tally.both().saturating_mul(20) <= tally.places
         && !is_share(tally.crossed, lost, 60);
