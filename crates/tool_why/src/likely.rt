@@ -404,7 +404,7 @@ fn is_of_other_key(tally: &Tally) -> bool {
 fn cause_of_effects(evidence: &Evidence) -> Option<Cause> {
     let tally = &evidence.tally;
     let (gone, lost) = (tally.gone(), tally.lost);
-    // (of refused keys with few calls many adds are unseen by choice)
+    // (a key with few calls is refused because of a single unseen change, which is then a large share)
     let calls = evidence.calls.checked_div(evidence.keys).unwrap_or(0);
     let is_late = is_share(tally.unseen_adds, tally.followed_adds, 25)
         || is_share(tally.unseen_removes, tally.followed_removes, 25);
