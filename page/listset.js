@@ -699,7 +699,7 @@ async function main(given) {
   const engine = words.isBuilt || isOther ? null : await startedEngine(readForEngine);
   if (engine !== null) return write(answerOrTrouble(engine, words), hintOn(engine, words));
   const instead = words.name === "run" ? asCalled(". To see random calls in Node, step by step: listset gen lazy 2 4 9 5 1 | listset replay") : "";
-  const why = words.isBuilt ? `${words.name} needs a built program, which Node does not have (README.md, "Try it")${instead}` : NOT_RUN;
+  const why = words.isBuilt ? `${words.name} needs a built program, which Node does not have. The script ./listset builds one with the command rt of the Rattle toolchain (README.md, "Try it")${instead}` : NOT_RUN;
   if (process.env.LISTSET_ENGINE === undefined) process.stderr.write(`listset: ${why}\n`);
   process.exitCode = NO_ENGINE;
 }
