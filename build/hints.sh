@@ -274,7 +274,7 @@ print_shortening() {
   [ "$1" != draft ] || text=draft
   case "$1" in
     check) echo "For a report of fewer calls, shorten its schedule: .. | head -n 1000 | listset replay | listset check" ;;
-    serve) echo "A set opens with at most 1048576 keys" ;;
+    serve) echo "A set opens with at most 1048576 keys. To keep the first ones: .. | grep -m 1048576 '^key' | listset serve .." ;;
     *) echo "To let $1 read the first 1000 lines of a $text alone: .. | head -n 1000 | listset $1" ;;
   esac
 }
