@@ -37,23 +37,19 @@ print_file() {
 
 # Prints a file name as it should be typed on a command line.
 quoted() {
-  local name=$1
+  local name=$1 LC_ALL=C # (a file name is a sequence of bytes)
   case "$name" in -*) name=./$name ;; esac
   case "$name" in
-    *[!A-Za-z0-9_./+:=@%,-]*) printf "'%s'" "${name//\'/\'\\\'\'}" ;;
+    "" | *[!A-Za-z0-9_./+:=@%,$'\200'-$'\377'-]*) printf "'%s'" "${name//\'/\'\\\'\'}" ;;
     *) printf '%s' "$name" ;;
   esac
 }
 
 # Prints the output of the command explain for a file.
 explain_file() {
-  local said
-  if [ -f "$1" ] && [ -r "$1" ]; then
-    said=$("${engine[@]}" explain 2>/dev/null <"$1") || true
-    printf '%s' "${said//FILE/"$(quoted "$1")"}"
-  else
-    "${engine[@]}" explain -- "$1" 2>/dev/null || true
-  fi
+  local name=$1
+  [ "$name" != - ] || name=./-
+  "${engine[@]}" explain -- "$name" 2>/dev/null || true
 }
 
 # Prints the commands that read a file. $2 is the first line of the explanation of the file, and contains the file's kind.
@@ -149,7 +145,7 @@ explain_long() {
   why=${why#"$cause"}
   why=$(sed 's/^ *//; s/ *$//' <<<"${why//FILE/$(quoted "$file")}")
   if [ "$cause" = NotEnded ] && is_end_long "$file"; then
-    why="The line has more than the 128 bytes that a line can have, and no newline at its end. Write the title and each call in a line of its own, which ends with LF. If another sign is between the calls, such as a semicolon: tr ';' '\n' < $(quoted "$file") > NEW"
+    why="The line has more than the 128 bytes that a line can have, and no newline at its end. Write the title and each call in a line of its own, which ends with LF. If another sign is between the calls, such as a semicolon: tr ';' '\n' < $(quoted "$file") > $(quoted "$file").new"
   fi
   [ -z "$line" ] || why="Line $number is '$line'. $why"
   echo "$why"
@@ -272,6 +268,17 @@ explain_unwritten() {
   fi
 }
 
+# Explains how a command can read a part of a standard input that is too long. (A part of a report is no report.)
+print_shortening() {
+  local text=schedule
+  [ "$1" != draft ] || text=draft
+  case "$1" in
+    check) echo "For a report of fewer calls, shorten its schedule: .. | head -n 1000 | listset replay | listset check" ;;
+    serve) echo "A set opens with at most 1048576 keys. To keep the first ones: .. | grep -m 1048576 '^key' | listset serve .." ;;
+    *) echo "To let $1 read the first 1000 lines of a $text alone: .. | head -n 1000 | listset $1" ;;
+  esac
+}
+
 # Explains an input that is longer than the command accepts.
 explain_too_long() {
   local command=$1 file
@@ -281,7 +288,7 @@ explain_too_long() {
   elif [ "$command" = judge ]; then
     echo "Only a recording can have more than 67108864 bytes: line 1 must be 'listset-calls 1', and no line has more than 128 bytes"
   else
-    echo "Standard input has more than 67108864 bytes, and only judge reads more. To let $command read the first lines alone: .. | head -n 1000 | listset $command"
+    echo "Standard input has more than 67108864 bytes, and only judge reads more. $(print_shortening "$command")"
   fi
 }
 
@@ -524,8 +531,6 @@ print_as_called() {
   [ "$called" = listset ] || for it in replay judge check show trace draft example gen run serve faults explain help --help --version; do
     text=${text//"listset $it"/"$called $it"}
   done
-  # (a command must not write to the file NEW that it reads)
-  [[ ! $text =~ [^\>]\ NEW[\ \;\)] ]] || text=$(sed -E 's/([^>])> NEW/\1> NEWER/g' <<<"$text")
   [ -z "$text" ] || printf '%s\n' "$text"
 }
 

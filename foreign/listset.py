@@ -271,7 +271,8 @@ def _number(given, what="key"):
     try:
         number = operator.index(given)
     except TypeError:
-        raise TypeError(f"the {what} is an integer, and {given!r} is of type {type(given).__name__}") from None
+        span = f" from 0 to {GREATEST}" if what == "key" else ""
+        raise TypeError(f"the {what} must be an integer{span}, and {given!r} is of type {type(given).__name__}") from None
     if not 0 <= number <= GREATEST:
         raise ValueError(f"the {what} {number} is not in the range 0 to {GREATEST}")
     return number
@@ -279,7 +280,7 @@ def _number(given, what="key"):
 
 def _list(kind):
     if kind not in LISTS:
-        raise ValueError(f"there is no list {kind!r}: the lists are {', '.join(LISTS)}")
+        raise ValueError(f"there is no list {kind!r}: the lists are {', '.join(LISTS)}, as in listset.open('lazy', 2, 1000)")
     return kind
 
 
@@ -440,9 +441,9 @@ def most_reads(seats, quota, keys=0):
 
 def open_set(kind, seats, quota, keys=()):
     """Opens a set with keys in strictly increasing order. Returns a seat that contains all other seats."""
-    made, keys = Seat(), list(keys)
+    made, keys, index = Seat(), list(keys), LISTS.index(_list(kind))
     sizes = _number(seats, "number of seats"), _number(quota, "quota"), next(_NUMBERS)
-    _told(_OPEN(LISTS.index(_list(kind)), *sizes, _keys(keys), len(keys), made.raw))
+    _told(_OPEN(index, *sizes, _keys(keys), len(keys), made.raw))
     return made
 
 

@@ -8,6 +8,7 @@ import lzma
 import os
 import random
 import re
+import shlex
 import shutil
 
 import pytest
@@ -40,7 +41,7 @@ ROWS = {
     "packed by zip": ("judge", b"PK\x03\x04\n", "line 1: Header", ["packed by zip", "unzip -p FILE"]),
     "another version": ("judge", RIGHT_CALLS.replace("calls 1", "calls 2"), "line 1: Header", ["'listset-calls 2' is no title that this version reads", "listset-calls 1"]),
     "a title in capitals": ("replay", RIGHT.replace("listset", "Listset"), "line 1: Header", ["'Listset-schedule 1' is no title that this version reads", "in lower case"]),
-    "CR alone": (None, RIGHT_CALLS.replace("\n", "\r"), None, ["CR before its end", r"tr '\r' '\n' < FILE > NEW"]),
+    "CR alone": (None, RIGHT_CALLS.replace("\n", "\r"), None, ["CR before its end", r"tr '\r' '\n' < FILE > FILE.new"]),
     "commas": ("judge", CALLS + ADD.replace(" ", ",") + "end\n", "line 2: Line", ["commas", "sed -i 's/,/ /g' FILE"]),
     "capitals": ("judge", CALLS + ADD.upper() + "end\n", "line 2: Line", ["lower case", r"sed -i 's/.*/\L&/' FILE"]),
     "a recording for replay": ("replay", RIGHT_CALLS, "line 1: Header", ["recorded calls", "listset judge FILE"]),
@@ -64,7 +65,8 @@ ROWS = {
     "no such thread": ("replay", SCHEDULE + "begin 2 add 5\n", "line 5: NoThread", ["no thread 2", "threads 2", "from 0 to 1"]),
     "second begin": ("replay", SCHEDULE + "begin 0 add 5\nbegin 0 add 6\n", "line 6: Busy", ["Thread 0", "since line 5", "add the line 'go 0 11' above"]),
     "second begin of a draft": ("draft", DRAFT + "begin 0 add 5\nbegin 0 add 6\n", "line 6: Busy", ["since line 5", "add the line 'go 0 out' above"]),
-    "second begin while a lock is held": ("replay", SCHEDULE + "begin 0 add 5\ngo 0 5\nbegin 1 add 5\ngo 1 3\nbegin 1 add 6\n", "line 9: Busy", ["since line 7", "by a line 'go 1 STEPS'"]),
+    "second begin while a lock is held": ("replay", SCHEDULE + "begin 0 add 5\ngo 0 5\nbegin 1 add 5\ngo 1 3\nbegin 1 add 6\n", "line 9: Busy", ["since line 7", "waits for head.lock, which thread 0 holds", "add the lines 'go 0 6' and 'go 1 13' above"]),
+    "second begin of a draft while a lock is held": ("draft", DRAFT + "begin 0 add 5\ngo 0 2\nbegin 1 add 7\ngo 1 1\nbegin 1 add 6\n", "line 9: Busy", ["waits for list.lock, which thread 0 holds", "add the lines 'go 0 out' and 'go 1 out' above"]),
     "step without a call": ("replay", SCHEDULE + "go 0 1\n", "line 5: Idle", ["Thread 0 has begun no call", "begin 0 add 5"]),
     "one step too many": ("replay", SCHEDULE + "begin 0 add 5\ngo 0 12\n", "line 6: Idle", ["line 5 ends after 11 steps", "Write 'go 0 11'"]),
     "step after the end": ("replay", RIGHT + "go 0 1\n", "line 7: Idle", ["no pending call", "line 5 has ended"]),
@@ -77,7 +79,7 @@ ROWS = {
     "no such row": ("draft", DRAFT + "begin 0 add 5\ngo 0 to 9\n", "line 6: Idle", ["line 5 ends after 7 steps", "Write 'go 0 7'"]),
     "a row that is missing": ("draft", DRAFT + "begin 0 add 5\ngo 0 to\n", "line 6: Number", ["row is missing", "'go 0 to 4'"]),
     "a number that is missing in a draft": ("draft", DRAFT + "begin 0 add 5\ngo 0\n", "line 6: Event", ["'go THREAD out'", "'go THREAD to ROW'"]),
-    "too many events": ("replay", SCHEDULE + "begin 0 add 5\n" + "go 0 10000\n" * 100, "line 105: TooMany", ["head -n 104 FILE > NEW"]),
+    "too many events": ("replay", SCHEDULE + "begin 0 add 5\n" + "go 0 10000\n" * 100, "line 105: TooMany", ["head -n 104 FILE > FILE.new"]),
     "True": ("judge", CALLS + "call 0 add 5 1 4 True\nend\n", "line 2: Line", ["'True' is no reply", "true or false"]),
     "1 as a reply": ("judge", CALLS + "call 0 add 5 1 4 1\nend\n", "line 2: Line", ["'1' is no reply"]),
     "insert in a recording": ("judge", CALLS + "call 0 insert 5 1 4 true\nend\n", "line 2: Line", ["'insert' is no call", "Leave out lines of other calls"]),
@@ -95,7 +97,7 @@ ROWS = {
     "a key abc": ("judge", CALLS + "call 0 add abc 1 4 true\nend\n", "line 2: Number", ["KEY 'abc'", "from 0 to 4294967295", "a number of its own for each key"]),
     "a thread main": ("judge", CALLS + "call main add 5 1 4 true\nend\n", "line 2: Number", ["THREAD 'main'", "Number the threads"]),
     "no end": ("judge", CALLS + ADD, "line 3: NotEnded", ["stops after line 2, without final keys", "echo end >> FILE", "echo cut >> FILE"]),
-    "no end after final keys": ("judge", CALLS + ADD + "key 5\n", "line 4: NotEnded", ["stops after line 3, a final key", "echo end >> FILE", "(grep -v '^key' FILE; echo cut) > NEW"]),
+    "no end after final keys": ("judge", CALLS + ADD + "key 5\n", "line 4: NotEnded", ["stops after line 3, a final key", "echo end >> FILE", "(grep -v '^key' FILE; echo cut) > FILE.new"]),
     "no newlines": ("judge", CALLS + ADD[:-1] * 9, "line 2: NotEnded", ["no newline", "more than the 128 bytes", "a line of its own"]),
     "keys do not increase": ("judge", CALLS + ADD + "key 7\nkey 5\nend\n", "line 4: Opening", ["'key 5' comes after 'key 7'", "increase"]),
     "a line after the end": ("judge", RIGHT_CALLS + "\n", "line 5: Line", ["is empty"]),
@@ -107,7 +109,7 @@ ROWS = {
     "a report that is cut off": ("check", RIGHT_REPORT[:-4], "line 8: NotEnded", ["stops after line 7", "'end'"]),
     "keys": (None, "key 5\nkey 7\nkey 6\n", "line 3: Opening", ["'key 6' comes after 'key 7'", "sort -u -n -k 2,2"]),
     "a comment above the title": (None, "# a run\n" + RIGHT, None, ["no comments", "sed -i '1d' FILE"]),
-    "keys after the lines of a server": (None, "listening 127.0.0.1:1\nsessions 3\ncalls 9\nkey 5\nkey 5\n", "line 5: Opening", ["grep '^key' FILE | sort -u -n -k 2,2 > NEW"]),
+    "keys after the lines of a server": (None, "listening 127.0.0.1:1\nsessions 3\ncalls 9\nkey 5\nkey 5\n", "line 5: Opening", ["grep '^key' FILE | sort -u -n -k 2,2 > FILE.new"]),
     "lines of a server in another order": (None, "calls 9\nsessions 3\nkey 5\n", "line 2: Line", ["must be 'key K'"]),
     "opening keys of a schedule": ("replay", SCHEDULE.replace("schedule 1", "schedule 2") + "opening 7\nopening 5\nbegin 0 add 5\n", "line 6: Opening", ["head -n 4 FILE"]),
     "opening keys of a recording": ("judge", CALLS + "opening 7\nopening 5\n" + ADD + "cut\n", "line 3: Opening", ["grep '^opening' FILE | sort"]),
@@ -146,8 +148,63 @@ def test_a_command_in_an_explanation_corrects_the_line(program, room, name):
         return
     done = ran("sh", "-c", found[0].split(";")[0] if found[0].startswith("echo") else found[0], cwd=room, env={**os.environ, "PATH": f"{room}:{os.environ['PATH']}"})
     assert done.stderr == "", (found[0], done)
-    after = well(program, "explain", "NEW" if (room / "NEW").exists() else "FILE", cwd=room)
+    new = room / "FILE.new"
+    assert not new.exists() or (room / "FILE").read_bytes() == (text if isinstance(text, bytes) else text.encode())
+    after = well(program, "explain", "FILE.new" if new.exists() else "FILE", cwd=room)
     assert ("listset judge" in found[0] and done.stdout.startswith(("ok ", "not linearizable"))) or error_in(after) != error_in(before), (found[0], after)
+
+
+# Matches the file to which a command writes its output
+WRITTEN = re.compile(r"(?<!>)> *((?:'[^']*'|\\'|[^\s;'>)])+)")
+
+
+def files_written(program, room, file, text, size=0):
+    """Returns the files to which the commands write that explain prints for a file with this text. The file is extended to
+    `size` bytes.
+    """
+    (room / file).write_bytes(text if isinstance(text, bytes) else text.encode())
+    os.truncate(room / file, max(size, (room / file).stat().st_size))
+    said = re.sub("awk '[^']*'", "awk", well(program, "explain", "--", file, cwd=room).splitlines()[-1])
+    return [os.path.normpath(shlex.split(it)[0]) for it in WRITTEN.findall(said)]
+
+
+@pytest.mark.parametrize("file", ["FILE", "NEW", "FILE.new", "a b", "it's", "-x"])
+def test_no_command_in_an_explanation_writes_to_the_file_that_it_reads(program, room, file):
+    written = [it for _, text, *_ in ROWS.values() for it in files_written(program, room, file, text)]
+    assert len(written) > 10 and {*written} == {f"{file}.new"}
+
+
+def test_no_command_for_a_long_text_writes_to_the_file_that_it_reads(program, room):
+    for title in ("listset-schedule 1", "listset-draft 2", "listset-report 1", "key 5"):
+        assert files_written(program, room, "a b", f"{title}\n", 67_108_865) == ["a b.new"]
+    for title in ("listset-trace 1", "listset-calls 1", "x"):
+        assert files_written(program, room, "a b", f"{title}\n", 67_108_865) == []
+
+
+def test_a_long_schedule_is_shortened_to_whole_lines(program, room):
+    (room / "FILE").write_text(SCHEDULE + "begin 0 contains 4294967295\ngo 0 2\n" * 2_000_000)
+    said = well(program, "explain", "FILE", cwd=room)
+    well("sh", "-c", said[said.index("awk ") :], cwd=room)
+    assert well(program, "replay", "FILE.new", cwd=room).endswith("\nend\n")
+    assert (room / "FILE.new").read_text() == SCHEDULE + "begin 0 contains 4294967295\ngo 0 2\n" * 333_333 + "begin 0 contains 4294967295\n"
+
+
+def test_the_lines_that_end_a_pending_call_end_it(program, room, few):
+    """Tests random positions of two threads. Thread 1 begins a second call. The lines that the explanation adds must end its
+    first call, also if this call waits for a lock.
+    """
+    dice, waited = random.Random(13), 0
+    for _ in range(20 if few else 100):
+        title, kind = dice.choice(["listset-schedule 1", "listset-draft 2"]), dice.choice(["coarse", "fine", "optimistic", "lazy", "lock-free"])
+        above = f"{title}\nlist {kind}\nthreads 2\nquota 4\nbegin 0 add 5\ngo 0 {dice.randrange(1, 6)}\nbegin 1 {dice.choice(['add', 'remove', 'contains'])} 5\ngo 1 1\n"
+        (room / "FILE").write_text(above + "begin 1 add 6\n")
+        said = well(program, "explain", "FILE", cwd=room).splitlines()[-1]
+        added = re.findall(r"'(go [01] (?:\d+|out))'", said)
+        waited += "waits for" in said
+        assert added, said
+        (room / "FILE").write_text(above + "".join(f"{it}\n" for it in added) + "begin 1 add 6\n")
+        assert "no line has an error" in well(program, "explain", "FILE", cwd=room), (above, said)
+    assert waited > 3
 
 
 def error_in(explanation):

@@ -93,8 +93,11 @@ AT_TERMINAL = {
 }
 
 
-def at_terminal(words, cwd, typed=None, env=None):
-    """Returns the text that a command prints at a terminal, and its exit status. `typed` is its standard input."""
+def at_terminal(words, cwd, typed=None, env=None, at=(None, None)):
+    """Returns the text that a command prints at a terminal, and its exit status. `typed` is its standard input. `at` is a text,
+    and a function that is called with the output when the text has been printed.
+    """
+    text, call = at
     ours, theirs = pty.openpty()
     stdin = theirs if typed else subprocess.DEVNULL
     running = subprocess.Popen(words, cwd=cwd, stdin=stdin, stdout=theirs, stderr=theirs, env=env)
@@ -109,6 +112,8 @@ def at_terminal(words, cwd, typed=None, env=None):
         if not piece:
             break
         said += piece
+        if text and text in said:
+            text = call(said.decode())
     os.close(ours)
     return running.wait(timeout=SECONDS), said.decode().replace("\r\n", "\n")
 
@@ -202,7 +207,7 @@ def test_a_file_without_the_right_to_read_it_is_explained(script):
 
 
 def test_a_long_input_is_explained(script):
-    for name, text, use in (("a.schedule", SCHEDULE, "head -n 1000004 a.schedule > NEW"), ("a.report", RIGHT_REPORT, "shorten its schedule"), ("half", "x\n", "head -c 1000 half > NEW")):
+    for name, text, use in (("a.schedule", SCHEDULE, "exit; print }' a.schedule > a.schedule.new\n"), ("a.report", RIGHT_REPORT, "A part of a report is no report"), ("half", "x\n", ": head -c 1000 half\n"), ("empty", "key 5\n", "'^key' empty > empty.new\n")):
         (script / name).write_text(text)
         os.truncate(script / name, 67_108_865)
         _, said = at_terminal(["./listset", "show", name], script)
@@ -285,12 +290,23 @@ def test_a_terminal_shows_what_a_command_reads(script, words):
     assert f"listset: reading {READ[words]} from the terminal, up to Ctrl-D (see listset help {words.split()[0]})\n" in said, said
 
 
-def test_what_clients_write_is_shown_at_a_terminal(script):
+def test_what_clients_write_is_shown_when_the_server_listens(script):
+    (script / "keys").write_text("key 5\n")
+    words, answers = ["./listset", "serve", "lazy", "1", "4", "0", "1"], []
+
+    def ask(said):
+        note = r"listening 127\.0\.0\.1:(\d+)\r\nlistset: a client writes lines such as ADD 7, .*: nc -N 127\.0\.0\.1 (\d+) .* After session 1 the server ends, and later connections are refused"
+        port, same = re.match(note, said).groups()
+        assert port == same
+        with socket.create_connection(("127.0.0.1", int(port)), SECONDS) as client:
+            client.sendall(b"CEILING 4\nadd 7\nQUIT\n")
+            answers.append(client.makefile().read())
+
+    status, said = at_terminal([*words, "keys"], script, at=(b"are refused", ask))
+    assert (status, answers) == (0, ["AT 5\nBAD\nBYE\n"]) and said.endswith("are refused\nsessions 1\ncalls 1\nkey 5\n"), said
     (script / "keys").write_text("key 5\nkey 3\n")
-    words = ["./listset", "serve", "lazy", "1", "4", "0", "2", "keys"]
-    note = "listset: a client writes lines such as ADD 7, REMOVE 7, CONTAINS 7 and QUIT: nc -N 127.0.0.1 PORT (Debian's package netcat-openbsd). Any other line is answered by BAD (docs/TEXTS.md). After session 2 the server ends\n"
-    assert at_terminal(words, script)[1].startswith(note + "listset: line 2: Opening\n")
-    assert ran(*words, cwd=script).stderr == "listset: line 2: Opening\n"
+    assert at_terminal([*words, "keys"], script)[1].startswith("listset: line 2: Opening\n")
+    assert ran(*words, "keys", cwd=script).stderr == "listset: line 2: Opening\n"
 
 
 def test_the_size_of_a_long_recording_is_shown(script):

@@ -19,6 +19,8 @@ from harness.programs import LONG, SECONDS, TOP, comes, is_running, ran, wants, 
 
 BUILDING = "building the program once WITHOUT A PROOF"
 NO_NODE = "no program is built here, and Node is missing. Install Debian's package nodejs (18 or later), or put the folder bin of the Rattle toolchain in PATH"
+# Arguments that ask for a help text, each with the command of the transcripts that prints this text
+HELP = {"--help": "--help", "help": "--help", "-V": "--version", "help judge": "help judge", "judge --help": "help judge", "judge -h": "help judge"}
 # A small program. It prints, for each argument, the table entry for the argument's length, plus one. For the argument "show"
 # the addition overflows (255 + 1), and for "replay" the table has no entry.
 MAIN = """#![tactic(auto)]
@@ -95,8 +97,10 @@ def shown(command):
 
 def test_without_anything_the_script_says_what_to_install(room):
     clone = Clone(room)
-    for words in ("--help", "faults", "skip", "replay a", "--unproved example"):
+    for words in ("skip", "help skip", "replay a", "judge /a --help", "--unproved example"):
         wants(clone.ran("./listset", *words.split()), status=127, output="", tells=[NO_NODE])
+    for words, told in HELP.items():
+        assert wants(clone.ran("./listset", *words.split()), output=shown(told)).stderr == ""
     wants(clone.ran("./listset", "run", "lazy"), status=127, output="", tells=["run needs a built program, which only the command rt builds", "PATH"])
     wants(clone.ran("./listset", "--prove"), status=127, output="", tells=["rt, which proves the program, is missing", "PATH", "README.md"])
     (clone.path / "rt").symlink_to("/bin/true")
@@ -109,7 +113,7 @@ def test_without_anything_the_script_says_what_to_install(room):
 @pytest.mark.needs("node")
 def test_node_answers_at_once(room):
     clone, example = Clone(room, "node"), TOP / "examples/schedules/snip.schedule"
-    for words, told in {"--help": "--help", "help": "--help", "-V": "--version", "help judge": "help judge", "judge --help": "help judge"}.items():
+    for words, told in HELP.items():
         assert wants(clone.ran("./listset", *words.split()), output=shown(told)).stderr == ""
     for words, usage in {"skip": "listset [COMMAND]", "help skip": "listset [COMMAND]", "--no-such": "listset [COMMAND]", "judge a b": "listset judge [OPTIONS] [FILE]"}.items():
         said = wants(clone.ran("./listset", *words.split()), status=2, output="").stderr

@@ -80,11 +80,11 @@ def refusals():
     assert (7 in mine, 5 in split, split.discard(5)) == (True, False, None)
     mine.gather(split)
     assert mine.close() == [7, 9] and code(mine.add, 1) == code(mine.close) == code(other.gather, mine) == 255 and other.close() == []
-    lists = "the lists are coarse, fine, optimistic, lazy, lock-free"
+    lists = "the lists are coarse, fine, optimistic, lazy, lock-free, as in listset.open('lazy', 2, 1000)"
     assert raised(listset.open_set, "Lazy", 1, 1) == (ValueError, f"there is no list 'Lazy': {lists}")
-    assert raised(listset.open, 2, 1, 1) == (ValueError, f"there is no list 2: {lists}")
-    assert raised(listset.open, "lazy", "2", 1) == (TypeError, "the number of seats is an integer, and '2' is of type str")
-    assert raised(other.remove, "alice") == (TypeError, "the key is an integer, and 'alice' is of type str")
+    assert raised(listset.open, 2, "lazy", 1) == (ValueError, f"there is no list 2: {lists}")
+    assert raised(listset.open, "lazy", "2", 1) == (TypeError, "the number of seats must be an integer, and '2' is of type str")
+    assert raised(other.remove, "alice") == (TypeError, "the key must be an integer from 0 to 4294967295, and 'alice' is of type str")
     assert raised(listset.judge_text, 5) == (TypeError, "a text is str or bytes, and 5 is of type int")
     assert listset.open_set("lazy", 1, 1, iter([5, 9])).close() == [5, 9]
 

@@ -8,7 +8,7 @@ same-gap                  optimistic  two adds into one gap: the second sees the
 stale-pred                optimistic  pred is taken out after the walk: the second walk does not find it
 marked-in-chain           lazy        contains answers false, and the key's node is still in the chain
 marked-pred               lazy        pred is marked after the walk: its link gives it away
-read-in-anothers-step     lazy        contains stands in the step of the thread that removed its key
+read-in-anothers-step     lazy        contains takes effect in a step of the thread that removed its key
 ceiling-in-anothers-step  lazy        the answer of ceiling fits after steps of the other thread, and after none of its own
 opens-with-keys           lazy        two opening keys take no slot, and the remove of one gives none back
 two-removers              lock-free   two removes of one key: one marks, the other walks again and answers false

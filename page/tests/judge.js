@@ -79,7 +79,7 @@ function checkByHand(ask) {
     check(`no answer: ${word}`, answerOfWord(exercise, word) === null);
   }
   const early = verdictOn(ask, answerOfWord(exercise, "2-true,0-true,1-false,3-true")).says;
-  check(`told why: ${early}`, /cannot answer|stands before/.test(early));
+  check(`told why: ${early}`, /cannot answer|is ordered before/.test(early));
   const ceiling = exerciseOf(ask("listset_replay", ask("listset_example", "behind-the-walk").text).text, "replies");
   check("replies of a ceiling", repliesOf(ceiling, { operation: "ceiling" }).join() === "nothing,at-5,at-9");
 }

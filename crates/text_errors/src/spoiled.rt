@@ -17,7 +17,7 @@ pub fn put_encoding(out: &mut String, file: &str, text: &[u8]) -> Result<bool, A
         )?,
         [0xff, 0xfe, ..] | [0xfe, 0xff, ..] => writeln!(
             out,
-            "{file} is in UTF-16.\nThe text is in UTF-16. To turn it into ASCII: iconv -f UTF-16 -t UTF-8 {file} > NEW"
+            "{file} is in UTF-16.\nThe text is in UTF-16. To turn it into ASCII: iconv -f UTF-16 -t UTF-8 {file} > {file}.new"
         )?,
         [0xef, 0xbb, 0xbf, ..] => writeln!(
             out,
@@ -29,7 +29,7 @@ pub fn put_encoding(out: &mut String, file: &str, text: &[u8]) -> Result<bool, A
             };
             writeln!(
                 out,
-                "{file} is packed by {format}.\nThe text is packed. To unpack it: {unpack} {file} > NEW"
+                "{file} is packed by {format}.\nThe text is packed. To unpack it: {unpack} {file} > {file}.new"
             )?;
         }
     }
@@ -130,7 +130,7 @@ pub fn put_spoiled(out: &mut String, place: Place<'_>) -> Result<bool, AllocErro
     match place.line {
         line if has_inner_cr(line) => writeln!(
             out,
-            "The line has a CR before its end. If every line of the file ends with CR alone, to end each with LF: tr '\\r' '\\n' < {file} > NEW"
+            "The line has a CR before its end. If every line of the file ends with CR alone, to end each with LF: tr '\\r' '\\n' < {file} > {file}.new"
         )?,
         [.., b'\r'] => put_cr(out, file)?,
         [] => writeln!(
@@ -242,7 +242,7 @@ pub fn put_not_ended(
     match place.kind {
         TextKind::Recording if is_key => writeln!(
             out,
-            "The text stops after line {last}, a final key. If no final key is missing, add the last line: echo end >> {file}; else leave out the keys: (grep -v '^key' {file}; echo cut) > NEW"
+            "The text stops after line {last}, a final key. If no final key is missing, add the last line: echo end >> {file}; else leave out the keys: (grep -v '^key' {file}; echo cut) > {file}.new"
         ),
         TextKind::Recording => writeln!(
             out,

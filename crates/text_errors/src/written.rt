@@ -159,14 +159,14 @@ pub fn put_opening(out: &mut String, place: Place<'_>, above: &[u8]) -> Result<(
     put_quoted(out, above)?;
     out.push_str(". Keys must increase. To sort them: ")?;
     match place.kind {
-        TextKind::Keys => writeln!(out, "grep '^key' {file} | sort -u -n -k 2,2 > NEW"),
+        TextKind::Keys => writeln!(out, "grep '^key' {file} | sort -u -n -k 2,2 > {file}.new"),
         TextKind::Recording => writeln!(
             out,
-            "(grep '^listset' {file}; grep '^opening' {file} | sort -u -n -k 2,2; grep '^call' {file}; grep '^key' {file} | sort -u -n -k 2,2; grep -E '^(end|cut)' {file}) > NEW"
+            "(grep '^listset' {file}; grep '^opening' {file} | sort -u -n -k 2,2; grep '^call' {file}; grep '^key' {file} | sort -u -n -k 2,2; grep -E '^(end|cut)' {file}) > {file}.new"
         ),
         _ => writeln!(
             out,
-            "(head -n 4 {file}; grep '^opening' {file} | sort -u -n -k 2,2; tail -n +5 {file} | grep -v '^opening') > NEW"
+            "(head -n 4 {file}; grep '^opening' {file} | sort -u -n -k 2,2; tail -n +5 {file} | grep -v '^opening') > {file}.new"
         ),
     }
 }

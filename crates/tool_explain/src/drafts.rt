@@ -2,29 +2,23 @@
 
 use crate::event_errors::thread_text;
 use std::alloc::{AllocError, Global};
-use text_errors::{Lines, Place, field_or_empty, number_at};
+use text_errors::{Lines, Place, TextKind, field_or_empty, number_at};
 use tool_base::{Tool, answer_text};
 use tool_replay::{Expand, Trace};
 
-/// Builds a draft or schedule from `title` and the lines from line 2 up to the error. If `last` is not empty, adds a
-/// line `go THREAD LAST` for the thread in the line with the error.
-fn text_up_to(
+/// Returns a draft of the lines from line 2 up to the error and, after them, `ending`.
+fn draft_up_to(
     alloc: Global,
-    title: &[u8],
     lines: &Lines<'_>,
     place: Place<'_>,
-    last: &str,
+    ending: &str,
 ) -> Result<Vec<u8>, AllocError> {
-    let mut text = Vec::from_slice(alloc, title)?;
+    let mut text = Vec::from_slice(alloc, b"listset-draft 2\n")?;
     for number in 2..place.number {
         text.extend_from_slice(lines.line(number))?;
         text.extend_from_slice(b"\n")?;
     }
-    if !last.is_empty() {
-        let thread = thread_text(place.line);
-        let line = format!(in alloc; "go {thread} {last}\n")?;
-        text.extend_from_slice(line.as_bytes())?;
-    }
+    text.extend_from_slice(ending.as_bytes())?;
     Ok(text)
 }
 
@@ -36,6 +30,18 @@ fn answer_on<T: Tool>(alloc: Global, tool: &T, text: &[u8]) -> Option<Vec<u8>> {
     }
 }
 
+/// Returns the schedule of the lines before the error and, after them, `ending`, which can have lines of a draft. Returns
+/// `None` if a line has an error: a thread in `ending` waits for a lock, or has no pending call.
+fn schedule_up_to(
+    alloc: Global,
+    lines: &Lines<'_>,
+    place: Place<'_>,
+    ending: &str,
+) -> Result<Option<Vec<u8>>, AllocError> {
+    let draft = draft_up_to(alloc, lines, place, ending)?;
+    Ok(answer_on(alloc, &Expand {}, &draft))
+}
+
 /// Returns the number of steps that end the pending call of the thread. Returns `None` if the thread has no pending call, or
 /// if the call does not end within 10,000 steps of this thread alone.
 pub(crate) fn steps_out(
@@ -43,12 +49,45 @@ pub(crate) fn steps_out(
     lines: &Lines<'_>,
     place: Place<'_>,
 ) -> Result<Option<u32>, AllocError> {
-    let draft = text_up_to(alloc, b"listset-draft 2\n", lines, place, "out")?;
-    let Some(schedule) = answer_on(alloc, &Expand {}, &draft) else {
+    let thread = thread_text(place.line);
+    let ending = format!(in alloc; "go {thread} out\n")?;
+    let Some(schedule) = schedule_up_to(alloc, lines, place, &ending)? else {
         return Ok(None);
     };
     let made = Lines::of(alloc, &schedule)?;
     Ok(number_at(made.line(made.count()), 2))
+}
+
+/// Returns the trace of the lines before the error and of 10,000 steps of the thread after them. Returns `None` if the call of
+/// the thread ends within these steps.
+fn trace_up_to(
+    alloc: Global,
+    lines: &Lines<'_>,
+    place: Place<'_>,
+) -> Result<Option<Vec<u8>>, AllocError> {
+    let thread = thread_text(place.line);
+    let Some(mut schedule) = schedule_up_to(alloc, lines, place, "")? else {
+        return Ok(None);
+    };
+    let line = format!(in alloc; "go {thread} 10000\n")?;
+    schedule.extend_from_slice(line.as_bytes())?;
+    let trace = Trace {
+        chains: false,
+        lacks: None,
+    };
+    Ok(answer_on(alloc, &trace, &schedule))
+}
+
+/// If the last step of a trace is an attempt to take a lock that another thread holds, returns the lock and the number of the
+/// thread that holds it.
+fn held_lock<'a>(trace: &Lines<'a>) -> Option<(&'a str, &'a str)> {
+    let step = trace.line(trace.count().saturating_sub(1));
+    let lock = str::from_utf8(field_or_empty(step, 7)).unwrap_or("a lock");
+    let seen = str::from_utf8(field_or_empty(step, 13)).unwrap_or("");
+    match seen.strip_prefix('t') {
+        Some(holder) if field_or_empty(step, 6) == b"exchange".as_slice() => Some((lock, holder)),
+        _ => None,
+    }
 }
 
 /// Explains why a thread does not reach the row that a draft's line names: the thread waits for a lock, or its call
@@ -60,45 +99,76 @@ pub(crate) fn put_lock(
     place: Place<'_>,
 ) -> Result<(), AllocError> {
     let thread = thread_text(place.line);
-    let draft = text_up_to(alloc, b"listset-draft 2\n", lines, place, "")?;
-    if let Some(mut schedule) = answer_on(alloc, &Expand {}, &draft) {
-        let line = format!(in alloc; "go {thread} 10000\n")?;
-        schedule.extend_from_slice(line.as_bytes())?;
-        let trace = Trace {
-            chains: false,
-            lacks: None,
-        };
-        if let Some(trace) = answer_on(alloc, &trace, &schedule) {
-            return put_last_step(alloc, out, &trace, place);
-        }
-    }
-    writeln!(
-        out,
-        "Thread {thread} does not get there within 10000 steps. Another thread can hold a lock that it waits for."
-    )
-}
-
-/// Explains the last step in a trace: the thread attempts to take a lock that another thread holds, or its call ends.
-fn put_last_step(
-    alloc: Global,
-    out: &mut String,
-    trace: &[u8],
-    place: Place<'_>,
-) -> Result<(), AllocError> {
-    let thread = thread_text(place.line);
     let row = str::from_utf8(field_or_empty(place.line, 3)).unwrap_or("?");
-    let lines = Lines::of(alloc, trace)?;
-    let step = lines.line(lines.count().saturating_sub(1));
-    let word = str::from_utf8(field_or_empty(step, 7)).unwrap_or("a lock");
-    let seen = str::from_utf8(field_or_empty(step, 13)).unwrap_or("");
-    match seen.strip_prefix('t') {
-        Some(holder) if field_or_empty(step, 6) == b"exchange".as_slice() => writeln!(
+    let Some(trace) = trace_up_to(alloc, lines, place)? else {
+        return writeln!(
             out,
-            "Thread {thread} waits for {word}, which thread {holder} holds. Let thread {holder} release it first, by a line such as 'go {holder} out' above this one."
+            "Thread {thread} does not get there within 10000 steps. Another thread can hold a lock that it waits for."
+        );
+    };
+    match held_lock(&Lines::of(alloc, &trace)?) {
+        Some((lock, holder)) => writeln!(
+            out,
+            "Thread {thread} waits for {lock}, which thread {holder} holds. Let thread {holder} release it first, by a line such as 'go {holder} out' above this one."
         ),
-        _ => writeln!(
+        None => writeln!(
             out,
             "Thread {thread}'s call ends, or continues for 10000 steps, and does not come to row {row}. Take a row of the list's table (docs/TABLES.md), or let the call end: 'go {thread} out'."
         ),
     }
+}
+
+/// If the pending call of the thread waits for a lock, explains how another thread can release the lock. Otherwise writes
+/// nothing and returns `false`.
+pub(crate) fn put_waiting(
+    alloc: Global,
+    out: &mut String,
+    lines: &Lines<'_>,
+    place: Place<'_>,
+) -> Result<bool, AllocError> {
+    let Some(trace) = trace_up_to(alloc, lines, place)? else {
+        return Ok(false);
+    };
+    let trace = Lines::of(alloc, &trace)?;
+    let Some((lock, holder)) = held_lock(&trace) else {
+        return Ok(false);
+    };
+    write!(
+        out,
+        "That call waits for {lock}, which thread {holder} holds. "
+    )?;
+    put_release(alloc, out, lines, place, holder)?;
+    Ok(true)
+}
+
+/// Explains how the thread `holder` releases a lock, and how the pending call that waits for the lock then ends.
+fn put_release(
+    alloc: Global,
+    out: &mut String,
+    lines: &Lines<'_>,
+    place: Place<'_>,
+    holder: &str,
+) -> Result<(), AllocError> {
+    let thread = thread_text(place.line);
+    let ending = format!(in alloc; "go {holder} out\ngo {thread} out\n")?;
+    let Some(schedule) = schedule_up_to(alloc, lines, place, &ending)? else {
+        return writeln!(
+            out,
+            "Let thread {holder} release it first, by a line 'go {holder} STEPS' above this one (thread {holder} can wait for a lock too); or begin this call in another thread."
+        );
+    };
+    let made = Lines::of(alloc, &schedule)?;
+    let last = made.count();
+    let of_holder = number_at(made.line(last.saturating_sub(1)), 2).unwrap_or(0);
+    let of_thread = number_at(made.line(last), 2).unwrap_or(0);
+    if place.kind == TextKind::Draft {
+        return writeln!(
+            out,
+            "To end both calls first, add the lines 'go {holder} out' and 'go {thread} out' above this one; or begin this call in another thread."
+        );
+    }
+    writeln!(
+        out,
+        "To end both calls first, add the lines 'go {holder} {of_holder}' and 'go {thread} {of_thread}' above this one; or begin this call in another thread."
+    )
 }

@@ -1,6 +1,6 @@
 //! Explains errors in the events of a schedule or draft.
 
-use crate::drafts::{put_lock, steps_out};
+use crate::drafts::{put_lock, put_waiting, steps_out};
 use lset_text::Cause;
 use std::alloc::{AllocError, Global};
 use text_errors::{
@@ -22,8 +22,7 @@ pub(crate) fn put_event(
         Cause::Event => put_form(out, lines, place),
         Cause::Number => put_event_number(out, place),
         Cause::NoThread => put_no_thread(out, lines, place),
-        Cause::Busy => put_busy(alloc, out, lines, place),
-        Cause::Idle => put_idle(alloc, out, lines, place),
+        Cause::Busy | Cause::Idle => put_call(alloc, out, lines, place, cause),
         Cause::Waits => put_lock(alloc, out, lines, place),
         _ => put_too_many(out, place),
     }
@@ -34,7 +33,7 @@ fn put_too_many(out: &mut String, place: Place<'_>) -> Result<(), AllocError> {
     let (file, last) = (place.file, place.number.saturating_sub(1));
     writeln!(
         out,
-        "Up to this line there are more than 1000000 events, or more than 1048576 opening keys. To keep the lines above: head -n {last} {file} > NEW"
+        "Up to this line there are more than 1000000 events, or more than 1048576 opening keys. To keep the lines above: head -n {last} {file} > {file}.new"
     )
 }
 
@@ -122,22 +121,31 @@ pub(crate) fn thread_text(line: &[u8]) -> &str {
     }
 }
 
-/// Explains why a thread cannot begin a call: the thread already has a pending call.
-fn put_busy(
+/// Explains why a thread cannot begin a call (`Busy`: the thread already has a pending call), or cannot make a step (`Idle`:
+/// the thread has no pending call).
+fn put_call(
     alloc: Global,
     out: &mut String,
     lines: &Lines<'_>,
     place: Place<'_>,
+    cause: Cause,
 ) -> Result<(), AllocError> {
     let thread = thread_text(place.line);
-    let Some(since) = begun_before(lines, place) else {
-        return writeln!(out, "Thread {thread} has a pending call.");
-    };
-    write!(
-        out,
-        "Thread {thread} has had a pending call since line {since}. "
-    )?;
-    put_ending(alloc, out, lines, place)
+    match (begun_before(lines, place), cause) {
+        (Some(since), Cause::Busy) => {
+            write!(
+                out,
+                "Thread {thread} has had a pending call since line {since}. "
+            )?;
+            put_ending(alloc, out, lines, place)
+        }
+        (Some(since), _) => put_idle(alloc, out, lines, place, since),
+        (None, Cause::Busy) => writeln!(out, "Thread {thread} has a pending call."),
+        (None, _) => writeln!(
+            out,
+            "Thread {thread} has begun no call, so there is no step to make. Add a line such as 'begin {thread} add 5' above this one."
+        ),
+    }
 }
 
 /// Prints how the pending call of the thread can be ended by lines before the wrong line.
@@ -157,6 +165,7 @@ fn put_ending(
             out,
             "To end that call first, add the line 'go {thread} {steps}' above this one; or begin this call in another thread."
         ),
+        None if put_waiting(alloc, out, lines, place)? => Ok(()),
         None => writeln!(
             out,
             "Let that call end first, by a line 'go {thread} STEPS' above this one; or begin this call in another thread."
@@ -164,20 +173,15 @@ fn put_ending(
     }
 }
 
-/// Explains why a thread cannot make a step: the thread has no pending call.
+/// Explains why a thread cannot make all steps of a line: its call of line `since` has ended, or ends first.
 fn put_idle(
     alloc: Global,
     out: &mut String,
     lines: &Lines<'_>,
     place: Place<'_>,
+    since: usize,
 ) -> Result<(), AllocError> {
     let thread = thread_text(place.line);
-    let Some(since) = begun_before(lines, place) else {
-        return writeln!(
-            out,
-            "Thread {thread} has begun no call, so there is no step to make. Add a line such as 'begin {thread} add 5' above this one."
-        );
-    };
     match steps_out(alloc, lines, place)? {
         Some(steps) => writeln!(
             out,

@@ -31,27 +31,41 @@ fn put_too_long(out: &mut String, file: &str, text: &[u8]) -> Result<(), AllocEr
         Some((first, _)) => first,
         None => b"",
     };
-    let advice = match TextKind::of(first) {
-        TextKind::Recording => {
-            return writeln!(
-                out,
-                "{file} has recorded calls, more than {LONGEST} bytes of them.\nThis is more than explain reads. To find the first line with an error: listset judge {file}; what its cause means: listset faults"
-            );
-        }
-        TextKind::Schedule | TextKind::Draft => {
-            "A schedule has at most 1000000 events. To keep the first ones: head -n 1000004"
-        }
-        TextKind::Report => {
-            "Make a report of fewer calls: shorten its schedule, then listset replay. To keep the first lines: head -n 1000"
-        }
-        _ => {
-            "Line 1 of recorded calls must be 'listset-calls 1'. To see how this text begins: head -c 1000"
-        }
-    };
-    writeln!(
+    let kind = TextKind::of(first);
+    if kind == TextKind::Recording {
+        return writeln!(
+            out,
+            "{file} has recorded calls, more than {LONGEST} bytes of them.\nThis is more than explain reads. To find the first line with an error: listset judge {file}; what its cause means: listset faults"
+        );
+    }
+    write!(
         out,
-        "{file} has more than {LONGEST} bytes.\nOnly the command judge reads more. {advice} {file} > NEW"
-    )
+        "{file} has more than {LONGEST} bytes.\nOnly the command judge reads more. "
+    )?;
+    put_shortening(out, file, kind)
+}
+
+/// Explains how to make a shorter text of the same kind, or how to see the beginning of a text that no command reads.
+fn put_shortening(out: &mut String, file: &str, kind: TextKind) -> Result<(), AllocError> {
+    match kind {
+        TextKind::Schedule | TextKind::Draft => writeln!(
+            out,
+            "A schedule has at most 1000000 events. To keep the lines up to this number: awk '{{ n += $1 == \"go\" ? $3 : $1 == \"begin\"; if (n > 1000000) exit; print }}' {file} > {file}.new"
+        ),
+        TextKind::Report => writeln!(
+            out,
+            "A part of a report is no report. For a report of fewer calls, shorten its schedule, then: listset replay SCHEDULE > {file}.new"
+        ),
+        TextKind::Keys => writeln!(
+            out,
+            "A set opens with at most 1048576 keys. To keep the first ones: grep -m 1048576 '^key' {file} > {file}.new"
+        ),
+        TextKind::Trace => out.push_str("No command reads a trace.\n"),
+        _ => writeln!(
+            out,
+            "Line 1 is none of listset-schedule 1 (or 2), listset-draft 2, listset-report 1 (or 2), listset-calls 1. To see how the text begins: head -c 1000 {file}"
+        ),
+    }
 }
 
 /// Explains a text that is not too long.

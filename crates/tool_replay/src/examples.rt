@@ -72,7 +72,7 @@ pub(crate) const ALL: [Example; 18] = [
     Example {
         name: "read-in-anothers-step",
         kind: Kind::Lazy,
-        about: "contains stands in the step of the thread that removed its key",
+        about: "contains takes effect in a step of the thread that removed its key",
         schedule: texts::READ_IN_ANOTHERS_STEP,
         broken_report: None,
     },
