@@ -43,8 +43,8 @@ fn are_one(alloc: Global, runs: &Runs<'_>, one: u32, two: u32) -> Result<bool, A
     has_order(alloc, &calls, opening, None)
 }
 
-/// Returns the first of these keys such that its calls and those of the key `one`, taken as calls of one key, are
-/// linearizable.
+/// Returns the first of these keys that is a partner of the key `one`: the calls of both keys are linearizable when taken
+/// as calls of one key.
 fn partner_of(
     alloc: Global,
     runs: &Runs<'_>,

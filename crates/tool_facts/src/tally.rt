@@ -324,7 +324,8 @@ impl Tally {
         }
     }
 
-    /// Counts the changes of other keys that overlap a contradiction.
+    /// Adds a contradiction to the counts of contradictions that overlap changes of other keys, and to `readded` and
+    /// `undone`.
     fn add_time(
         &mut self,
         alloc: Global,
@@ -386,8 +387,8 @@ impl Tally {
         self.usually_together = usually;
     }
 
-    /// Counts the changes of other keys that overlap each contradiction. `calls` are all calls of the recording.
-    /// `losses` are all losses of keys, ordered by time.
+    /// Adds the contradictions to all counts that depend on other calls at the same time. `calls` are all calls of the
+    /// recording. `losses` are all losses of keys, ordered by time.
     pub fn add_times(
         &mut self,
         alloc: Global,
