@@ -1,7 +1,7 @@
-//! Finds contradictions: two calls of a key that cannot both be explained. A call needs its key in one state and leaves
-//! it in one. Suppose that the first call leaves a state that the second does not need. If no call that can change the
-//! state overlaps the time from the first call's begin to the second call's end, then no order explains the two,
-//! whatever other calls did.
+//! Finds contradictions: pairs of calls of one key that no order explains. A call needs its key present or absent, and
+//! leaves it present or absent. Two calls contradict each other if the first leaves the key in a state that the second
+//! does not need, and no call that can change that state overlaps the time from the first call's begin to the second
+//! call's end.
 
 use crate::key_calls::KeyCalls;
 use crate::made_calls::{Made, NEVER, drop_ended, other};
@@ -12,11 +12,13 @@ use std::alloc::{AllocError, Global};
 /// A contradiction between calls of one key.
 #[derive(Clone, Copy)]
 pub struct Clash {
-    /// The call that leaves the key in the state `was`. `None` if `stretch` does, or if `was` is the opening state.
+    /// The call that leaves the key in the state `was`. `None` if `stretch` leaves this state, or if it is the opening
+    /// state.
     pub first: Option<Made>,
-    /// The call that needs the other state. `None` if that is the final state.
+    /// The call that needs the state opposite to `was`. `None` if the final state is the opposite of `was`.
     pub second: Option<Made>,
-    /// Overlapping changes that leave the key in the state `was`, which follows from their number.
+    /// Overlapping changes that leave the key in the state `was`. This follows from the number of adds and removes
+    /// among them.
     pub stretch: Option<Stretch>,
     pub was: Presence,
     pub since: u64,
@@ -52,7 +54,7 @@ struct Need {
     ended: u64,
 }
 
-/// Finds earlier calls that had ended and contradict a needed state.
+/// Finds earlier calls that had ended and contradict a state that a later call, or the final state, needs.
 fn clash_before(key: &KeyCalls, stretches: &[Stretch], need: Need) -> Option<Clash> {
     let was = other(need.state);
     let first = key.proof_before(was, need.begun);
@@ -105,8 +107,8 @@ fn clash_at_end(key: &KeyCalls, stretches: &[Stretch]) -> Option<Clash> {
     clash_before(key, stretches, need)
 }
 
-/// Returns `true` if `one` leaves a state that `two` does not need, and no call can have changed it between `since` and
-/// `until`.
+/// Returns `true` if call `one` leaves a state that call `two` does not need, and no call can have changed this state
+/// from `since` to `until`.
 fn excludes(key: &KeyCalls, one: Made, two: Made, until: u64, since: u64) -> bool {
     match two.needs() {
         Some(needs) => one.leaves() == Some(other(needs)) && !key.may_become(needs, since, until),
@@ -114,8 +116,8 @@ fn excludes(key: &KeyCalls, one: Made, two: Made, until: u64, since: u64) -> boo
     }
 }
 
-/// Returns the contradiction of two overlapping calls if they contradict each other in both orders. `first` began
-/// first.
+/// Returns a contradiction if two overlapping calls contradict each other whichever of them takes effect first. The
+/// call `first` began before the call `second`.
 fn clash_at_once(key: &KeyCalls, first: Made, second: Made) -> Option<Clash> {
     let (since, until) = (first.begun, first.ended.max(second.ended));
     let was = first.leaves()?;
@@ -142,8 +144,8 @@ struct Apart {
 }
 
 impl Apart {
-    /// Keeps a contradiction that does not overlap those kept earlier. If it overlaps only the last one and ends before
-    /// that, replaces the last one.
+    /// Adds a contradiction if it overlaps none of those kept earlier. If it overlaps only the last kept contradiction
+    /// and ends before the last one does, replaces the last one.
     fn keep(&mut self, clash: Clash) -> Result<(), AllocError> {
         let Some(last) = self.found.last().copied() else {
             self.found.push(clash)?;
@@ -165,8 +167,8 @@ impl Apart {
     }
 }
 
-/// Returns contradictions of a key, ordered by time. No two of them overlap each other in time; of two that do, one is
-/// left out. Allocates.
+/// Returns contradictions of a key, ordered by time. If two contradictions overlap each other in time, only one of them
+/// is returned. Allocates.
 pub fn clashes_of(
     alloc: Global,
     key: &KeyCalls,

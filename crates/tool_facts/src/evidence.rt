@@ -1,4 +1,4 @@
-//! Facts about a refused recording. The message and the guess are made from these facts.
+//! Facts about a refused recording. The message and the likely cause are derived from these facts.
 
 use crate::fullness::Fullness;
 use crate::key_calls::KeyCalls;
@@ -13,10 +13,10 @@ use crate::symptoms::{Place, Symptom, places_of};
 use crate::tally::Tally;
 use std::alloc::{AllocError, Global};
 
-/// The facts for the guess.
+/// The facts that determine the likely cause.
 #[derive(Clone, Copy)]
 pub struct Evidence {
-    /// Two keys. Together, as calls of one key, their calls are linearizable.
+    /// Two keys. If the calls of both keys are treated as calls of one key, they are linearizable.
     pub merged: Option<(u32, u32)>,
     pub odd: Option<Odd>,
     pub tally: Tally,
@@ -29,21 +29,22 @@ pub struct Evidence {
     pub calls: u64,
     /// Whether these are only the first calls of a longer recording.
     pub is_part: bool,
-    /// Whether the calls of the smallest key have an order, and those of two others have none.
+    /// Whether the calls of the smallest key have an order, and the calls of at least two other keys have none.
     pub is_first_spared: bool,
-    /// The difference of the largest and the smallest key.
+    /// The difference between the largest and the smallest key.
     pub span: u32,
 }
 
-/// The maximum number of contradictions that are kept, of all keys together.
+/// The maximum number of contradictions that are kept for all keys in total.
 const MOST_PLACES: usize = 20_000;
 
-/// The contradictions of a recording (`places`), the odd operation or else the tally of the contradictions, and the longest
-/// split.
+/// The contradictions of a recording (`places`). Also the operation that alone is wrong or, if there is none, the
+/// counts of the contradictions; and the longest split: a period without a change of a key in which calls disagree
+/// about the key.
 #[derive(Drop)]
 pub struct Found {
     pub places: Vec<Place>,
-    /// The first wrong answer of the odd operation.
+    /// The first wrong answer of the operation that alone is wrong.
     pub wrong: Option<Made>,
     pub odd: Option<Odd>,
     pub tally: Tally,
@@ -51,14 +52,14 @@ pub struct Found {
     pub bound: BoundKeys,
 }
 
-/// The maximum duration of a loss, in moments, that is compared with removes of other keys. During a longer loss a remove
-/// can run by chance.
+/// Only losses of keys that last at most this many moments are compared with removes of other keys. During a longer
+/// loss, a remove of another key can run by chance.
 const MOST_MOMENTS: u64 = 200;
 
-/// The minimum number of losses that are compared with the number of keys.
+/// The minimum number of losses of keys that are compared with the number of keys present.
 const LEAST_LOST: u64 = 10;
 
-/// Returns the contradictions of lost and returned keys that a call shows, ordered by time.
+/// Returns the contradictions in which a call shows that a key was lost or returned, ordered by time.
 fn gone_of(alloc: Global, places: &[Place]) -> Result<Vec<Place>, AllocError> {
     let mut gone = Vec::new(alloc);
     for place in places {
@@ -94,7 +95,7 @@ fn replies_of(alloc: Global, places: &[Place]) -> Result<Vec<Place>, AllocError>
     Ok(found)
 }
 
-/// Returns the lost keys of `gone` that a call shows within `MOST_MOMENTS`.
+/// Returns the contradictions in which a call shows, within `MOST_MOMENTS`, that a key was lost.
 fn losses_of(alloc: Global, gone: &[Place]) -> Result<Vec<Place>, AllocError> {
     let mut losses = Vec::new(alloc);
     for place in gone {
@@ -106,8 +107,8 @@ fn losses_of(alloc: Global, gone: &[Place]) -> Result<Vec<Place>, AllocError> {
     Ok(losses)
 }
 
-/// Returns whether the first contradiction of a refused key is among these contradictions, ordered by time. Otherwise
-/// all of them begin after the first moment up to which the key's calls have no order.
+/// Returns whether one of these contradictions of a refused key begins by the moment when the key's calls first have no
+/// order. The contradictions must be ordered by time.
 fn has_first(places: &[Place], refused: Refused) -> bool {
     match places.first() {
         Some(place) => place.clash.begun() <= refused.moment,
@@ -139,7 +140,7 @@ fn add_key(
     Ok(())
 }
 
-/// Adds the counts that need the contradictions of all keys.
+/// Adds the counts that depend on the contradictions of all keys.
 fn add_all(
     alloc: Global,
     found: &mut Found,
@@ -165,7 +166,7 @@ fn add_all(
     Ok(())
 }
 
-/// Returns the contradictions of all refused keys, with their tally.
+/// Returns the contradictions of all refused keys, with their counts.
 fn places_of_all(
     alloc: Global,
     runs: &Runs<'_>,
@@ -192,7 +193,7 @@ fn places_of_all(
     Ok(found)
 }
 
-/// Returns the split with more answers.
+/// Returns the split with the larger number of answers.
 fn larger_split(one: Option<Split>, two: Option<Split>) -> Option<Split> {
     let (Some(first), Some(second)) = (one, two) else {
         return one.or(two);
@@ -204,7 +205,8 @@ fn larger_split(one: Option<Split>, two: Option<Split>) -> Option<Split> {
     }
 }
 
-/// Returns the contradictions of the odd operation's answers or, if no operation is odd, of all refused keys.
+/// Returns the contradictions of the wrong answers if one operation alone is wrong. Otherwise returns the
+/// contradictions of all refused keys.
 pub fn find_all(
     alloc: Global,
     runs: &Runs<'_>,
@@ -227,7 +229,7 @@ pub fn find_all(
     })
 }
 
-/// Returns the facts for the guess. `keys` are all keys of the recording. Allocates.
+/// Returns the facts that determine the likely cause. `keys` are all keys of the recording. Allocates.
 pub fn evidence_of(
     alloc: Global,
     runs: &Runs<'_>,
@@ -249,7 +251,7 @@ pub fn evidence_of(
     })
 }
 
-/// Returns the difference of the largest and the smallest of some increasing keys.
+/// Returns the difference between the largest and the smallest key. `keys` must be in increasing order.
 fn span_of(keys: &[u32]) -> u32 {
     match (keys.first(), keys.last()) {
         (Some(first), Some(last)) => last.saturating_sub(*first),
@@ -257,8 +259,8 @@ fn span_of(keys: &[u32]) -> u32 {
     }
 }
 
-/// Returns whether the calls of the smallest key have an order and those of at least two others have none, and it has
-/// as many calls as others.
+/// Returns whether the calls of the smallest key have an order although this key has as many calls as others, and the
+/// calls of at least two other keys have none.
 fn is_first_spared(runs: &Runs<'_>, keys: &[u32], refused: &[Refused]) -> bool {
     let (Some(first), Some(hit)) = (keys.first(), refused.first()) else {
         return false;

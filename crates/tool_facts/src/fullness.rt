@@ -3,7 +3,8 @@ use crate::runs::Runs;
 use lset_words::Presence;
 use std::alloc::{AllocError, Global};
 
-/// The number of keys known to be present at each moment: the last completed call of such a key left the key present.
+/// The number of keys that are known to be present at each moment. A key is known to be present if its last completed
+/// call left it present.
 #[derive(Drop)]
 pub struct Fullness {
     /// The moments when the number changes, in increasing order.
@@ -67,7 +68,8 @@ impl Fullness {
             .unwrap_or(self.first)
     }
 
-    /// Returns the percentage of calls, in a sample, that began while `least` to `most` keys were known to be present.
+    /// Returns the percentage of sampled calls that began while at least `least` and at most `most` keys were known to
+    /// be present.
     pub fn share_between(&self, calls: &[Made], least: u64, most: u64) -> u64 {
         let step = calls.len().checked_div(SAMPLED).unwrap_or(0);
         let (mut count, mut tried, mut next) = (0u64, 0u64, 0usize);

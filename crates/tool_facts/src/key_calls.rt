@@ -24,7 +24,7 @@ impl Makers {
         Ok(Makers { begins, latest })
     }
 
-    /// Returns whether all changes that began before a moment had ended by then.
+    /// Returns whether all changes that began before a moment had ended by this moment.
     fn have_ended(&self, moment: u64) -> bool {
         let at = self.begins.partition_point(|begun| *begun < moment);
         match self.latest.get(at.wrapping_sub(1)) {
@@ -42,8 +42,8 @@ impl Makers {
     }
 }
 
-/// The completed calls that left a key in a given state: their ends in increasing order and, for each, the call that
-/// began last among those up to it.
+/// The completed calls that left a key in a given state: their ends in increasing order. For each end, also the call
+/// that began last among the calls that had ended by this end.
 #[derive(Drop)]
 struct Proofs {
     ends: Vec<u64>,
@@ -118,8 +118,8 @@ impl KeyCalls {
         })
     }
 
-    /// Returns `true` if a call that changed the key to this state, or can have done so, overlaps the time from `since`
-    /// to `until`.
+    /// Returns `true` if a call that changed the key to this state, or can have changed it, overlaps the time from
+    /// `since` to `until`.
     pub fn may_become(&self, state: Presence, since: u64, until: u64) -> bool {
         match state {
             Presence::Present => self.puts.overlap(since, until),
@@ -127,8 +127,7 @@ impl KeyCalls {
         }
     }
 
-    /// Returns `true` if all calls that change the key to this state, or can do so, and began before a moment had ended
-    /// by then.
+    /// Returns `true` if no call that changes the key to this state, or can change it, was running at a moment.
     pub fn no_change_runs(&self, state: Presence, moment: u64) -> bool {
         match state {
             Presence::Present => self.puts.have_ended(moment),
@@ -136,7 +135,8 @@ impl KeyCalls {
         }
     }
 
-    /// Returns the last call to begin among those that had ended before a moment and left the key in this state.
+    /// Returns the call that left the key in this state and had ended before a moment. If there are several, returns
+    /// the call that began last.
     pub fn proof_before(&self, state: Presence, moment: u64) -> Option<Made> {
         match state {
             Presence::Present => self.present.before(moment),

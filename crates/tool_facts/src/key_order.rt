@@ -1,11 +1,11 @@
-//! The judge's rule for the calls of one key: a pending change takes effect only if a call that ends needs it. If
-//! several are pending, the one with the nearest end takes effect.
+//! The judge's rule for the calls of one key: a pending change takes effect only if the reply of an ending call
+//! requires it. If several pending changes could take effect, the change that ends first does.
 
 use crate::made_calls::{Made, NEVER, other};
 use lset_words::Presence;
 use std::alloc::{AllocError, Global};
 
-/// Calls that end later.
+/// Calls that have begun and end later.
 #[derive(Drop)]
 pub struct Pending {
     calls: Vec<Made>,
@@ -19,7 +19,7 @@ impl Pending {
         }
     }
 
-    /// Returns a copy. Allocates.
+    /// Returns a copy of the list. Allocates.
     pub fn copied(&self, alloc: Global) -> Result<Pending, AllocError> {
         Ok(Pending {
             calls: Vec::from_slice(alloc, &self.calls)?,
@@ -38,7 +38,7 @@ impl Pending {
         self.calls.len()
     }
 
-    /// Removes and returns the call with the earliest end, if that is before a moment.
+    /// Removes the call with the earliest end from the list and returns it, if it ends before a moment.
     pub fn next_before(&mut self, at: u64) -> Option<Made> {
         let mut least: Option<usize> = None;
         let mut end = at;
@@ -57,7 +57,7 @@ impl Pending {
     }
 }
 
-/// The state of the rule for a key: the key's presence, the moment of the last change, and the ends of the pending
+/// The state of the judge for one key: the key's presence, the moment of the last change, and the ends of the pending
 /// changes that have not taken effect.
 #[derive(Drop)]
 pub struct KeyState {
@@ -67,7 +67,7 @@ pub struct KeyState {
     removes: Vec<u64>,
 }
 
-/// Removes the smallest end. Returns `true` if there was one.
+/// Removes the smallest end. Returns `false` if the list is empty.
 fn take_least(ends: &mut Vec<u64>) -> bool {
     let mut least: Option<(usize, u64)> = None;
     for (i, end) in ends.iter().enumerate() {
@@ -100,7 +100,7 @@ impl KeyState {
         }
     }
 
-    /// Returns a copy. Allocates.
+    /// Returns a copy of the state. Allocates.
     pub fn copied(&self, alloc: Global) -> Result<KeyState, AllocError> {
         Ok(KeyState {
             state: self.state,
@@ -110,7 +110,7 @@ impl KeyState {
         })
     }
 
-    /// Returns `true` if every continuation that is accepted after the state `than` is also accepted after this one.
+    /// Returns `true` if this state accepts every continuation that the state `than` accepts.
     pub fn is_like(&self, than: &KeyState) -> bool {
         self.state == than.state
             && self.turned >= than.turned
@@ -118,7 +118,8 @@ impl KeyState {
             && are_alike(&self.removes, &than.removes)
     }
 
-    /// Removes the nearest end of the pending changes that can change the state. Returns `true` if there was one.
+    /// Removes the earliest end of the pending changes that can change the state. Returns `false` if there is no such
+    /// change.
     fn take_next(&mut self) -> bool {
         match self.state {
             Presence::Present => take_least(&mut self.removes),
@@ -126,7 +127,8 @@ impl KeyState {
         }
     }
 
-    /// Applies the pending change with the nearest end that can change the state. Returns `true` if there was one.
+    /// Applies the pending change that ends first among those that can change the state. Returns `false` if there is no
+    /// such change.
     pub fn flip(&mut self, at: u64) -> bool {
         if !self.take_next() {
             return false;
@@ -173,7 +175,8 @@ impl KeyState {
         Ok(())
     }
 
-    /// Processes all ends before a moment. Returns the first end such that the calls up to this end are not linearizable.
+    /// Processes all ends before a moment. Returns the first end such that the calls up to this end are not
+    /// linearizable, or `None`.
     pub fn end_before(&mut self, pending: &mut Pending, at: u64) -> Option<u64> {
         for _ in 0..pending.len() {
             let call = pending.next_before(at)?;
@@ -194,9 +197,9 @@ impl KeyState {
     }
 }
 
-/// Returns the first moment such that the calls up to it are not linearizable. `calls` must be ordered by begin. Returns
-/// `NEVER` if the calls are linearizable but no order leaves the final state, and `None` if nothing is wrong.
-/// Allocates.
+/// Returns the first moment such that the calls up to this moment are not linearizable. `calls` must be ordered by
+/// begin. Returns `NEVER` if the calls are linearizable but no order ends with the final state, and `None` if some
+/// order does. Allocates.
 pub fn failing_moment(
     alloc: Global,
     calls: &[Made],
@@ -222,8 +225,8 @@ pub fn failing_moment(
     })
 }
 
-/// Returns `true` if some order explains a key's calls from an opening state and leaves the final state, if one is
-/// given. Allocates.
+/// Returns `true` if some order explains a key's calls: it starts from the opening state and ends with the final state,
+/// if a final state is given. Allocates.
 pub fn has_order(
     alloc: Global,
     calls: &[Made],

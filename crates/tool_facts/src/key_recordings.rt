@@ -1,4 +1,5 @@
-//! Writes a recording of one key: all of its calls or, if they are not linearizable, a few that show it.
+//! Writes a recording of one key: all calls of the key or, if they are not linearizable, a few calls that are not
+//! linearizable either.
 
 use crate::key_order::{failing_moment, has_order};
 use crate::made_calls::{Made, NEVER, put_call};
@@ -6,13 +7,13 @@ use crate::run_reader::Recorded;
 use lset_words::Presence;
 use std::alloc::{AllocError, Global};
 
-/// A part with at most this many calls is small enough.
+/// A part of a key's calls is small enough if it has at most this many calls.
 const ENOUGH: usize = 16;
 
-/// How many calls are tried as the first of a part: this many of the last calls, and this many earlier ones.
+/// How many calls are tried as the first call of a part: this many of the last calls, and this many earlier calls.
 const MOST_TRIED: usize = 64;
 
-/// Consecutive calls of a key, with its state before them and, if known, its final state.
+/// Consecutive calls of a key, with the key's state before these calls and, if known, its final state.
 #[derive(Clone, Copy)]
 struct Part<'a> {
     calls: &'a [Made],
@@ -33,8 +34,8 @@ fn quiet_starts(alloc: Global, calls: &[Made]) -> Result<Vec<usize>, AllocError>
     Ok(starts)
 }
 
-/// Returns the presence of the key after some calls, if all orders of the calls agree. Returns `None` if both are
-/// possible, or neither.
+/// Returns the presence of the key after some calls, if all orders of the calls agree on it. Returns `None` if the key
+/// can be present or absent, or if the calls have no order.
 fn only_state(
     alloc: Global,
     calls: &[Made],
@@ -68,8 +69,8 @@ fn part_from<'a>(
     }))
 }
 
-/// Returns a smaller part that is not linearizable either, or the whole if none is found. Tries the last calls as its
-/// first call, then earlier ones.
+/// Returns a smaller part that is not linearizable, or the whole part if no such part is found. Tries the last calls as
+/// the first call of the part, then earlier calls.
 fn small_part<'a>(alloc: Global, whole: Part<'a>) -> Result<Part<'a>, AllocError> {
     let starts = quiet_starts(alloc, whole.calls)?;
     let few = whole.calls.len().saturating_sub(ENOUGH);
@@ -115,7 +116,7 @@ fn text_of(alloc: Global, key: u32, part: Part<'_>) -> Result<String, AllocError
     Ok(out)
 }
 
-/// Returns the recording of a key's calls. If they are not linearizable, returns only a part of them that is not
+/// Returns the recording of a key's calls. If the calls are not linearizable, returns only a part that is not
 /// linearizable either. Returns `None` if the key has no calls, and its final state is its opening state or unknown.
 /// Allocates.
 pub fn recording_of_key(

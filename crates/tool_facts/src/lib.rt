@@ -1,5 +1,6 @@
 //! Facts about a recording that no order explains: calls that contradict each other, the operation that is wrong and
-//! how often, and what else ran. All facts follow from the calls of the recording. None of them decides the verdict.
+//! how often, and the calls that ran at the same time. All facts follow from the calls of the recording. None of them
+//! decides the verdict.
 #![tactic(auto)]
 
 mod contradictions;

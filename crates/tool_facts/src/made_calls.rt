@@ -3,7 +3,7 @@ use lset_text::call_word;
 use lset_words::{Call, Key, Presence, Reply};
 use std::alloc::AllocError;
 
-/// The end of a pending call, and of a call with an unknown reply.
+/// The end of a call that is pending or has an unknown reply.
 pub const NEVER: u64 = u64::MAX;
 
 /// An operation of a set.
@@ -111,12 +111,13 @@ impl Made {
         })
     }
 
-    /// Returns `true` if the call changed its key, or may have done so.
+    /// Returns `true` if the call changed its key, or can have changed it.
     pub fn changes(self) -> bool {
         self.operation != Operation::Contains && self.reply != Some(false)
     }
 
-    /// Returns the presence that the call gave its key, or can have given; `None` if the call changed nothing.
+    /// Returns the presence to which the call changed its key, or can have changed it; `None` if the call changed
+    /// nothing.
     pub fn makes(self) -> Option<Presence> {
         if !self.changes() {
             return None;
@@ -147,8 +148,8 @@ impl Made {
         }
     }
 
-    /// Returns the call as it was at a moment: pending if it ended later. Returns `None` if it ended later and changed
-    /// nothing, since such a call cannot have changed its key before.
+    /// Returns the call as known at a moment: pending if it ended later. Returns `None` if it ended later and changed
+    /// nothing, since such a call cannot have changed its key before this moment.
     pub fn cut_at(self, moment: u64) -> Option<Made> {
         if self.ended <= moment {
             return Some(self);
@@ -169,7 +170,7 @@ impl Made {
     }
 }
 
-/// Writes the thread, operation, key, begin, end and reply of a call, with `-` for an end and a reply that are not known.
+/// Writes the thread, operation, key, begin, end and reply of a call. An unknown end or reply is written as `-`.
 pub fn put_call(out: &mut String, call: Made) -> Result<(), AllocError> {
     let (thread, word, key, begun) = (call.thread, call.operation.word(), call.key, call.begun);
     write!(out, "{thread} {word} {key} {begun} ")?;
@@ -182,7 +183,7 @@ pub fn put_call(out: &mut String, call: Made) -> Result<(), AllocError> {
     }
 }
 
-/// Returns the word of a state in messages.
+/// Returns the word for a state in messages.
 pub fn state_word(state: Presence) -> &'static str {
     match state {
         Presence::Present => "present",
@@ -190,7 +191,7 @@ pub fn state_word(state: Presence) -> &'static str {
     }
 }
 
-/// Removes the calls that had ended by a moment.
+/// Removes the calls that had ended by a moment from the list.
 pub fn drop_ended(calls: &mut Vec<Made>, moment: u64) {
     calls.retain(|call| call.ended > moment);
 }

@@ -1,5 +1,5 @@
-//! Finds two keys that are treated as one: the calls of each are not linearizable, but taken as calls of one key they
-//! are.
+//! Finds two keys that the set treats as one: the calls of each key are not linearizable, but all of them, taken as
+//! calls of one key, are.
 
 use crate::key_order::has_order;
 use crate::made_calls::Made;
@@ -9,10 +9,10 @@ use std::alloc::{AllocError, Global};
 /// If there are at most this many refused keys, all pairs are tried.
 const MOST_PAIRED: usize = 8;
 
-/// The maximum number of keys that are tried together with the first refused key.
+/// The maximum number of keys that are tried as the partner of the first refused key.
 const MOST_TRIED: usize = 64;
 
-/// The maximum number of calls of a pair that is tried.
+/// Pairs of keys with more calls than this are not tried.
 const MOST_CALLS: usize = 1_000_000;
 
 /// Each key of a pair must have at least this many completed changes.
@@ -26,7 +26,7 @@ fn count_changes(calls: &[Made]) -> usize {
         .count()
 }
 
-/// Returns `true` if the calls of two keys are linearizable as calls of one key.
+/// Returns `true` if the calls of two keys are linearizable when taken as calls of one key.
 fn are_one(alloc: Global, runs: &Runs<'_>, one: u32, two: u32) -> Result<bool, AllocError> {
     let opening = runs.recorded.opens(one);
     if opening != runs.recorded.opens(two) {
@@ -43,7 +43,8 @@ fn are_one(alloc: Global, runs: &Runs<'_>, one: u32, two: u32) -> Result<bool, A
     has_order(alloc, &calls, opening, None)
 }
 
-/// Returns the first of these keys that, as one key together with the key `one`, has linearizable calls.
+/// Returns the first of these keys that is a partner of the key `one`: the calls of both keys are linearizable when taken
+/// as calls of one key.
 fn partner_of(
     alloc: Global,
     runs: &Runs<'_>,
@@ -58,8 +59,8 @@ fn partner_of(
     Ok(None)
 }
 
-/// Returns two refused keys that have linearizable calls as one key. If there are more than `MOST_PAIRED`
-/// refused keys, tries only pairs with the first one. Allocates.
+/// Returns two refused keys with calls that are linearizable when taken as calls of one key. If there are more than
+/// `MOST_PAIRED` refused keys, tries only pairs with the first refused key. Allocates.
 pub fn merged_keys(
     alloc: Global,
     runs: &Runs<'_>,

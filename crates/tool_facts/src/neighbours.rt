@@ -96,7 +96,7 @@ pub(crate) enum Sought {
 }
 
 impl Sought {
-    /// Returns `true` if a search beside a change of `key` looks for this call.
+    /// Returns `true` if this call is a change that a search for changes of keys other than `key` looks for.
     fn includes(self, call: &Made, key: u32) -> bool {
         match self {
             Sought::OfOtherKey => call.key != key,

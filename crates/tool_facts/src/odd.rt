@@ -1,4 +1,5 @@
-//! Finds the odd operation: without its answers (its calls that changed nothing), all calls are linearizable.
+//! Finds the operation that alone is wrong: without its answers (its calls that changed nothing), all calls are
+//! linearizable.
 
 use crate::key_order::{KeyState, Pending, has_order};
 use crate::made_calls::{Made, NEVER, Operation};
@@ -39,8 +40,8 @@ pub fn is_explained_without(
     has_order(alloc, &others, opening, left)
 }
 
-/// Returns `true` if the judge accepts all calls without the answers of an operation (with any final keys, if
-/// `is_cut`). Allocates.
+/// Returns `true` if the judge accepts all calls without the answers of an operation. If `is_cut`, the final keys are
+/// ignored. Allocates.
 pub fn is_judged_without(
     alloc: Global,
     recorded: &Recorded,
@@ -69,15 +70,16 @@ pub fn is_judged_without(
     Ok(matches!(verdict, Verdict::Linearizable))
 }
 
-/// The maximum number of steps spent on deciding which answers are wrong.
+/// The maximum number of steps of the search for wrong answers.
 const MOST_STEPS: u64 = 50_000_000;
 
-/// The wrong answers of an operation: adding any one of them to the other calls makes them not linearizable.
+/// The wrong answers of an operation. If any one of them is added to the calls without answers, these calls are not
+/// linearizable.
 #[derive(Drop)]
 pub struct WrongAnswers {
     pub wrong: Vec<Made>,
     steps: u64,
-    /// Whether all answers were decided, and the calls without the wrong ones are linearizable.
+    /// Whether all answers were checked, and the calls without the wrong answers are linearizable.
     pub is_exact: bool,
 }
 
@@ -93,8 +95,8 @@ struct Walk<'a> {
 }
 
 impl Walk<'_> {
-    /// Returns `true` if adding this answer alone, which ends now and does not agree with the state, makes the other
-    /// calls not linearizable.
+    /// Returns `true` if an answer is wrong: if it alone is added, the other calls are not linearizable. The answer
+    /// ends now and does not agree with the state.
     fn is_wrong(&self, call: Made, found: &mut WrongAnswers) -> Result<bool, AllocError> {
         let mut with = self.key.copied(self.alloc)?;
         if !with.flip(call.ended) {
@@ -123,7 +125,8 @@ impl Walk<'_> {
         Ok(self.both_end(&mut key, &mut with, &mut pending, NEVER) || !with.may_be_left(self.left))
     }
 
-    /// Processes all ends before a moment in both states. Returns `true` if the second state fails.
+    /// Processes the calls that end before a moment, in a state without the tested answer (`key`) and in a state with
+    /// it (`with`). Returns `true` if no order explains the calls in the state `with`.
     fn both_end(
         &self,
         key: &mut KeyState,
@@ -146,7 +149,7 @@ impl Walk<'_> {
         false
     }
 
-    /// Processes all ends before a moment, and collects the wrong answers.
+    /// Processes the calls that end before a moment, and collects the wrong answers.
     fn end_before(&mut self, at: u64, found: &mut WrongAnswers) -> Result<(), AllocError> {
         for _ in 0..self.pending.len() {
             let Some(call) = self.pending.next_before(at) else {

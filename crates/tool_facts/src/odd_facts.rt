@@ -1,4 +1,5 @@
-//! Facts about the odd operation: the number of wrong answers, the calls that ran during them, and the next answers.
+//! Facts about the operation that alone is wrong: the number of wrong answers, the calls that ran during them, and the
+//! next answers.
 
 use crate::contradictions::{Clash, clash_of};
 use crate::crossings::Crossings;
@@ -13,85 +14,95 @@ use crate::symptoms::{Place, symptom_of_reply};
 use lset_words::Presence;
 use std::alloc::{AllocError, Global};
 
-/// The odd operation: all calls without its answers have an order.
+/// The operation that alone is wrong: without its answers, all calls have an order.
 #[derive(Clone, Copy)]
 pub struct Odd {
     pub operation: Operation,
-    /// The number of its wrong answers: with each of them alone the other calls have no order.
+    /// The number of wrong answers of the operation. If any one of them is added to the other calls, these have no
+    /// order.
     pub wrong: u64,
-    /// Whether `wrong` counts all wrong answers. Otherwise there can be more.
+    /// Whether `wrong` counts all wrong answers. Otherwise the operation can have more wrong answers.
     pub is_exact: bool,
-    /// The number of its answers.
+    /// The number of all answers of the operation.
     pub of: u64,
     /// The number of wrong answers that missed a present key.
     pub missed: u64,
     /// The number of wrong answers that found an absent key.
     pub found: u64,
-    /// The number of wrong answers during which the change that they did not see was still running.
+    /// The number of wrong answers that overlap a change of the key to the state that they did not see.
     pub running: u64,
-    /// The number of wrong answers during which a change that agrees with them was still running.
+    /// The number of wrong answers that overlap a change of the key to the state that they saw.
     pub starting: u64,
-    /// The number of wrong answers during which a change of another key ran.
+    /// The number of wrong answers that overlap a change of another key.
     pub beside: u64,
-    /// The number of wrong answers during which a remove of another key that returned true ran.
+    /// The number of wrong answers that overlap a successful remove of another key.
     pub removing: u64,
-    /// The number of wrong answers during which an add of another key that returned true ran.
+    /// The number of wrong answers that overlap a successful add of another key.
     pub adding: u64,
-    /// The number of wrong answers during which another add or remove of the key ran.
+    /// The number of wrong answers that overlap another add or remove of the same key, successful or not.
     pub same: u64,
-    /// The number of wrong answers during which another add of the key ran, whatever it returned.
+    /// The number of wrong answers that overlap another add of the same key, successful or not.
     pub same_adds: u64,
-    /// The number of wrong answers during which another remove of the key ran, whatever it returned.
+    /// The number of wrong answers that overlap another remove of the same key, successful or not.
     pub same_removes: u64,
-    /// The number of wrong answers that did not see a change of their own thread, although the change had ended.
+    /// The number of wrong answers that did not see a completed change by their own thread.
     pub by_same: u64,
-    /// The number of wrong answers that did not see a change of another thread, although the change had ended.
+    /// The number of wrong answers that did not see a completed change by another thread.
     pub by_others: u64,
-    /// The most moments between the end of such a change and the begin of the wrong answer.
+    /// The maximum number of moments from the end of a change that was not seen to the begin of the wrong answer.
     pub latest: u64,
-    /// Of `by_same` and `by_others`, those at most `SOON` moments before the wrong answer.
+    /// The number of wrong answers that began at most `SOON` moments after the end of a change that they did not see.
     pub soon: u64,
-    /// The number of wrong answers during which another add or remove of the key, or a change of another key ran.
+    /// The number of wrong answers that overlap another add or remove of the same key, or a change of another key.
     pub active: u64,
-    /// The number of wrong answers during which another add or remove ran, of any key and whatever it returned.
+    /// The number of wrong answers that overlap another add or remove of any key, successful or not.
     pub writing: u64,
-    /// During how many of 100 of its other answers another add or remove ran, of any key and whatever it returned.
+    /// The percentage of the operation's sampled other answers, not counted as wrong, that overlap another add or
+    /// remove of any key, successful or not.
     pub usually_writing: u64,
-    /// During how many of 100 of its other answers a change of another key ran.
+    /// The percentage of the operation's sampled other answers, not counted as wrong, that overlap a change of another
+    /// key.
     pub usual: u64,
-    /// During how many of 100 of its other answers another add or remove of the key ran.
+    /// The percentage of the operation's sampled other answers, not counted as wrong, that overlap another add or
+    /// remove of the same key.
     pub usually_same: u64,
-    /// During how many of 100 of its other answers another add or remove of the key, or a change of another key ran.
+    /// The percentage of the operation's sampled other answers, not counted as wrong, that overlap another add or
+    /// remove of the same key, or a change of another key.
     pub usually_active: u64,
-    /// The number of wrong answers followed by a right call of the operation, with no change of the key between.
+    /// The number of wrong answers that are followed by a right call of the operation on the key, with no change of the
+    /// key in between.
     pub then_right: u64,
-    /// The number of wrong answers followed by a wrong call of the operation, with no change of the key between.
+    /// The number of wrong answers that are followed by another wrong call of the operation on the key, with no change
+    /// of the key in between.
     pub then_wrong: u64,
-    /// The number of wrong answers that were checked for `apart`.
+    /// The number of wrong answers that were checked for overlapping calls; see `apart`.
     pub placed: u64,
-    /// Of `placed`: at the contradiction, no call of the recording began while another call was running.
+    /// The number of checked wrong answers with a contradiction during which no call of the recording began while
+    /// another call was running.
     pub apart: u64,
-    /// Whether the final keys are ignored too.
+    /// Whether the final keys are ignored, in addition to the operation's answers.
     pub puts_left_aside: bool,
     /// The number of keys with wrong answers.
     pub keys: u64,
-    /// Whether the operation never found any of these keys, and found others.
+    /// Whether the operation never found any of the keys with wrong answers, but found other keys.
     pub never_finds: bool,
-    /// The number of wrong answers that agree with the last earlier call of the key by the same thread.
+    /// The number of wrong answers that agree with the last earlier call of the same key by the same thread.
     pub own: u64,
-    /// The number of wrong answers that were compared with the other keys.
+    /// The number of wrong answers that were compared with the presence of other keys.
     pub compared: u64,
-    /// Of `compared`: the last call of each other key that had ended left that key absent.
+    /// The part of `compared` with no other key known to be present when the answer began.
     pub lonely: u64,
-    /// At how many of 100 of its calls at most one key was shown present.
+    /// The percentage of sampled calls that began while at most one key was known to be present.
     pub usually_lonely: u64,
-    /// Of `compared`: the last call of each larger key that had ended left that key absent. 0 if there are many keys.
+    /// The part of `compared` with no larger key known to be present when the answer began. 0 if the recording has more
+    /// than `MOST_KEYS` keys with calls.
     pub largest: u64,
-    /// Of 100 answers that found a key present: no larger key was shown present.
+    /// The percentage of sampled `contains` calls that found their key present and began while no larger key was known
+    /// to be present.
     pub usually_largest: u64,
 }
 
-/// The odd operation, its wrong answers, and whether the final keys are ignored.
+/// The operation that alone is wrong, its wrong answers, and whether the final keys are ignored.
 #[derive(Drop)]
 pub struct OddFound {
     operation: Operation,
@@ -99,11 +110,11 @@ pub struct OddFound {
     pub answers: WrongAnswers,
 }
 
-/// The maximum number of calls that the judge judges again. For more calls the rule of each key alone decides, with the
-/// same result.
+/// The maximum number of calls that the judge judges again. With more calls, only the judge's test of each key is
+/// applied, which has the same result.
 const MOST_JUDGED: usize = 500_000;
 
-/// Returns the final state of a key. `None` if it is not known, or ignored (`aside`).
+/// Returns the final state of a key. `None` if the final state is not known, or is ignored (`aside`).
 fn left_of(runs: &Runs<'_>, key: u32, aside: bool) -> Option<Presence> {
     if aside {
         None
@@ -112,8 +123,8 @@ fn left_of(runs: &Runs<'_>, key: u32, aside: bool) -> Option<Presence> {
     }
 }
 
-/// Returns whether the calls of all refused keys have an order without the answers of an operation, with any final keys
-/// if `aside`.
+/// Returns whether the calls of all refused keys have an order without the answers of an operation. If `aside`, the
+/// final keys are ignored.
 fn is_odd(
     alloc: Global,
     runs: &Runs<'_>,
@@ -135,7 +146,7 @@ fn is_odd(
     is_judged_without(alloc, runs.recorded, operation, is_cut)
 }
 
-/// Returns the wrong answers of the odd operation.
+/// Returns the wrong answers of the operation that alone is wrong.
 fn wrong_answers(
     alloc: Global,
     runs: &Runs<'_>,
@@ -156,10 +167,10 @@ fn wrong_answers(
     })
 }
 
-/// The minimum number of answers of an operation that is blamed although the final keys are ignored.
+/// If the final keys are ignored, an operation is blamed only if it has at least this many answers.
 const LEAST_ANSWERS: u64 = 10;
 
-/// Returns the odd operation. `None` if no operation alone is wrong. Allocates.
+/// Returns the operation that alone is wrong. `None` if there is no such operation. Allocates.
 pub fn find_odd(
     alloc: Global,
     runs: &Runs<'_>,
@@ -187,11 +198,11 @@ pub fn find_odd(
     Ok(None)
 }
 
-/// The maximum number of adds and removes that are searched for one that overlaps an answer.
+/// The maximum number of adds and removes that are checked for an overlap with an answer.
 const MOST_WRITERS: usize = 100_000;
 
-/// The adds and removes among some calls, whatever they returned, ordered by begin. `latest[i]` is the
-/// latest end of the first i + 1 of them.
+/// The adds and removes among some calls, successful or not, ordered by begin. `latest[i]` is the latest end of the
+/// first i + 1 adds and removes.
 #[derive(Drop)]
 struct Writers {
     calls: Vec<Made>,
@@ -215,8 +226,8 @@ impl Writers {
         Ok(writers)
     }
 
-    /// Returns whether one of the calls, other than `answer` itself, overlaps `answer`. If an operation is given,
-    /// considers only its calls.
+    /// Returns whether a call in the list, other than `answer` itself, overlaps `answer`. If an operation is given,
+    /// considers only calls of this operation.
     fn overlap(&self, answer: Made, operation: Option<Operation>) -> bool {
         let end = self.calls.partition_point(|call| call.begun < answer.ended);
         let calls = self.calls.get(..end).unwrap_or(&[]);
@@ -234,7 +245,7 @@ impl Writers {
     }
 }
 
-/// A key with wrong answers: its calls without the answers of the odd operation, and all its adds and removes.
+/// A key with wrong answers: its calls without the answers of the wrong operation, and all its adds and removes.
 #[derive(Drop)]
 struct Sound {
     calls: KeyCalls,
@@ -242,10 +253,11 @@ struct Sound {
     writers: Writers,
 }
 
-/// No stretches are searched for the wrong answers of a key with at least this many calls.
+/// If a key has at least this many calls, its overlapping changes are not searched for contradictions with the wrong
+/// answers.
 const MOST_STRETCHED: usize = 50_000;
 
-/// Returns the calls of a key without the answers of the odd operation, indexed for searches.
+/// Returns the calls of a key without the answers of the wrong operation, indexed for searches.
 fn sound_calls(
     alloc: Global,
     runs: &Runs<'_>,
@@ -269,7 +281,7 @@ fn sound_calls(
     })
 }
 
-/// Returns the contradiction of a wrong answer with the right calls.
+/// Returns the contradiction between a wrong answer and the right calls.
 fn place_of_answer(sound: &KeyCalls, call: Made, clash: Clash) -> Place {
     Place {
         key: sound.key,
@@ -282,7 +294,7 @@ fn place_of_answer(sound: &KeyCalls, call: Made, clash: Clash) -> Place {
     }
 }
 
-/// Returns the odd operation with the number of its wrong answers, and no other counts yet.
+/// Returns the facts about the wrong operation with the number of its wrong answers; all other counts are 0.
 fn odd_of(found: &OddFound) -> Odd {
     Odd {
         operation: found.operation,
@@ -330,10 +342,11 @@ pub(crate) fn more(count: &mut u64) {
     *count = count.saturating_add(1);
 }
 
-/// The maximum number of contradictions of wrong answers that are looked at.
+/// The maximum number of wrong answers with contradictions that are collected.
 const MOST_PLACED: usize = 400;
 
-/// Adds the contradictions of the wrong answers to `places`, and returns the facts about the odd operation. Allocates.
+/// Adds the contradictions of the wrong answers to `places`, and returns the facts about the wrong operation.
+/// Allocates.
 pub fn places_of_odd(
     alloc: Global,
     runs: &Runs<'_>,
@@ -397,7 +410,7 @@ fn begins_of(alloc: Global, calls: &[Made]) -> Result<Vec<u64>, AllocError> {
 /// The maximum number of calls of a key that are searched for the last call of a thread.
 const MOST_OWN: usize = 2_000;
 
-/// Returns whether the last call of a key by the thread of an answer left the key as answered.
+/// Returns whether the last call of the key by the answer's thread left the key in the state that the answer needs.
 fn was_left_so(calls: &[Made], answer: Made) -> bool {
     let end = calls.partition_point(|call| call.begun < answer.begun);
     let earlier = calls.get(..end).unwrap_or(&[]).iter().rev();
@@ -409,10 +422,10 @@ fn was_left_so(calls: &[Made], answer: Made) -> bool {
     false
 }
 
-/// The number of calls of a key before a sampled call that are looked at for those that overlap the sampled call.
+/// The maximum number of earlier calls of a key that are checked for an overlap with a sampled call.
 const MOST_BEFORE: usize = 64;
 
-/// Returns whether another add or remove of the key ran during a sampled call, whatever it returned.
+/// Returns whether another add or remove of the same key, successful or not, overlaps a sampled call.
 fn runs_beside(calls: &[Made], answer: Made) -> bool {
     let end = calls.partition_point(|call| call.begun < answer.ended);
     let earlier = calls.get(..end).unwrap_or(&[]).iter().rev();
@@ -431,8 +444,8 @@ fn is_changed(sound: &KeyCalls, since: u64, until: u64) -> bool {
         || sound.may_become(Presence::Absent, since, until)
 }
 
-/// Returns the next completed call of the same operation that begins after an answer has ended, if no change of the key
-/// overlaps the time between them. An add or remove that returned true may change the key itself.
+/// Returns the next completed call of the same operation that begins after an answer has ended, if no other change of
+/// the key overlaps the time from the answer to this call. The returned call can itself change the key.
 fn next_call(sound: &KeyCalls, calls: &[Made], answer: Made) -> Option<Made> {
     let first = calls.partition_point(|call| call.begun <= answer.ended);
     for call in calls.get(first..).unwrap_or(&[]) {
@@ -452,8 +465,8 @@ fn next_call(sound: &KeyCalls, calls: &[Made], answer: Made) -> Option<Made> {
     None
 }
 
-/// Counts what ran during a wrong answer, and whether the next answer is wrong too. `wrong` has the begins of all wrong
-/// answers in order.
+/// Counts a wrong answer by the calls that overlap it, and by whether the next answer is wrong too. `wrong` has the
+/// begins of all wrong answers in increasing order.
 fn count_around(sound: &KeyCalls, calls: &[Made], call: Made, odd: &mut Odd, wrong: &[u64]) {
     if was_left_so(calls, call) {
         more(&mut odd.own);
@@ -469,7 +482,7 @@ fn count_around(sound: &KeyCalls, calls: &[Made], call: Made, odd: &mut Odd, wro
 /// The maximum number of wrong answers that are compared with the other keys.
 const MOST_COMPARED: usize = 200;
 
-/// Returns whether the last of some calls that ended before a moment left the key present.
+/// Returns whether the key was present after the last call that had ended before a moment.
 fn is_left_present(calls: &[Made], opening: Presence, moment: u64) -> bool {
     let (mut left, mut latest) = (Some(opening), 0);
     for call in calls {
@@ -487,7 +500,7 @@ fn is_left_present(calls: &[Made], opening: Presence, moment: u64) -> bool {
 /// Wrong answers are compared with larger keys only in recordings with at most this many keys.
 const MOST_KEYS: usize = 16;
 
-/// Returns whether no larger key is shown present just before a call.
+/// Returns whether no larger key is known to be present just before a call.
 fn is_largest(runs: &Runs<'_>, call: Made) -> bool {
     let opening = runs.recorded.opening.iter().rev();
     for key in opening.take(MOST_KEYS.saturating_add(1)) {
@@ -505,7 +518,8 @@ fn is_largest(runs: &Runs<'_>, call: Made) -> bool {
     true
 }
 
-/// Returns in how many of 100 answers that found a key present, in a sample, no larger key is shown present.
+/// Returns the percentage of sampled `contains` calls that found their key present and began while no larger key was
+/// known to be present.
 fn usually_largest(runs: &Runs<'_>) -> u64 {
     let calls = &runs.recorded.calls;
     let step = calls.len().checked_div(SAMPLED).unwrap_or(0);
@@ -522,8 +536,7 @@ fn usually_largest(runs: &Runs<'_>) -> u64 {
     count.saturating_mul(100).checked_div(tried).unwrap_or(100)
 }
 
-/// Compares the wrong answers with the other keys at the same time: whether another key, and whether a larger key was
-/// shown present.
+/// Counts the wrong answers that began while no other key, or no larger key, was known to be present.
 fn compare_keys(
     alloc: Global,
     runs: &Runs<'_>,
@@ -551,11 +564,11 @@ fn compare_keys(
     Ok(())
 }
 
-/// The number of answers that are sampled.
+/// A sample of calls has about this many calls.
 const SAMPLED: usize = 500;
 
-/// Counts during how many of 100 answers of the odd operation, in a sample, other changes ran. Leaves out the wrong
-/// answers, which have these begins.
+/// Computes the percentages of sampled answers that overlap other changes. Leaves out the wrong answers: `wrong` has
+/// their begins in increasing order.
 fn count_usual(
     runs: &Runs<'_>,
     odd: &mut Odd,
@@ -586,7 +599,7 @@ fn count_usual(
     odd.usually_active = percent(active, tried);
 }
 
-/// Returns `some` of `all` in percent; 0 if `all` is 0.
+/// Returns `some` as a percentage of `all`; 0 if `all` is 0.
 pub(crate) fn percent(some: u64, all: u64) -> u64 {
     some.saturating_mul(100).checked_div(all).unwrap_or(0)
 }
@@ -635,11 +648,12 @@ fn count_answer(sound: &Sound, call: Made, odd: &mut Odd, neighbours: &Neighbour
     }
 }
 
-/// A wrong answer is soon after a change if at most this many moments are between the two.
+/// A wrong answer counts as soon after a change if it begins at most this many moments after the end of the change.
 const SOON: u64 = 50;
 
-/// Counts who made the change to the state `was` that a wrong answer did not see, and how long before, if that change
-/// had ended. Two overlapping changes to this state are not counted: either can be the last to take effect.
+/// Counts a wrong answer that did not see a completed change to the state `was`: by the thread that made the change,
+/// and by the time since the change. Counts nothing if two changes to this state overlap, since either can have taken
+/// effect last.
 fn count_unseen(sound: &KeyCalls, call: Made, was: Presence, odd: &mut Odd) {
     let Some(change) = sound.change_before(was, call.begun) else {
         return;

@@ -1,5 +1,5 @@
-//! Finds pairs of keys that undo each other's changes: before one key is lost or returns, a change of the other one
-//! overlapped the undone change, more often than changes of any third key.
+//! Finds pairs of keys that undo each other's changes: before a key is lost or returns, a change of its partner
+//! overlapped the undone change, more often than changes of any third key did.
 
 use crate::key_calls::KeyCalls;
 use crate::made_calls::Made;
@@ -7,34 +7,34 @@ use crate::neighbours::Neighbours;
 use crate::symptoms::Place;
 use std::alloc::{AllocError, Global};
 
-/// The maximum number of changes of other keys that are looked at beside a change.
+/// The maximum number of changes of other keys that are checked for an overlap with a change.
 const MOST_BESIDE: usize = 64;
 
-/// The minimum number of losses and returns of a key that are compared.
+/// A key is compared with other keys only if it was lost or returned at least this many times.
 const LEAST: u64 = 8;
 
 /// The maximum number of keys that are compared with a key.
 const MOST_KEYS: usize = 16;
 
-/// Another key, and beside how many undone changes it was changed.
+/// Another key, and the number of undone changes that overlap a change of this other key.
 #[derive(Clone, Copy)]
 struct Partner {
     key: u32,
     hits: u64,
 }
 
-/// A key and a partner: a change of the partner overlapped nearly all changes of the key that were undone.
+/// A key and its partner: a change of the partner overlapped nearly all undone changes of the key.
 #[derive(Clone, Copy)]
 pub struct Bound {
     pub one: u32,
     pub two: u32,
-    /// Beside how many undone changes of the key the partner was changed.
+    /// The number of undone changes of the key that overlap a change of the partner.
     pub hits: u64,
-    /// How many changes of the key were undone.
+    /// The number of undone changes of the key.
     pub of: u64,
 }
 
-/// The partners of one key.
+/// The keys with changes that overlap undone changes of one key.
 #[derive(Drop)]
 struct Partners {
     found: Vec<Partner>,
@@ -42,7 +42,7 @@ struct Partners {
 }
 
 impl Partners {
-    /// Counts a key that was changed beside the last undone change.
+    /// Counts a key with a change that overlaps the last undone change.
     fn count(&mut self, key: u32) -> Result<(), AllocError> {
         for partner in &mut self.found {
             if partner.key == key {
@@ -72,8 +72,8 @@ impl Partners {
     }
 }
 
-/// Returns the completed change that was undone, if a call shows that the key was lost or came back after this change had
-/// ended.
+/// Returns the completed change that was undone, if a call shows that the key was lost or returned after this change
+/// had ended.
 fn undone_change(key: &KeyCalls, place: &Place) -> Option<Made> {
     let second = place.clash.second?;
     let first = place.clash.first?;
@@ -89,7 +89,7 @@ fn undone_change(key: &KeyCalls, place: &Place) -> Option<Made> {
     }
 }
 
-/// Returns the keys that were changed beside changes of a key that were undone.
+/// Returns the keys with changes that overlap undone changes of a key.
 fn partners_of(
     alloc: Global,
     key: &KeyCalls,
@@ -120,8 +120,9 @@ fn partners_of(
     Ok(partners)
 }
 
-/// Returns a key and its partner, if a change of the partner overlapped at least 85 percent of the key's changes that were
-/// undone, and changes of each third key at most 70 percent as many. `places` are the contradictions of the key. Allocates.
+/// Returns a key and its partner, if a change of the partner overlapped at least 85 percent of the key's undone
+/// changes, and changes of each third key overlapped at most 70 percent as many. `places` are the contradictions of the
+/// key. Allocates.
 pub fn bound_of(
     alloc: Global,
     key: &KeyCalls,
@@ -147,10 +148,10 @@ pub fn bound_of(
     }))
 }
 
-/// From so many contradictions on, a key without a partner shows that keys have none.
+/// If a key with at least this many contradictions has no partner, the recording has no pairs of keys.
 const MANY_PLACES: usize = 20;
 
-/// How many keys have a partner, and the pair with the most undone changes.
+/// The number of keys with a partner, and the pair with the most undone changes.
 #[derive(Clone, Copy)]
 pub struct BoundKeys {
     best: Option<Bound>,
@@ -159,7 +160,7 @@ pub struct BoundKeys {
 }
 
 impl BoundKeys {
-    /// Creates the counts without keys.
+    /// Creates the counts for no keys.
     pub fn new() -> BoundKeys {
         BoundKeys {
             best: None,
@@ -168,7 +169,8 @@ impl BoundKeys {
         }
     }
 
-    /// Adds a key with this many contradictions.
+    /// Adds a key. `found` is the pair of the key and its partner, if it has one, and `places` is the number of its
+    /// contradictions.
     pub fn add(&mut self, found: Option<Bound>, places: usize) {
         let Some(next) = found else {
             if places >= MANY_PLACES {
@@ -183,8 +185,8 @@ impl BoundKeys {
         }
     }
 
-    /// Returns the pair with the most undone changes, if at least two of at least three refused keys have a partner, and
-    /// no key with many contradictions has none.
+    /// Returns the pair with the most undone changes, if at least two of at least three refused keys have a partner,
+    /// and every key with many contradictions has a partner.
     pub fn pair(&self, keys: u64) -> Option<Bound> {
         if self.bound < 2 || self.unbound > 0 || keys < 3 {
             return None;

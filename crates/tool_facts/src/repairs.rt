@@ -1,5 +1,5 @@
-//! Finds repairs of a contradiction: changing one reply, leaving out one call, or adding one change makes the
-//! surrounding calls linearizable.
+//! Finds repairs of a contradiction. A repair makes the surrounding calls linearizable: the opposite reply of one call,
+//! one call left out, or one additional change.
 
 use crate::contradictions::Clash;
 use crate::key_calls::KeyCalls;
@@ -9,14 +9,14 @@ use crate::stretches::{Stretch, sure_before};
 use lset_words::Presence;
 use std::alloc::{AllocError, Global};
 
-/// How many later calls of the key must be linearizable too. The largest number is tried first.
+/// How many later calls of the key must be linearizable with a repair. The largest number is tried first.
 const AHEAD: [usize; 3] = [24, 8, 2];
 
-/// The maximum number of calls around a contradiction.
+/// The maximum number of calls around a contradiction that are searched for repairs.
 const MOST_AROUND: usize = 300;
 
 /// A key's calls around a contradiction: those that begin after the moment `from` and before a later moment. A call
-/// that has not ended by then is pending. The key has the state `state` at `from`.
+/// that has not ended by this later moment is pending. The key is in the state `state` at `from`.
 #[derive(Drop)]
 struct Around {
     from: u64,
@@ -30,8 +30,8 @@ struct Around {
 pub struct Repairs {
     /// If any one of these calls had the opposite reply, the calls around the contradiction would be linearizable.
     pub turned: Vec<Made>,
-    /// If any one of these adds and removes, which returned false, were missing, the calls around the contradiction
-    /// would be linearizable.
+    /// If any one of these adds and removes were left out, the calls around the contradiction would be linearizable.
+    /// All of them returned false.
     pub dropped: Vec<Made>,
     /// Whether an additional change between the two contradicting calls would make the surrounding calls linearizable.
     pub change: bool,
@@ -76,7 +76,7 @@ fn calls_around(
     }))
 }
 
-/// Returns the begin of the call number `ahead` (from 0) after a contradiction; `NEVER` if there is none.
+/// Returns the begin of the call number `ahead` (from 0) after a contradiction; `NEVER` if there is no such call.
 fn moment_ahead(key: &KeyCalls, clash: &Clash, ahead: usize) -> u64 {
     key.after(clash.until)
         .get(ahead)
@@ -88,7 +88,8 @@ impl Around {
         has_order(alloc, calls, self.state, self.left)
     }
 
-    /// Returns `true` if the calls are linearizable when one of them has the opposite reply or, if `drops`, is missing.
+    /// Returns `true` if the calls are linearizable when `call` has the opposite reply or, if `drops`, when `call` is
+    /// left out.
     fn is_repaired(&self, alloc: Global, call: Made, drops: bool) -> Result<bool, AllocError> {
         let mut calls = Vec::new(alloc);
         for one in &self.calls {
@@ -148,8 +149,8 @@ fn add(calls: &mut Vec<Made>, call: Made) -> Result<(), AllocError> {
     Ok(())
 }
 
-/// Returns the calls to try with the opposite reply: the contradicting calls, and calls that returned false at the
-/// same time.
+/// Returns the calls to try with the opposite reply: the contradicting calls, and the calls that returned false during
+/// the contradiction.
 fn candidates(alloc: Global, key: &KeyCalls, clash: &Clash) -> Result<Vec<Made>, AllocError> {
     let mut found = Vec::new(alloc);
     for call in [clash.first, clash.second].into_iter().flatten() {
@@ -168,7 +169,7 @@ fn candidates(alloc: Global, key: &KeyCalls, clash: &Clash) -> Result<Vec<Made>,
     Ok(found)
 }
 
-/// Returns the repairs for the calls around a contradiction that begin before a moment.
+/// Returns the repairs of a contradiction for the surrounding calls that begin before the moment `until`.
 fn repairs_until(
     alloc: Global,
     clash: &Clash,
@@ -218,7 +219,7 @@ pub fn repairs_of(
 }
 
 /// Returns `true` if the opposite reply of a call was expected: the calls that had begun by the end of this call are
-/// not linearizable, but would be with that reply. Allocates.
+/// not linearizable, but would be with the opposite reply. Allocates.
 pub fn is_expected(
     alloc: Global,
     key: &KeyCalls,

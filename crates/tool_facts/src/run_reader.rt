@@ -40,8 +40,8 @@ fn presence_in(keys: &[u32], key: u32) -> Presence {
     }
 }
 
-/// Reads a recording and keeps all of its calls. Checks the form of each line, but not that keys increase and that each
-/// call can follow the calls before it: the judge does.
+/// Reads a recording and keeps all of its calls. Checks the form of each line. Does not check that keys increase, and
+/// that each call can follow the calls before it: the judge checks that.
 #[derive(Drop)]
 pub struct RunReader {
     recorded: Recorded,
@@ -114,8 +114,8 @@ impl RunReader {
         Ok(())
     }
 
-    /// Returns the recording. `None` if a line does not have the form of a line that is allowed there, or if the text
-    /// does not end after the line `end` or `cut`. Does not allocate.
+    /// Returns the recording. `None` if a line does not have the form of a line that is allowed at its position, or if
+    /// the last line of the text is not `end` or `cut`. Does not allocate.
     pub fn finish(self) -> Option<Recorded> {
         let is_done = matches!(self.section, Section::Done);
         if is_done && self.is_whole && self.line.is_empty() {
@@ -153,9 +153,9 @@ impl RunReader {
         Ok(None)
     }
 
-    /// Returns the first `count` calls as a recording that was cut off just before the next call began, without the calls
-    /// that ended later and changed nothing. Returns `None` unless more than `count` calls were read, or if a line has
-    /// the wrong form. Allocates.
+    /// Returns the first `count` calls as a recording that was cut off just before the next call began. Leaves out the
+    /// calls that ended later and changed nothing. Returns `None` unless more than `count` calls were read, or if a
+    /// line has the wrong form. Allocates.
     pub fn first_calls(&self, count: usize) -> Result<Option<Recorded>, AllocError> {
         let Some(next) = self.recorded.calls.get(count) else {
             return Ok(None);

@@ -17,8 +17,8 @@ pub struct Runs<'a> {
     calls: Vec<Made>,
 }
 
-/// A key whose calls are not linearizable, and the first moment up to which they are not; `NEVER` if no order leaves
-/// the final state.
+/// A key with calls that are not linearizable, and the first moment such that its calls up to this moment are not
+/// linearizable. The moment is `NEVER` if only the final state contradicts the calls.
 #[derive(Clone, Copy)]
 pub struct Refused {
     pub key: u32,
@@ -38,7 +38,7 @@ fn place_of(keys: &[u32], key: u32) -> usize {
 }
 
 impl KeyTable {
-    /// Creates the table for calls with a large key.
+    /// Creates the table for calls if some keys are large numbers.
     fn sorted(alloc: Global, calls: &[Made]) -> Result<KeyTable, AllocError> {
         let mut keys = Vec::new(alloc);
         for call in calls {
@@ -168,7 +168,7 @@ impl<'a> Runs<'a> {
         KeyCalls::new(self.alloc, key, calls, opening, left)
     }
 
-    /// Returns all keys in the recording in increasing order. Allocates.
+    /// Returns all keys of the recording in increasing order, also opening and final keys without calls. Allocates.
     pub fn keys(&self) -> Result<Vec<u32>, AllocError> {
         let mut keys = Vec::from_slice(self.alloc, &self.keys)?;
         keys.extend_from_slice(&self.recorded.opening)?;
@@ -178,7 +178,7 @@ impl<'a> Runs<'a> {
         Ok(keys)
     }
 
-    /// Returns the keys whose calls are not linearizable. Allocates.
+    /// Returns the keys with calls that are not linearizable. Allocates.
     pub fn refused(&self, keys: &[u32]) -> Result<Vec<Refused>, AllocError> {
         let mut refused = Vec::new(self.alloc);
         for key in keys {
@@ -192,7 +192,7 @@ impl<'a> Runs<'a> {
     }
 }
 
-/// Returns the refused key with the earliest moment.
+/// Returns the refused key with the earliest moment of refusal.
 pub fn first_of(refused: &[Refused]) -> Option<Refused> {
     let mut first: Option<Refused> = None;
     for one in refused {

@@ -3,26 +3,26 @@ use crate::made_calls::{Made, NEVER, Operation, drop_ended};
 use lset_words::Presence;
 use std::alloc::{AllocError, Global};
 
-/// The minimum number of answers of each kind in a split.
+/// In a split, at least this many answers found the key present, and at least this many found it absent.
 const LEAST: u64 = 3;
 
-/// The minimum number of answers for a split to count as long.
+/// A split is long if it has at least this many answers.
 const LONG: u64 = 200;
 
-/// How many answers found a key present, and how many found it absent.
+/// How many answers found a key present, and how many found the key absent.
 #[derive(Clone, Copy)]
 pub struct Votes {
     pub present: u64,
     pub absent: u64,
 }
 
-/// A split: a period in which no change of a key ran, but calls alternately found the key present and absent.
+/// A split: a period without a change of a key, although calls alternately found the key present and absent.
 #[derive(Clone, Copy)]
 pub struct Split {
     pub key: u32,
-    /// The moment after which no change ran.
+    /// The begin of the period without a change.
     pub since: u64,
-    /// The moment at which the next change begins; `NEVER` if there is none.
+    /// The begin of the next change; `NEVER` if there is no further change.
     pub until: u64,
     /// How many calls of `add` found the key present.
     pub adds: u64,
@@ -34,7 +34,7 @@ pub struct Split {
 }
 
 impl Split {
-    /// Creates a split without answers.
+    /// Creates a split without answers, beginning at the moment `since`.
     fn since(key: u32, since: u64) -> Split {
         Split {
             key,
@@ -51,7 +51,7 @@ impl Split {
         }
     }
 
-    /// Counts the answer of a call that changes nothing.
+    /// Counts a call that changes nothing by its answer.
     fn count(&mut self, call: Made) {
         let Some(found) = call.needs() else {
             return;
@@ -69,12 +69,12 @@ impl Split {
         self.last = Some(found);
     }
 
-    /// Returns `true` if the split has enough answers to indicate a rule.
+    /// Returns `true` if the split has enough answers to show that the disagreement is no accident.
     pub fn is_long(&self) -> bool {
         self.size() >= LONG
     }
 
-    /// Returns how many answers of all operations found the key present, and how many found it absent.
+    /// Returns how many answers of all operations found the key present, and how many found the key absent.
     pub fn votes(&self) -> Votes {
         Votes {
             present: self.adds.saturating_add(self.contains.present),
@@ -82,22 +82,22 @@ impl Split {
         }
     }
 
-    /// Returns `true` if at least `LEAST` answers found the key present and as many found it absent, the answers
-    /// alternated at least three times, and those of `contains` did not differ.
+    /// Returns `true` if at least `LEAST` answers found the key present and at least `LEAST` found it absent, the
+    /// answers alternated at least three times, and all answers of `contains` agree.
     fn is_split(&self) -> bool {
         let votes = self.votes();
         let is_mixed = self.contains.present > 0 && self.contains.absent > 0;
         votes.present >= LEAST && votes.absent >= LEAST && self.turns >= 3 && !is_mixed
     }
 
-    /// Returns the number of answers.
+    /// Returns the number of answers in the split.
     pub fn size(&self) -> u64 {
         let votes = self.votes();
         votes.present.saturating_add(votes.absent)
     }
 }
 
-/// Returns the split of a key with the most answers. Allocates.
+/// Returns the split with the most answers among the splits of a key. Allocates.
 pub fn longest_split(alloc: Global, key: &KeyCalls) -> Result<Option<Split>, AllocError> {
     let mut best: Option<Split> = None;
     let mut split = Split::since(key.key, 0);
@@ -127,7 +127,7 @@ pub fn longest_split(alloc: Global, key: &KeyCalls) -> Result<Option<Split>, All
     Ok(larger(best, split))
 }
 
-/// Returns the larger of two splits. `next` counts only if it is a split.
+/// Returns the candidate with more answers. `next` counts only if its calls disagree as `is_split` demands.
 fn larger(best: Option<Split>, next: Split) -> Option<Split> {
     if !next.is_split() {
         return best;

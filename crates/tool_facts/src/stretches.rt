@@ -1,5 +1,5 @@
-//! Finds stretches: changes of a key that overlap each other. The state that they leave together follows from their
-//! number.
+//! Finds stretches: groups of overlapping changes of a key. The numbers of adds and removes in a stretch determine the
+//! state that the stretch leaves.
 
 use crate::key_calls::KeyCalls;
 use crate::made_calls::{Made, NEVER};
@@ -11,13 +11,14 @@ use std::alloc::{AllocError, Global};
 pub struct Stretch {
     pub begun: u64,
     pub ended: u64,
-    /// The key's state after these changes in every order, if it follows from their number and from `read`.
+    /// The key's state after these changes, if every order leads to the same state. It follows from their number and
+    /// from `read`.
     pub leaves: Option<Presence>,
-    /// An earlier call that shows the key's state, if that is needed.
+    /// An earlier call that shows the key's state before the stretch, if that state is needed.
     pub read: Option<Made>,
 }
 
-/// How many changes of each kind a stretch has so far.
+/// The numbers of adds and removes in a stretch so far.
 #[derive(Clone, Copy)]
 struct Sum {
     begun: u64,
@@ -56,8 +57,8 @@ impl Sum {
         }
     }
 
-    /// Completes the stretch. `before` is the key's state before it, if known, and `read` is the call that shows that
-    /// state.
+    /// Completes the stretch. `before` is the key's state before the stretch, if known, and `read` is the call that
+    /// shows this state.
     fn stretch(self, before: Option<Presence>, read: Option<Made>) -> Stretch {
         let (leaves, read) = if self.adds == self.removes {
             (before, read)
@@ -92,7 +93,7 @@ fn read_between(key: &KeyCalls, since: u64, until: u64) -> Option<Made> {
     None
 }
 
-/// Completes a stretch from its counts, with the key's state before it if known.
+/// Completes a stretch from its counts. Determines the key's state before the stretch, if known.
 fn stretch_of(key: &KeyCalls, sum: Sum, last: Option<Stretch>) -> Stretch {
     let since = last.map_or(0, |last| last.ended);
     match read_between(key, since, sum.begun) {

@@ -8,14 +8,15 @@ use crate::stretches::{Stretch, stretches_of};
 use lset_words::Presence;
 use std::alloc::{AllocError, Global};
 
-/// What a contradiction looks like.
+/// The visible effect of an error: how a contradiction differs from a correct recording.
 #[derive(Clone, Copy, PartialEq, Eq)]
 pub enum Symptom {
-    /// One reply of a call that changes nothing is wrong: the operation missed a present key.
+    /// A single reply is wrong, of a call that changes nothing: the operation missed a present key.
     Missed(Operation),
-    /// One reply of a call that changes nothing is wrong: the operation found an absent key.
+    /// A single reply is wrong, of a call that changes nothing: the operation found an absent key.
     Found(Operation),
-    /// Two overlapping calls of the operation both returned true.
+    /// Two overlapping calls of the operation both returned true, although only one of the two can have changed the
+    /// key.
     BothTrue(Operation),
     /// A present key became absent without a remove that returned true.
     Lost,
@@ -31,7 +32,7 @@ pub struct Place {
     pub key: u32,
     pub clash: Clash,
     pub symptom: Symptom,
-    /// The call with the only wrong reply.
+    /// The call with the wrong reply, if only one reply is wrong.
     pub wrong: Option<Made>,
     /// An add or remove that returned false. If it had returned true, the surrounding calls would be linearizable.
     pub silent: Option<Made>,
@@ -49,8 +50,8 @@ fn only(calls: &[Made]) -> Option<Made> {
     }
 }
 
-/// Returns the only call that changes nothing and whose opposite reply repairs the contradiction. Considers only calls
-/// of `contains` or, if `contains` is false, only other calls.
+/// Returns a call that changes nothing, if its opposite reply repairs the contradiction and no other such call exists.
+/// If `contains` is true, considers only calls of `contains`, otherwise only other calls.
 fn only_turned(
     alloc: Global,
     repairs: &Repairs,
@@ -65,7 +66,7 @@ fn only_turned(
     Ok(only(&found))
 }
 
-/// Returns the symptom of a call with the only wrong reply.
+/// Returns the symptom of a contradiction in which only the reply of `call` is wrong.
 pub fn symptom_of_reply(call: Made) -> Symptom {
     match call.needs() {
         Some(Presence::Present) => Symptom::Found(call.operation),
@@ -73,7 +74,7 @@ pub fn symptom_of_reply(call: Made) -> Symptom {
     }
 }
 
-/// Returns the symptom of a key that left the state `was` although no call reported a change.
+/// Returns the symptom of a key that left the state `was` although no call of a change returned true.
 fn gone(was: Presence) -> Symptom {
     match was {
         Presence::Present => Symptom::Lost,
@@ -130,8 +131,8 @@ pub fn place_of(
     Ok(place)
 }
 
-/// Returns contradictions of a key with their symptoms, ordered by time. No two of them overlap each other in time; of
-/// two that do, one is left out. Allocates.
+/// Returns contradictions of a key with their symptoms, ordered by time. If two contradictions overlap each other in
+/// time, only one of them is returned. Allocates.
 pub fn places_of(alloc: Global, key: &KeyCalls) -> Result<Vec<Place>, AllocError> {
     let stretches = stretches_of(alloc, key)?;
     let clashes = clashes_of(alloc, key, &stretches)?;
@@ -143,12 +144,12 @@ pub fn places_of(alloc: Global, key: &KeyCalls) -> Result<Vec<Place>, AllocError
 }
 
 impl Place {
-    /// Returns `true` if the key was lost or came back.
+    /// Returns `true` if the symptom is that the key was lost or returned.
     pub fn is_gone(&self) -> bool {
         matches!(self.symptom, Symptom::Lost | Symptom::CameBack)
     }
 
-    /// Returns the duration of the contradiction. A less clear one counts as longer.
+    /// Returns the duration of the contradiction. A contradiction with a less clear symptom counts as longer.
     pub fn length(&self) -> u64 {
         let length = self.clash.until.saturating_sub(self.clash.begun());
         let is_long = self.clash.stretch.is_some() || self.clash.second.is_none();

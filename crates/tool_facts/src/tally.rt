@@ -8,7 +8,8 @@ use crate::symptoms::{Place, Symptom};
 use lset_words::Presence;
 use std::alloc::{AllocError, Global};
 
-/// How many contradictions of each kind there are. Contradictions of the same key do not overlap each other.
+/// The numbers of contradictions of each kind. A loss is a key that became absent without a successful remove. A return
+/// is a key that became present without a successful add. Contradictions of one key do not overlap each other.
 #[derive(Clone, Copy, Default)]
 pub struct Tally {
     pub places: u64,
@@ -16,125 +17,134 @@ pub struct Tally {
     pub came_back: u64,
     pub both_adds: u64,
     pub both_removes: u64,
-    /// Wrong answers that missed a present key.
+    /// The number of wrong answers that missed a present key.
     pub missed: u64,
-    /// Wrong answers that found an absent key.
+    /// The number of wrong answers that found an absent key.
     pub found: u64,
     pub others: u64,
-    /// Of `lost` and `came_back`, those that the opposite reply of an add or remove that returned false would repair.
+    /// The number of losses and returns of keys that would be repaired if an add or remove that returned false had
+    /// returned true.
     pub silent: u64,
-    /// Of `lost` and `came_back`, those that one opposite reply would repair.
+    /// The number of losses and returns of keys that the opposite reply of one call would repair.
     pub turned: u64,
-    /// Of `lost` and `came_back` as shown by a call, those at which a change of another key ran.
+    /// The number of losses and returns of keys that a call shows, and that overlap a change of another key.
     pub beside: u64,
-    /// Of `beside`, those at which an add of another key ran.
+    /// The part of `beside` that overlaps an add of another key.
     pub added: u64,
-    /// Of `beside`, those at which a remove of another key ran.
+    /// The part of `beside` that overlaps a remove of another key.
     pub removed: u64,
-    /// Of `lost` and `came_back` as shown by a call, those at which no change of another key ran.
+    /// The number of losses and returns of keys that a call shows, and that overlap no change of another key.
     pub alone: u64,
-    /// Of `lost`, those where a remove that returned true ran among the overlapping changes before.
+    /// The number of losses that follow overlapping changes of the key, with a successful remove among these changes.
     pub crossed: u64,
-    /// Of `lost`, those at which one to `MOST_BESIDE` changes of other keys ran.
+    /// The number of losses that overlap at least one and at most `MOST_BESIDE` changes of other keys.
     pub sharp: u64,
-    /// Of `sharp`, those where one of these changes is an add.
+    /// The part of `sharp` that overlaps an add of another key.
     pub displaced: u64,
-    /// Of `sharp`, those where one of these changes is a remove.
+    /// The part of `sharp` that overlaps a remove of another key.
     pub unlinked: u64,
-    /// Of `lost`, those shown by an add that returned true.
+    /// The number of losses that are shown by a later add of the key that returned true.
     pub readded: u64,
-    /// Of `came_back`, those whose first call is a remove that returned true.
+    /// The number of returned keys that a remove had removed. This remove is the first call of the contradiction.
     pub undone: u64,
-    /// Of `undone`, those where another key was lost during the remove.
+    /// The part of `undone` with a loss of another key during the remove.
     pub swapped: u64,
-    /// Of `lost` and `came_back` as shown by a call, those at which a remove of a smaller key that returned true ran.
+    /// The number of losses and returns of keys that a call shows, and that overlap a successful remove of a smaller
+    /// key.
     pub below: u64,
-    /// Of `lost`, those that a call shows within a short time.
+    /// The number of losses that a call shows within a short time.
     pub short: u64,
-    /// The smallest number of keys that were known to be present at one of these short losses.
+    /// The smallest number of keys that were known to be present at a loss that is counted in `short`.
     pub least_full: u64,
-    /// The percentage of calls, in a sample, at whose begin at least `least_full` keys were known to be present.
+    /// The percentage of sampled calls that began while at least `least_full` keys were known to be present.
     pub usually_full: u64,
-    /// The percentage of other periods of the same length in which a change of another key ran.
+    /// The percentage of comparison periods that overlap a change of another key. A comparison period is as long as a
+    /// loss or a return of a key, but begins later.
     pub usual: u64,
-    /// Of `lost` and `came_back` as shown by a call, those at whose time another key was lost or came back.
+    /// The number of losses and returns of keys that a call shows, and that overlap a loss or return of another key.
     pub together: u64,
-    /// The percentage of other periods of the same length in which another key was lost or came back.
+    /// The percentage of comparison periods that overlap a loss or return of another key. A comparison period is as
+    /// long as a loss or a return of a key, but begins later.
     pub usually_together: u64,
-    /// Of `lost` and `came_back` that a call shows: the change before is known.
+    /// The number of losses and returns of keys that a call shows, and that undo a known earlier change of the key.
     pub made: u64,
-    /// Of `made`: a change of another key that can have read the set before the change, and written it afterwards,
-    /// overlapped the change.
+    /// The part of `made` with a change of another key that overlapped the undone change. The change of the other key
+    /// can have read the set before the undone change, and written the set afterwards.
     pub fits: u64,
-    /// Of `made`: another add or remove of the key that returned true overlapped the change.
+    /// The part of `made` with another successful add or remove of the same key that overlapped the undone change.
     pub own: u64,
-    /// Of `lost` that a call shows: the add before is known.
+    /// The number of losses that a call shows, if the add before the loss is known.
     pub placed: u64,
-    /// Of `placed`: an add of another key that returned true overlapped that add.
+    /// The part of `placed` with a successful add of another key that overlapped the add of the lost key.
     pub with_add: u64,
-    /// Of `placed`: a remove of another key that returned true overlapped that add.
+    /// The part of `placed` with a successful remove of another key that overlapped the add of the lost key.
     pub with_remove: u64,
-    /// Of 100 adds that returned true, in a sample: an add of another key that returned true overlapped.
+    /// The percentage of sampled successful adds that overlapped a successful add of another key.
     pub usually_with_add: u64,
-    /// Of 100 adds that returned true, in a sample: a remove of another key that returned true overlapped.
+    /// The percentage of sampled successful adds that overlapped a successful remove of another key.
     pub usually_with_remove: u64,
-    /// Wrong answers, and losses and returns that one opposite reply would repair.
+    /// The number of wrong answers, and of losses and returns of keys that one opposite reply would repair.
     pub replies: u64,
-    /// Of `replies`: another key had one of these at the same time.
+    /// The part of `replies` that overlaps a contradiction of another key that is counted in `replies`, too.
     pub crossed_replies: u64,
-    /// The percentage of other periods of the same length in which another key had one of these.
+    /// The percentage of comparison periods that overlap a contradiction of another key that is counted in `replies`. A
+    /// comparison period is as long as a contradiction, but begins later.
     pub usually_crossed: u64,
-    /// Of `lost` as shown by a call: the first call is an add that returned true.
+    /// The number of losses that a call shows, with a successful add as the first call of the contradiction.
     pub unadded: u64,
-    /// Of `unadded`, those where another key came back during the add.
+    /// The part of `unadded` with a return of another key during the add.
     pub swapped_adds: u64,
-    /// Of `placed`: the add began at most `SOON` moments after the last remove of its key had ended.
+    /// The part of `placed` with an add that began at most `SOON` moments after the last remove of the key had ended.
     pub soon: u64,
-    /// Of the adds of the refused keys that returned true, those that began so soon after a remove.
+    /// The number of successful adds of refused keys that began at most `SOON` moments after a remove of the key had
+    /// ended.
     pub adds_soon: u64,
-    /// The adds of the refused keys that returned true.
+    /// The number of successful adds of refused keys.
     pub adds: u64,
-    /// The adds that returned true, if no remove could have changed the key up to the next call of the key.
+    /// The number of successful adds that are followed by a call of the key, if no remove can have changed the key
+    /// before this next call.
     pub followed_adds: u64,
-    /// Of `followed_adds`, those that the next call did not see.
+    /// The part of `followed_adds` that the next call of the key did not see.
     pub unseen_adds: u64,
-    /// The removes that returned true, if no add could have changed the key up to the next call of the key.
+    /// The number of successful removes that are followed by a call of the key, if no add can have changed the key
+    /// before this next call.
     pub followed_removes: u64,
-    /// Of `followed_removes`, those that the next call did not see.
+    /// The part of `followed_removes` that the next call of the key did not see.
     pub unseen_removes: u64,
-    /// Of `missed`: a change of another key overlapped the wrong answer.
+    /// The number of wrong answers that missed a present key and overlapped a change of another key.
     pub missed_beside: u64,
-    /// At how many contradictions, of all kinds, no call of the recording began while another call was running.
+    /// The number of contradictions, of all kinds, during which no call of the recording began while another call was
+    /// running.
     pub apart: u64,
     /// The number of refused keys.
     pub keys: u64,
-    /// The number of refused keys whose first contradiction is not among those counted.
+    /// The number of refused keys with calls that have no order even before the first counted contradiction begins.
     pub unplaced: u64,
     /// The largest number of calls of one key that had begun by the end of a contradiction of that key.
     pub begun: u64,
 }
 
-/// The maximum number of earlier losses that are compared with a key that came back.
+/// The maximum number of earlier contradictions that are searched for one that overlaps a period.
 const MOST_LOSSES: usize = 64;
 
-/// The maximum number of changes of other keys among which the cause of a loss is searched.
+/// A loss that overlaps more changes of other keys than this is not counted in `sharp`.
 const MOST_BESIDE: usize = 6;
 
 /// An add begins soon after a remove of its key if at most this many moments are between them.
 const SOON: u64 = 20;
 
-/// Returns whether a change began soon after an earlier one had ended.
+/// Returns whether a change began at most `SOON` moments after an earlier change had ended.
 fn is_soon(change: Made, before: Option<Made>) -> bool {
     before.is_some_and(|before| change.begun <= before.ended.saturating_add(SOON))
 }
 
 impl Tally {
-    /// Returns how many contradictions lost a key or brought one back.
+    /// Returns the number of contradictions that are losses or returns of keys.
     pub fn gone(&self) -> u64 {
         self.lost.saturating_add(self.came_back)
     }
 
-    /// Returns how many contradictions lost a key or brought one back as shown by a call.
+    /// Returns the number of losses and returns of keys that a call shows.
     pub fn timed(&self) -> u64 {
         self.beside.saturating_add(self.alone)
     }
@@ -179,8 +189,8 @@ impl Tally {
         }
     }
 
-    /// Counts a change that was undone, and whether a change of another key can have written back what it read before.
-    /// `key` has the calls of the key.
+    /// Counts a change that was undone. Checks whether a change of another key can have restored a state that it read
+    /// before. `key` has all calls of the key.
     pub fn add_change(&mut self, key: &KeyCalls, place: &Place, neighbours: &Neighbours) {
         let Some(second) = place.clash.second else {
             return;
@@ -241,7 +251,7 @@ impl Tally {
         }
     }
 
-    /// Counts an add whose key was lost afterwards, and whether changes of other keys overlapped the add.
+    /// Counts an add of a key that was lost afterwards, and whether changes of other keys overlapped the add.
     fn add_placed(&mut self, change: Made, neighbours: &Neighbours) {
         let (key, since, until) = (change.key, change.begun, change.ended);
         more(&mut self.placed);
@@ -276,7 +286,8 @@ impl Tally {
         self.usually_with_remove = percent(removes, tried);
     }
 
-    /// Counts the wrong replies at whose time another key had one. `replies` must be ordered by time.
+    /// Counts the contradictions that one opposite reply would repair, and those that overlap such a contradiction of
+    /// another key. `replies` must be ordered by time.
     pub fn add_replies(&mut self, replies: &[Place]) {
         self.replies = u64::try_from(replies.len()).unwrap_or(u64::MAX);
         let (together, usually) = count_together(replies);
@@ -284,7 +295,7 @@ impl Tally {
         self.usually_crossed = usually;
     }
 
-    /// Counts the lost keys during whose add another key came back. `returns` must be ordered by time.
+    /// Counts the lost keys with a return of another key during their add. `returns` must be ordered by time.
     pub fn add_swapped_adds(&mut self, losses: &[Place], returns: &[Place]) {
         for place in losses {
             if let Some(first) = place.clash.first.filter(|first| first.changes()) {
@@ -296,7 +307,7 @@ impl Tally {
         }
     }
 
-    /// Counts a loss during which these changes of other keys ran.
+    /// Counts a loss of a key. `changes` are changes of other keys that ran during the loss.
     fn add_beside(&mut self, changes: &[Made]) {
         if changes.is_empty() || changes.len() > MOST_BESIDE {
             return;
@@ -313,7 +324,8 @@ impl Tally {
         }
     }
 
-    /// Counts what else ran during a contradiction.
+    /// Adds a contradiction to the counts of contradictions that overlap changes of other keys, and to `readded` and
+    /// `undone`.
     fn add_time(
         &mut self,
         alloc: Global,
@@ -355,8 +367,8 @@ impl Tally {
         Ok(())
     }
 
-    /// Counts the keys that came back after a remove during which another key was lost. `losses` must be ordered by
-    /// time.
+    /// Counts the keys that a remove had removed and that returned, if another key was lost during the remove. `losses`
+    /// must be ordered by time.
     fn add_swapped(&mut self, places: &[Place], losses: &[Place]) {
         for place in places {
             if let (Symptom::CameBack, Some(first)) = (place.symptom, place.clash.first) {
@@ -367,16 +379,16 @@ impl Tally {
         }
     }
 
-    /// Counts how often several keys were lost or came back at the same time, and how often that is so by chance. `gone`
-    /// has all contradictions in which a call shows that a key was lost or came back, ordered by time.
+    /// Counts the losses and returns of keys that overlap one of another key, and estimates how many would do so by
+    /// chance. `gone` has all losses and returns that a call shows, ordered by time.
     pub fn add_together(&mut self, gone: &[Place]) {
         let (together, usually) = count_together(gone);
         self.together = together;
         self.usually_together = usually;
     }
 
-    /// Counts what else ran during each contradiction. `calls` are all calls of the recording. `losses` are all
-    /// contradictions in which a key was lost, ordered by time.
+    /// Adds the contradictions to all counts that depend on other calls at the same time. `calls` are all calls of the
+    /// recording. `losses` are all losses of keys, ordered by time.
     pub fn add_times(
         &mut self,
         alloc: Global,
@@ -404,8 +416,8 @@ impl Tally {
 }
 
 impl Tally {
-    /// Compares the number of keys present at losses with the number at other moments. `calls` are all calls of the
-    /// recording. `losses` are the contradictions in which a key was lost within a short time.
+    /// Compares the number of keys that are present at a loss with their number at other moments. `calls` are all calls
+    /// of the recording. `losses` are the losses that a call shows within a short time.
     pub fn add_fullness(&mut self, calls: &[Made], losses: &[Place], full: &Fullness) {
         let mut least = u64::MAX;
         for loss in losses {
@@ -420,8 +432,9 @@ impl Tally {
     }
 }
 
-/// Returns how many contradictions share time with one of another key, and in how many of 100 other periods of the same
-/// lengths there is one of another key. `places` must be ordered by time.
+/// Returns the number of contradictions that overlap a contradiction of another key, and the percentage of comparison
+/// periods that do. A comparison period is as long as a contradiction, but begins later. `places` must be ordered by
+/// time.
 fn count_together(places: &[Place]) -> (u64, u64) {
     let (mut together, mut beside, mut tried) = (0u64, 0u64, 0u64);
     for place in places {
@@ -440,8 +453,8 @@ fn count_together(places: &[Place]) -> (u64, u64) {
     (together, percent(beside, tried))
 }
 
-/// Returns `true` if one of some contradictions, of another key, shares time with the period from `since` to `until`.
-/// `places` must be ordered by time.
+/// Returns `true` if a contradiction of another key overlaps the time from `since` to `until`. `places` must be ordered
+/// by time.
 fn has_beside(key: u32, since: u64, until: u64, places: &[Place]) -> bool {
     let end = places.partition_point(|place| place.clash.begun() <= until);
     let earlier = places.get(..end).unwrap_or(&[]);
@@ -453,14 +466,15 @@ fn has_beside(key: u32, since: u64, until: u64, places: &[Place]) -> bool {
     false
 }
 
-/// How much later the other periods of the same length begin, in moments.
+/// The moments from the begin of a contradiction to the begins of its comparison periods, which are as long as the
+/// contradiction.
 const LATER: [u64; 2] = [1_501, 3_001];
 
-/// The maximum number of contradictions that are compared with other periods.
+/// The maximum number of contradictions that are compared with later periods.
 const MOST_COMPARED: usize = 400;
 
-/// Returns the percentage of other periods, of the same lengths as losses and returns, in which a change of another key
-/// ran.
+/// Returns the percentage of comparison periods that overlap a change of another key. A comparison period is as long as
+/// a loss or a return of a key, but begins later.
 fn usual_share(places: &[Place], neighbours: &Neighbours) -> u64 {
     let (mut beside, mut tried) = (0u64, 0u64);
     for place in places.iter().take(MOST_COMPARED) {

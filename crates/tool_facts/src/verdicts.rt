@@ -7,10 +7,10 @@ use lset_judge::{Judge, StreamFault, Verdict};
 use lset_words::increases;
 use std::alloc::{AllocError, Global};
 
-/// The maximum number of calls that the judge judges again.
+/// Recordings with more calls than this are not judged again.
 const MOST_JUDGED: usize = 500_000;
 
-/// Converts a contradiction of the judge.
+/// Converts a contradiction from the judge's type.
 fn converted(clash: lset_judge::Clash) -> Clash {
     let first = clash.first.map(Made::of);
     let second = clash.second.map(Made::of);

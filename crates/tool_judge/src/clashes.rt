@@ -48,8 +48,8 @@ fn is_change(made: StreamCall) -> bool
     )
 }
 
-/// Returns the presence of the key that a call needs. `leaves` is the state after the call. A call
-/// that changes the key needs the other state, any other call the same state.
+/// Returns whether a call needs its key present or absent. `leaves` is the key's state after the call. A call that
+/// changes the key needs the opposite of `leaves`, any other call needs `leaves` itself.
 fn need_of(changes: bool, leaves: Presence) -> Presence
     ensures { result ≡ lines.need_of changes leaves }
 {
@@ -243,8 +243,8 @@ fn second_line(
     }
 }
 
-/// Returns the words that name the missing call: the `add` or `remove` that would bring the key into the state `need`
-/// between the two calls.
+/// Returns the words for the missing call: the `add` or `remove` that would bring the key into the state `need` between
+/// the two calls.
 fn no_change(alloc: Global, key: u32, need: Presence) -> Result<Vec<u8>, AllocError>
     ensures { IfOk result (λ text. text.items ≡ lines.no_change key need) }
 {
@@ -283,7 +283,8 @@ fn ends_text(alloc: Global, from: u64) -> Result<Vec<u8>, AllocError>
     Ok(text.into_bytes())
 }
 
-/// Returns the words for the period without a change of the key: between two calls, before one, or after one.
+/// Returns the words for the period without a change of the key: between two calls, before the second call, or after
+/// the first.
 fn time_text(
     alloc: Global,
     first: Option<StreamCall>,
@@ -348,7 +349,7 @@ fn needs_key(alloc: Global, key: u32) -> Result<Vec<u8>, AllocError>
     Ok(text.into_bytes())
 }
 
-/// Returns the words for the presence that a call needs, and the presence that it leaves.
+/// Returns the words for the state that a call needs and the state that the call leaves.
 #[tactic(auto, unfolding(crate::specs::Clashes::needs_and_leaves))]
 fn needs_and_leaves(
     alloc: Global,
@@ -366,7 +367,7 @@ fn needs_and_leaves(
     Ok(text)
 }
 
-/// Returns the words that name the call missing if the second of two overlapping calls takes effect first: the `add` or
+/// Returns the words for the missing call if the second of two overlapping calls takes effect first: the `add` or
 /// `remove` that would bring the key into the state `need`.
 fn nor_text(alloc: Global, need: Presence) -> Result<Vec<u8>, AllocError>
     ensures { IfOk result (λ text. text.items ≡ lines.nor_text need) }
@@ -439,7 +440,7 @@ fn turned_second(
     Ok(text)
 }
 
-/// Returns the lines about two overlapping calls that contradict each other whichever of them takes effect first.
+/// Returns the lines about two overlapping calls that contradict each other, whichever call takes effect first.
 fn lines_turned(
     alloc: Global,
     key: u32,
@@ -460,7 +461,7 @@ fn lines_turned(
     Ok(text)
 }
 
-/// Returns the three lines of a contradiction about a key.
+/// Returns the three lines that describe a contradiction about a key.
 pub(crate) fn clash_lines(alloc: Global, key: u32, clash: Clash) -> Result<Vec<u8>, AllocError>
     ensures { IfOk result (λ text. text.items ≡ lines.clash_lines key clash) }
 {

@@ -3,10 +3,10 @@ use lset_text::{call_word, reply_word};
 use lset_words::{Call, Presence};
 use std::alloc::{AllocError, Global};
 
-/// The maximum number of calls in a list that is printed whole.
+/// A list with at most this many calls is printed in full.
 const NAMED: usize = 4;
 
-/// The number of calls that are printed from the start, and from the end, of a longer list.
+/// Of a longer list, this many calls are printed from the start, and as many from the end.
 const NAMED_OF_MANY: usize = 2;
 
 /// Writes a call's thread, start and end.
@@ -63,8 +63,8 @@ fn maker(count: &Count, state: Presence) -> Call {
     }
 }
 
-/// Writes the calls that a contradiction counts. Of many calls, only the first and last ones are written, with the
-/// number of calls between them.
+/// Writes the calls that a contradiction by counting counts. If there are many, writes only the first and last calls,
+/// with the number of calls between them.
 fn put_calls(out: &mut String, count: &Count) -> Result<(), AllocError> {
     let (key, all) = (count.key.0, count.calls.len());
     let mut is_first = true;
@@ -100,7 +100,7 @@ fn put_calls(out: &mut String, count: &Count) -> Result<(), AllocError> {
     Ok(())
 }
 
-/// Writes how often the key must change back between the counted calls, and during which moments.
+/// Writes how many times the key must change back between the counted calls, and in which period.
 fn put_need(out: &mut String, count: &Count) -> Result<(), AllocError> {
     let (key, state) = (count.key.0, state_word(other(count.was)));
     write!(out, "  need key {key} to become {state}")?;
@@ -117,7 +117,7 @@ fn put_need(out: &mut String, count: &Count) -> Result<(), AllocError> {
     Ok(())
 }
 
-/// Writes the moments during which the calls that change the key back must run.
+/// Writes the period that the calls that change the key back must overlap.
 fn put_stretch(out: &mut String, count: &Count, is_one: bool) -> Result<(), AllocError> {
     let s = if is_one { "s" } else { "" };
     match (count.since, count.until) {
@@ -129,7 +129,7 @@ fn put_stretch(out: &mut String, count: &Count, is_one: bool) -> Result<(), Allo
     Ok(())
 }
 
-/// Writes the calls that could have changed the key back. They are too few.
+/// Writes the calls that can have changed the key back. There are too few of them.
 fn put_backs(out: &mut String, count: &Count) -> Result<(), AllocError> {
     let (word, key) = (call_word(maker(count, other(count.was))), count.key.0);
     let all = count.backs.len();
@@ -159,9 +159,9 @@ fn put_backs(out: &mut String, count: &Count) -> Result<(), AllocError> {
     Ok(())
 }
 
-/// Writes the three lines of a contradiction by counting: the calls that need the key in one state, how often the key
-/// must change back between them, and the calls that could have changed it back, which are too few. Shortens long lists
-/// of calls. Allocates.
+/// Writes the three lines of a contradiction by counting: the calls that need the key in one state, how many times the
+/// key must change back between these calls, and the calls that can have changed the key back, which are too few.
+/// Shortens long lists of calls. Allocates.
 pub fn put_count(out: &mut String, count: &Count) -> Result<(), AllocError> {
     write!(out, "contradiction: ")?;
     put_calls(out, count)?;
@@ -170,7 +170,7 @@ pub fn put_count(out: &mut String, count: &Count) -> Result<(), AllocError> {
     put_backs(out, count)
 }
 
-/// Returns `text`, preceded by the lines of `count` if it is a contradiction by counting. Allocates.
+/// Returns `text`, preceded by the lines of the contradiction `count`, if there is one. Allocates.
 pub fn with_count(alloc: Global, count: &Option<Count>, text: &str) -> Result<String, AllocError> {
     let mut out = String::new(alloc);
     if let Some(count) = count {

@@ -14,7 +14,7 @@ use std::alloc::{AllocError, Global};
 use std::io::Read;
 use tool_base::{Answer, READ_SIZE, Trouble};
 
-/// How much an answer contains. Every answer has the verdict, the number of calls that overlap, and whether the
+/// The level of detail of an answer. Every answer has the verdict, the number of calls that overlap, and whether the
 /// recording was cut off.
 #[derive(Clone, Copy, PartialEq, Eq)]
 pub(crate) enum Detail {
@@ -34,7 +34,7 @@ fn without_clash(verdict: Verdict) -> Verdict
     }
 }
 
-/// Removes the parts of an answer that this level of detail does not print.
+/// Removes the parts of an answer that are not printed at this level of detail.
 fn in_detail(said: RecordingAnswer, detail: Detail) -> RecordingAnswer
     ensures { (c : Recording) → IsAnswered c said → IsAnswered c result }
 {

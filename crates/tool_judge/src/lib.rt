@@ -1,5 +1,5 @@
-//! The command `judge` reads recorded calls of a set and prints whether some order explains them. The command
-//! `show` prints the same lines below a report if its order is refused.
+//! The command `judge` reads recorded calls of a set and prints whether some order explains them. If `show` refuses the
+//! order in a report, it prints the same lines below the picture.
 #![tactic(auto)]
 
 mod clashes;

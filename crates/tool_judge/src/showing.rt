@@ -18,14 +18,14 @@ const NOT_INCREASING: &[u8] =
 /// A statement about all orders of a report's calls, not only about the order in the report.
 #[derive(Drop)]
 pub enum Claim {
-    /// No order leaves the report's final keys, because these keys are not in increasing order.
+    /// No order ends with the report's final keys, because these keys are not in increasing order.
     NotIncreasing,
     /// No order explains the call with this number, because no set can return this reply to it.
     NoSuchReply(u32, Call, Reply),
-    /// No order explains the calls and leaves the final keys. Contains the reason, and the two contradicting calls if
-    /// they were found.
+    /// No order explains the calls and ends with the final keys. Contains the reason and, if they were found, the two
+    /// contradicting calls.
     NotLinearizable(Refusal, Option<Clash>),
-    /// Some order explains the calls and leaves the final keys.
+    /// Some order explains the calls and ends with the final keys.
     Explained,
     /// It is unknown whether some order explains the calls: the judge does not decide calls of `ceiling` and does not
     /// check quotas.
@@ -83,7 +83,7 @@ fn as_made(history: &History, clash: Clash) -> Clash {
     }
 }
 
-/// Decides whether some order of a picture's calls explains them and leaves the final keys. Allocates.
+/// Decides whether some order of a picture's calls explains them and ends with the final keys. Allocates.
 pub fn claim_on(alloc: Global, picture: &Picture) -> Result<Claim, AllocError> {
     if !increases(&picture.keys) {
         return Ok(Claim::NotIncreasing);

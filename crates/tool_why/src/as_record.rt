@@ -22,7 +22,7 @@ fn put_mark(out: &mut String, mark: Mark) -> Result<(), AllocError> {
     }
 }
 
-/// Writes a word before each line of a text.
+/// Writes the lines of a text, each preceded by `word`.
 fn put_lines(out: &mut String, word: &str, text: &str) -> Result<(), AllocError> {
     for line in text.lines() {
         writeln!(out, "{word} {line}")?;

@@ -7,7 +7,7 @@ use tool_facts::{Made, NEVER, state_word};
 /// The maximum width of the bars, in columns.
 const WIDTH: usize = 66;
 
-/// A gap without drawn calls is left out if it is longer than this.
+/// A gap without drawn calls is left out of the picture if it is longer than this many moments.
 const LONG: u64 = 100;
 
 /// A call drawn as a bar: the name of its thread, the texts and columns of its two ends, and the note beside it.
@@ -58,7 +58,7 @@ impl Bar {
         })
     }
 
-    /// Returns the smallest column for the end of the bar.
+    /// Returns the smallest column at which the bar can end.
     fn least_end(&self) -> usize {
         let width = self.head.len().saturating_add(self.tail.len());
         self.from.saturating_add(width)
@@ -83,7 +83,7 @@ impl Bar {
     }
 }
 
-/// Places all ends at a moment in column `first`, or further to the right if a bar that ends there needs more space.
+/// Assigns column `first` to all ends of bars at a moment, or a later column if a bar that ends there needs more space.
 /// Returns the next free column.
 fn place_moment(bars: &mut [Bar], moment: u64, first: usize) -> usize {
     let mut column = first;
@@ -141,7 +141,8 @@ fn width_of(bars: &[Bar]) -> usize {
     width
 }
 
-/// Returns `true` if there is a gap to leave out before a call: every earlier bar had ended long before the call began.
+/// Returns `true` if a gap is left out of the picture before a call: every earlier bar had ended long before the call
+/// began.
 fn is_after_gap(bars: &[Bar], call: Made) -> bool {
     let mut last = 0;
     for bar in bars {
@@ -152,7 +153,8 @@ fn is_after_gap(bars: &[Bar], call: Made) -> bool {
     last > 0 && call.begun > last.saturating_add(LONG)
 }
 
-/// Writes the line above the changes of other keys, some of `all`.
+/// Writes the line above the changes of other keys. It states how many changes are shown and, if some are not, how many
+/// there are.
 fn put_rule(out: &mut String, shown: usize, all: usize) -> Result<(), AllocError> {
     if all >= MOST_AROUND {
         writeln!(out, "---------- also running ({shown} of many)")
@@ -163,7 +165,7 @@ fn put_rule(out: &mut String, shown: usize, all: usize) -> Result<(), AllocError
     }
 }
 
-/// Returns before how many of the first `own` bars a long time is left out.
+/// Returns the number of gaps that are left out of the picture before the first `own` bars.
 fn count_gaps(bars: &[Bar], own: usize) -> usize {
     let mut count = 0usize;
     for bar in bars.get(..own).unwrap_or(&[]) {

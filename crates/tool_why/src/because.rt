@@ -1,11 +1,12 @@
-//! The fact below a likely cause, after `because`.
+//! Writes the fact that supports a likely cause. In the message it follows the word `because`.
 
 use crate::causes::Cause;
 use crate::diagnosis::Diagnosis;
 use std::alloc::AllocError;
 use tool_facts::{Evidence, Odd, Tally};
 
-/// Writes the fact for a cause of contains that finds absent keys, or is wrong both ways.
+/// Writes the fact that supports `cause`, if `contains` finds absent keys, or both finds absent keys and misses present
+/// keys.
 fn put_because_of_found(out: &mut String, odd: &Odd, cause: Cause) -> Result<(), AllocError> {
     let (running, found, own, wrong) = (odd.running, odd.found, odd.own, odd.wrong);
     let only = if odd.is_exact { "only " } else { "" };
@@ -40,7 +41,7 @@ fn put_because_of_found(out: &mut String, odd: &Odd, cause: Cause) -> Result<(),
     }
 }
 
-/// Writes the fact for a cause of contains that misses present keys.
+/// Writes the fact that supports `cause`, if `contains` misses present keys.
 fn put_because_of_missed(out: &mut String, odd: &Odd, cause: Cause) -> Result<(), AllocError> {
     let missed = odd.missed;
     let (compared, lonely) = (odd.compared, odd.lonely);
@@ -69,7 +70,7 @@ fn put_because_of_missed(out: &mut String, odd: &Odd, cause: Cause) -> Result<()
     }
 }
 
-/// Writes the fact for a cause of the odd operation.
+/// Writes the fact that supports `cause`, if one operation alone is wrong.
 fn put_because_of_odd(out: &mut String, odd: &Odd, cause: Cause) -> Result<(), AllocError> {
     let (missed, wrong, adding) = (odd.missed, odd.wrong, odd.adding);
     let (active, apart, placed) = (odd.active, odd.apart, odd.placed);
@@ -117,7 +118,7 @@ fn put_because_of_odd(out: &mut String, odd: &Odd, cause: Cause) -> Result<(), A
     }
 }
 
-/// Writes the fact for a cause of wrong replies, or of changes at the same time.
+/// Writes the fact that supports `cause`, if replies are wrong or overlapping changes go wrong.
 fn put_because_of_calls(out: &mut String, tally: &Tally, cause: Cause) -> Result<(), AllocError> {
     let (gone, both, places) = (tally.gone(), tally.both(), tally.places);
     let (silent, turned, begun) = (tally.silent, tally.turned, tally.begun);
@@ -153,7 +154,7 @@ fn put_because_of_calls(out: &mut String, tally: &Tally, cause: Cause) -> Result
     }
 }
 
-/// Writes the fact for a cause of keys that are only lost.
+/// Writes the fact that supports `cause`, if keys are lost and never return.
 fn put_because_of_lost(out: &mut String, tally: &Tally, cause: Cause) -> Result<(), AllocError> {
     let (lost, sharp, short) = (tally.lost, tally.sharp, tally.short);
     let (added, removed, least) = (tally.displaced, tally.unlinked, tally.least_full);
@@ -178,7 +179,7 @@ fn put_because_of_lost(out: &mut String, tally: &Tally, cause: Cause) -> Result<
     }
 }
 
-/// Writes the fact for a cause of keys that are lost although they were added.
+/// Writes the fact that supports `cause`, if keys are lost after a successful add.
 fn put_because_of_adds(out: &mut String, tally: &Tally, cause: Cause) -> Result<(), AllocError> {
     let (lost, placed, both) = (tally.lost, tally.placed, tally.both_adds);
     let (count, usual, word) = match cause {
@@ -197,7 +198,7 @@ fn put_because_of_adds(out: &mut String, tally: &Tally, cause: Cause) -> Result<
     }
 }
 
-/// Writes the fact for a cause of changes that take effect late, or for another call.
+/// Writes the fact that supports `cause`, if changes take effect late, or the changes of different calls are mixed up.
 fn put_because_of_mixed(out: &mut String, tally: &Tally, cause: Cause) -> Result<(), AllocError> {
     let (replies, crossed) = (tally.replies, tally.crossed_replies);
     let some = tally.swapped.saturating_add(tally.swapped_adds);
@@ -237,7 +238,7 @@ fn put_because_of_mixed(out: &mut String, tally: &Tally, cause: Cause) -> Result
     }
 }
 
-/// Writes the fact for keys that are written back together.
+/// Writes the fact that supports the cause `SharedWord`: changes of two keys undo each other.
 fn put_because_of_pairs(out: &mut String, evidence: &Evidence) -> Result<(), AllocError> {
     let Some(bound) = evidence.bound else {
         return Ok(());
@@ -249,7 +250,7 @@ fn put_because_of_pairs(out: &mut String, evidence: &Evidence) -> Result<(), All
     )
 }
 
-/// Writes the fact for a cause that needs no race.
+/// Writes the fact that supports `cause`, if the set fails even without overlapping calls.
 fn put_because_of_one(
     out: &mut String,
     evidence: &Evidence,
@@ -283,7 +284,7 @@ fn put_because_of_one(
     }
 }
 
-/// Writes the fact for a cause of keys that are lost and come back.
+/// Writes the fact that supports `cause`, if keys are lost and return.
 fn put_because_of_gone(
     out: &mut String,
     evidence: &Evidence,
@@ -333,7 +334,7 @@ fn put_because_of_gone(
     }
 }
 
-/// Writes the fact for the likely cause.
+/// Writes the fact that supports the likely cause.
 pub(crate) fn put_because(
     out: &mut String,
     diagnosis: &Diagnosis,

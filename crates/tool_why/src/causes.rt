@@ -1,101 +1,102 @@
-//! The causes that a guess can name.
+//! The likely causes that a diagnosis can name.
 
 /// A likely cause.
 #[derive(Clone, Copy)]
 pub enum Cause {
     /// Two keys are treated as one.
     TwoKeys,
-    /// `contains` does not check what `add` changes first.
+    /// `contains` does not check the word that `add` changes first.
     NotSeenYet,
-    /// `contains` traverses while changes of other keys move its key.
+    /// A search misses its key while changes of other keys move the key.
     MovedKeys,
-    /// A key is in the set twice, and a remove deletes only one of the two.
+    /// The set contains a key twice, and a remove deletes only one of the two copies.
     KeptTwice,
     /// An add of another key displaces a key.
     Displaced,
-    /// A remove of another key carries out earlier removes.
+    /// A remove of another key also carries out earlier removes.
     Batch,
-    /// A remove removes a key other than its own.
+    /// A remove removes another key than the key of the call.
     OtherKey,
-    /// The set fails even without a race.
+    /// The set fails even if one thread makes all calls.
     OneThread,
-    /// `contains` does not check what `remove` changes first.
+    /// `contains` does not check the word that `remove` changes first.
     MarkNotRead,
-    /// `contains` reads a copy that still has removed keys for a while.
+    /// `contains` reads a copy that still contains removed keys for a while.
     TakenLater,
     /// `contains` has a shortcut that returns false too early.
     Shortcut,
-    /// `contains` checks a size first.
+    /// `contains` reads the size of the set first, and returns false if the size is 0.
     SizeFirst,
-    /// `contains` reads a cache of its own thread.
+    /// `contains` reads a cache that belongs to the calling thread.
     ThreadCache,
     /// `contains` reads a copy that is updated only after `add` and `remove` return.
     LateCopy,
     /// One key is treated differently from the others.
     OneKey,
-    /// Some keys are treated unlike others.
+    /// Some keys are treated differently from the others.
     SomeKeys,
     /// `add` treats a removed node as present.
     AddSeesRemoved,
     /// `remove` has a shortcut that returns false too early.
     RemoveShortcut,
-    /// `remove` gives up although the key is present.
+    /// `remove` returns false too early, although the key is present.
     RemoveGivesUp,
-    /// Operations look for a key in two different places.
+    /// Operations search for a key in two different places.
     TwoPlaces,
-    /// Two first calls each create the same thing, and one is lost.
+    /// Two calls, the first of a key, each create the same part of the set, and one of the parts is lost.
     FirstUse,
     /// A remove keeps writing after it has taken effect.
     GoesOn,
-    /// The reply is not determined by the change itself.
+    /// The reply is determined by an earlier read, not by the change itself.
     EarlierLook,
-    /// A call is retried after it already took effect.
+    /// A call is repeated after it has already taken effect.
     MadeAgain,
     /// A check and the later write are not atomic.
     CheckThenAct,
-    /// In `add` and in `remove` the check and the later write are not atomic.
+    /// Neither in `add` nor in `remove` are the check and the later write atomic.
     BothCheck,
-    /// In `add` alone the check and the later write are not atomic.
+    /// Only in `add`, the check and the later write are not atomic.
     AddChecks,
-    /// In `remove` alone the check and the later write are not atomic.
+    /// Only in `remove`, the check and the later write are not atomic.
     RemoveChecks,
     /// A change is carried out a second time, after a later change of its key.
     CarriedOutTwice,
-    /// A search leaves out the last key.
+    /// A search ends before the last key.
     LastKey,
-    /// A search ends too early, also without a race.
+    /// A search ends too early, even without overlapping calls.
     EndsEarly,
-    /// `add` gives up although the key is absent.
+    /// `add` returns false too early, although the key is absent.
     AddGivesUp,
-    /// Calls of one key do not exclude each other.
+    /// Calls of the same key do not exclude each other.
     NoLock,
-    /// A whole copy overwrites newer changes.
+    /// A copy of the whole set overwrites newer changes.
     OldCopy,
-    /// A link is written without checking that it is current.
+    /// A link is written without a check that the link is still current.
     OldLink,
     /// A node is linked to a node that is being removed.
     Unlinked,
-    /// Keys are dropped if many are present.
+    /// Keys are dropped when many keys are present.
     Evicted,
     /// A comparison of keys overflows.
     Overflow,
     /// A change of another key writes back an older state.
     WrittenBack,
-    /// A table is replaced while calls still change the old one. Each key is hit once.
+    /// A table is replaced while calls still change the old table. Each key is lost at most once.
     Replaced,
-    /// A table or copy is replaced while calls still change the old one. Several keys are hit at once.
+    /// A table or copy is replaced while calls still change the old one. Several keys are lost or return at the same
+    /// time.
     ReplacedAtOnce,
-    /// `contains` finds a key before its add has finished.
+    /// `contains` finds a key before the add of the key has finished.
     SeenEarly,
-    /// Two adds of different keys use the same place.
+    /// Two adds of different keys write to the same memory location.
     SharedPlace,
     /// An add returns true although its write was lost.
     AddLost,
     /// A key is added after a node that is being removed.
     BehindUnlinked,
-    /// `add` alone writes an older copy back.
+    /// Only `add` writes an older copy of the set back.
     OldCopyByAdd,
-    /// `remove` alone writes an older copy back.
+    /// Only `remove` writes an older copy of the set back.
     OldCopyByRemove,
     /// Some keys share a word or bucket that is written back as a whole.
     SharedWord,
@@ -103,11 +104,12 @@ pub enum Cause {
     OtherReply,
     /// A call is carried out with the key of another call.
     OtherCall,
-    /// Calls return the replies of other calls, or are carried out with their keys.
+    /// Calls return the replies of other calls, or are carried out with the keys of other calls.
     MixedCalls,
     /// `contains` misses keys that other calls move, or has a shortcut.
     MovedOrShortcut,
-    /// `contains` finds keys that were removed just before: a mark, or a copy.
+    /// `contains` finds keys that were removed just before: it ignores a mark, or reads a copy that still contains
+    /// removed keys.
     MarkOrCopy,
     /// Changes take effect only after their calls have returned.
     EffectLate,
@@ -115,6 +117,6 @@ pub enum Cause {
     Cancelled,
     /// An add that returns false has inserted its key.
     AddUndone,
-    /// A remove takes effect late, or again, and removes a key that was added meanwhile.
+    /// A remove takes effect late or twice, and removes a key that was added meanwhile.
     RemovedLater,
 }

@@ -1,5 +1,5 @@
-//! Finds counts: calls of a key that together need more changes than the key can have had. A count shows why a key is
-//! refused if no two calls contradict each other.
+//! Finds a reason for a refused key if no two calls contradict each other. The reason is a count: the replies of
+//! several calls of the key require more changes than the other calls can have made.
 
 use crate::diagnosis::Diagnosis;
 use lset_judge::{Count, StreamCall, find_count};
@@ -7,10 +7,10 @@ use lset_words::{Key, Presence};
 use std::alloc::{AllocError, Global};
 use tool_facts::{KeyCalls, Made, NEVER, Recorded, stretches_of};
 
-/// A count is searched among at most this many calls. The search needs quadratic time.
+/// At most this many calls are searched for a contradiction by counting. The search needs quadratic time.
 const MOST_COUNTED: usize = 4_000;
 
-/// The calls of a key that are searched for a count, and the key's presence before these calls.
+/// The calls of a key that are searched for a contradiction by counting, and the key's presence before these calls.
 #[derive(Drop)]
 struct Counted {
     calls: Vec<StreamCall>,
@@ -19,8 +19,8 @@ struct Counted {
     is_from_opening: bool,
 }
 
-/// Returns the calls of a key that had begun by a moment, as they were at that moment, without those that ended later
-/// and changed nothing.
+/// Returns the calls of a key that had begun by a moment, as known at that moment. Leaves out the calls that ended
+/// later and changed nothing.
 fn calls_by(
     alloc: Global,
     recorded: &Recorded,
@@ -41,8 +41,8 @@ fn calls_by(
     Ok(calls)
 }
 
-/// Returns all calls of a key. If there are more than `MOST_COUNTED`, returns those after a later moment at which the
-/// key's state is known, or `None` if there is no such moment.
+/// Returns all calls of a key. If there are more than `MOST_COUNTED`, returns the calls after a later moment with a
+/// known state of the key, or `None` if there is no such moment.
 fn calls_to_count(alloc: Global, key: &KeyCalls) -> Result<Option<Counted>, AllocError> {
     let skipped = key.calls.len().saturating_sub(MOST_COUNTED);
     let (from, before) = match key.calls.get(skipped) {
@@ -72,8 +72,8 @@ fn calls_to_count(alloc: Global, key: &KeyCalls) -> Result<Option<Counted>, Allo
     }))
 }
 
-/// Returns the changes of a count as they are in the recording. A call that returned false after `moment` is not a
-/// change.
+/// Returns the counted changes as they are in the recording. Leaves out the calls that returned false after `moment`,
+/// since they are no changes.
 fn backs_in(
     alloc: Global,
     recorded: &Recorded,
@@ -93,9 +93,9 @@ fn backs_in(
     Ok(found)
 }
 
-/// Returns a count for the key that a diagnosis names first, up to the first moment at which the key's calls are not
-/// linearizable. Returns `None` if none is found. Searches at most about `MOST_COUNTED` calls, the last ones.
-/// Allocates.
+/// Returns a contradiction by counting for the key that is refused first. Searches the calls up to the first moment
+/// such that the key's calls are not linearizable, but at most about the last `MOST_COUNTED` calls. Returns `None` if
+/// no contradiction is found. Allocates.
 pub(crate) fn count_in(
     alloc: Global,
     recorded: &Recorded,

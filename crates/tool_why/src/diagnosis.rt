@@ -14,13 +14,14 @@ use tool_facts::{
 #[derive(Clone, Copy)]
 pub enum Mark {
     Nothing,
-    /// This reply was expected. With it, the key's calls that had begun by the end of this call are linearizable; as
-    /// recorded, they are not.
+    /// This reply was expected. With the expected reply, the key's calls that had begun by the end of this call are
+    /// linearizable; as recorded, they are not.
     Expected(bool),
-    /// In every order, the key is in this state after this call takes effect, until the contradicting call does.
+    /// In every order, the key is in this state after this call takes effect, until the contradicting call takes
+    /// effect.
     Leaves(Presence),
-    /// This call finds the key in this state. It is a later call, or a contradicting call if no reply is known to be the
-    /// expected one.
+    /// This call finds the key in this state. The call is a later call, or a contradicting call if no reply is known to
+    /// be wrong.
     Finds(Presence),
     /// One of the two calls with this mark must return false.
     Either,
@@ -46,20 +47,20 @@ pub struct Diagnosis {
     pub wrong: Option<Made>,
     /// The key's calls in the picture, ordered by begin.
     pub shown: Vec<Shown>,
-    /// Changes of other keys that ran during the contradiction. Of many, those that the likely cause names are chosen first,
-    /// then the longest.
+    /// Changes of other keys that ran during the contradiction. If there are many, the changes that the likely cause
+    /// names are chosen first, then the longest.
     pub beside: Vec<Made>,
     /// The number of changes of other keys that ran during the contradiction.
     pub beside_count: usize,
-    /// All contradictions in the order of time, if they are few and no operation alone is wrong.
+    /// All contradictions ordered by time, if there are few and no operation alone is wrong. Otherwise empty.
     pub few: Vec<Place>,
-    /// A later call that agrees with the contradicting call. If only one reply is wrong, it agrees with the other calls
-    /// instead.
+    /// A later call that agrees with the contradicting call. If only one reply is wrong, the later call agrees with the
+    /// right calls instead.
     pub later: Option<Made>,
     pub evidence: Evidence,
     pub cause: Option<Cause>,
-    /// The key that is refused first, and the first moment such that its calls up to it are not linearizable. The moment
-    /// is `NEVER` if only the final state is wrong.
+    /// The key that is refused first, and the first moment such that its calls up to this moment are not linearizable.
+    /// The moment is `NEVER` if only the final state is wrong.
     pub first_key: u32,
     pub first_moment: u64,
     /// The end of the contradiction in the picture; `NEVER` if the final state contradicts.
@@ -68,11 +69,10 @@ pub struct Diagnosis {
     pub is_first: bool,
 }
 
-/// The verdict's contradiction is preferred to a shorter one if it lasts at most this many moments.
+/// The contradiction that the verdict names is preferred to a shorter one if it lasts at most this many moments.
 const SHORT: u64 = 300;
 
-/// The contradiction that the verdict names: the first refused key, the moment, and the contradiction, if the judge
-/// found one.
+/// The refusal in the verdict: the first refused key, the moment, and the contradiction, if the judge found one.
 #[derive(Clone, Copy)]
 struct Named {
     first: Refused,
@@ -81,7 +81,8 @@ struct Named {
 }
 
 impl Named {
-    /// Returns whether a contradiction is between the calls that the verdict names, or of a wrong answer among them.
+    /// Returns whether a contradiction is between the two calls that the verdict names, or has one of these calls as
+    /// its wrong answer.
     fn has_calls_of(&self, place: &Place) -> bool {
         match self.clash {
             Some(clash) => {
@@ -94,14 +95,14 @@ impl Named {
         }
     }
 
-    /// Returns whether a contradiction is the one that the verdict names, or ends at the moment that the verdict names.
+    /// Returns whether the verdict names this contradiction, or a moment that is its end.
     fn is(&self, place: &Place) -> bool {
         let is_at_moment = place.key == self.first.key && place.clash.until == self.first.moment;
         is_at_moment || self.has_calls_of(place)
     }
 }
 
-/// Returns whether a call, if there is one, is an answer of the odd operation.
+/// Returns whether a call is an answer of the operation that alone is wrong. Returns `false` without a call.
 fn is_odd(call: Option<Made>, odd: &Odd) -> bool {
     match call {
         Some(call) => is_answer(call, odd.operation),
@@ -117,8 +118,8 @@ fn symptom_of(wrong: Made) -> Symptom {
     }
 }
 
-/// Returns the contradiction of a wrong answer that the verdict names: one call of the two is an answer of the odd
-/// operation, and the other is none.
+/// Returns the contradiction that the verdict names, if exactly one of its two calls is an answer of the operation that
+/// alone is wrong.
 fn place_of_odd(runs: &Runs<'_>, odd: &Odd, clash: Clash) -> Option<Place> {
     let wrong = match (is_odd(clash.first, odd), is_odd(clash.second, odd)) {
         (true, false) => clash.first?,
@@ -137,7 +138,7 @@ fn place_of_odd(runs: &Runs<'_>, odd: &Odd, clash: Clash) -> Option<Place> {
     })
 }
 
-/// Returns the contradiction that the verdict names as a place.
+/// Returns the contradiction that the verdict names, with its symptom.
 fn place_named(
     alloc: Global,
     runs: &Runs<'_>,
@@ -155,10 +156,9 @@ fn place_named(
     Ok(Some(place_of(alloc, &key, &stretches, clash)?))
 }
 
-/// Returns how well a contradiction shows the bug; 0 is best. A contradiction of another kind than the likely cause
-/// explains shows it worst. Otherwise the first contradiction of the run is best, which the verdict names, unless it is
-/// long; then a short contradiction is better than a long one, and one of the key that the verdict names is better than
-/// one of another key.
+/// Returns how well a contradiction shows the bug; 0 is best. The first contradiction of the run, which the verdict
+/// names, is best unless it is long. Next are the contradictions of the key that the verdict names, the shortest first,
+/// and then those of other keys. Contradictions that the likely cause does not explain are last.
 fn rank(place: &Place, named: &Named, shows: bool) -> u64 {
     let length = place.length();
     if shows && length <= SHORT && named.is(place) {
@@ -176,18 +176,19 @@ fn rank(place: &Place, named: &Named, shows: bool) -> u64 {
         .saturating_add(other_kind)
 }
 
-/// This many moments are added to the duration of a contradiction of another key than the verdict's.
+/// If a contradiction is about another key than the verdict, this many moments are added to its duration.
 const OTHER_KEY: u64 = 1_000_000_000_000;
 
-/// This many moments are added to the duration of a contradiction that the likely cause does not explain.
+/// If the likely cause does not explain a contradiction, this many moments are added to its duration.
 const OTHER_KIND: u64 = 1_000_000_000_000_000;
 
-/// Returns whether a completed change of another key, by an operation if one is given, ran at a contradiction.
+/// Returns whether a completed change of another key overlaps a contradiction. If an operation is given, considers only
+/// its changes.
 fn is_beside(place: &Place, neighbours: &Neighbours, operation: Option<Operation>) -> bool {
     neighbours.overlap(place.key, place.clash.begun(), place.clash.until, operation)
 }
 
-/// Returns whether a contradiction is an example for a likely cause.
+/// Returns whether a contradiction is an example of the likely cause.
 fn shows(place: &Place, cause: Option<Cause>, is_odd: bool, neighbours: &Neighbours) -> bool {
     let (since, until) = (place.clash.begun(), place.clash.until);
     match cause {
@@ -225,7 +226,7 @@ fn shows(place: &Place, cause: Option<Cause>, is_odd: bool, neighbours: &Neighbo
     }
 }
 
-/// Returns whether a contradiction is of the key of a split and ends after the split has begun.
+/// Returns whether a contradiction is about the key of a split and ends after the split has begun.
 fn is_in(place: &Place, split: &Split) -> bool {
     place.key == split.key && place.clash.until > split.since
 }
@@ -246,7 +247,8 @@ fn place_in_split(found: &Found, named: &Named) -> Option<Place> {
     None
 }
 
-/// Returns the contradiction that is drawn: the first one in a long split, or the one that shows the bug best.
+/// Returns the contradiction to draw: the first contradiction in a long split or, without a long split, the
+/// contradiction that shows the bug best.
 fn place_shown(
     found: &Found,
     named: &Named,
@@ -276,7 +278,8 @@ fn place_shown(
 /// If there are at most this many contradictions, each is listed.
 const MOST_LISTED: usize = 6;
 
-/// Returns all contradictions in the order of time, if they are few and no operation alone is wrong.
+/// Returns all contradictions ordered by time, if there are few and no operation alone is wrong. Otherwise returns
+/// none.
 fn few_of(alloc: Global, found: &Found) -> Result<Vec<Place>, AllocError> {
     let mut few = Vec::new(alloc);
     if found.odd.is_none() && found.places.len() <= MOST_LISTED {
@@ -361,9 +364,9 @@ fn named_by_verdict(
     Ok(named)
 }
 
-/// Returns the contradiction of a wrong answer with a later call: the answer leaves the key in a state that the later
-/// call does not need, and no call can have changed the state in between. `key` has no other answer of the faulty
-/// operation.
+/// Returns the contradiction between a wrong answer and a later call: the answer leaves the key in a state that the
+/// later call does not need, and no call can have changed the state in between. `key` must not contain other answers of
+/// the wrong operation.
 fn place_after(key: &KeyCalls, wrong: Made) -> Option<Place> {
     let was = wrong.needs()?;
     for call in key.after(wrong.ended).iter().take(MOST_EARLIER) {
@@ -391,7 +394,7 @@ fn place_after(key: &KeyCalls, wrong: Made) -> Option<Place> {
     None
 }
 
-/// Returns a key's calls with only one of the faulty operation's answers.
+/// Returns a key's calls without the answers of the wrong operation, except for one answer.
 fn with_one_answer(
     alloc: Global,
     key: KeyCalls,
@@ -408,10 +411,10 @@ fn with_one_answer(
     KeyCalls::new(alloc, key.key, calls, key.opening, left)
 }
 
-/// The maximum number of calls of the key in the picture before a later one is added.
+/// If the picture has more calls of the key than this, no later call is added.
 const MOST_SHOWN: usize = 3;
 
-/// How many calls of the key, counted back from the end of a wrong answer, are searched for calls that overlap it.
+/// How many calls of the key, counted back from the end of a wrong answer, are checked for an overlap with the answer.
 const MOST_EARLIER: usize = 64;
 
 /// The maximum number of changes of other keys in the picture.
@@ -420,11 +423,12 @@ const MOST_BESIDE: usize = 3;
 /// The maximum number of changes of other keys that are counted.
 pub(crate) const MOST_AROUND: usize = 1_000;
 
-/// A change is not shown beside a call that finds its state if it began more than this many moments earlier.
+/// An earlier change of the key is not shown if it began more than this many moments before the call that finds its
+/// state.
 const LONG_AGO: u64 = 200;
 
-/// Returns the period for the changes of other keys in the picture: the time of the wrong answer if such a change ran
-/// during the answer, otherwise the time of the contradiction.
+/// Returns the period of the picture in which changes of other keys are shown: the time of the wrong answer if such a
+/// change ran during the answer, otherwise the time of the contradiction.
 fn time_of(place: &Place, neighbours: &Neighbours) -> (u64, u64) {
     match place.wrong {
         Some(wrong) if neighbours.overlap(place.key, wrong.begun, wrong.ended, None) => {
@@ -434,8 +438,8 @@ fn time_of(place: &Place, neighbours: &Neighbours) -> (u64, u64) {
     }
 }
 
-/// Returns how much a change of another key counts when some are chosen for the picture: those that the likely cause
-/// names first, then the longest.
+/// Returns the weight of a change of another key for the choice of changes in the picture: changes that the likely
+/// cause names are chosen first, then the longest.
 fn weight(call: &Made, key: u32, cause: Option<Cause>) -> u64 {
     let is_named = match cause {
         Some(Cause::Unlinked | Cause::WrittenBack) => {
@@ -449,7 +453,7 @@ fn weight(call: &Made, key: u32, cause: Option<Cause>) -> u64 {
     length.saturating_add(if is_named { OTHER_KEY } else { 0 })
 }
 
-/// Adds a call to the picture unless it is already there.
+/// Adds a call to the picture unless the picture already contains the call.
 fn add(shown: &mut Vec<Shown>, call: Made) -> Result<(), AllocError> {
     if shown.iter().all(|one| one.call != call) {
         shown.push(Shown {
@@ -470,12 +474,13 @@ fn recorded_call(calls: &[Made], call: Made) -> Made {
 }
 
 impl Diagnosis {
-    /// Returns whether headline and picture are about another contradiction than the verdict.
+    /// Returns whether the headline and the picture show a different contradiction from that in the verdict.
     pub(crate) fn is_example(&self) -> bool {
         !self.is_first && !self.shown.is_empty()
     }
 
-    /// Replaces the calls in the picture by the recorded calls. There, pending calls can have ended.
+    /// Replaces the calls in the picture by the recorded calls. A call that is pending in the picture can have ended in
+    /// the recording.
     pub(crate) fn complete(&mut self, calls: &[Made]) {
         for one in &mut self.shown {
             one.call = recorded_call(calls, one.call);
@@ -485,7 +490,8 @@ impl Diagnosis {
         }
     }
 
-    /// Fills the picture with the first wrong answer of the odd operation, if a later call contradicts it.
+    /// Fills the picture with the first wrong answer of the operation that alone is wrong, if a later call contradicts
+    /// this answer.
     fn show_wrong(
         &mut self,
         alloc: Global,
@@ -533,8 +539,8 @@ impl Diagnosis {
         }
     }
 
-    /// Fills the picture with the calls of a contradiction, their marks, and what happened at the same time and
-    /// afterwards.
+    /// Fills the picture with the calls of a contradiction, their marks, the changes of other keys at the same time,
+    /// and a later call.
     fn show(
         &mut self,
         alloc: Global,
@@ -574,8 +580,8 @@ impl Diagnosis {
         Ok(())
     }
 
-    /// Adds the calls of a contradiction: the contradicting calls, the changes of its stretch, and calls that returned
-    /// false but can have changed the key.
+    /// Adds the calls of a contradiction: the contradicting calls, the overlapping changes that lead to the state
+    /// `was`, and calls that returned false but can have changed the key.
     fn show_calls(
         &mut self,
         alloc: Global,
@@ -622,8 +628,8 @@ impl Diagnosis {
         Ok(())
     }
 
-    /// Adds the change that brought the key into the state that the first of the contradicting calls finds, if it is not
-    /// long ago.
+    /// Adds the change that brought the key into the state that the first contradicting call finds, unless the change
+    /// was long ago.
     fn show_change(&mut self, key: &KeyCalls, clash: &Clash) -> Result<(), AllocError> {
         let Some(first) = clash.first.filter(|first| first.reads()) else {
             return Ok(());
@@ -636,7 +642,7 @@ impl Diagnosis {
         }
     }
 
-    /// Adds adds and removes of the key that ran during a wrong answer, whatever they returned.
+    /// Adds other adds and removes of the key that ran during a wrong answer, successful or not.
     fn show_around(&mut self, key: &KeyCalls, wrong: Option<Made>) -> Result<(), AllocError> {
         let Some(wrong) = wrong else {
             return Ok(());
@@ -655,7 +661,7 @@ impl Diagnosis {
         Ok(())
     }
 
-    /// Adds the later call that agrees, and notes whether this call finds the key present.
+    /// Adds the later call that agrees with the right calls, and marks it with the state that it finds.
     fn show_later(&mut self) -> Result<(), AllocError> {
         let Some(later) = self.later else {
             return Ok(());
@@ -701,7 +707,7 @@ impl Diagnosis {
         Ok(())
     }
 
-    /// Notes whether the contradicting call finds the key present.
+    /// Marks the contradicting call with the state that it finds.
     fn mark_found(&mut self, clash: &Clash) {
         let Some(second) = clash.second else {
             return;
@@ -716,9 +722,9 @@ impl Diagnosis {
         }
     }
 
-    /// Returns the first later call that finds the key in the state that the contradiction leaves. If only one reply is
-    /// wrong, that is the state according to the other calls. Returns `None` if a change of the key can have begun
-    /// earlier.
+    /// Returns the first later call that finds the key in the state that the contradicting call shows. If only one
+    /// reply is wrong, this is the state that the other calls show. Returns `None` if a change of the key can have
+    /// begun earlier.
     fn call_after(&self, key: &KeyCalls, place: &Place) -> Option<Made> {
         let (state, since) = match place.symptom {
             Symptom::Missed(_) | Symptom::Found(_) => {

@@ -10,10 +10,11 @@ use std::alloc::{AllocError, Global};
 use std::io::Read;
 use tool_facts::{Recorded, RunReader};
 
-/// The maximum number of lines that are not blank, with the verdict and without the line that a test adds.
+/// The maximum number of lines of the verdict and the explanation, without blank lines. The line that a test adds is
+/// not counted.
 const MOST_LINES: usize = 15;
 
-/// Writes the likely cause, and the facts that it rests on.
+/// Writes the likely cause, and the fact that supports it.
 fn put_guess(out: &mut String, diagnosis: &Diagnosis) -> Result<(), AllocError> {
     if let Some(cause) = diagnosis.cause {
         let text = cause_text(cause);
@@ -29,8 +30,8 @@ fn lines_of(text: &str) -> usize {
     text.lines().filter(|line| !line.is_empty()).count()
 }
 
-/// Writes the lines of the known facts without `extra` of them. The first two lines remain if enough others can be left
-/// out.
+/// Writes the lines of the known facts, but leaves out `extra` lines. Keeps the first two lines if enough other lines
+/// can be left out.
 fn put_some(out: &mut String, known: &str, extra: usize) -> Result<(), AllocError> {
     let from = lines_of(known).saturating_sub(extra).max(1).min(2);
     let end = from.saturating_add(extra);
@@ -44,7 +45,7 @@ fn put_some(out: &mut String, known: &str, extra: usize) -> Result<(), AllocErro
 }
 
 /// Returns the message of a diagnosis, without the verdict. The message and the `used` lines above it have at most 15
-/// lines that are not blank, unless the calls of the key alone need more. Some known facts are left out for this.
+/// lines that are not blank, unless the calls of the key alone need more lines. To fit, some known facts are left out.
 /// Allocates.
 pub fn diagnosis_text(
     alloc: Global,
@@ -75,25 +76,26 @@ pub fn diagnosis_text(
     Ok(out)
 }
 
-/// The lines of a count in a message.
+/// The number of lines of a contradiction by counting in a message.
 const COUNT_LINES: usize = 3;
 
-/// The number of lines of a verdict without a clash.
+/// The number of lines of a verdict that names no two contradicting calls.
 const LEAST_USED: usize = 2;
 
 /// The explanation of a refused recording.
 #[derive(Drop)]
 pub struct Explained {
-    /// A count of the refused key, if the verdict has no clash and a count was found.
+    /// The contradiction by counting of the refused key, if the verdict names no two contradicting calls and such a
+    /// contradiction was found.
     pub count: Option<Count>,
     /// The message of the diagnosis.
     pub text: String,
 }
 
-/// An explanation is about at most this many first calls, if these calls have no order.
+/// If the first calls of a longer recording already have no order, only this many of them are explained.
 const MOST_EXPLAINED: usize = 1_000_000;
 
-/// Describes a diagnosis in an explanation. `recorded` has the calls as they ended later.
+/// Converts a diagnosis to an explanation. In `recorded`, calls that are pending in the diagnosis can have ended.
 fn described(
     alloc: Global,
     recorded: &Recorded,
@@ -110,7 +112,8 @@ fn described(
     Ok(Explained { count, text })
 }
 
-/// Explains why no order explains the first calls of a recording that is longer. `None` if some order explains them.
+/// Explains why the first `MOST_EXPLAINED` calls of a recording have no order. Returns `None` if they have one, or if
+/// the recording has no more calls.
 fn explain_first(
     alloc: Global,
     reader: &RunReader,
@@ -126,11 +129,11 @@ fn explain_first(
     Ok(Some(described(alloc, reader.recorded(), &diagnosis, used)?))
 }
 
-/// Reads a recording, and explains why no order explains it. The verdict above the explanation has `used` lines: two
-/// without a clash. If no order explains the first `MOST_EXPLAINED` calls, the explanation is of these, and the other
-/// lines are not read. Returns `None` if a read fails, if a line has the wrong form, or if some order explains the
-/// recording. That the text is a recording otherwise, is not checked: judge it first. Allocates; blocks as the input
-/// does.
+/// Reads a recording, and explains why no order explains it. `used` is the number of lines of the verdict above the
+/// explanation: two if the verdict names no two contradicting calls. If the first `MOST_EXPLAINED` calls already have
+/// no order, only these calls are explained, and the other lines are not read. Returns `None` if a read fails, if a
+/// line has the wrong form, or if some order explains the recording. Does not check otherwise that the text is a
+/// recording: judge it first. Allocates. Blocks while reading.
 pub fn explain<R: Read>(
     alloc: Global,
     input: &mut R,

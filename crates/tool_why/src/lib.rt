@@ -1,4 +1,4 @@
-//! Diagnosis of a recording that no order explains: the facts of `tool_facts` as a message with a picture, and a likely
+//! Diagnosis of a recording that no order explains: a message with the facts of `tool_facts`, a picture, and a likely
 //! cause. The diagnosis does not decide the verdict. The cause, after `likely:`, is a guess.
 #![tactic(auto)]
 

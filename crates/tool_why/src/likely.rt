@@ -1,9 +1,9 @@
-//! Guesses the likely cause from the facts in the message. Makes no guess if nothing fits.
+//! Guesses the likely cause from the facts in the message. Makes no guess if the facts fit no cause.
 
 use crate::causes::Cause;
 use tool_facts::{Evidence, Odd, Operation, Tally};
 
-/// The minimum number of contradictions that indicate a rule.
+/// A share of contradictions counts only if there are at least this many contradictions.
 const ENOUGH: u64 = 5;
 
 /// Returns `true` if `some` is at least `percent` percent of `all`.
@@ -11,12 +11,13 @@ fn is_least(some: u64, all: u64, percent: u64) -> bool {
     some.saturating_mul(100) >= all.saturating_mul(percent)
 }
 
-/// Returns `true` if `some` is at least `percent` percent of `all`, and `all` is large enough.
+/// Returns `true` if `some` is at least `percent` percent of `all`, and `all` is at least `ENOUGH`.
 fn is_share(some: u64, all: u64, percent: u64) -> bool {
     all >= ENOUGH && is_least(some, all, percent)
 }
 
-/// Returns in how many of a million cases an event with a chance of `percent` percent happens `times` times in a row.
+/// Returns the probability, in parts per million, that an event with a chance of `percent` percent happens `times`
+/// times in a row.
 fn share_of_all(percent: u64, times: u64) -> u64 {
     let mut share = 1_000_000u64;
     for _ in 0..times.min(40) {
@@ -25,26 +26,28 @@ fn share_of_all(percent: u64, times: u64) -> u64 {
     share
 }
 
-/// Returns `true` if it is unlikely (a chance of less than one in four) that all wrong answers overlapped changes of
-/// other keys by accident.
+/// Returns `true` if the chance that all wrong answers overlapped changes of other keys by accident is less than one in
+/// four.
 fn is_no_chance(odd: &Odd) -> bool {
     share_of_all(odd.usual, odd.missed) < 250_000
 }
 
-/// Returns whether changes of its key or of others ran during nearly all wrong answers, and not by chance.
+/// Returns whether nearly all wrong answers overlapped another add or remove of their key or a change of another key,
+/// more often than by chance.
 fn is_beside_others(odd: &Odd) -> bool {
     odd.wrong >= 3
         && is_least(odd.active, odd.wrong, 90)
         && share_of_all(odd.usually_active, odd.wrong) < 100_000
 }
 
-/// Returns whether changes of its key or of others ran during the wrong answers about as often as during all answers.
+/// Returns whether the wrong answers overlapped adds, removes or changes of other keys about as often as the other
+/// answers did.
 fn is_beside_by_habit(odd: &Odd) -> bool {
     let share = odd.active.saturating_mul(100).checked_div(odd.wrong);
     odd.wrong >= 5 && share.unwrap_or(0) <= odd.usually_active.saturating_add(10)
 }
 
-/// Returns whether an add or remove, of any key and whatever it returned, ran during all wrong answers, and not by
+/// Returns whether all wrong answers overlapped another add or remove of any key, successful or not, more often than by
 /// chance.
 fn is_beside_writers(odd: &Odd) -> bool {
     odd.wrong >= 5
@@ -52,23 +55,23 @@ fn is_beside_writers(odd: &Odd) -> bool {
         && share_of_all(odd.usually_writing, odd.wrong) < 100_000
 }
 
-/// Returns `true` if `some` are at least three quarters of the wrong answers.
+/// Returns `true` if `some` is at least three quarters of the wrong answers that missed a present key.
 fn are_most(some: u64, odd: &Odd) -> bool {
     some.saturating_mul(4) >= odd.missed.saturating_mul(3)
 }
 
-/// Returns whether answers are wrong although no calls overlap.
+/// Returns whether answers are wrong even if no calls overlap.
 fn needs_no_overlap(odd: &Odd) -> bool {
     odd.apart >= 2 && is_least(odd.apart, odd.placed, 10)
 }
 
-/// Returns whether contains misses only the largest key that is present.
+/// Returns whether `contains` misses a key nearly always when it is the largest present key.
 fn is_last(odd: &Odd) -> bool {
     let is_each = odd.compared >= 10 && is_least(odd.largest, odd.compared, 95);
     is_each && odd.keys >= 2 && odd.usually_largest <= 75
 }
 
-/// Returns the likely cause if only `contains` is wrong and it only misses keys.
+/// Returns the likely cause if only `contains` is wrong, and all its wrong answers miss present keys.
 fn cause_of_misses(odd: &Odd) -> Option<Cause> {
     let is_removed_beside = odd.wrong < 3 && odd.removing == odd.missed && is_no_chance(odd);
     if is_size(odd) {
@@ -98,22 +101,22 @@ fn cause_of_misses(odd: &Odd) -> Option<Cause> {
     }
 }
 
-/// The minimum number of wrong answers for a guess, unless a fact holds for all of them or for nearly all.
+/// The minimum number of wrong answers for a guess, unless a fact applies to all or nearly all wrong answers.
 const LEAST_WRONG: u64 = 20;
 
-/// Returns whether many wrong answers are followed by another wrong answer, with no change of the key between.
+/// Returns whether many wrong answers are followed by another wrong answer, with no change of the key in between.
 fn is_lasting(odd: &Odd) -> bool {
     let next = odd.then_right.saturating_add(odd.then_wrong);
     odd.is_exact && odd.then_wrong >= 3 && is_least(odd.then_wrong, next, 20)
 }
 
-/// Returns whether nearly all wrong answers are followed by a right answer, with no change of the key between.
+/// Returns whether nearly all wrong answers are followed by a right answer, with no change of the key in between.
 fn is_passing(odd: &Odd) -> bool {
     let next = odd.then_right.saturating_add(odd.then_wrong);
     odd.is_exact && odd.then_right >= 3 && is_least(odd.then_right, next, 90)
 }
 
-/// Returns `true` if `contains` mostly misses a key when no other key is present, more often than by chance.
+/// Returns `true` if `contains` mostly misses its key when no other key is present, more often than by chance.
 fn is_size(odd: &Odd) -> bool {
     let more_often = odd.usually_lonely.saturating_add(35);
     odd.compared >= 3
@@ -121,12 +124,12 @@ fn is_size(odd: &Odd) -> bool {
         && share_of_all(odd.usually_lonely, odd.lonely) < 50_000
 }
 
-/// Returns `true` if all wrong answers agree with the last earlier call of the key by their own thread.
+/// Returns `true` if all wrong answers agree with the last earlier call of the same key by the same thread.
 fn is_own(odd: &Odd) -> bool {
     odd.wrong >= 8 && odd.own == odd.wrong
 }
 
-/// Returns the likely cause if only `contains` is wrong, and it only finds absent keys.
+/// Returns the likely cause if only `contains` is wrong, and all its wrong answers find absent keys.
 fn cause_of_finds(odd: &Odd) -> Option<Cause> {
     let is_once_present = odd.by_same.saturating_add(odd.by_others) > 0;
     if odd.running.saturating_mul(2) >= odd.found {
@@ -183,7 +186,7 @@ fn cause_of_remove(odd: &Odd) -> Option<Cause> {
     }
 }
 
-/// Returns the likely cause if add alone is wrong.
+/// Returns the likely cause if only `add` is wrong.
 fn cause_of_add(odd: &Odd) -> Option<Cause> {
     if odd
         .running
@@ -202,7 +205,7 @@ fn cause_of_add(odd: &Odd) -> Option<Cause> {
     }
 }
 
-/// Returns the likely cause if one operation alone is wrong, in a recording of `keys` keys.
+/// Returns the likely cause if one operation alone is wrong. `keys` is the number of keys in the recording.
 fn cause_of_odd(odd: &Odd, keys: u64) -> Option<Cause> {
     let is_often = odd.wrong >= odd.keys.saturating_mul(2);
     let is_some = !is_least(odd.keys, keys, 75) && odd.wrong >= keys.saturating_mul(5);
@@ -215,7 +218,7 @@ fn cause_of_odd(odd: &Odd, keys: u64) -> Option<Cause> {
     }
 }
 
-/// Returns `true` if all contradictions occur when their keys are first used.
+/// Returns `true` if all contradictions are among the first calls of their keys.
 fn is_first_use(evidence: &Evidence) -> bool {
     let tally = evidence.tally;
     let calls = evidence.calls.checked_div(evidence.keys).unwrap_or(0);
@@ -223,7 +226,7 @@ fn is_first_use(evidence: &Evidence) -> bool {
     is_repeated && calls > tally.begun.saturating_mul(25)
 }
 
-/// Returns `true` if changes of other keys overlapped the losses and returns no more often than other periods.
+/// Returns `true` if losses and returns of keys overlap changes of other keys about as often as other periods do.
 fn is_beside_by_chance(tally: &Tally) -> bool {
     let share = tally.beside.saturating_mul(100).checked_div(tally.timed());
     share.unwrap_or(0) <= tally.usual.saturating_add(15)
@@ -232,8 +235,9 @@ fn is_beside_by_chance(tally: &Tally) -> bool {
 /// The minimum number of losses and returns that calls show for a guess.
 const LEAST_TIMED: u64 = 8;
 
-/// Returns whether keys are not mostly lost, calls that returned false can have made many of these changes, and most are
-/// not beside a change of another key that can have written back what it read.
+/// Returns whether a change seems to be carried out twice: keys are lost about as often as they return, calls that
+/// returned false can have made many of these changes, and most of these changes were not written back by a change of
+/// another key.
 fn is_carried_out_twice(tally: &Tally) -> bool {
     let (lost, back) = (tally.lost, tally.came_back);
     let is_even = lost < back.saturating_mul(2) && back <= lost.saturating_mul(4);
@@ -248,13 +252,13 @@ fn is_carried_out_twice(tally: &Tally) -> bool {
         && is_least(tally.silent, tally.gone(), 50)
 }
 
-/// The minimum number of losses and returns that show that a change is carried out twice.
+/// The minimum number of losses and returns of keys for the guess that a change is carried out twice.
 const MANY_GONE: u64 = 15;
 
-/// The minimum number of losses and returns that show that several keys change at the same time.
+/// The minimum number of losses and returns of keys for the guess that several keys change at the same time.
 const LEAST_AT_ONCE: u64 = 20;
 
-/// Returns whether several keys are lost or come back at the same time, more often than by chance.
+/// Returns whether several keys are lost or return at the same time, more often than by chance.
 fn is_at_once(tally: &Tally) -> bool {
     let least = tally.usually_together.saturating_add(40);
     let is_clear = tally.others.saturating_mul(2) <= tally.places && !has_other_replies(tally);
@@ -265,14 +269,14 @@ fn is_at_once(tally: &Tally) -> bool {
         && is_least(tally.together, tally.timed(), least.max(65))
 }
 
-/// Returns whether many single replies are wrong, of calls that change nothing, and one other reply repairs nearly all
-/// losses and returns.
+/// Returns whether many contradictions are single wrong replies of calls that change nothing, and one opposite reply
+/// would repair nearly all losses and returns of keys.
 fn has_other_replies(tally: &Tally) -> bool {
     let replies = tally.missed.saturating_add(tally.found);
     is_share(replies, tally.places, 15) && is_least(tally.turned, tally.gone(), 85)
 }
 
-/// Returns the likely cause if keys were lost more often than they came back, or as often, while other keys changed.
+/// Returns the likely cause if changes of other keys write an older state back, so that keys are lost or return.
 fn cause_of_old_state(evidence: &Evidence) -> Option<Cause> {
     let tally = &evidence.tally;
     let (lost, back) = (tally.lost, tally.came_back);
@@ -307,19 +311,19 @@ fn cause_of_old_state(evidence: &Evidence) -> Option<Cause> {
     }
 }
 
-/// Returns whether `count` of `of` adds is clearly more than usual: of 100 adds it is usually `usual`.
+/// Returns whether `count` is a clearly larger share of `of` adds than the usual percentage `usual`.
 fn is_with(count: u64, of: u64, usual: u64) -> bool {
     of >= 2 * ENOUGH && is_least(count, of, usual.saturating_add(20).min(100))
 }
 
-/// Returns whether nearly all lost keys were added beside an add of another key, or beside a remove.
+/// Returns whether the adds of lost keys overlap adds or removes of other keys clearly more often than other adds do.
 fn is_with_change(tally: &Tally) -> bool {
     is_with(tally.with_add, tally.placed, tally.usually_with_add)
         || is_with(tally.with_remove, tally.placed, tally.usually_with_remove)
 }
 
-/// Returns the likely cause if keys are lost and hardly ever come back. `None` if few keys were lost, or if the keys have
-/// few calls: then a key can also be lost because a table or a bucket is made twice.
+/// Returns the likely cause if keys are lost and hardly ever return. Returns `None` if few keys were lost, or if the
+/// keys have few calls: such keys can also be lost because a table or a bucket is created twice.
 fn cause_of_lost_adds(evidence: &Evidence) -> Option<Cause> {
     let tally = &evidence.tally;
     let calls = evidence.calls.checked_div(evidence.keys).unwrap_or(0);
@@ -342,8 +346,8 @@ fn cause_of_lost_adds(evidence: &Evidence) -> Option<Cause> {
     }
 }
 
-/// Returns which operation writes an older copy back: only for this operation, two overlapping calls return true.
-/// Returns `other` if both operations do so, or neither.
+/// Returns the cause that one operation writes an older copy back, if pairs of overlapping calls that both returned
+/// true are nearly all of this operation. Otherwise returns `other`.
 fn old_copy(tally: &Tally, other: Cause) -> Cause {
     let (adds, removes) = (tally.both_adds, tally.both_removes);
     if adds >= 2 * ENOUGH && adds >= removes.saturating_mul(10) {
@@ -355,13 +359,13 @@ fn old_copy(tally: &Tally, other: Cause) -> Cause {
     }
 }
 
-/// Returns whether several keys have a wrong reply at the same time, more often than by chance.
+/// Returns whether several keys have wrong replies at the same time, more often than by chance.
 fn has_crossed_replies(tally: &Tally) -> bool {
     let least = tally.usually_crossed.saturating_add(25).max(50);
     tally.replies >= 4 * ENOUGH && is_least(tally.crossed_replies, tally.replies, least)
 }
 
-/// Returns whether keys are lost and come back, and many single replies are wrong too.
+/// Returns whether keys are lost and return, and many contradictions are single wrong replies.
 fn is_mixed(tally: &Tally) -> bool {
     let replies = tally.missed.saturating_add(tally.found);
     let is_both_ways = tally.lost.min(tally.came_back) >= 2 * ENOUGH;
@@ -374,15 +378,15 @@ fn is_mixed(tally: &Tally) -> bool {
         )
 }
 
-/// Returns whether calls are carried out with the key of another call: while a key is lost during its add another key
-/// comes back, and while a key comes back during its remove another key is lost.
+/// Returns whether calls seem to be carried out with the keys of other calls: while a key is lost during its add,
+/// another key returns, and while a key returns after its remove, another key was lost during the remove.
 fn is_of_other_calls(tally: &Tally) -> bool {
     let some = tally.swapped.saturating_add(tally.swapped_adds);
     let all = tally.undone.saturating_add(tally.unadded);
     tally.swapped >= 4 && tally.swapped_adds >= 4 && is_least(some, all, 60)
 }
 
-/// Returns whether another key is lost while a remove runs that leaves its own key, and a wrong reply is rare.
+/// Returns whether a remove seems to remove another key instead of its own, and wrong replies are rare.
 fn is_of_other_key(tally: &Tally) -> bool {
     let replies = tally.missed.saturating_add(tally.found);
     let is_beside = is_with(tally.with_remove, tally.placed, tally.usually_with_remove);
@@ -399,12 +403,12 @@ fn is_of_other_key(tally: &Tally) -> bool {
         && !is_least(replies, tally.places, 10)
 }
 
-/// Returns the likely cause if changes do not take effect when their calls run: late, together with another call, or
-/// although the call returned false.
+/// Returns the likely cause if changes do not take effect during their calls: they take effect later, cancel each
+/// other, or take effect although the call returned false.
 fn cause_of_effects(evidence: &Evidence) -> Option<Cause> {
     let tally = &evidence.tally;
     let (gone, lost) = (tally.gone(), tally.lost);
-    // (a key with few calls is refused because of a single unseen change, which is then a large share)
+    // (if a key has few calls, a single unseen change is already a large share)
     let calls = evidence.calls.checked_div(evidence.keys).unwrap_or(0);
     let is_late = is_share(tally.unseen_adds, tally.followed_adds, 25)
         || is_share(tally.unseen_removes, tally.followed_removes, 25);
@@ -434,7 +438,7 @@ fn cause_of_effects(evidence: &Evidence) -> Option<Cause> {
     }
 }
 
-/// Returns the likely cause if keys were lost and came back.
+/// Returns the likely cause if keys were lost and returned.
 fn cause_of_gone(evidence: &Evidence) -> Option<Cause> {
     let tally = &evidence.tally;
     let is_written_over = is_least(tally.fits, tally.made, 60);
@@ -471,10 +475,11 @@ fn cause_of_gone(evidence: &Evidence) -> Option<Cause> {
     cause_of_old_state(evidence)
 }
 
-/// With more keys a contradiction takes so long that a smaller key is removed meanwhile by chance.
+/// In recordings with more keys, a contradiction lasts so long that a smaller key is often removed meanwhile by chance.
 const FEW_KEYS: u64 = 16;
 
-/// Returns `true` if keys are lost and come back mostly while a smaller key is removed, but the smallest key never is.
+/// Returns `true` if keys are lost and return mostly while a smaller key is removed, and the smallest key never is
+/// lost.
 fn is_unlinked(evidence: &Evidence) -> bool {
     let (tally, timed) = (&evidence.tally, evidence.tally.timed());
     let is_both_ways = tally.lost > 0 && tally.came_back.saturating_mul(4) >= tally.lost;
@@ -485,7 +490,7 @@ fn is_unlinked(evidence: &Evidence) -> bool {
         && is_share(tally.below, timed, 75)
 }
 
-/// Returns `true` if calls that returned false can account for nearly all contradicting changes.
+/// Returns `true` if calls that returned false can have made most of the losses and returns of keys.
 fn is_made_again(tally: &Tally) -> bool {
     let gone = tally.gone();
     let replies = tally.missed.saturating_add(tally.found);
@@ -496,7 +501,7 @@ fn is_made_again(tally: &Tally) -> bool {
         && !is_least(replies, tally.places, 10)
 }
 
-/// Returns `true` if replies are not determined by the changes themselves.
+/// Returns `true` if replies seem to be determined by an earlier read, not by the changes themselves.
 fn is_earlier_look(tally: &Tally) -> bool {
     let (both, gone) = (tally.both(), tally.gone());
     let is_enough = gone >= 2 * ENOUGH && both >= 3 && is_share(both, tally.places, 5);
@@ -504,7 +509,7 @@ fn is_earlier_look(tally: &Tally) -> bool {
     is_each || (is_enough && is_share(tally.turned, gone, 90))
 }
 
-/// Returns `true` if the contradictions occur even without overlapping calls.
+/// Returns `true` if contradictions occur even without overlapping calls.
 fn needs_no_race(tally: &Tally) -> bool {
     tally.gone() >= 2 * ENOUGH && tally.apart >= ENOUGH && is_share(tally.apart, tally.places, 10)
 }
@@ -517,8 +522,9 @@ fn is_mostly_apart(tally: &Tally) -> bool {
         && !is_least(tally.others, tally.places, 65)
 }
 
-/// Returns whether the losses need no race, or no two calls are both true and most losses are not beside a change that
-/// can have written back what it read.
+/// Returns whether keys are lost without a write-back: keys are lost even without overlapping calls, or pairs of calls
+/// that both returned true are rare and most losses overlap no change of another key that can have written an older
+/// state back.
 fn is_displaced(tally: &Tally) -> bool {
     let is_alone = !is_least(tally.fits, tally.made, 60);
     let is_crossed = is_least(tally.crossed, tally.lost, 60);
@@ -526,7 +532,7 @@ fn is_displaced(tally: &Tally) -> bool {
     needs_no_race(tally) || (is_single && is_alone && !is_crossed)
 }
 
-/// Returns the likely cause if keys are lost while other keys change, and never come back.
+/// Returns the likely cause if keys are lost while other keys change, and no key returns.
 fn cause_of_losses(tally: &Tally) -> Option<Cause> {
     let (sharp, adds, removes) = (tally.sharp, tally.displaced, tally.unlinked);
     let is_only_lost = tally.came_back == 0 && tally.lost >= 2 * ENOUGH;
@@ -548,11 +554,11 @@ fn is_only_full(tally: &Tally) -> bool {
     tally.least_full >= LEAST_FULL && share_of_all(tally.usually_full, tally.short) < 10_000
 }
 
-/// At least this many present keys count as many.
+/// The minimum number of present keys that counts as many.
 const LEAST_FULL: u64 = 4;
 
-/// Returns whether nearly all keys that come back do so after a remove that returned true, two calls hardly ever both
-/// return true, and other changes cannot have written the keys back.
+/// Returns whether a key can be in the set twice: nearly all returned keys return after a successful remove, pairs of
+/// calls that both returned true are rare, and other changes cannot have written the keys back.
 fn is_kept(tally: &Tally) -> bool {
     tally.came_back >= 4 * ENOUGH
         && tally.others.saturating_mul(2) <= tally.places
@@ -561,7 +567,7 @@ fn is_kept(tally: &Tally) -> bool {
         && !is_least(tally.fits, tally.made, 60)
 }
 
-/// Returns the likely cause if the set fails without a race.
+/// Returns the likely cause if the set fails even without overlapping calls.
 fn cause_in_one_thread(evidence: &Evidence) -> Option<Cause> {
     let tally = &evidence.tally;
     let (lost, back) = (tally.lost, tally.came_back);
@@ -587,15 +593,16 @@ fn cause_in_one_thread(evidence: &Evidence) -> Option<Cause> {
 /// If two keys differ by at least this much, their difference overflows a signed 32-bit number.
 const WIDE: u32 = 0x8000_0000;
 
-/// If keys have at least this many calls, it is no coincidence that each key is hit only once.
+/// If keys have at least this many calls, it is no coincidence that each key has only one contradiction.
 const MANY_CALLS: u64 = 30;
 
-/// At least this many pairs of calls that both returned true show that an operation checks first and then acts.
+/// The minimum number of pairs of calls that both returned true for the guess that a check and the later write are not
+/// atomic.
 const LEAST_BOTH: u64 = 3;
 
-/// Returns whether two calls of a key look before either changes it: many contradictions are pairs of calls that both
-/// returned true, or some are, either only of `add` in a set that only loses keys, or of both operations in a set in
-/// which one other reply repairs all losses and returns.
+/// Returns whether a check and the later write seem not to be atomic, so that two calls of a key both return true. Such
+/// pairs must be many among the contradictions. Fewer are enough if they are only calls of `add` and no key returns, or
+/// if they are calls of both operations and one opposite reply repairs nearly all losses and returns of keys.
 fn is_check_then_act(tally: &Tally) -> bool {
     let (adds, removes, both) = (tally.both_adds, tally.both_removes, tally.both());
     let is_all = tally.places >= 2 && both == tally.places;
@@ -610,7 +617,7 @@ fn is_check_then_act(tally: &Tally) -> bool {
     is_all || is_only_adds || (is_balanced && is_repaired) || is_often
 }
 
-/// Returns which changes look first and then act.
+/// Returns the cause that names the operations with a check and a later write that are not atomic.
 fn check_then_act(tally: &Tally) -> Cause {
     let (adds, removes) = (tally.both_adds, tally.both_removes);
     if adds >= LEAST_BOTH && adds >= removes.saturating_mul(10) {
@@ -624,7 +631,7 @@ fn check_then_act(tally: &Tally) -> Cause {
     }
 }
 
-/// Returns the likely cause if overlapping changes go wrong.
+/// Returns the likely cause if several operations are wrong while calls overlap.
 fn cause_of_races(evidence: &Evidence) -> Option<Cause> {
     let tally = &evidence.tally;
     if is_first_use(evidence) {
@@ -657,10 +664,10 @@ fn cause_of_races(evidence: &Evidence) -> Option<Cause> {
     cause_of_gone(evidence)
 }
 
-/// A guess needs a recording with at least this many calls.
+/// The minimum number of calls in a recording for a guess.
 const LEAST_CALLS: u64 = 50;
 
-/// A guess about an operation needs at least this many of its answers.
+/// The minimum number of answers of an operation for a guess about the operation.
 const LEAST_ANSWERS: u64 = 10;
 
 /// Returns `true` if the recording has enough calls for a guess.
@@ -669,8 +676,8 @@ fn is_enough(evidence: &Evidence) -> bool {
     evidence.calls >= LEAST_CALLS && answers >= LEAST_ANSWERS
 }
 
-/// Returns whether calls of several operations miss present keys, only while another key changes, and nearly no other
-/// contradictions exist.
+/// Returns whether calls of several operations miss present keys, always while another key changes, and other
+/// contradictions are rare.
 fn is_missed_beside(tally: &Tally) -> bool {
     let (missed, gone) = (tally.missed, tally.gone());
     missed >= 8
@@ -680,7 +687,7 @@ fn is_missed_beside(tally: &Tally) -> bool {
         && gone.saturating_mul(10) <= tally.places
 }
 
-/// Returns the likely cause. Returns `None` if nothing fits, or if the recording is too small.
+/// Returns the likely cause. Returns `None` if the facts fit no cause, or if the recording is too small.
 pub(crate) fn likely(evidence: &Evidence) -> Option<Cause> {
     if !is_enough(evidence) {
         return None;

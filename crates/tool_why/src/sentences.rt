@@ -1,4 +1,4 @@
-//! The sentences of a diagnosis: headline, scope, duration, and the likely cause.
+//! Writes the sentences of a diagnosis: the headline, the scope, the duration, and the likely cause.
 
 use crate::causes::Cause;
 use crate::diagnosis::Diagnosis;
@@ -18,7 +18,7 @@ fn put_returned(out: &mut String, call: Made, expected: bool) -> Result<(), Allo
     out.push_str("\n")
 }
 
-/// Writes the headline for a key that was lost or came back.
+/// Writes the headline for a key that was lost or returned.
 fn put_gone(out: &mut String, diagnosis: &Diagnosis) -> Result<(), AllocError> {
     if let Some(call) = diagnosis.wrong {
         // (the call returned false although its operation makes the contradicting change)
@@ -51,7 +51,7 @@ fn put_contradiction(out: &mut String, diagnosis: &Diagnosis) -> Result<(), Allo
     }
 }
 
-/// Writes the headline for a split.
+/// Writes the headline for a split: no change of the key ran, but calls disagree about the key.
 fn put_disagreement(out: &mut String, split: &Split) -> Result<(), AllocError> {
     let (key, adds, removes) = (split.key, split.adds, split.removes);
     let found = if split.contains.present > 0 {
@@ -89,7 +89,7 @@ pub(crate) fn put_headline(out: &mut String, diagnosis: &Diagnosis) -> Result<()
     }
 }
 
-/// Returns the phrase for an operation's answers.
+/// Returns the words for an operation's calls that changed nothing.
 fn answers_word(operation: Operation) -> &'static str {
     match operation {
         Operation::Add => "add that returned false",
@@ -98,7 +98,7 @@ fn answers_word(operation: Operation) -> &'static str {
     }
 }
 
-/// Writes that no answer was wrong in the other way, if all wrong answers are known.
+/// Writes that the opposite kind of wrong answer never occurred, if all wrong answers are known.
 fn put_never(out: &mut String, odd: &Odd, what: &str) -> Result<(), AllocError> {
     if odd.is_exact {
         write!(out, ", and never {what}")?;
@@ -123,7 +123,7 @@ fn put_ways(out: &mut String, odd: &Odd) -> Result<(), AllocError> {
     }
 }
 
-/// Writes the scope for a faulty operation.
+/// Writes how many answers of the operation that alone is wrong are wrong.
 fn put_odd(out: &mut String, odd: &Odd) -> Result<(), AllocError> {
     let word = answers_word(odd.operation);
     let (wrong, of) = (odd.wrong, odd.of);
@@ -169,7 +169,7 @@ fn put_kinds(out: &mut String, tally: &Tally) -> Result<(), AllocError> {
     Ok(())
 }
 
-/// Returns the words for the symptom of a contradiction in a list of a few.
+/// Returns the words for a contradiction's symptom in a short list of contradictions.
 fn symptom_text(symptom: Symptom) -> &'static str {
     match symptom {
         Symptom::Missed(_) => "missed",
@@ -182,7 +182,7 @@ fn symptom_text(symptom: Symptom) -> &'static str {
     }
 }
 
-/// Writes each of a few contradictions: the key, the symptom, and the time.
+/// Writes a short list of contradictions: the key, the symptom and the time of each.
 fn put_few(out: &mut String, few: &[Place]) -> Result<(), AllocError> {
     let mut mark = ":";
     for place in few {
@@ -198,8 +198,8 @@ fn put_few(out: &mut String, few: &[Place]) -> Result<(), AllocError> {
     out.push_str("\n")
 }
 
-/// Writes the number of contradictions, of keys, and of each kind, and how many changes the recording has. Further
-/// contradictions can overlap those that are counted.
+/// Writes the numbers of contradictions, of each kind of contradiction, of refused keys, and of successful adds and
+/// removes that the next call did not see. Further contradictions can overlap those that are counted.
 fn put_tally(out: &mut String, diagnosis: &Diagnosis) -> Result<(), AllocError> {
     let evidence = &diagnosis.evidence;
     let tally = &evidence.tally;
@@ -221,7 +221,7 @@ fn put_tally(out: &mut String, diagnosis: &Diagnosis) -> Result<(), AllocError> 
     )
 }
 
-/// Writes how many calls of each operation found the key present and absent.
+/// Writes how many calls of each operation found the key of a split present or absent.
 fn put_split(out: &mut String, split: &Split) -> Result<(), AllocError> {
     let (key, since) = (split.key, split.since);
     let (adds, removes) = (split.adds, split.removes);
@@ -243,8 +243,8 @@ fn put_split(out: &mut String, split: &Split) -> Result<(), AllocError> {
     writeln!(out, "{removes} remove absent, {votes} contains {state}")
 }
 
-/// Writes at how many contradictions no two calls overlapped, if that is at least 10 percent. After an early error many
-/// later calls disagree, so then nothing is written.
+/// Writes the number of contradictions without overlapping calls, if it is at least 10 percent. Writes nothing if most
+/// contradictions are unclear, since after an early error many later calls disagree.
 fn put_apart(out: &mut String, tally: &Tally) -> Result<(), AllocError> {
     let (apart, places, others) = (tally.apart, tally.places, tally.others);
     let is_few = apart == 0 || apart.saturating_mul(10) < places;
@@ -257,7 +257,7 @@ fn put_apart(out: &mut String, tally: &Tally) -> Result<(), AllocError> {
     )
 }
 
-/// Writes how many losses and returns overlap a change of another key, and the share at other times.
+/// Writes how many losses and returns of keys overlap a change of another key, and the percentage at other times.
 fn put_gone_beside(out: &mut String, tally: &Tally) -> Result<(), AllocError> {
     let (beside, timed, usual) = (tally.beside, tally.timed(), tally.usual);
     let (together, usually) = (tally.together, tally.usually_together);
@@ -274,7 +274,7 @@ fn put_gone_beside(out: &mut String, tally: &Tally) -> Result<(), AllocError> {
     )
 }
 
-/// Writes what ran during the only wrong answer, and whether the next call was right.
+/// Writes which calls ran during the only wrong answer, and whether the next call was right.
 fn put_around_one(out: &mut String, odd: &Odd) -> Result<(), AllocError> {
     let word = odd.operation.word();
     if odd.same > 0 {
@@ -298,7 +298,7 @@ fn put_around_one(out: &mut String, odd: &Odd) -> Result<(), AllocError> {
     Ok(())
 }
 
-/// Writes what ran during the wrong answers, and whether the next calls were right.
+/// Writes which calls ran during the wrong answers, and whether the next calls were right.
 fn put_around(out: &mut String, odd: &Odd) -> Result<(), AllocError> {
     if odd.wrong == 1 {
         return put_around_one(out, odd);
@@ -327,7 +327,8 @@ fn put_around(out: &mut String, odd: &Odd) -> Result<(), AllocError> {
     Ok(())
 }
 
-/// Writes who made the last completed changes that the wrong answers contradict, and how long before.
+/// Writes which threads made the last completed changes that the wrong answers contradict, and how long before the
+/// answers these changes ended.
 fn put_unseen(out: &mut String, odd: &Odd) -> Result<(), AllocError> {
     let (own, others, latest) = (odd.by_same, odd.by_others, odd.latest);
     if own.saturating_add(others) == 0 {
@@ -339,7 +340,7 @@ fn put_unseen(out: &mut String, odd: &Odd) -> Result<(), AllocError> {
     )
 }
 
-/// Writes a line if headline and picture are about another contradiction than the verdict.
+/// Writes a line if the headline and the picture show a different contradiction from that in the verdict.
 pub(crate) fn put_first(out: &mut String, diagnosis: &Diagnosis) -> Result<(), AllocError> {
     if diagnosis.is_example() {
         out.push_str("headline and picture are of another contradiction than the verdict\n")?;
@@ -468,7 +469,7 @@ pub(crate) fn cause_text(cause: Cause) -> &'static str {
     }
 }
 
-/// Writes the scope and the duration.
+/// Writes the known facts: how many calls or keys are wrong, and when.
 pub(crate) fn put_known(out: &mut String, diagnosis: &Diagnosis) -> Result<(), AllocError> {
     match &diagnosis.evidence.odd {
         Some(odd) => {
