@@ -32,10 +32,13 @@ fn is_no_chance(odd: &Odd) -> bool {
     share_of_all(odd.usual, odd.missed) < 250_000
 }
 
+/// The minimum number of wrong answers for a guess from the calls that they overlapped.
+const LEAST_BESIDE: u64 = 8;
+
 /// Returns whether nearly all wrong answers overlapped another add or remove of their key or a change of another key,
 /// more often than by chance.
 fn is_beside_others(odd: &Odd) -> bool {
-    odd.wrong >= 3
+    odd.wrong >= LEAST_BESIDE
         && is_least(odd.active, odd.wrong, 90)
         && share_of_all(odd.usually_active, odd.wrong) < 100_000
 }
@@ -50,7 +53,7 @@ fn is_beside_by_habit(odd: &Odd) -> bool {
 /// Returns whether all wrong answers overlapped another add or remove of any key, successful or not, more often than by
 /// chance.
 fn is_beside_writers(odd: &Odd) -> bool {
-    odd.wrong >= 5
+    odd.wrong >= LEAST_BESIDE
         && odd.writing == odd.wrong
         && share_of_all(odd.usually_writing, odd.wrong) < 100_000
 }
@@ -73,7 +76,6 @@ fn is_last(odd: &Odd) -> bool {
 
 /// Returns the likely cause if only `contains` is wrong, and all its wrong answers miss present keys.
 fn cause_of_misses(odd: &Odd) -> Option<Cause> {
-    let is_removed_beside = odd.wrong < 3 && odd.removing == odd.missed && is_no_chance(odd);
     if is_size(odd) {
         Some(Cause::SizeFirst)
     } else if odd.running == odd.missed {
@@ -82,11 +84,11 @@ fn cause_of_misses(odd: &Odd) -> Option<Cause> {
         Some(Cause::LastKey)
     } else if needs_no_overlap(odd) {
         Some(Cause::EndsEarly)
-    } else if is_beside_others(odd) || is_beside_writers(odd) || is_removed_beside {
+    } else if is_beside_others(odd) || is_beside_writers(odd) {
         Some(Cause::MovedKeys)
     } else if is_lasting(odd) {
         Some(Cause::Shortcut)
-    } else if is_passing(odd) && is_least(odd.active, odd.wrong, 90) {
+    } else if is_passing(odd) && odd.wrong >= LEAST_BESIDE && is_least(odd.active, odd.wrong, 90) {
         Some(Cause::MovedKeys)
     } else if odd.missed < LEAST_WRONG {
         None
