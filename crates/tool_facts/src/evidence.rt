@@ -39,8 +39,8 @@ pub struct Evidence {
 const MOST_PLACES: usize = 20_000;
 
 /// The contradictions of a recording (`places`). Also the operation that alone is wrong or, if there is none, the
-/// counts of the contradictions; and the longest split: a period without a change of a key in which calls disagree
-/// about the key.
+/// counts of the contradictions. Also the longest split: no change of a key runs for a while, but calls disagree about
+/// the key.
 #[derive(Drop)]
 pub struct Found {
     pub places: Vec<Place>,
@@ -59,7 +59,7 @@ const MOST_MOMENTS: u64 = 200;
 /// The minimum number of losses of keys that are compared with the number of keys present.
 const LEAST_LOST: u64 = 10;
 
-/// Returns the contradictions in which a call shows that a key was lost or returned, ordered by time.
+/// Returns the losses and returns of keys that a call shows, ordered by time.
 fn gone_of(alloc: Global, places: &[Place]) -> Result<Vec<Place>, AllocError> {
     let mut gone = Vec::new(alloc);
     for place in places {
@@ -95,7 +95,7 @@ fn replies_of(alloc: Global, places: &[Place]) -> Result<Vec<Place>, AllocError>
     Ok(found)
 }
 
-/// Returns the contradictions in which a call shows, within `MOST_MOMENTS`, that a key was lost.
+/// Returns the losses of keys that a call shows within `MOST_MOMENTS`.
 fn losses_of(alloc: Global, gone: &[Place]) -> Result<Vec<Place>, AllocError> {
     let mut losses = Vec::new(alloc);
     for place in gone {

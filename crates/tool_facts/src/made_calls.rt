@@ -116,7 +116,7 @@ impl Made {
         self.operation != Operation::Contains && self.reply != Some(false)
     }
 
-    /// Returns the presence to which the call changed its key, or can have changed it; `None` if the call changed
+    /// Returns the state of the key that the call brought about, or can have brought about; `None` if the call changed
     /// nothing.
     pub fn makes(self) -> Option<Presence> {
         if !self.changes() {

@@ -66,7 +66,7 @@ fn only_turned(
     Ok(only(&found))
 }
 
-/// Returns the symptom of a contradiction in which only the reply of `call` is wrong.
+/// Returns the symptom if `call` has the only wrong reply.
 pub fn symptom_of_reply(call: Made) -> Symptom {
     match call.needs() {
         Some(Presence::Present) => Symptom::Found(call.operation),

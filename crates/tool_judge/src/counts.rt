@@ -100,7 +100,7 @@ fn put_calls(out: &mut String, count: &Count) -> Result<(), AllocError> {
     Ok(())
 }
 
-/// Writes how many times the key must change back between the counted calls, and in which period.
+/// Writes how many times the key must change back between the counted calls, and the period for these changes.
 fn put_need(out: &mut String, count: &Count) -> Result<(), AllocError> {
     let (key, state) = (count.key.0, state_word(other(count.was)));
     write!(out, "  need key {key} to become {state}")?;

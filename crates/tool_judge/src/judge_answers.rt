@@ -81,15 +81,15 @@ fn answer_of(alloc: Global, reader: RecordingReader, detail: Detail) -> Result<A
 }
 
 /// Judges the text of a recording. The answer is `ok N calls` with exit status 0 if some order of the calls explains
-/// all replies and leaves the final keys. The answer is `not linearizable` with exit status 1 if no order does. If the
-/// recording was cut off, its final keys are unknown; the answer is then `ok` if some order explains the replies,
-/// whatever keys it leaves. Allocates. Does not block.
+/// all replies and ends with the final keys. The answer is `not linearizable` with exit status 1 if no order does. If
+/// the recording was cut off, its final keys are unknown. In this case the answer is `ok` if some order explains the
+/// replies, whatever its final keys are. Allocates. Does not block.
 ///
 /// After `ok N calls`, the answer states how many calls overlap a change of their key. It adds advice if these are
-/// fewer than 5 of 100, and a remark if the recording was cut off. After `not linearizable`, the answer names a key
-/// whose calls no order explains, and the moment up to which none does. If a contradiction was found, the answer also
-/// shows the two calls: the first leaves the key in one state, the second needs the other, and no call can have changed
-/// it in between.
+/// fewer than 5 of 100, and a remark if the recording was cut off. After `not linearizable`, the answer names a key with
+/// calls that no order explains, and a moment such that the calls up to it already have no order. If a contradiction was
+/// found, the answer also shows the two calls: the first leaves the key in one state, the second needs the opposite
+/// state, and no call can have changed the state in between.
 ///
 /// # Errors
 ///
@@ -150,7 +150,7 @@ pub fn judge_briefly<R: Read>(alloc: Global, input: &mut R) -> Result<Answer, Tr
 /// Lemma: the answers of `judge_bytes`, `judge_input` and `judge_briefly` are correct. Unless an allocation or a read
 /// fails, there are three cases:
 /// - the answer is `ok` with status 0 if and only if the bytes are a recording, and some order explains its calls and
-///   leaves its final keys (any keys, if the recording was cut off);
+///   ends with its final keys (with any keys, if the recording was cut off);
 /// - the answer is `not linearizable` with status 1 if and only if the bytes are a recording and no order does;
 /// - the result is an error with a line and a cause if and only if this is the first wrong line and its cause.
 pub fn answers_are_right()

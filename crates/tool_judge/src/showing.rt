@@ -134,8 +134,8 @@ fn claim_text(alloc: Global, picture: &Picture) -> Result<Vec<u8>, AllocError> {
 /// drawn up to the first event that is not enabled.
 ///
 /// If the order is refused and the picture is text, an empty line follows the picture, and then a statement whether
-/// some other order explains the report and leaves its final keys. If no order does, the lines of `judge` follow. For a
-/// report with `ceiling` or `full`, the statement can be that this is unknown.
+/// some other order explains the report and ends with its final keys. If no order does, the lines of `judge` follow. For
+/// a report with `ceiling` or `full`, the statement can be that it is unknown whether such an order exists.
 ///
 /// The command fails as `Show::picture` does, with `Bad(From)` if the range of moments begins after everything in the
 /// picture, and with `Memory` if an allocation fails.

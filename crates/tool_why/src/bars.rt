@@ -58,7 +58,7 @@ impl Bar {
         })
     }
 
-    /// Returns the smallest column at which the bar can end.
+    /// Returns the smallest possible end column of the bar.
     fn least_end(&self) -> usize {
         let width = self.head.len().saturating_add(self.tail.len());
         self.from.saturating_add(width)

@@ -427,8 +427,8 @@ pub(crate) const MOST_AROUND: usize = 1_000;
 /// state.
 const LONG_AGO: u64 = 200;
 
-/// Returns the period of the picture in which changes of other keys are shown: the time of the wrong answer if such a
-/// change ran during the answer, otherwise the time of the contradiction.
+/// Returns the period for the changes of other keys in the picture: the time of the wrong answer if such a change
+/// overlaps the answer, otherwise the time of the contradiction.
 fn time_of(place: &Place, neighbours: &Neighbours) -> (u64, u64) {
     match place.wrong {
         Some(wrong) if neighbours.overlap(place.key, wrong.begun, wrong.ended, None) => {

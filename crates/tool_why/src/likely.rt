@@ -43,8 +43,8 @@ fn is_beside_others(odd: &Odd) -> bool {
         && share_of_all(odd.usually_active, odd.wrong) < 100_000
 }
 
-/// Returns whether the wrong answers overlapped adds, removes or changes of other keys about as often as the other
-/// answers did.
+/// Returns whether the wrong answers overlapped another add or remove of their key or a change of another key hardly
+/// more often than the other answers did.
 fn is_beside_by_habit(odd: &Odd) -> bool {
     let share = odd.active.saturating_mul(100).checked_div(odd.wrong);
     odd.wrong >= 5 && share.unwrap_or(0) <= odd.usually_active.saturating_add(10)
@@ -68,7 +68,7 @@ fn needs_no_overlap(odd: &Odd) -> bool {
     odd.apart >= 2 && is_least(odd.apart, odd.placed, 10)
 }
 
-/// Returns whether `contains` misses a key nearly always when it is the largest present key.
+/// Returns whether the key that `contains` misses is nearly always the largest present key.
 fn is_last(odd: &Odd) -> bool {
     let is_each = odd.compared >= 10 && is_least(odd.largest, odd.compared, 95);
     is_each && odd.keys >= 2 && odd.usually_largest <= 75
@@ -118,7 +118,8 @@ fn is_passing(odd: &Odd) -> bool {
     odd.is_exact && odd.then_right >= 3 && is_least(odd.then_right, next, 90)
 }
 
-/// Returns `true` if `contains` mostly misses its key when no other key is present, more often than by chance.
+/// Returns `true` if the wrong answers of `contains` mostly occur while no other key is present, more often than by
+/// chance.
 fn is_size(odd: &Odd) -> bool {
     let more_often = odd.usually_lonely.saturating_add(35);
     odd.compared >= 3
@@ -228,7 +229,7 @@ fn is_first_use(evidence: &Evidence) -> bool {
     is_repeated && calls > tally.begun.saturating_mul(25)
 }
 
-/// Returns `true` if losses and returns of keys overlap changes of other keys about as often as other periods do.
+/// Returns `true` if losses and returns of keys overlap changes of other keys hardly more often than other periods do.
 fn is_beside_by_chance(tally: &Tally) -> bool {
     let share = tally.beside.saturating_mul(100).checked_div(tally.timed());
     share.unwrap_or(0) <= tally.usual.saturating_add(15)
@@ -480,8 +481,8 @@ fn cause_of_gone(evidence: &Evidence) -> Option<Cause> {
 /// In recordings with more keys, a contradiction lasts so long that a smaller key is often removed meanwhile by chance.
 const FEW_KEYS: u64 = 16;
 
-/// Returns `true` if keys are lost and return mostly while a smaller key is removed, and the smallest key never is
-/// lost.
+/// Returns `true` if keys are lost and return mostly while a smaller key is removed, and the calls of the smallest key
+/// have an order.
 fn is_unlinked(evidence: &Evidence) -> bool {
     let (tally, timed) = (&evidence.tally, evidence.tally.timed());
     let is_both_ways = tally.lost > 0 && tally.came_back.saturating_mul(4) >= tally.lost;
