@@ -14,7 +14,7 @@ use crate::symptoms::{Place, symptom_of_reply};
 use lset_words::Presence;
 use std::alloc::{AllocError, Global};
 
-/// The operation that alone is wrong: without its answers, all calls have an order.
+/// The operation that alone is wrong: without its answers (its calls that changed nothing), all calls have an order.
 #[derive(Clone, Copy)]
 pub struct Odd {
     pub operation: Operation,
@@ -609,7 +609,7 @@ fn has_found(call: Made, operation: Operation) -> bool {
     call.operation == operation && call.needs() == Some(Presence::Present)
 }
 
-/// Counts a wrong answer, and the changes that ran during it.
+/// Adds a wrong answer to the counts, by its kind and by the changes that overlap it.
 fn count_answer(sound: &Sound, call: Made, odd: &mut Odd, neighbours: &Neighbours) {
     let Some(needs) = call.needs() else {
         return;

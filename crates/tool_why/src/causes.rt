@@ -43,7 +43,7 @@ pub enum Cause {
     RemoveGivesUp,
     /// Operations search for a key in two different places.
     TwoPlaces,
-    /// Two calls, the first of a key, each create the same part of the set, and one of the parts is lost.
+    /// When a part of the set is first used, two calls each create this part, and one of the two copies is lost.
     FirstUse,
     /// A remove keeps writing after it has taken effect.
     GoesOn,
@@ -53,11 +53,11 @@ pub enum Cause {
     MadeAgain,
     /// A check and the later write are not atomic.
     CheckThenAct,
-    /// Neither in `add` nor in `remove` are the check and the later write atomic.
+    /// The check and the later write are not atomic, in `add` and in `remove`.
     BothCheck,
-    /// Only in `add`, the check and the later write are not atomic.
+    /// The check and the later write are not atomic, but only in `add`.
     AddChecks,
-    /// Only in `remove`, the check and the later write are not atomic.
+    /// The check and the later write are not atomic, but only in `remove`.
     RemoveChecks,
     /// A change is carried out a second time, after a later change of its key.
     CarriedOutTwice,

@@ -238,9 +238,9 @@ fn is_beside_by_chance(tally: &Tally) -> bool {
 /// The minimum number of losses and returns that calls show for a guess.
 const LEAST_TIMED: u64 = 8;
 
-/// Returns whether a change seems to be carried out twice: keys are lost about as often as they return, calls that
-/// returned false can have made many of these changes, and most of these changes were not written back by a change of
-/// another key.
+/// Returns whether a change seems to be carried out twice: keys are often lost and often return, calls that returned
+/// false can have made at least half of these changes, and at most 65 percent can be due to a change of another key
+/// that wrote back an older state.
 fn is_carried_out_twice(tally: &Tally) -> bool {
     let (lost, back) = (tally.lost, tally.came_back);
     let is_even = lost < back.saturating_mul(2) && back <= lost.saturating_mul(4);
@@ -525,9 +525,9 @@ fn is_mostly_apart(tally: &Tally) -> bool {
         && !is_least(tally.others, tally.places, 65)
 }
 
-/// Returns whether keys are lost without a write-back: keys are lost even without overlapping calls, or pairs of calls
-/// that both returned true are rare and most losses overlap no change of another key that can have written an older
-/// state back.
+/// Returns whether keys are lost even without overlapping calls. Otherwise returns whether pairs of calls that both
+/// returned true are rare, and less than 60 percent of the losses can be due to a change of another key that wrote back
+/// an older state.
 fn is_displaced(tally: &Tally) -> bool {
     let is_alone = !is_least(tally.fits, tally.made, 60);
     let is_crossed = is_least(tally.crossed, tally.lost, 60);
@@ -560,8 +560,9 @@ fn is_only_full(tally: &Tally) -> bool {
 /// The minimum number of present keys that counts as many.
 const LEAST_FULL: u64 = 4;
 
-/// Returns whether a key can be in the set twice: nearly all returned keys return after a successful remove, pairs of
-/// calls that both returned true are rare, and other changes cannot have written the keys back.
+/// Returns whether a key seems to be in the set twice: nearly all returned keys return after a successful remove, pairs
+/// of calls that both returned true are rare, and less than 60 percent of the returns can be due to a change of another
+/// key that wrote back an older state.
 fn is_kept(tally: &Tally) -> bool {
     tally.came_back >= 4 * ENOUGH
         && tally.others.saturating_mul(2) <= tally.places

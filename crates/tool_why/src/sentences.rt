@@ -123,7 +123,7 @@ fn put_ways(out: &mut String, odd: &Odd) -> Result<(), AllocError> {
     }
 }
 
-/// Writes how many answers of the operation that alone is wrong are wrong.
+/// Writes the number of wrong answers of the operation that alone is wrong.
 fn put_odd(out: &mut String, odd: &Odd) -> Result<(), AllocError> {
     let word = answers_word(odd.operation);
     let (wrong, of) = (odd.wrong, odd.of);
