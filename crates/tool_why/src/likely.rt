@@ -561,8 +561,8 @@ fn is_only_full(tally: &Tally) -> bool {
 const LEAST_FULL: u64 = 4;
 
 /// Returns whether a key seems to be in the set twice: nearly all returned keys return after a successful remove, pairs
-/// of calls that both returned true are rare, and less than 60 percent of the returns can be due to a change of another
-/// key that wrote back an older state.
+/// of calls that both returned true are rare, and less than 60 percent of the losses and returns can be due to a change
+/// of another key that wrote back an older state.
 fn is_kept(tally: &Tally) -> bool {
     tally.came_back >= 4 * ENOUGH
         && tally.others.saturating_mul(2) <= tally.places
