@@ -1,7 +1,7 @@
 use crate::made_calls::Made;
 use std::alloc::{AllocError, Global};
 
-/// How many calls began while another call was running.
+/// The numbers of calls that began while another call was running.
 #[derive(Drop)]
 pub struct Crossings {
     /// `counts[i]` is the number of calls among the first i + 1 that began while another call was running.
@@ -9,7 +9,7 @@ pub struct Crossings {
 }
 
 impl Crossings {
-    /// Computes the crossings of calls. The calls must be ordered by begin. Allocates.
+    /// Counts the calls that began while another call was running. The calls must be ordered by begin. Allocates.
     pub fn of(alloc: Global, calls: &[Made]) -> Result<Crossings, AllocError> {
         let mut counts = Vec::new(alloc);
         let (mut count, mut latest) = (0u32, 0u64);

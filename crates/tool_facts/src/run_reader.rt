@@ -40,7 +40,7 @@ fn presence_in(keys: &[u32], key: u32) -> Presence {
     }
 }
 
-/// Reads a recording and keeps all of its calls. Checks the form of each line. Does not check that keys increase, and
+/// Reads a recording and keeps all of its calls. Checks the form of each line. Does not check that keys increase, or
 /// that each call can follow the calls before it: the judge checks that.
 #[derive(Drop)]
 pub struct RunReader {

@@ -11,9 +11,9 @@ use std::alloc::{AllocError, Global};
 /// The visible effect of an error: how a contradiction differs from a correct recording.
 #[derive(Clone, Copy, PartialEq, Eq)]
 pub enum Symptom {
-    /// A single reply is wrong, of a call that changes nothing: the operation missed a present key.
+    /// The only wrong reply is from a call that changes nothing: the operation missed a present key.
     Missed(Operation),
-    /// A single reply is wrong, of a call that changes nothing: the operation found an absent key.
+    /// The only wrong reply is from a call that changes nothing: the operation found an absent key.
     Found(Operation),
     /// Two overlapping calls of the operation both returned true, although only one of the two can have changed the
     /// key.

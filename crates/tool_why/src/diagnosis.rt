@@ -411,7 +411,7 @@ fn with_one_answer(
     KeyCalls::new(alloc, key.key, calls, key.opening, left)
 }
 
-/// If the picture has more calls of the key than this, no later call is added.
+/// If the picture has at least this many calls of the key, less important calls are left out.
 const MOST_SHOWN: usize = 3;
 
 /// How many calls of the key, counted back from the end of a wrong answer, are checked for an overlap with the answer.
@@ -474,7 +474,7 @@ fn recorded_call(calls: &[Made], call: Made) -> Made {
 }
 
 impl Diagnosis {
-    /// Returns whether the headline and the picture show a different contradiction from that in the verdict.
+    /// Returns whether the headline and the picture show a contradiction that the verdict does not name.
     pub(crate) fn is_example(&self) -> bool {
         !self.is_first && !self.shown.is_empty()
     }

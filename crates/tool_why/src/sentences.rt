@@ -340,7 +340,7 @@ fn put_unseen(out: &mut String, odd: &Odd) -> Result<(), AllocError> {
     )
 }
 
-/// Writes a line if the headline and the picture show a different contradiction from that in the verdict.
+/// Writes a line if the headline and the picture show a contradiction that the verdict does not name.
 pub(crate) fn put_first(out: &mut String, diagnosis: &Diagnosis) -> Result<(), AllocError> {
     if diagnosis.is_example() {
         out.push_str("headline and picture are of another contradiction than the verdict\n")?;
