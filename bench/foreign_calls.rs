@@ -1,4 +1,5 @@
-//! Makes the calls of foreign_calls.c from Rust, and the same calls on a `BTreeSet` under a lock.
+//! Executes the calls of foreign_calls.c from Rust, and the same calls on a `BTreeSet` under a
+//! lock.
 
 use std::collections::BTreeSet;
 use std::sync::{Barrier, Mutex};

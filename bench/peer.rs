@@ -125,7 +125,7 @@ impl Spent {
         }
     }
 
-    /// Counts a call, or leaves out a call that lasted too long.
+    /// Counts a call. If the call lasted longer than `LONGEST`, leaves out its time.
     fn call(self, nanoseconds: u64) -> Spent {
         let is_counted = nanoseconds <= LONGEST;
         self.and(Spent { calls: 1, nanoseconds: if is_counted { nanoseconds } else { 0 }, left_out: u64::from(!is_counted) })

@@ -149,8 +149,8 @@ def program(pytestconfig, lacking):
 
 @pytest.fixture
 def room(tmp_path):
-    """Returns a folder for this test. After the test, the folder is deleted, and processes that run in the folder or name it
-    are killed.
+    """Returns a folder for this test. After the test, the folder is deleted, and processes are killed if they run in the
+    folder, or if their arguments or environment name the folder.
     """
     yield tmp_path
     clear(tmp_path)

@@ -18,7 +18,7 @@ from toolchain import NEEDS
 
 FORMS = TOP / "judge"
 SECONDS = 300  # the time limit for each run of a judge, even on a busy machine
-# Files that are not a judge, with the message about each. `{}` is the path.
+# Files that are not a judge, each with the message that a test prints about it. `{}` is the path.
 NO_VERDICT = "{} printed no verdict, but: %s. Use a newer listset"
 NO_JUDGE = "no judge was found: {} cannot be run. Copy the file judge/listset.js"
 NO_JUDGES = {
