@@ -12,8 +12,9 @@ import java.util.concurrent.CyclicBarrier;
 import java.util.stream.IntStream;
 
 /**
- * Executes the calls of foreign_calls.c from Java, through Java's Foreign Function API, and the same calls
- * on a ConcurrentSkipListSet. */
+ * Executes the calls of foreign_calls.c from Java, through Java's Foreign Function API, and the same calls on a
+ * ConcurrentSkipListSet.
+ */
 final class ForeignCalls {
     private static final int QUOTA = 16_384, WARM_UP_CALLS = 60_000, WARM_UP_KEYS = 64;
 

@@ -1,5 +1,4 @@
-//! Executes the calls of foreign_calls.c from Rust, and the same calls on a `BTreeSet` under a
-//! lock.
+//! Executes the calls of foreign_calls.c from Rust, and the same calls on a `BTreeSet` under a lock.
 
 use std::collections::BTreeSet;
 use std::sync::{Barrier, Mutex};

@@ -11,7 +11,7 @@ TOP = pathlib.Path(__file__).resolve().parent.parent
 SOURCE = TOP / "crates/lset_command/src/command_line.rt"  # the only file that contains the version
 IN_SOURCE = re.compile(r'^pub const VERSION: &str = "([^"\\]+)\\n([^"\\]+)";$', re.M)
 NO_COMMIT = "0" * 40
-PROVED, NOT_PROVED, UNKNOWN = PROOFS = "checked", "missing", "unknown"  # words of equal length: the program reserves bytes for one of them
+PROVED, NOT_PROVED, UNKNOWN = PROOFS = "checked", "missing", "unknown"  # of equal length: the program reserves bytes for one word
 PLACE = "commit {}\nproof {}\n"
 
 

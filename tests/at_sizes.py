@@ -54,8 +54,8 @@ class Asked:
         return done.stdout
 
     def grows(self, size, greater):
-        """Fails if a command needed more than 3 * TIMES as much time or memory for the size `greater`, which is TIMES as large
-        as `size`.
+        """Fails if a command needed more than 3 * TIMES as much time or memory for the size `greater` as for `size`.
+        (`greater` is at most TIMES as large as `size`.)
         """
         for name in self.taken[size].keys() & self.taken[greater].keys():
             for before, after, little in zip(self.taken[size][name], self.taken[greater][name], LITTLE):

@@ -1,5 +1,5 @@
-// Judges the sets of TBB, liburcu and Concurrency Kit (Debian's packages libtbb-dev, liburcu-dev, libck-dev), each in a
-// number of tests:
+// Judges the sets of TBB, liburcu and Concurrency Kit (Debian's packages libtbb-dev, liburcu-dev, libck-dev). The first
+// argument is the number of tests for each set:
 //     g++ -O2 -std=c++17 -pthread others.cpp -ltbb -lurcu-cds -lurcu -lck -o others && ./others 20
 #include "tests.hpp"
 #include <mutex>

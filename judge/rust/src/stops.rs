@@ -35,7 +35,7 @@ mod timer {
     }
 
     thread_local! {
-        /// The run that this thread makes calls in.
+        /// The run with the calls of this thread.
         static RUN: Cell<*const Area> = const { Cell::new(null()) };
     }
 
