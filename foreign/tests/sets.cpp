@@ -55,7 +55,7 @@ static bool is_right(list kind) {
   return full == 0 && seats[0].close() == due;
 }
 
-// Makes the same calls on a `shared` set with fewer seats than threads.
+// Does what `is_right` does, on a `shared` set with fewer seats than threads.
 static bool is_right_shared(list kind) {
   listset::shared set(kind, 3, 2000);
   std::atomic<int> found{0};
