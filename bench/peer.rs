@@ -187,7 +187,7 @@ fn whole_of_list(kind: Kind, wanted: &Wanted) {
     });
 }
 
-/// Makes a call on a tree and returns its reply.
+/// Executes a call on a tree and returns the reply.
 fn change(tree: &mut BTreeSet<u32>, call: &Call) -> bool {
     match call.op {
         Op::Add => tree.insert(call.key),

@@ -255,8 +255,8 @@ LISTSET_USED listset_fault listset_gather(listset_seat *into, listset_seat *from
 /// set stays open.
 LISTSET_USED listset_fault listset_close(listset_seat *seat);
 
-/// Copies the keys of a closed set to `room` in strictly increasing order, if `places` is large enough. Returns the
-/// number of keys, or SIZE_MAX if `closed` is not a closed set.
+/// Copies the keys of a closed set to `room` in strictly increasing order, if `room` is large enough: it has `places`
+/// elements. Returns the number of keys, or SIZE_MAX if `closed` is not a closed set.
 size_t listset_keys(listset_seat *closed, uint32_t *room, size_t places);
 
 /// Gathers all seats in the array `seats`, which has `places` elements, into its first element, and closes the set. Elements

@@ -352,7 +352,7 @@ class renewed_set {
     return it;
   }
 
-  // Holds the locks of all places during its lifetime.
+  // Holds the locks of all places (the seats of the set) during its lifetime.
   class all_taken {
     std::atomic<bool> &is_wanted;
     held one;

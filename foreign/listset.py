@@ -581,7 +581,7 @@ class RenewedSet:
         first = open_set(kind, seats, quota, keys)
         self._kind, self._quota, self._patience, self._opened_with = kind, _number(quota, "quota"), patience, len(keys)
         self._places = [_Place(it) for it in (first, *(first.split() for _ in range(1, seats)))]
-        self._renewing, self._stage = threading.Lock(), "open"  # The stage changes only while all places are locked.
+        self._renewing, self._stage = threading.Lock(), "open"  # The stage changes only while the locks of all seats are held.
         self._splitting = threading.Lock()
         self._is_wanted = False  # Whether a thread has waited so long for the locks that new calls of other threads must wait.
 
@@ -651,7 +651,7 @@ class RenewedSet:
 
     @contextlib.contextmanager
     def _all_taken(self, mine):
-        """Locks all places."""
+        """Locks all places (the seats of the set), the caller's place `mine` first."""
         with contextlib.ExitStack() as all_taken:
 
             def take(lock, helper=None):

@@ -187,7 +187,7 @@ def once(tmp_path_factory, worker_id):
                 folder.mkdir()
                 kept.write_bytes(pickle.dumps(made_with_tools(make, folder, *further)))
             result, used = pickle.loads(kept.read_bytes())
-        # (with --tools, the commands that made the result count as used by this test)
+        # (with --tools, the commands that were run for the result count as used by this test)
         if used:
             with open(os.environ["TOOLS_USED"], "a") as names:
                 names.write(used)

@@ -153,7 +153,7 @@ def test_the_judge_reports_each_failed_allocation_and_leaks_nothing(installed):
 
 @needs("gcc")
 def test_calls_of_threads_agree_with_counts_and_are_judged(installed):
-    """Threads call sets: in one case there are more threads than processors, in another a million calls. The replies are
+    """Tests calls of many threads: once with more threads than processors, and once with a million calls. The replies are
     compared with models and counts, and judged.
     """
     for flags, sizes in (([], [250_000, 4]), ([], [500, 64]), ([MEMORY], [5_000, 4]), ([RACES], [2_000, 4])):

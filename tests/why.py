@@ -206,7 +206,7 @@ class RepeatedCall(OneSet):
 
 
 def recorded(kind, seed, keys=4, threads=4, count=6000):
-    """Returns the recording of calls of a set. The threads make their steps in a random order."""
+    """Returns the recording of calls of a set. The threads execute their steps in a random order."""
     rng = random.Random(seed)
     these, calls, running, moment, thread = kind(rng), [], {}, 0, 0
     while len(calls) < count or running:

@@ -229,7 +229,7 @@ enum class reply : uint8_t { no, yes, unknown };
 
 inline reply reply_of(bool it) { return it ? reply::yes : reply::no; }
 template <class I> reply reply_of(const std::pair<I, bool> &it) { return reply_of(it.second); }
-inline reply reply_of(const std::optional<bool> &it) { return it ? reply_of(*it) : reply::unknown; }  // (such as after a timeout)
+inline reply reply_of(const std::optional<bool> &it) { return it ? reply_of(*it) : reply::unknown; }  // (empty after a timeout)
 #ifdef LISTSET_HPP  // (for a set of liblistset, if <listset.hpp> is included before this file; `full` counts as `no`)
 inline reply reply_of(added it) { return reply_of(it == added::is_true); }
 #endif
@@ -278,7 +278,7 @@ struct area {
     slot *slots = nullptr;               // the calls, thread by thread
     std::atomic<unsigned> tickets{0}, there{0}, done{0}, begun{0};
     saved saves[2];
-    std::atomic<unsigned> save{0};  // index of the valid element of `saves`: changing it replaces both numbers in one step
+    std::atomic<unsigned> save{0};  // index of the valid element of `saves`; one store replaces length and moment
     std::atomic<phase> at{GOING};
     std::atomic<bool> is_stopping{false}, is_busy{false}, is_end_known{true};
     char why[240] = "";
@@ -333,7 +333,7 @@ struct area {
     }
 
     // Returns whether interrupted threads should sleep for longer. On a busy machine, a thread is seldom preempted during a
-    // call: often it has made all its calls before it is preempted.
+    // call: often it has finished all its calls before it is preempted.
     bool interrupts_longer() const { return is_busy || of.meets_once; }
 };
 
@@ -363,8 +363,8 @@ inline std::pair<std::string, std::string> lines_of(const area &from) {
 }
 
 // Interrupts its thread a few microseconds after the start of some calls, by a timer that sends the signal SIGURG. The thread
-// then sleeps for a microsecond. On a busy machine, it sleeps repeatedly until other threads have made calls, at most PATIENT
-// times. Works on Linux only.
+// then sleeps for a microsecond. On a busy machine, the thread sleeps repeatedly until other threads have executed calls, at
+// most PATIENT times. Works on Linux only.
 struct stops {
 #ifdef __linux__
     int timer = -1;

@@ -124,7 +124,7 @@ type size struct {
 	meetsOnce                         bool
 }
 
-// rows returns the maximum number of calls of a goroutine between two saves of the recording, that is, in one part.
+// rows returns the maximum number of calls of a goroutine between two saves of the recording.
 func (s size) rows() int {
 	if most := manyPart / s.threads; most < s.calls {
 		return most

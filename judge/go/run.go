@@ -58,7 +58,7 @@ type saved struct {
 type head struct {
 	seed  int64
 	saves [2]saved
-	save  uint32 // the index of the valid element of saves: changing the index replaces both of its numbers in one step
+	save  uint32 // the index of the valid element of saves: changing the index replaces the element's two numbers in one step
 	size
 	tickets, there, done, begun uint32
 	at, isStopping, isBusy      uint32

@@ -68,7 +68,7 @@ public final class Judge {
 
         long allCalls() { return (long) threads * sets * calls; }
 
-        /** Returns the maximum number of calls of a thread between two saves of the recording, that is, in one part. */
+        /** Returns the maximum number of calls of a thread between two saves of the recording. */
         int rows() { return Math.min(calls, PART / threads); }
 
         int parts() { return (calls - 1) / rows() + 1; }
@@ -351,7 +351,7 @@ public final class Judge {
             try {
                 throw (RuntimeException) Class.forName(name).getConstructor(String.class).newInstance(SKIPPED);
             } catch (ReflectiveOperationException another) {
-                // (the tests are run by another framework)
+                // (this framework does not run the tests)
             }
         }
         System.err.println(SKIPPED);

@@ -134,8 +134,8 @@ def report_text(it):
 
 
 def damage(draw, it):
-    """Damages a report at random. An entry of the order is lost, duplicated, moved, or changed to another reply or an unknown
-    call; or a call ends with another reply; or final keys are lost, added, or reordered.
+    """Damages a report at random. An entry of the order is lost, duplicated, moved, or changed to a different reply or an
+    unknown call; or a call ends with a different reply; or final keys are lost, added, or reordered.
     """
     at, other = (draw.randrange(max(1, len(it.order))) for _ in range(2))
     number, reply = it.order[at] if it.order else (0, "true")

@@ -57,7 +57,7 @@ struct Place {
 struct Part {
     seat: Seat,
     stage: Stage,
-    /// The number of keys that the set had when it was last opened. Only the first place has this number.
+    /// The number of keys that the set had when it was last opened. Only the number in the first place is used.
     opened_with: u64,
     /// The number of keys that this seat has added since the set was last opened.
     adds: u64,

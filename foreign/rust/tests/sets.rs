@@ -92,8 +92,8 @@ fn a_shared_set_uses_the_quota_of_each_seat() {
     assert_eq!(Shared::open(List::Lazy, 0, 1, &[]).err(), Some(Fault::Seats));
 }
 
-/// Checks that the number of adds that return true is the sum of all quotas, whichever threads make them, and that exactly
-/// these keys remain.
+/// Checks that the number of adds that return true is the sum of all quotas, whichever threads call `add`, and that exactly
+/// the added keys remain.
 #[test]
 fn threads_use_the_quota_of_each_seat() {
     for (seats, quota) in [(2, 50), (64, 1)] {

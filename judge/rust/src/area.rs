@@ -195,7 +195,7 @@ impl Area {
     }
 
     /// Returns whether interrupted threads should sleep for longer. On a busy machine, a thread is seldom preempted during a
-    /// call: often it has made all its calls before it is preempted.
+    /// call: often it has finished all its calls before it is preempted.
     pub fn interrupts_longer(&self) -> bool {
         self.get(At::IsBusy) == 1 || self.get(At::MeetsOnce) == 1
     }

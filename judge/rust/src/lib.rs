@@ -117,7 +117,7 @@ pub(crate) struct Shape {
 }
 
 impl Shape {
-    /// Returns the maximum number of calls of a thread between two saves of the recording, that is, in one part.
+    /// Returns the maximum number of calls of a thread between two saves of the recording.
     fn rows(&self) -> u32 {
         self.calls.min(PART / self.threads)
     }
