@@ -91,8 +91,8 @@ def left_by_orders(calls, opening, quota):
 
 
 def drawn_calls(rng, quota, opening):
-    """Draws overlapping calls of threads, with the end and the reply of each completed call. Returns the calls; the order
-    in which they took effect, as numbers with the set's replies; and the final keys. Occasionally, a call returns a
+    """Draws overlapping calls of threads, with the end and the reply of each completed call. Returns the calls; the order of
+    their linearization points, as call numbers with the set's replies; and the final keys. Occasionally, a call returns a
     wrong reply.
     """
     held, calls, pending, order, moment = SetModel(quota, opening), [], {}, [], 0

@@ -74,7 +74,7 @@ static bool is_right_shared(list kind) {
 }
 
 // Makes threads add more keys than all quotas together allow. Returns whether exactly as many adds return true as the quotas
-// allow, and exactly these keys remain.
+// allow, and exactly the added keys remain.
 static bool is_filled(uint32_t seats, uint32_t quota) {
   listset::shared set(list::lock_free, seats, quota); // This list is lock-free, so a wrong call cannot leave a lock held.
   std::vector<std::vector<uint32_t>> added_by(4);

@@ -540,7 +540,7 @@ template <class Make, class K> struct maker {
         write(run, run.is_end_known ? left + "end\n" : "cut\n");  // (lines not marked as saved: the run can still be cut short)
     }
 
-    // Runs all threads. If `is_own`, this process runs only the set, and threads are interrupted during calls.
+    // Runs all threads. If `is_own`, this process was started for the set, and threads are interrupted during calls.
     void all(area &run, bool is_own) {
         std::vector<std::thread> threads;
         for (unsigned i = 0; i < run.of.threads; i++)

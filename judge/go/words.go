@@ -1,7 +1,7 @@
 package judge
 
-// Copied from words.json by judge/make_words. manyPart and manyMeet are numbers of calls,
-// manyPatience is in seconds. made of words.json
+// Copied from words.json by judge/make_words. manyPart and manyMeet are numbers of calls, manyPatience is in seconds.
+// made of words.json
 var presets = []shape{{"few keys", size{4, 1, 5000, 4, 1, false}}, {"fresh sets", size{4, 40, 10, 4, 1, false}}, {"multiples of 64", size{4, 1, 5000, 8, 64, false}}, {"one key", size{3, 1, 5000, 1, 1, false}}, {"sets that grow", size{4, 20, 125, 64, 1, false}}, {"many keys", size{4, 1, 2500, 1000, 1, false}}, {"multiples of 1,000", size{8, 1, 2500, 8, 1000, false}}}
 
 var ranges = []limits{{"threads", 1, 64}, {"threads times calls", 1, 1000000000}, {"keys", 1, 1048576}, {"pauses", 0, 100}, {"runs", 1, 1000000}, {"seconds", 1, 3600}, {"within", 1, 604800}, {"at_least", 0, 100}, {"the sum of shares", 1, 1000000}}
