@@ -157,8 +157,9 @@ typedef struct {
 
 #define LISTSET_NONE {false, NULL}
 
-/// A receipt, or nothing. A receipt records everything that a seat had seen when it issued the receipt. It is
-/// initialized with LISTSET_NONE, and can be passed to any thread.
+/// A receipt, or nothing. A receipt covers the earlier calls of the seat that issued the receipt, of all seats that this seat
+/// had gathered, and of all receipts that this seat had accepted. It is initialized with LISTSET_NONE, and can be passed to
+/// any thread.
 typedef struct {
   bool full;
   void *at;
@@ -236,8 +237,8 @@ LISTSET_USED listset_reply listset_contains_now(listset_seat *seat, uint32_t key
 /// quota and `opening` keys. Returns 0 if no set can be opened with these.
 uint64_t listset_most_reads(uint32_t seats, uint32_t quota, uint32_t opening);
 
-/// Stores in `out`, which must be empty, a receipt of everything that `seat` has seen. The receipt can be sent to
-/// another thread with any message.
+/// Stores in `out`, which must be empty, a receipt that covers the calls of `seat` so far. The receipt can be sent to another
+/// thread with any message.
 LISTSET_USED listset_fault listset_receipt_of(listset_seat *seat, listset_receipt *out);
 
 /// Passes a receipt of this set to `seat`. In the order of all calls, later calls of `seat` follow every call that the

@@ -132,8 +132,9 @@ inline std::vector<uint32_t> keys_of(listset_seat &closed) {
   return keys;
 }
 
-/// A receipt, or nothing. A receipt records everything that a seat had seen when it issued the receipt. It can be moved
-/// but not copied, and can be passed to any thread.
+/// A receipt, or nothing. A receipt covers the earlier calls of the seat that issued the receipt, of all seats that this seat
+/// had gathered, and of all receipts that this seat had accepted. It can be moved but not copied, and can be passed to any
+/// thread.
 class receipt {
 public:
   receipt() = default;
@@ -202,7 +203,7 @@ public:
     return replied(listset_ceiling(&raw, key, &at)) == LISTSET_AT ? std::optional<uint32_t>(at) : std::nullopt;
   }
 
-  /// Returns a receipt of everything that this seat has seen. Pass the receipt to `after` of another thread's seat.
+  /// Returns a receipt that covers this seat's calls so far. Pass the receipt to `after` of another thread's seat.
   listset::receipt receipt() {
     use held(*this);
     listset::receipt made;

@@ -299,8 +299,8 @@ def _closed_keys(closed):
 
 
 class Receipt:
-    """A receipt, which records everything that a seat had seen when it issued the receipt. It can be passed to any
-    thread.
+    """A receipt, which covers the earlier calls of the seat that issued the receipt, of all seats that this seat had gathered,
+    and of all receipts that this seat had accepted. It can be passed to any thread.
     """
 
     def __init__(self):
@@ -395,7 +395,7 @@ class Seat:
         return at.value if self._reply(_CEILING, key, at) == AT else None
 
     def receipt(self):
-        """Returns a receipt of everything that this seat has seen. Pass the receipt to `after` of another thread's seat."""
+        """Returns a receipt that covers this seat's calls so far. Pass the receipt to `after` of another thread's seat."""
         made = Receipt()
         with self._used():
             _told(_RECEIPT_OF(self.raw, made.raw))

@@ -183,7 +183,7 @@ def once(tmp_path_factory, worker_id):
         with open(f"{kept}.lock", "w") as lock:
             fcntl.flock(lock, fcntl.LOCK_EX)
             if not kept.exists():
-                shutil.rmtree(folder, ignore_errors=True)  # (a call that failed did not delete it; the next test calls again)
+                shutil.rmtree(folder, ignore_errors=True)  # (an earlier call failed, and did not delete this folder)
                 folder.mkdir()
                 kept.write_bytes(pickle.dumps(made_with_tools(make, folder, *further)))
             result, used = pickle.loads(kept.read_bytes())

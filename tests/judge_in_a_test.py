@@ -107,7 +107,7 @@ class Form:
         """Judges a set. Returns the kind of the result and all output."""
         environment = {name: it for name, it in os.environ.items() if name not in ("CI", "RUST_BACKTRACE") and not name.startswith("LISTSET")}
         environment |= {"LISTSET": str(judge)} if judge else {}
-        environment |= {"TMPDIR": str(self.room), "SET": of, "HOW": how, "RUST_TEST_THREADS": "2", **also}  # (with 1 thread, cargo's test prints its name first)
+        environment |= {"TMPDIR": str(self.room), "SET": of, "HOW": how, "RUST_TEST_THREADS": "2", **also}  # (with 1 test thread, cargo prints the test's name first)
         words = [*self.words[:-1], f"-Djava.io.tmpdir={self.room}", self.words[-1]] if self.language == "Java" else self.words
         done = ran(*words, cwd=self.room, env=environment, seconds=SECONDS)
         found = re.search("^verdict: (.*)$", done.stdout, re.M)

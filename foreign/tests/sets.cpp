@@ -162,7 +162,7 @@ static void expect_shared() {
   expect_no_seat();
 }
 
-// Makes each call with the smallest and the largest key, from a seat and on a `shared` set.
+// Tests each operation with the smallest and the largest key. `Set` is a seat or a `shared` set.
 template <typename Set> static void expect_ends(Set set) {
   const uint32_t most = UINT32_MAX;
   expect(set.ceiling(0) == 0u && set.ceiling(1) == most && set.ceiling(most) == most, "ceiling of the least and the greatest key");

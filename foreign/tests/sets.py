@@ -90,7 +90,7 @@ def refusals():
 
 
 def ends(kind):
-    """Makes each call with the smallest and the largest key."""
+    """Tests each operation with the smallest and the largest key."""
     mine = listset.open_set(kind, 1, 2, ENDS)
     assert [mine.ceiling(key) for key in (0, 1, ENDS[1])] == [0, ENDS[1], ENDS[1]], kind
     assert all(mine.contains(key) and mine.remove(key) and not mine.contains(key) for key in ENDS), kind

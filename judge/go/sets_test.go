@@ -140,7 +140,7 @@ func (s *set) Contains(key uint32) bool {
 	return s.part(key).Contains(s.place(key))
 }
 
-// told is a test that prints the result and its kind.
+// told replaces methods of *testing.T: they print the result and its kind.
 type told struct{ *testing.T }
 
 func (told) Log(verdict ...any) { fmt.Printf("verdict: ok\n%v\n", verdict[0]) }

@@ -306,7 +306,7 @@ public final class Judge {
     /** Converts a number to a key. Different numbers must have different keys. */
     public interface Keys<K> extends IntFunction<K>, Serializable { }
 
-    /** Makes a call on a set. */
+    /** Calls one operation of a set with a key. */
     public interface Call<S, K> extends BiPredicate<S, K>, Serializable { }
 
     public static Verdict judge(Make<? extends Set<Integer>> make) { return judge(make, new Options()); }

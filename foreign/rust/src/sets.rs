@@ -167,7 +167,8 @@ unsafe impl Send for Seat {}
 // requires `Sync`.)
 unsafe impl Sync for Seat {}
 
-/// A receipt, which records everything that a seat had seen when it issued the receipt. It can be passed to any thread.
+/// A receipt, which covers the earlier calls of the seat that issued the receipt, of all seats that this seat had gathered,
+/// and of all receipts that this seat had accepted. It can be passed to any thread.
 #[derive(Debug)]
 pub struct Receipt {
     raw: Raw,
@@ -320,7 +321,7 @@ impl Seat {
         }
     }
 
-    /// Returns a receipt of everything that this seat has seen. Pass the receipt to [`Seat::after`] of another thread's seat.
+    /// Returns a receipt that covers this seat's calls so far. Pass the receipt to [`Seat::after`] of another thread's seat.
     pub fn receipt(&mut self) -> Result<Receipt, Fault> {
         let mut made = Receipt { raw: NONE };
         told(unsafe { listset_receipt_of(&mut self.raw, &mut made.raw) })?;
