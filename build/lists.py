@@ -57,7 +57,7 @@ def add_exercises(root):
     for patch in sorted((root / "examples/lists").glob("*.patch")):
         words = re.search(r"build/new_list (\S+) (\S+)", patch.with_suffix(".md").read_text()).groups()
         subprocess.run([root / "build/new_list", *words], stdout=subprocess.DEVNULL, check=True)
-        # (git must ignore a repository around the copy)
+        # (git must ignore a repository that contains the copy)
         outside = {**os.environ, "GIT_CEILING_DIRECTORIES": str(root.parent)}
         subprocess.run(["git", "apply", "--whitespace=nowarn", patch], cwd=root, env=outside, check=True)
 

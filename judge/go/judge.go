@@ -296,7 +296,7 @@ func check(t Test, of func(keys int) (source, error), options []Options) {
 	}
 }
 
-// checkName is the environment variable with the name of the Check for which a child process was started.
+// checkName is the environment variable that contains the name of a child process's Check.
 const checkName = "LISTSET_CHECK"
 
 var (

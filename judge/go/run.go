@@ -320,7 +320,7 @@ func (a *area) saveOpening(file *os.File, set Set, round int) bool {
 	panic(fmt.Sprintf(sayNoOpening, mostAsked))
 }
 
-// number converts the index of a key to the number with which the set is called.
+// number converts the index of a key to the number that is passed to the set.
 func (a *area) number(key int) uint32 {
 	if a.source.isOwn {
 		return uint32(key)

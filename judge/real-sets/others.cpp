@@ -19,7 +19,7 @@ struct Tbb {
 
 constexpr unsigned long hash_of(unsigned long key) { return key * 0x9E3779B97F4A7C15; }
 
-// A set with one writer at a time. Its readers need no lock.
+// A set of Concurrency Kit. Writers use a lock, readers do not.
 struct Ck {
     ck_hs_t keys;
     std::mutex writers;

@@ -16,7 +16,7 @@ use crate::words::*;
 use crate::{no_verdict, Failure, Options, Shape, Source};
 
 const MEMORY: &str = "LISTSET_AREA"; // the environment variable that names the file with the shared memory of the two processes
-const MINE: &str = "LISTSET_CHECK"; // the environment variable that names the call of `judge` for which this process was started
+const MINE: &str = "LISTSET_CHECK"; // the environment variable that contains the name of a child process's call of `judge`
 
 /// A temporary file, deleted on drop.
 struct Temporary(PathBuf);
