@@ -12,7 +12,7 @@ import java.util.concurrent.CyclicBarrier;
 import java.util.stream.IntStream;
 
 /**
- * Makes the calls of foreign_calls.c from Java, through Java's Foreign Function API, and the same calls on a
+ * Executes the calls of foreign_calls.c from Java, through Java's Foreign Function API, and the same calls on a
  * ConcurrentSkipListSet.
  */
 final class ForeignCalls {

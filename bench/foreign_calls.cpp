@@ -1,4 +1,4 @@
-// Makes the calls of foreign_calls.c from C++, and the same calls on a std::set under a lock and, if libcds is
+// Executes the calls of foreign_calls.c from C++, and the same calls on a std::set under a lock and, if libcds is
 // installed, on its skip list. (TBB's concurrent_set is not measured, because threads must not call its erase at the
 // same time.)
 #include <listset.hpp>

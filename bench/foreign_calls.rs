@@ -1,4 +1,4 @@
-//! Makes the calls of foreign_calls.c from Rust, and the same calls on a `BTreeSet` under a lock.
+//! Executes the calls of foreign_calls.c from Rust, and the same calls on a `BTreeSet` under a lock.
 
 use std::collections::BTreeSet;
 use std::sync::{Barrier, Mutex};
@@ -6,7 +6,7 @@ use std::time::Instant;
 
 use listset::{open, Added, List, Seat};
 
-/// The three calls that a thread makes.
+/// The three operations that a thread calls.
 trait Calls: Send {
     fn add(&mut self, key: u32) -> bool;
     fn remove(&mut self, key: u32) -> bool;

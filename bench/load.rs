@@ -63,7 +63,7 @@ impl Wanted {
         Wanted { protocol, port: port as u16, clients, at_once: at_once as usize, requests: requests as usize, keys }
     }
 
-    /// Returns the writes of a client.
+    /// Returns the bytes of each write of a client: `at_once` requests.
     fn writes(&self, client: u64) -> Vec<Vec<u8>> {
         let mut drawn = 0x2545_f491_4f6c_dd1d ^ ((client + 1) << 32);
         let mut request = |_| {
@@ -91,7 +91,7 @@ fn read_answers(stream: &mut TcpStream, protocol: Protocol, many: usize) {
     }
 }
 
-/// The times of a client: its start and its end, and the duration of each write until its last answer.
+/// The times of a client: its start, its end, and the time from each write to the last answer to that write.
 struct Seen {
     began: Instant,
     ended: Instant,

@@ -125,7 +125,7 @@ impl Spent {
         }
     }
 
-    /// Counts a call, or leaves out a call that lasted too long.
+    /// Counts a call. If the call lasted longer than `LONGEST`, leaves out its time.
     fn call(self, nanoseconds: u64) -> Spent {
         let is_counted = nanoseconds <= LONGEST;
         self.and(Spent { calls: 1, nanoseconds: if is_counted { nanoseconds } else { 0 }, left_out: u64::from(!is_counted) })
@@ -187,7 +187,7 @@ fn whole_of_list(kind: Kind, wanted: &Wanted) {
     });
 }
 
-/// Makes a call on a tree and returns its reply.
+/// Executes a call on a tree and returns the reply.
 fn change(tree: &mut BTreeSet<u32>, call: &Call) -> bool {
     match call.op {
         Op::Add => tree.insert(call.key),

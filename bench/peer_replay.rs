@@ -72,7 +72,7 @@ impl W {
             false
         }
     }
-    // Makes one step. Returns the reply and the change: 0 for none, 1 for an added key, 2 for a removed one.
+    // Executes one step. Returns the reply and the change: 0 for none, 1 for an added key, 2 for a removed one.
     fn step(&mut self, t: u64, x: &mut L) -> (u8, u8) {
         let (key, me, own, q) = (x.key + 1, t + 1, 2 + t * self.q + x.used, self.q);
         macro_rules! ans {

@@ -27,8 +27,8 @@ def replay():
 
 
 def beside(ours, peer, given):
-    """Returns the milliseconds of both programs and their ratio. Each time is the minimum of several runs, which alternate
-    between the programs.
+    """Returns the milliseconds of `ours` and of `peer`, and their ratio. Each time is the minimum of several runs, which
+    alternate between the programs.
     """
     us, them = least([seconds_of(it, given, os.devnull, 0) for it in (ours, peer)] for _ in range(RUNS))
     return f"{1000 * us:.1f}", f"{1000 * them:.1f}", f"{us / them:.2f}"

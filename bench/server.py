@@ -1,4 +1,5 @@
-"""Measures the requests per second of the set server, and compares them with redis. Starts both servers on free ports.
+"""Measures the requests per second of the set server, and compares them with redis. Starts the set server and redis on
+free ports.
 """
 
 import contextlib

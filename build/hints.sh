@@ -122,8 +122,8 @@ explain_in_a_line() {
   fi
 }
 
-# Explains an error that the command `explain` does not find in the file: on a broken list (a list without one of its checks),
-# calls can make other steps.
+# Explains an error that the command `explain` does not find in the file: a call on a broken list (a list without one of its
+# checks) can execute steps that no call on the intact list executes.
 explain_other() {
   if [ -n "${texts[lacks]-}" ]; then
     echo "On the list that lacks ${texts[lacks]}, calls can take other steps than on the whole list. For each step above this line: listset trace --lacks ${texts[lacks]} $(quoted "$2"); for the cause: listset faults $3"
@@ -156,7 +156,7 @@ print_broken_lists() {
   "${engine[@]}" help replay 2>/dev/null | sed -n 's/^ *--lacks <NAME> [^:]*: //p'
 }
 
-# Explains an option --lacks that names a check of another list than the schedule's list.
+# Explains an option --lacks that names a check of a different list than the schedule's list.
 explain_lacks() {
   local lacks=${texts[lacks]} file=$1 list="" names it of="" fitting=""
   names=$(print_broken_lists)

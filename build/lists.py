@@ -51,19 +51,21 @@ TEXTS = {
 
 
 def add_exercises(root):
-    """Adds the crates of examples/lists to a copy of the repository. Each crate is a copy of an existing list, named by the
-    exercise's page, with the exercise's patch applied.
+    """Adds the crates of examples/lists to a copy of the repository. Each crate is the copy of a list that the exercise's
+    page describes, with the exercise's patch applied.
     """
     for patch in sorted((root / "examples/lists").glob("*.patch")):
         words = re.search(r"build/new_list (\S+) (\S+)", patch.with_suffix(".md").read_text()).groups()
         subprocess.run([root / "build/new_list", *words], stdout=subprocess.DEVNULL, check=True)
-        # (git must ignore a repository around the copy)
+        # (git must ignore a repository that contains the copy)
         outside = {**os.environ, "GIT_CEILING_DIRECTORIES": str(root.parent)}
         subprocess.run(["git", "apply", "--whitespace=nowarn", patch], cwd=root, env=outside, check=True)
 
 
 def missing(one, places, root=TOP):
-    """Returns the places that do not contain the name of a list: the path of each, and the missing text."""
+    """Returns a line for each text that is missing although it should name the list `one`: the path of the file, and the
+    text.
+    """
     texts = {path: (root / path).read_text() for path in places}
     wanted = [(path, form.format(**vars(one))) for path, forms in places.items() for form in forms]
     lacks = [f"{path}: {words}" for path, words in wanted if words not in texts[path]]

@@ -89,7 +89,7 @@ def room(kind):
 
 
 def status_and_words(words, cwd, **environment):
-    """Runs a command and waits until it ends. Returns its exit status and both outputs."""
+    """Runs a command and waits until it ends. Returns its exit status and its output, including standard error."""
     how = {"stdin": subprocess.DEVNULL, "stdout": subprocess.PIPE, "stderr": subprocess.STDOUT, "errors": "replace"}
     made = subprocess.run([*guarded(), *map(str, words)], cwd=cwd, env={**os.environ, **environment}, **how)
     return made.returncode, made.stdout
@@ -100,7 +100,9 @@ class Failed(Exception):
 
 
 def output_of(*words, cwd=None):
-    """Runs a command and waits until it ends. Returns both outputs, and raises Failed if the exit status is not 0."""
+    """Runs a command and waits until it ends. Returns its output, including standard error. Raises Failed if the exit status
+    is not 0.
+    """
     status, said = status_and_words(words, cwd)
     if status:
         raise Failed(f"{words[0]} ended with status {status}\n{said[-3000:].rstrip()}")

@@ -9,7 +9,7 @@ from functools import cached_property
 
 FUNCTION = re.compile(r'( *)(pub(?:\(\w+\))? )?((?:const |unsafe |extern "C" )*)fn (\w+)')
 BLOCK = re.compile(r"^(?:pub )?(impl|trait)\b([^{;]*)(?=\{)", re.M)
-GHOST = re.compile(r"^\s+ghost (?!use\b|invariant\b)", re.M)  # (an invariant only restricts the values of a type)
+GHOST = re.compile(r"^\s+ghost (?!use\b|invariant\b)", re.M)  # (no invariants: they only restrict the values of a type)
 CLAUSES = re.compile(r"\s*(?:(?://[^\n]*)\s*)*(?:requires|ensures)\b")
 END_OF_SIGNATURE = re.compile(r"\n\s*(?:requires|ensures|//)|\s*\{|;(?![^\[\]\n]*\])")
 
@@ -41,7 +41,7 @@ class Block:
 
     @property
     def ghosts(self):
-        """Returns the ghost items in the block: definitions for contracts, which are not functions."""
+        """Returns the block's ghost items: definitions, other than functions, that contracts use."""
         return "".join(self.text[it.start() : braced(self.text, it.start())] for it in GHOST.finditer(self.text))
 
 

@@ -8,10 +8,10 @@ import re
 import gate_verdict
 
 TOP = pathlib.Path(__file__).resolve().parent.parent
-SOURCE = TOP / "crates/lset_command/src/command_line.rt"  # the only place that has the version
+SOURCE = TOP / "crates/lset_command/src/command_line.rt"  # the only file that contains the version
 IN_SOURCE = re.compile(r'^pub const VERSION: &str = "([^"\\]+)\\n([^"\\]+)";$', re.M)
 NO_COMMIT = "0" * 40
-PROVED, NOT_PROVED, UNKNOWN = PROOFS = "checked", "missing", "unknown"  # of equal length: the program reserves bytes for one
+PROVED, NOT_PROVED, UNKNOWN = PROOFS = "checked", "missing", "unknown"  # of equal length: the program reserves bytes for one word
 PLACE = "commit {}\nproof {}\n"
 
 
@@ -41,8 +41,8 @@ def told(proof):
 
 
 def stamp(file, proof):
-    """Writes the last two lines of the version text into a program or its object file, at the place that
-    crates/listset/src/main.rt reserves for them. Returns the number of places that were found.
+    """Writes the last two lines of the version text into a program or its object file, into the bytes that
+    crates/listset/src/main.rt reserves for them. Returns how often such bytes were found.
     """
     file, place = pathlib.Path(file), PLACE.format(NO_COMMIT, UNKNOWN).encode()
     content = file.read_bytes()

@@ -11,18 +11,18 @@
 //
 // docs/FOREIGN.md names the functions whose printed text is proved. The caller has four duties, which no function checks:
 // - No pointer is null, even if the length beside it is 0.
-// - The room does not overlap a text. During a call, no other thread writes to the text or accesses the room or the
-//   status.
+// - `room` does not overlap a text. During a call, no other thread writes to the text or accesses `room` or the status.
 // - malloc, realloc and free belong to the same allocator. It aligns a block to each power of two up to 16 that divides
 //   its size.
 // - No call is made in a signal handler, or in the forked child of a process with threads.
 //
-// Any number of threads may call at the same time. A call keeps no state and does not block.
+// Any number of threads may call at the same time. A call stores nothing for later calls. It does not block, except that
+// `listset_judge_from` waits for its input.
 //
-// THE SETS: each thread calls from its own seat, the right to call the set as one thread. `listset_open` returns a seat
-// that contains all others; `listset_split` takes one of these out for another thread; `listset_gather` merges a seat
-// into another seat of the same set. Once one seat has gathered all others, `listset_close` closes the set and
-// `listset_keys` returns its final keys.
+// THE SETS: each thread calls from its own seat, the right to call the set as one thread. `listset_open` returns a seat that
+// contains all others; `listset_split` splits one of these seats off for another thread; `listset_gather` merges a seat into
+// another seat of the same set. Once one seat has gathered all others, `listset_close` closes the set and `listset_keys`
+// returns its final keys.
 //
 //     uint32_t none;
 //     listset_seat seat = LISTSET_NONE;
@@ -157,8 +157,9 @@ typedef struct {
 
 #define LISTSET_NONE {false, NULL}
 
-/// A receipt, or nothing. A receipt records everything that a seat had seen when it issued the receipt. It is
-/// initialized with LISTSET_NONE, and can be passed to any thread.
+/// A receipt, or nothing. A receipt covers the earlier calls of the seat that issued the receipt, of all seats that this seat
+/// had gathered, and of all receipts that this seat had accepted. It is initialized with LISTSET_NONE, and can be passed to
+/// any thread.
 typedef struct {
   bool full;
   void *at;
@@ -236,8 +237,8 @@ LISTSET_USED listset_reply listset_contains_now(listset_seat *seat, uint32_t key
 /// quota and `opening` keys. Returns 0 if no set can be opened with these.
 uint64_t listset_most_reads(uint32_t seats, uint32_t quota, uint32_t opening);
 
-/// Stores in `out`, which must be empty, a receipt of everything that `seat` has seen. The receipt can be sent to
-/// another thread with any message.
+/// Stores in `out`, which must be empty, a receipt that covers the calls of `seat` so far. The receipt can be sent to another
+/// thread with any message.
 LISTSET_USED listset_fault listset_receipt_of(listset_seat *seat, listset_receipt *out);
 
 /// Passes a receipt of this set to `seat`. In the order of all calls, later calls of `seat` follow every call that the
@@ -255,22 +256,22 @@ LISTSET_USED listset_fault listset_gather(listset_seat *into, listset_seat *from
 /// set stays open.
 LISTSET_USED listset_fault listset_close(listset_seat *seat);
 
-/// Copies the keys of a closed set to `room` in strictly increasing order, if `places` is large enough. Returns the
-/// number of keys, or SIZE_MAX if `closed` is not a closed set.
+/// Copies the keys of a closed set to `room` in strictly increasing order, if `room` is large enough: it has `places`
+/// elements. Returns the number of keys, or SIZE_MAX if `closed` is not a closed set.
 size_t listset_keys(listset_seat *closed, uint32_t *room, size_t places);
 
-/// Gathers all seats in an array into its first place, and closes the set. The array may contain empty places. If a
-/// seat of the set is missing, returns LISTSET_SEATS_OUT and changes nothing. After LISTSET_OUT_OF_MEMORY nothing is
-/// lost, and the call can be repeated.
+/// Gathers all seats in the array `seats`, which has `places` elements, into its first element, and closes the set. Elements
+/// of the array may be empty. If a seat of the set is missing, returns LISTSET_SEATS_OUT and changes nothing. After
+/// LISTSET_OUT_OF_MEMORY nothing is lost, and the call can be repeated.
 LISTSET_USED listset_fault listset_close_all(listset_seat *seats, size_t places);
 
-/// Closes a set, and opens a set of the list `kind` with the same keys. The array `seats` must contain all seats of the old set.
-/// Afterwards the first `count` places (at most `places`) contain the seats of the new set, each with this quota.
-/// During the call, no other thread may use any of the seats.
+/// Closes a set, and opens a set of the list `kind` with the same keys. The array `seats` must contain all seats of the old
+/// set. Afterwards the first `count` elements of the array (`count` is at most `places`) contain the seats of the new set,
+/// each with this quota. During the call, no other thread may use any of the seats.
 ///
-/// Returns the errors of `listset_open` and `listset_close_all`. After LISTSET_OUT_OF_MEMORY, and after
-/// LISTSET_BAD_KEYS because there are more than 1,048,576 final keys, nothing is lost: the array still contains the
-/// seats, or its first place contains the closed set. The call can be repeated.
+/// Returns the errors of `listset_open` and `listset_close_all`. After LISTSET_OUT_OF_MEMORY, and after LISTSET_BAD_KEYS
+/// because there are more than 1,048,576 final keys, nothing is lost: the array still contains the seats, or its first element
+/// is the closed set. The call can be repeated.
 LISTSET_USED listset_fault listset_renew(listset_seat *seats, size_t places, listset_list kind, uint32_t count, uint32_t quota,
                                          uint64_t number);
 
@@ -281,7 +282,7 @@ void listset_drop(listset_seat *seat);
 /// Drops a receipt; `receipt` is empty afterwards.
 static inline void listset_drop_receipt(listset_receipt *receipt) { listset_drop((listset_seat *)receipt); }
 
-// The type of the two drawing functions, and the call that both inline functions below make.
+// The type of `listset_show` and `listset_show_svg`, and a function that calls either of them with a `listset_window`.
 typedef size_t listset_drawing(const char *, size_t, const char *, size_t, char *, size_t, uint8_t *);
 
 static inline size_t listset_drawn(listset_drawing *function, const char *text, size_t length, const listset_window *window, char *room,

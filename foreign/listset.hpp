@@ -54,7 +54,7 @@ template <typename Call> said said_by(Call call) {
   }
 }
 
-/// Returns the same text, with a pointer that is not null even if the text is empty.
+/// Returns `text`, with a pointer that is not null even if the text is empty.
 inline std::string_view placed(std::string_view text) { return text.data() == nullptr ? std::string_view("") : text; }
 
 /// Calls a function of the judge with a text.
@@ -132,8 +132,9 @@ inline std::vector<uint32_t> keys_of(listset_seat &closed) {
   return keys;
 }
 
-/// A receipt, or nothing. A receipt records everything that a seat had seen when it issued the receipt. It can be moved
-/// but not copied, and can be passed to any thread.
+/// A receipt, or nothing. A receipt covers the earlier calls of the seat that issued the receipt, of all seats that this seat
+/// had gathered, and of all receipts that this seat had accepted. It can be moved but not copied, and can be passed to any
+/// thread.
 class receipt {
 public:
   receipt() = default;
@@ -202,7 +203,7 @@ public:
     return replied(listset_ceiling(&raw, key, &at)) == LISTSET_AT ? std::optional<uint32_t>(at) : std::nullopt;
   }
 
-  /// Returns a receipt of everything that this seat has seen, to pass to `after` in another thread.
+  /// Returns a receipt that covers this seat's calls so far. Pass the receipt to `after` of another thread's seat.
   listset::receipt receipt() {
     use held(*this);
     listset::receipt made;
@@ -300,8 +301,7 @@ inline void renew(std::vector<seat> &seats, list kind, uint32_t count, uint32_t 
   seats.resize(count);
 }
 
-/// A set that renews itself: when a seat has used up its quota, the set is closed and another one is opened with its
-/// keys.
+/// A set that renews itself: when a seat has used up its quota, the set is closed, and a new set is opened with the same keys.
 ///
 /// A thread gets its own seat from `split`; the seat's destructor returns it. Calls wait during a renewal. The renewal
 /// waits for pending calls, but not for threads that are between two calls. A call waits for another call for at most
@@ -322,22 +322,23 @@ class renewed_set {
   const list kind;
   const uint32_t quota;
   const std::chrono::nanoseconds patience;
-  std::mutex renewing; // Must be locked before a thread locks all places.
-  std::atomic<bool> is_wanted{false}; // A thread has waited long for the locks, so the next calls of other threads wait for this thread.
+  std::mutex renewing; // A thread locks this before it locks all places (the seats with their locks).
+  std::atomic<bool> is_wanted{false}; // Whether a thread has waited so long for the locks that other threads' calls must wait.
   std::deque<place> places;
-  // The stage and the number of opening keys change only while all places are locked.
+  // The stage and the number of opening keys change only while all places (the seats with their locks) are locked.
   stage now = stage::open;
   size_t opened_with;
 
   static constexpr size_t MOST_OPENING = 1 << 20;
   static constexpr std::chrono::milliseconds LONG{5};
 
-  // Locks `lock`. The thread that holds `lock` can be in a `ceiling` of a lock-free list, which may retry until another call
-  // unlinks a marked node. An `add` from the place `helper` unlinks the node, and changes no key if the seat of `helper` has
-  // used up its quota.
+  // Locks `lock`. The holder of `lock` can be in a `ceiling` on a lock-free list, which may retry until another call unlinks a
+  // marked node. So the waiting thread calls `add` with the seat in `helper`, if this seat has used up its quota: the `add`
+  // unlinks the node, and changes no key.
   //
-  // A thread with a helper locks all places. After 5 ms, the next calls of other threads wait for this thread, unless such a
-  // call could be needed to unlink the node.
+  // `helper` is the caller's own place (its seat with the seat's lock) if the caller is locking all places, otherwise null. If
+  // such a caller has waited for 5 ms, new calls of other threads wait for the caller, unless such a call could be needed to
+  // unlink the node.
   held taken(std::mutex &lock, place *helper = nullptr) {
     held it(lock, std::try_to_lock);
     for (const clock::time_point begun = clock::now(); !it; it.try_lock()) {
@@ -352,7 +353,7 @@ class renewed_set {
     return it;
   }
 
-  // Holds the locks of all places during its lifetime.
+  // Holds the locks of all places (the seats of the set) during its lifetime.
   class all_taken {
     std::atomic<bool> &is_wanted;
     held one;
@@ -380,7 +381,7 @@ class renewed_set {
     return keys;
   }
 
-  // Makes a call with an array of all seats. The places of the seats must be locked.
+  // Calls `call` with an array of all seats. All places must be locked.
   template <typename Call> void by_all(Call call) {
     std::array<listset_seat, 64> raws;
     now = stage::to_be_renewed;
@@ -404,7 +405,8 @@ class renewed_set {
     now = stage::open;
   }
 
-  // Makes a call from a place. If an allocation failed during the last renewal, renews the set first.
+  // Calls `call` with `mine`, the thread's place (its seat with the seat's lock). If an allocation failed during the last
+  // renewal, renews the set first.
   template <typename Call> auto by(place &mine, Call call) {
     for (;;) {
       if (is_wanted) taken(renewing).unlock();
@@ -420,7 +422,8 @@ class renewed_set {
     return answer;
   }
 
-  // Renews the set and adds a key from the place `mine`. Called if the seat of `mine` has used up its quota.
+  // Adds a key with the seat in `mine`, after an `add` returned full. Renews the set if an earlier renewal failed, or if `add`
+  // returns full again, unless no renewal can help (the quota is 0, or the set has too many keys).
   added add_renewed(place &mine, uint32_t key) {
     all_taken all(*this, mine);
     if (now == stage::open) {
@@ -547,13 +550,13 @@ class shared {
   };
   std::deque<place> places;
 
-  // Returns the place that gathers all seats when the set is closed. Throws if the set was moved from.
+  // Returns the place (a seat with its lock) that gathers all seats when the set is closed. Throws if the set was moved from.
   place &first() {
     if (places.empty()) throw fault(LISTSET_NONE_THERE);
     return places.front();
   }
 
-  // Makes a call from a free seat. Threads start their search at different places, if there are enough places.
+  // Calls `call` with a free seat. Threads begin their search for a free seat at different seats, if there are enough seats.
   template <typename Call> auto by(Call call) {
     first();
     static std::atomic<size_t> threads{0};

@@ -132,8 +132,8 @@ def judge_text(recording):
 
 
 def judge_file(path):
-    """Judges the recording in the file `path`, of any length. Returns the text that the program would print, and its exit
-    status.
+    """Judges the recording in the file `path`; the recording can have any length. Returns the text that the program would
+    print, and its exit status.
     """
     room, status = ctypes.create_string_buffer(8192), ctypes.c_uint8()
     function = _LIBRARY.listset_judge_from
@@ -299,8 +299,8 @@ def _closed_keys(closed):
 
 
 class Receipt:
-    """A receipt, which records everything that a seat had seen when it issued the receipt. It can be passed to any
-    thread.
+    """A receipt, which covers the earlier calls of the seat that issued the receipt, of all seats that this seat had gathered,
+    and of all receipts that this seat had accepted. It can be passed to any thread.
     """
 
     def __init__(self):
@@ -395,7 +395,7 @@ class Seat:
         return at.value if self._reply(_CEILING, key, at) == AT else None
 
     def receipt(self):
-        """Returns a receipt of everything that this seat has seen, to pass to `after` in another thread."""
+        """Returns a receipt that covers this seat's calls so far. Pass the receipt to `after` of another thread's seat."""
         made = Receipt()
         with self._used():
             _told(_RECEIPT_OF(self.raw, made.raw))
@@ -451,7 +451,7 @@ open = open_set  # listset.open. It is not in __all__: `from listset import *` k
 
 
 def _of_all(seats, call):
-    """Makes a call with an array of all these seats."""
+    """Calls `call` with an array of these seats."""
     raws = (_Raw * max(len(seats), 1))(*(it.raw for it in seats))
     code = call(raws)
     for seat, raw in zip(seats, raws):
@@ -567,7 +567,7 @@ class _Place:
 
 
 class RenewedSet:
-    """A set that renews itself: when a seat has used up its quota, the set is closed and another one is opened with its
+    """A set that renews itself: when a seat has used up its quota, the set is closed, and a new set is opened with the same
     keys.
 
     A thread gets its own seat from `split`, and returns it with `drop` or at the end of a `with` block. Calls wait
@@ -581,9 +581,9 @@ class RenewedSet:
         first = open_set(kind, seats, quota, keys)
         self._kind, self._quota, self._patience, self._opened_with = kind, _number(quota, "quota"), patience, len(keys)
         self._places = [_Place(it) for it in (first, *(first.split() for _ in range(1, seats)))]
-        self._renewing, self._stage = threading.Lock(), "open"  # The stage changes only while all places are locked.
+        self._renewing, self._stage = threading.Lock(), "open"  # The stage changes only while the locks of all seats are held.
         self._splitting = threading.Lock()
-        self._is_wanted = False  # A thread has waited long for the places, so the next calls of other threads wait.
+        self._is_wanted = False  # Whether a thread has waited so long for the locks that new calls of other threads must wait.
 
     def split(self):
         """Returns a seat for a thread. Raises `Fault` if all seats are in use."""
@@ -614,12 +614,13 @@ class RenewedSet:
             return keys
 
     def _lock(self, lock, helper=None):
-        """Locks `lock`. The thread that holds `lock` can be in a `ceiling` of a lock-free list, which may retry until another
-        call unlinks a marked node. An `add` from the place `helper` unlinks the node, and changes no key if the seat of
-        `helper` has used up its quota.
+        """Locks `lock`. The holder of `lock` can be in a `ceiling` on a lock-free list, which may retry until another call
+        unlinks a marked node. So the waiting thread calls `add` with the seat in `helper`, if this seat has used up its quota:
+        the `add` unlinks the node, and changes no key.
 
-        A thread with a helper locks all places. After 5 ms, the next calls of other threads wait for this thread, unless such
-        a call could be needed to unlink the node.
+        `helper` is the caller's own place (its seat with the seat's lock) if the caller is locking all places, otherwise None.
+        If such a caller has waited for 5 ms, new calls of other threads wait for the caller, unless such a call could be
+        needed to unlink the node.
         """
         if lock.acquire(blocking=False):
             return
@@ -650,7 +651,7 @@ class RenewedSet:
 
     @contextlib.contextmanager
     def _all_taken(self, mine):
-        """Locks all places."""
+        """Locks all places (the seats of the set), the caller's place `mine` first."""
         with contextlib.ExitStack() as all_taken:
 
             def take(lock, helper=None):
@@ -684,7 +685,9 @@ class RenewedSet:
         self._stage = "open"
 
     def _by(self, place, call):
-        """Makes a call from a place. If an allocation failed during the last renewal, renews the set first."""
+        """Calls `call` with `place`, the thread's seat and its lock. If an allocation failed during the last renewal, renews
+        the set first.
+        """
         while True:
             if self._is_wanted:
                 self._wait_for_renewal()
@@ -699,7 +702,9 @@ class RenewedSet:
                     self._renew_taken()
 
     def _add_renewed(self, place, key):
-        """Renews the set and adds a key from `place`. Called if the seat of `place` has used up its quota."""
+        """Adds a key with the seat in `place`, after an add returned FULL. Renews the set if an earlier renewal failed, or if
+        the add returns FULL again, unless no renewal can help (the quota is 0, or the set has too many keys).
+        """
         with self._all_taken(place):
             if self._stage == "open":
                 added = place.try_add(key)  # Before this call, another thread can have renewed the set.

@@ -28,14 +28,15 @@ static int is_closed(seat *it) {
   return it->full && listset_keys(it, &none, 0) != (size_t)-1;
 }
 
-// Returns the index of the first full place, or `places` if all places are empty.
+// Returns the index of the first element of the array that contains a seat, or `places` if all elements are empty.
 static size_t empty_places(const seat *seats, size_t places) {
   size_t first = 0;
   while (first < places && !seats[first].full) first++;
   return first;
 }
 
-// Returns whether these places contain all seats of a set. `first` is the first full place.
+// Returns whether the array contains all seats of a set. `first` is the index of its first element that contains a
+// seat.
 static int are_all(seat *seats, size_t first, size_t places) {
   uint32_t all, of_other;
   uint64_t within = listset_seats_within(&seats[first], &all);

@@ -20,7 +20,7 @@ from harness.programs import KINDS
 GREATEST = 2**32 - 1  # the largest key
 MOST_THREADS, MOST_QUOTA, OPENING = 64, 16_384, 1_048_576
 CALLS, TIMES = 16_000, 8  # the larger number of calls in a comparison, and its ratio to the smaller number
-LITTLE = 0.04, 14_000  # seconds and kilobytes; smaller measurements are replaced by these before a comparison
+LITTLE = 0.04, 14_000  # seconds and kilobytes; in a comparison, a smaller measurement counts as this value
 PROCESSOR_SECONDS = 9  # the limit for one command; an unproved program needs up to 2
 SPINNING_SECONDS = 90  # the limit if threads spin at locks: the thread that holds a lock can be preempted for long
 # A small process that starts the program and reports its memory. (If a large process starts the program directly, the system
@@ -39,7 +39,9 @@ class Asked:
         self.program, self.room, self.taken = program, room, collections.defaultdict(dict)
 
     def says(self, *words, text="", status=0, error="", size=None, seconds=PROCESSOR_SECONDS):
-        """Runs a command, checks its exit status and returns its output. Records the seconds and kilobytes for this size."""
+        """Runs a command, checks its exit status and returns its output. Stores the seconds and kilobytes that the command
+        needed, under the input size `size`.
+        """
         taken, given = self.room / "taken", self.room / "text"
         given.write_text(text)
         with open(given, "rb") as stdin:
@@ -52,7 +54,9 @@ class Asked:
         return done.stdout
 
     def grows(self, size, greater):
-        """Fails if any command needed more than three times as much time or memory, relative to the size, for the larger size."""
+        """Fails if a command needed more than 3 * TIMES as much time or memory for the size `greater` as for `size`.
+        (`greater` is at most TIMES as large as `size`.)
+        """
         for name in self.taken[size].keys() & self.taken[greater].keys():
             for before, after, little in zip(self.taken[size][name], self.taken[greater][name], LITTLE):
                 assert after <= 3 * TIMES * max(before, little), f"{name} takes {before} and {after}"
@@ -179,7 +183,9 @@ def text_of(title, threads=1, quota=0, opening=0, lines=()):
 
 
 def tries_of(title, many):
-    """Returns a schedule for two threads: one holds the lock, and the other attempts to acquire it."""
+    """Returns a schedule with `many` events and two threads: one thread holds the lock, and the other attempts again and again
+    to acquire it.
+    """
     goes = [10_000] * ((many - 3) // 10_000) + [it for it in [(many - 3) % 10_000] if it]
     return text_of(title, 2, 1, lines=["begin 0 add 1\ngo 0 1\nbegin 1 add 1\n", *(f"go 1 {it}\n" for it in goes)])
 

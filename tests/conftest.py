@@ -2,10 +2,10 @@
 
     pytest-3                          runs all tests; -n 4 runs four in parallel
     pytest-3 tests/serve_clients.py   runs the tests of a file, or of a page in tests/transcripts; -k WORD selects tests by name
-    pytest-3 --program=PROGRAM        tests this program; by default the proved or the unproved program, whichever has younger
-    sources pytest-3 --few                    draws a tenth of the random inputs pytest-3 --show PAGE              prints the
-    current output of the commands on a page of tests/transcripts, in the page's form pytest-3 --tools                  also
-    fails a test that runs a command of build/needs.txt without a mark `needs` for the command
+    pytest-3 --program=PROGRAM        tests this program; by default the most recently built program, proved or unproved
+    pytest-3 --few                    draws a tenth of the random inputs
+    pytest-3 --show PAGE              prints the current output of the commands on PAGE, a file in tests/transcripts, in its form
+    pytest-3 --tools                  also fails a test that runs a command of build/needs.txt without a mark `needs` for it
 
 A test that needs a missing tool or program is skipped with a message. If it was selected by -k or as FILE::NAME, it
 fails.
@@ -149,8 +149,8 @@ def program(pytestconfig, lacking):
 
 @pytest.fixture
 def room(tmp_path):
-    """Returns a folder for this test. After the test, the folder is deleted, and processes that run in the folder or name it
-    are killed.
+    """Returns a folder for this test. After the test, the folder is deleted, and processes are killed if they run in the
+    folder, or if their arguments or environment name the folder.
     """
     yield tmp_path
     clear(tmp_path)
@@ -183,11 +183,11 @@ def once(tmp_path_factory, worker_id):
         with open(f"{kept}.lock", "w") as lock:
             fcntl.flock(lock, fcntl.LOCK_EX)
             if not kept.exists():
-                shutil.rmtree(folder, ignore_errors=True)  # (a call that failed did not delete it; the next test calls again)
+                shutil.rmtree(folder, ignore_errors=True)  # (an earlier call failed, and did not delete this folder)
                 folder.mkdir()
                 kept.write_bytes(pickle.dumps(made_with_tools(make, folder, *further)))
             result, used = pickle.loads(kept.read_bytes())
-        # (with --tools, the commands that made the result count as used by this test)
+        # (with --tools, the commands that were run for the result count as used by this test)
         if used:
             with open(os.environ["TOOLS_USED"], "a") as names:
                 names.write(used)

@@ -1,13 +1,13 @@
 """Tests programs with a failed allocation: each run fails one allocation, and each allocation fails in some run.
 
-`tests/harness/fail_allocation.c` refuses the allocation with a given number, and overwrites freed memory so that
-reading it has a visible effect. The program must print `out of memory` and nothing else (except for `trace`, which
-prints each event as soon as it is made). If std can continue with less memory than it requested, the program may instead
-print its usual output. If even the error line cannot be allocated, the exit status must still be the status for this error.
+`tests/harness/fail_allocation.c` refuses the allocation with a given number, and overwrites freed memory so that reading it
+has a visible effect. The program must print `out of memory` and nothing else (except for `trace`, which prints each event as
+soon as it is executed). If std can continue with less memory than it requested, the program may instead print its usual
+output. If even the error line cannot be allocated, the exit status must still be the status for this error.
 
-CALLS is the program in crates/memory_calls. It makes the libraries' calls one by one; its input is the number of allocations
-to make before the first call. It fails unless each call reports a failed allocation (or that a thread could not be started)
-or returns the right result, and unless a repeated call returns the right result.
+CALLS is the program in crates/memory_calls. It calls the functions of the libraries one by one; its input is the number of
+allocations before the first call. It fails unless each call reports a failed allocation (or that a thread could not be
+started) or returns the right result, and unless a repeated call returns the right result.
 """
 
 import functools
@@ -65,8 +65,8 @@ def ran_where(refuse, number, *words, **how):
 
 
 def answers(program, refuse):
-    """Runs CALLS again and again. In each run another allocation fails. Returns the names of the calls that CALLS prints.
-    Stops at the first number that is larger than the number of allocations.
+    """Runs CALLS again and again. In each run, a different allocation fails. Returns the names of the calls that CALLS
+    prints. Stops at the first number that is larger than the number of allocations.
     """
     told = []
     for number in range(1, REFUSED):
@@ -82,11 +82,11 @@ OUT_OF_MEMORY = 3, "", "listset: out of memory\n"
 SPAWN = 1, "", "listset: work: Spawn\n"
 # The line below a verdict if an allocation for the explanation fails
 NOT_TOLD = "\nwhat is wrong is not told: memory ran out, or the file has changed since it was judged\n"
-LAST = 10  # after this many runs without an effect in a row, the program is assumed to make no further allocation
+LAST = 10  # after this many consecutive runs without an effect, the program is assumed to have no further allocation
 
 
 def out_of_memory_at_each(program, words, refuse):
-    """Runs a command again and again. In each run another of its allocations fails. Returns the number of runs that report a
+    """Runs a command again and again. In each run, a different allocation fails. Returns the number of runs that report a
     failed allocation.
     """
     how = {"cwd": TOP / "examples/schedules", "stdin": subprocess.DEVNULL}
@@ -95,7 +95,7 @@ def out_of_memory_at_each(program, words, refuse):
     met = {OUT_OF_MEMORY} | ({SPAWN} if words[0] == "run" else set()) | ({(due[0], "", "")} if due[2] else set())
     if words[0] == "judge" and due[0] == 1:
         verdict = due[1].partition("\n\n")[0] + "\n"
-        met |= {(1, verdict + NOT_TOLD, ""), (1, verdict, "")}  # (an allocation for this line can fail too)
+        met |= {(1, verdict + NOT_TOLD, ""), (1, verdict, "")}  # (the allocation for the line NOT_TOLD can fail too)
     told = passed = 0
     for number in range(1, 10 * REFUSED):
         found = ran_where(refuse, number, program, *words, **how)

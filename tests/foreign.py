@@ -1,4 +1,4 @@
-"""Tests the sets and the judge from C, C++, Rust and Python, and the programs in docs/FOREIGN.md.
+"""Tests calls of the sets and of the judge from C, C++, Rust and Python, and tests the programs in docs/FOREIGN.md.
 
 The tests use the libraries that foreign/build installed in the folder LISTSET_PREFIX or in foreign/out. The test programs
 run with the sanitizers for addresses, undefined behaviour and races, if these work on this machine. The libraries
@@ -69,11 +69,13 @@ class InstalledLibraries:
         return made
 
     def first_set(self, *words, **how):
-        """Runs the page's first program, and expects its line with the number of final keys."""
+        """Runs the first program of docs/FOREIGN.md, and expects its line with the number of final keys."""
         assert well(*words, **how) == "2000 keys are left\n"
 
     def first_judge(self, *words, **how):
-        """Runs a first judge on a linearizable recording and on a recording that is not linearizable, and expects its answers."""
+        """Runs a program of the folder foreign/first on a linearizable recording and on a recording that is not linearizable,
+        and expects its answers.
+        """
         refused = (TOP / "examples" / "recorders" / "both-true.calls").read_text()
         right = refused.replace("call 1 add 5 2 3 true", "call 1 add 5 2 3 false")
         for text, status, says in ((right, 0, "ok 3 calls\n"), (refused, 1, "not linearizable\n")):
@@ -111,7 +113,9 @@ OF_TEXTS = {
 
 
 def words_of_program(program):
-    """Yields command lines of the program for texts of each kind, names, and values."""
+    """Yields command lines to test: commands that read a file, for files of each kind, and commands with names or numbers as
+    arguments.
+    """
     yield from (f"{words} {file}" for pattern, all_words in OF_TEXTS.items() for file in sorted(TOP.glob(pattern)) for words in all_words)
     names = [line.split()[0] for line in ran(program, "example").stdout.splitlines()]
     yield from (f"example{broken} {name}" for name in [*names, "no-such-name"] for broken in ("", " --broken"))
@@ -149,7 +153,7 @@ def test_the_judge_reports_each_failed_allocation_and_leaks_nothing(installed):
 
 @needs("gcc")
 def test_calls_of_threads_agree_with_counts_and_are_judged(installed):
-    """Threads call sets: in one case there are more threads than processors, in another a million calls. The replies are
+    """Tests calls of many threads: once with more threads than processors, and once with a million calls. The replies are
     compared with models and counts, and judged.
     """
     for flags, sizes in (([], [250_000, 4]), ([], [500, 64]), ([MEMORY], [5_000, 4]), ([RACES], [2_000, 4])):
@@ -181,8 +185,8 @@ def test_programs_in_c_use_sets_and_judge(installed):
 @needs("g++", "gcc", "pkg-config")
 def test_programs_in_cpp_use_sets_and_judge(installed):
     made, first, how = installed.room / "made", installed.room / "first", [MEMORY] if installed.works(MEMORY) else []
-    # g++ needs three times as long with both optimization and a sanitizer. The page's programs compile the header with
-    # optimization.
+    # These programs are compiled without optimization: with a sanitizer and optimization, g++ needs three times as long. The
+    # programs of docs/FOREIGN.md compile the header with optimization.
     elsewhere, flags = installed.room / "elsewhere.o", ["-std=c++17", *WARN, "-O0", *how, "-pthread"]
     well("g++", *flags, "-c", TESTS / "elsewhere.cpp", installed.include, "-o", elsewhere)
     for name in ("judge.cpp", "sets.cpp", "judged.cpp"):

@@ -176,7 +176,8 @@ def test_commands_in_a_hint_have_the_name_that_the_user_typed(script):
         assert f"For its report: {called} replay b.schedule; for its picture: {called} show b.schedule\n" in said, said
 
 
-# A shell's command line that cannot read its input or cannot write its output, the fixed error line, and the hint.
+# Command lines with an input that cannot be read or an output that cannot be written, each with the fixed error line and the
+# hint.
 NOT_OPEN = {
     "./listset replay <&-": ("cannot read", "Standard input is closed. Name a file: ./listset replay FILE"),
     "./listset example >&-": ("cannot write", "Standard output is closed. To see the output, leave out '>&-'; to keep it: ./listset example .. > FILE"),
@@ -201,7 +202,7 @@ def test_a_pipe_whose_reader_has_ended_is_named(script):
 def test_a_file_without_the_right_to_read_it_is_explained(script):
     (script / "b.schedule").chmod(0)
     if os.access(script / "b.schedule", os.R_OK):
-        return  # root reads every file
+        return  # the user root can read every file
     _, said = at_terminal(["./listset", "replay", "b.schedule"], script)
     assert said.startswith("listset: cannot read\nb.schedule: you have no right to read this file (of a file of yours: chmod u+r) or to enter its folder. To see whose they are: namei -l b.schedule\n"), said
 
@@ -261,8 +262,8 @@ def test_a_long_line_of_a_long_recording_is_shown(script):
     assert "listset: line 1: NotEnded\nLine 1 is 'call 0 add 5 1 4 true call " in said and "Write the title and each call in a line of its own, which ends with LF." in said, said[:600]
 
 
-# Arguments that Node cannot handle: commands that only a built program has, errors with a tip of clap, and a hint about a
-# wrong command line
+# Arguments that the engine in Node cannot handle: commands that only a built program has, errors with a tip of clap, and a
+# hint about a wrong command line
 NOT_OF_NODE = re.compile(r"(run|serve) |shwo|--prov|show --from (-5|5 --from)|trace --chain=")
 
 

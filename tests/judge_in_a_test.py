@@ -18,7 +18,7 @@ from toolchain import NEEDS
 
 FORMS = TOP / "judge"
 SECONDS = 300  # the time limit for each run of a judge, even on a busy machine
-# Files that are not a judge, with the message about each. `{}` is the path.
+# Files that are not a judge, each with the message that a test prints about it. `{}` is the path.
 NO_VERDICT = "{} printed no verdict, but: %s. Use a newer listset"
 NO_JUDGE = "no judge was found: {} cannot be run. Copy the file judge/listset.js"
 NO_JUDGES = {
@@ -107,7 +107,7 @@ class Form:
         """Judges a set. Returns the kind of the result and all output."""
         environment = {name: it for name, it in os.environ.items() if name not in ("CI", "RUST_BACKTRACE") and not name.startswith("LISTSET")}
         environment |= {"LISTSET": str(judge)} if judge else {}
-        environment |= {"TMPDIR": str(self.room), "SET": of, "HOW": how, "RUST_TEST_THREADS": "2", **also}  # (with 1 thread, cargo's test prints its name first)
+        environment |= {"TMPDIR": str(self.room), "SET": of, "HOW": how, "RUST_TEST_THREADS": "2", **also}  # (with 1 test thread, cargo prints the test's name first)
         words = [*self.words[:-1], f"-Djava.io.tmpdir={self.room}", self.words[-1]] if self.language == "Java" else self.words
         done = ran(*words, cwd=self.room, env=environment, seconds=SECONDS)
         found = re.search("^verdict: (.*)$", done.stdout, re.M)
@@ -217,8 +217,8 @@ def test_calls_before_a_crash_or_a_hang_are_judged(form, program, of):
 
 @each(LANGUAGES)
 def test_a_process_that_ends_at_any_moment_has_every_call_once(form, program):
-    """Tests calls that are saved part by part while the process runs. If a call were saved twice or lost, the verdict would
-    differ.
+    """Tests a process that saves its calls in several parts, and ends at some moment. If a call were saved twice or lost, the
+    verdict would differ.
     """
     _, said = form.told(program, "ends", "threads=4 calls=60000 keys=4 runs=1 pauses=0", TESTS="12")
     for one in said.split("verdict: ")[1:]:
@@ -246,7 +246,9 @@ def test_a_key_whose_last_outcome_stays_unknown_can_be_there_or_not(form, progra
 
 @each(LANGUAGES)
 def test_a_correct_set_that_throws_repeatedly_is_not_refused(form, program):
-    """Tests that calls made during the recording do no harm: in Java and Go, other threads can still make calls at that time."""
+    """Tests a correct set that throws repeatedly. Each run is cut short, and its recording is linearizable, although in Java
+    and Go other threads can execute calls while the recording is written.
+    """
     tests = 5 if form.language == "Python" else 25
     for how in ("pauses=0", "pauses=20"):
         _, said = form.told(program, "throws", f"threads=4 calls=1000 keys=4 own_process=0 {how}", TESTS=str(tests))
@@ -255,7 +257,9 @@ def test_a_correct_set_that_throws_repeatedly_is_not_refused(form, program):
 
 @each(LANGUAGES)
 def test_a_set_that_continues_after_a_hang_does_not_change_the_recording(form, program):
-    """Tests a `remove` that lasts 1.2 s, with a judge that needs another second."""
+    """Tests a `remove` that lasts 1.2 s, if a run counts as hung after 1 s. The judge needs one second, so the set continues
+    while the run is judged.
+    """
     judge = form.script("judge", f"#!/bin/sh\n[ $1 = --version ] || sleep 1\n'{program}' \"$@\"\n")
     kind, said = form.told(judge, "naps", "threads=4 calls=1000 keys=4 seconds=1")
     assert kind == "cut short" and "the set hung: no call began or ended for 1 s" in said and form.recorded(said).count("\ncut\n") == 1, said

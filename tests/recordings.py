@@ -25,8 +25,8 @@ RECORDINGS = [recording(1), recording(2), recording(3), recording(1, is_cut=True
 @pytest.mark.parametrize("text", RECORDINGS, ids=range(len(RECORDINGS)))
 @pytest.mark.parametrize("parts", [4, 30])
 def test_the_parts_of_a_recording_have_its_verdict(program, room, text, parts):
-    """Tests that the verdict does not depend on the number of parts. A refusal can name another key, and an error can be
-    found in another part.
+    """Tests that the verdict does not depend on the number of parts. With different numbers of parts, a refusal can name
+    different keys, and an error can be found in different parts.
     """
     recorded = room / "run.calls"
     recorded.write_text(text)

@@ -31,7 +31,9 @@ def cases(few):
 
 
 class Sentences:
-    """Properties, each with the pattern of its lines. A property receives a case and the groups of the match."""
+    """Properties of printed lines, each with a pattern of the lines that it checks. A property is a function of a case (a
+    report) and the groups of the match.
+    """
 
     def __init__(self):
         self.properties = []
@@ -89,8 +91,8 @@ def left_by_orders(calls, opening, quota):
 
 
 def drawn_calls(rng, quota, opening):
-    """Draws overlapping calls of threads, with the end and the reply of each completed call. Returns the calls; the order
-    in which they took effect, as numbers with the set's replies; and the final keys. Occasionally, a call returns a
+    """Draws overlapping calls of threads, with the end and the reply of each completed call. Returns the calls; the order of
+    their linearization points, as call numbers with the set's replies; and the final keys. Occasionally, a call returns a
     wrong reply.
     """
     held, calls, pending, order, moment = SetModel(quota, opening), [], {}, [], 0
@@ -133,11 +135,11 @@ class Reported:
         self.kind = made.kind
 
     def is_explained(self):
-        """Returns whether some order explains the calls and leaves the final keys."""
+        """Returns whether some order explains the calls and ends with the final keys."""
         return self.keys == sorted({*self.keys}) and frozenset(self.keys) in left_by_orders(self.calls, self.opening, self.quota)
 
     def before_place(self, place):
-        """Returns the set just before the place (the entry of the order) with this number, counted from 1."""
+        """Returns the set just before entry number `place` of the order; the first entry is 1."""
         held = SetModel(self.quota, self.opening)
         for number, _ in self.order[: place - 1]:
             if number < len(self.calls):
@@ -168,7 +170,7 @@ class Reported:
         return (self.calls[number].reply or reply) != reply or self.answer_at(place) != reply
 
     def explains(self):
-        """Returns whether the report's order explains its calls and leaves its final keys."""
+        """Returns whether the report's order explains its calls and ends with its final keys."""
         numbers = [number for number, _ in self.order]
         completed = {number for number, it in enumerate(self.calls) if it.end}
         if len({*numbers}) < len(numbers) or max(numbers, default=-1) >= len(self.calls) or not completed <= {*numbers}:
@@ -470,8 +472,8 @@ def ends_of_trace(trace):
 
 
 def order_of(ends):
-    """Returns the calls ordered by the moments of their effects. At one moment, a change precedes other calls, which are
-    ordered by number.
+    """Returns the calls ordered by the moments of their effects. If two calls have the same moment, a call that changed the
+    set precedes a call that did not; otherwise the lower number precedes.
     """
     return sorted(ends, key=lambda it: (ends[it][1], not ends[it][2], it))
 
@@ -499,7 +501,7 @@ def test_traces_and_pictures_have_the_order_of_the_report(program, few, kind):
 
 
 def continued(name, seed):
-    """Returns the schedule that shows the flaw of a broken list, followed by calls of all its keys, one after another."""
+    """Returns the schedule that shows the flaw of a broken list, followed by calls on all its keys, one after another."""
     text, draw = (TOP / f"examples/schedules/lacks/{name}.schedule").read_text(), random.Random(f"{name} {seed}")
     plan = read_schedule(text)
     model, lines = List(plan.kind, plan.threads, plan.quota, plan.opening, name), []
@@ -537,8 +539,8 @@ def fits_nowhere(run, number):
 
 @pytest.mark.parametrize("name", LACKING)
 def test_a_call_whose_reply_is_never_correct_is_placed_at_its_end(program, few, name):
-    """Tests the place of each call that changes nothing: its end if its reply is never correct, otherwise the first moment at
-    which its reply is correct.
+    """Tests the linearization point of each call that changes nothing: the end of the call if its reply is never correct,
+    otherwise the first moment when its reply is correct.
     """
     found = 0
     for seed in range(1 if few else 4):

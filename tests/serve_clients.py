@@ -116,8 +116,9 @@ def test_clients_at_once_receive_right_answers(program, kind):
 
 
 def test_more_clients_than_seats_are_served(program):
-    """Tests more sessions than there are seats, than a set can have threads, and than fit into the queue. A session that ends
-    with an error ends no other session. One client in ten resets its connection without having read all answers.
+    """Tests more sessions than the server has seats, more than a set can have threads, and more than fit into the queue. A
+    session that ends with an error ends no other session. One client in ten resets its connection without having read all
+    answers.
     """
     def speak(key, connection):
         if key % 10 == 0:
@@ -168,8 +169,8 @@ def drips(connection, end):
 
 
 def test_clients_of_one_seat_are_served_in_turn(program):
-    """Tests clients that use one seat in turn. The seat can add 2 keys. The system refuses a connection to another address of
-    this machine, and the client after the last session.
+    """Tests clients that use one seat in turn. The seat can add 2 keys. The system refuses a connection to a different address
+    of this machine, and a connection after the last session.
     """
     with serving(program, ONE_LIST, 1, 2, 6) as server:
         with pytest.raises(ConnectionRefusedError):
@@ -201,7 +202,7 @@ def test_clients_of_one_seat_are_served_in_turn(program):
 
 
 def test_a_server_listens_on_the_port_in_its_arguments(program):
-    """Tests a port that was free immediately before."""
+    """Tests a server on a port that was free just before the server started."""
     with socket.create_server(("127.0.0.1", 0)) as free:
         port = free.getsockname()[1]
     with started(program, "serve", ONE_LIST, 1, ROOM, port, 1) as process:
@@ -272,7 +273,9 @@ def sends_until_stuck(connection):
 
 
 def test_a_client_that_reads_no_answer_holds_only_its_seat(program):
-    """Tests that the other clients are served, and that the server ends after the client has disconnected."""
+    """Tests that other clients are served while one client reads no answer, and that the server ends after this client has
+    disconnected.
+    """
     key = 4_294_967_295
     with serving(program, ONE_LIST, 2, ROOM, 5) as server:
         with server.connect() as connection:
@@ -310,7 +313,7 @@ def test_answers_arrive_if_bytes_follow_the_last_line(program):
                 (b"REMOVE 1\n" * many + b"?" * 65, b"FALSE\n" * many + b"LONG\n", 0), (b"\n" * 1_000_000, b"BAD\n" * 1_000_000 + b"LIMIT\n", 0)]
     with serving(program, ONE_LIST, 5, ROOM, 10) as server:
         speak_at_once(server, [functools.partial(speak, *it) for it in sessions])
-        with contextlib.ExitStack() as held:  # each seat continues to serve, however its last session ended
+        with contextlib.ExitStack() as held:  # each seat serves further clients, however its last session ended
             for _ in sessions:
                 connection = held.enter_context(server.connect())
                 connection.settimeout(SOON)

@@ -85,8 +85,8 @@ class Compared:
         assert texts <= {it.text for it in svg.iter()}, f"{' '.join(words)} of {self.text!r}"
 
     def pictures(self, picture, below=()):
-        """Compares three text pictures and two SVGs: of all moments, from a random moment on, and with an end or a
-        start at the edge of the picture. Some options are absent.
+        """Compares three text pictures and two SVGs: one shows all moments, others begin at a random moment, or have the start
+        or the end of a call at their edge. Some options are absent.
         """
         draw = random.Random(self.name)
         moments = Drawn(picture, 1, GREATEST).all or [1]

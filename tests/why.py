@@ -1,6 +1,6 @@
 """Tests the lines that `judge` prints below a refusal. page/tests/verdicts.js checks each sentence of the same engine in Node.
-The tests here check that the program prints the same. They also check the contradictions by counting, which only the
-text has, with a search through all orders.
+The tests here check that the program prints the same. They also check refusals that count adds and removes, with a search
+through all orders.
 """
 
 import itertools
@@ -34,8 +34,8 @@ def verdict_lines(output):
 
 
 def is_count(calls, opening, keys, lines):
-    """Returns whether no order explains the calls that the message of a contradiction by counting names, together with all
-    calls that could have changed the key back. Returns None if the message does not name all counted calls.
+    """Returns whether a message about counted adds and removes is true: no order explains the calls that the message names,
+    together with all calls that could have changed the key back. Returns None if the message does not name all counted calls.
     """
     found = COUNT.match("\n".join(lines))
     named, key = found[1], int(found[2])
@@ -69,8 +69,8 @@ def test_a_message_has_at_most_fifteen_lines_and_its_count_is_true(program, path
 
 
 def mark_not_read(rounds):
-    """Draws calls of a set with a bug in `contains`: it still finds a key during a remove, although another remove has
-    already found the key absent.
+    """Draws calls of a set with a bug in `contains`: during a `remove`, `contains` still finds the key, although a second
+    `remove` has already found the key absent.
     """
     made = [("add", 1, 2, 0, "true"), ("remove", 3, 8, 1, "true"), ("remove", 4, 5, 0, "false"), ("contains", 6, 7, 0, "true")]
     calls = [Call(thread, word, 3, moment + begin, moment + end, reply) for moment in range(0, 8 * rounds, 8) for word, begin, end, thread, reply in made]
@@ -206,7 +206,7 @@ class RepeatedCall(OneSet):
 
 
 def recorded(kind, seed, keys=4, threads=4, count=6000):
-    """Returns the recording of calls of a set. The threads make their steps in a random order."""
+    """Returns the recording of calls of a set. The threads execute their steps in a random order."""
     rng = random.Random(seed)
     these, calls, running, moment, thread = kind(rng), [], {}, 0, 0
     while len(calls) < count or running:
@@ -258,7 +258,9 @@ def test_a_linearizable_recording_has_no_diagnosis(program, path):
 
 
 def test_a_refusal_without_a_clash_has_a_count(program, path):
-    """Tests three adds and one remove that overlap. No two of these calls contradict each other, so `judge` must count."""
+    """Tests three adds and one remove that overlap. No two of these calls contradict each other, so `judge` must justify its
+    refusal by counting the adds and removes.
+    """
     calls = [Call(thread, "add", 7, 1 + thread, 10 + thread, "true") for thread in range(3)] + [Call(3, "remove", 7, 4, 9, "true")]
     path.write_text(text_of(calls, [], [7]))
     lines = verdict_lines(ran(program, "judge", path).stdout)

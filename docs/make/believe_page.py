@@ -101,8 +101,8 @@ def public_contracts():
 
 
 def contracts_in_sources():
-    """Yields the contract of each public function, type and trait: the library, the item's name, the text of the
-    contract, and the definitions that the names in the text can mean.
+    """Yields the contract of each public function, type and trait: the library, the item's name, the text of the contract,
+    and the definitions that the names in the text can refer to.
     """
     for root in sorted(CRATES.glob("*/src/lib.rt")):
         texts = {it.stem: it.read_text(encoding="utf-8") for it in sorted(root.parent.rglob("*.rt"))}
@@ -148,16 +148,16 @@ def print_reached():
             print(f"{module.file}: {', '.join(names)}")
 
 
-# A pattern for each row in the page's table of lines. It matches the functions that the row is about. The key is the row's
-# first word in code, or else its first word.
+# For each row of the page's table of line counts, a pattern that matches the functions that the row is about. The key of the
+# dict is the row's first word in code font or, if none is in code font, the row's first word.
 OF_ROWS = {"check_order": "lset_history::check_order$", "laws": "lset_steps::laws::", "headline": "lset_lists::runs_are_linearizable$",
            "replay": "lset_replay::replay$", "LiveSet::call": "lset_live::LiveSet::call$", "LiveSet::close": "lset_live::LiveSet::close$",
            "work": "lset_work::work$", "session": "lset_session::session$", "serve": "lset_server::serve$", "everything": ""}  # fmt: skip
 
 
 def wrong_numbers(page):
-    """Yields the rows in the page's table of lines with a number that is wrong by more than a twentieth. The right number is
-    the number of lines in the definitions that the row's contracts reach.
+    """Yields the rows in the page's table of line counts with a number that is wrong by more than a twentieth. The right
+    number is the number of lines in the definitions that the row's contracts reach.
     """
     said = {row: int(number) for row, number in re.findall(r"^\| (.*) \| (\d+) \|$", page, re.M)}
     for word, items in OF_ROWS.items():

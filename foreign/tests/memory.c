@@ -58,8 +58,8 @@ static size_t faults(const char *given, size_t count, char *to, size_t size, uin
 
 static int is_said(const char *want, size_t count, size_t found) { return found == count && memcmp(room, want, count) == 0; }
 
-// Makes the call without a failed allocation, then repeatedly, with another allocation failing each time. Returns the number
-// of failures that the call reported; 0 on an error.
+// Executes the call once without a failed allocation, then repeatedly, with a different allocation failing each time. Returns
+// the number of failures that the call reported; 0 on an error.
 static size_t tried(const char *name, listset_function *function) {
   uint8_t due, status;
   size_t told = 0;
@@ -78,7 +78,7 @@ static size_t tried(const char *name, listset_function *function) {
   }
 }
 
-// Makes the call through `listset_said`, repeatedly, with another allocation failing each time. Returns how often
+// Executes the call through `listset_said` repeatedly, with a different allocation failing each time. Returns how often
 // `listset_said` returned NULL.
 static size_t tried_said(listset_function *function) {
   uint8_t due, status;

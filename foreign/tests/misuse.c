@@ -271,8 +271,8 @@ static void seats_within(uint8_t kind) {
   listset_drop(&opener);
 }
 
-// Opens a set with the maximum number of opening keys, and makes calls with its last key and with the largest key of
-// all.
+// Opens a set with the maximum number of opening keys, and calls the set with its last key and with the largest possible
+// key.
 static void most_keys(uint8_t kind) {
   listset_seat seat = LISTSET_NONE;
   uint32_t at = 0;

@@ -1,6 +1,6 @@
-// Tests `renew`, and sets that renew themselves. Eight threads call such a set. Their calls are recorded in the text of docs/YOUR-SET.md, and
-// judged in this process. Arguments: a file for the recording, and the number of calls of each thread. With two further
-// arguments, a list (0 to 4) and a quota, only the calls of such a set are made and judged.
+// Tests `renew`, and sets that renew themselves. Eight threads call such a set. Their calls are recorded in the text of
+// docs/YOUR-SET.md, and judged in this process. Arguments: a file for the recording, and the number of calls of each thread.
+// With two further arguments, a list (0 to 4) and a quota, tests only a set with this list and quota.
 #include "listset.hpp"
 
 #include <cstdio>
@@ -107,8 +107,8 @@ template <auto Places> struct reach {
 };
 template struct reach<&renewed_set::places>;
 
-// Checks that no call waits for a thread that is between two calls. Also checks that calls of other threads time out while a
-// thread stays in a call.
+// Checks that no call waits for a thread that is between two calls. Also checks that the calls of all other threads time out
+// while one thread stays in a call.
 static void expect_patience() {
   renewed_set set(list::lazy, 2, 2, {}, 20ms);
   auto mine = set.split(), rests = set.split();
@@ -122,7 +122,8 @@ static void expect_patience() {
   expect(mine.add(100) == added::is_true && rests.add(101) == added::is_true && rests.ceiling(99) == 100u, "calls that go on");
 }
 
-// Expects that a call without a time limit waits while another thread stays in a call, and is made after that call.
+// Expects that a call without a time limit waits while another thread stays in a call, and succeeds after the other thread's
+// call.
 static void expect_waits(list kind) {
   renewed_set set(kind, 2, 1);
   auto mine = set.split(), rests = set.split();
@@ -164,7 +165,7 @@ static void expect_most_keys() {
   expect(set.close().size() == keys.size() + 1, "all keys");
 }
 
-// Renews seats with `renew`. The next set is of each list in turn.
+// Renews a set with `renew` several times. Each renewed set is of the next list.
 static void expect_by_hand() {
   std::vector<seat> seats;
   seats.push_back(listset::open(list::lazy, 3, 1, {5}));
@@ -202,7 +203,7 @@ static void expect_reads_and_receipts(list kind) {
   expect(listset::most_reads(2, 3, 2) == 18 && listset::most_reads(65, 1, 1) == 0, "most_reads");
 }
 
-// Calls one seat in two threads at once. Expects that each call is made or throws.
+// Calls one seat in two threads at the same time. Expects that each call succeeds or throws.
 static void expect_two_users() {
   seat mine = listset::open(list::coarse, 1, 16384);
   std::atomic<int> made{0}, refused{0}, ready{0};

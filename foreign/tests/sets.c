@@ -25,7 +25,7 @@ typedef struct {
 } task;
 
 // The number of operations. With several threads, there is no ceiling on the lock-free list, because a ceiling could wait for
-// a remove that no thread makes.
+// a remove that no thread calls.
 static uint32_t kinds;
 
 static uint64_t draw(uint64_t *drawn) {

@@ -55,7 +55,7 @@ static bool is_right(list kind) {
   return full == 0 && seats[0].close() == due;
 }
 
-// Makes the same calls on a `shared` set with fewer seats than threads.
+// Does what `is_right` does, on a `shared` set with fewer seats than threads.
 static bool is_right_shared(list kind) {
   listset::shared set(kind, 3, 2000);
   std::atomic<int> found{0};
@@ -74,7 +74,7 @@ static bool is_right_shared(list kind) {
 }
 
 // Makes threads add more keys than all quotas together allow. Returns whether exactly as many adds return true as the quotas
-// allow, and exactly these keys remain.
+// allow, and exactly the added keys remain.
 static bool is_filled(uint32_t seats, uint32_t quota) {
   listset::shared set(list::lock_free, seats, quota); // This list is lock-free, so a wrong call cannot leave a lock held.
   std::vector<std::vector<uint32_t>> added_by(4);
@@ -162,7 +162,7 @@ static void expect_shared() {
   expect_no_seat();
 }
 
-// Makes each call with the smallest and the largest key, from a seat and on a `shared` set.
+// Tests each operation with the smallest and the largest key. `Set` is a seat or a `shared` set.
 template <typename Set> static void expect_ends(Set set) {
   const uint32_t most = UINT32_MAX;
   expect(set.ceiling(0) == 0u && set.ceiling(1) == most && set.ceiling(most) == most, "ceiling of the least and the greatest key");

@@ -50,7 +50,7 @@ def calls_of(seat, number, kinds):
 def trial(kind):
     first = listset.open_set(kind, THREADS, 2 * CALLS, OPENING)
     seats = [first, *(first.split() for _ in range(1, THREADS))]
-    kinds = 3 if kind == "lock-free" else 4  # (on this list, ceiling calls could wait for a remove that no thread makes)
+    kinds = 3 if kind == "lock-free" else 4  # (on a lock-free list, ceiling calls could wait for a remove that no thread calls)
     with concurrent.futures.ThreadPoolExecutor(THREADS) as threads:
         nets, owns = zip(*threads.map(calls_of, seats, range(THREADS), [kinds] * THREADS))
     for it in seats[1:]:
@@ -90,7 +90,7 @@ def refusals():
 
 
 def ends(kind):
-    """Makes each call with the smallest and the largest key."""
+    """Tests each operation with the smallest and the largest key."""
     mine = listset.open_set(kind, 1, 2, ENDS)
     assert [mine.ceiling(key) for key in (0, 1, ENDS[1])] == [0, ENDS[1], ENDS[1]], kind
     assert all(mine.contains(key) and mine.remove(key) and not mine.contains(key) for key in ENDS), kind
@@ -233,7 +233,9 @@ def seats_of_a_renewed_set():
 
 
 def waits_without_patience(kind):
-    """Expects that a call without a time limit waits while another thread stays in a call, and is made after that call."""
+    """Expects that a call without a time limit waits while another thread stays in a call, and succeeds after the other
+    thread's call.
+    """
     of = listset.RenewedSet(kind, 2, 1)
     mine, rests = of.split(), of.split()
     assert mine.add(1)

@@ -229,7 +229,7 @@ enum class reply : uint8_t { no, yes, unknown };
 
 inline reply reply_of(bool it) { return it ? reply::yes : reply::no; }
 template <class I> reply reply_of(const std::pair<I, bool> &it) { return reply_of(it.second); }
-inline reply reply_of(const std::optional<bool> &it) { return it ? reply_of(*it) : reply::unknown; }  // (such as after a timeout)
+inline reply reply_of(const std::optional<bool> &it) { return it ? reply_of(*it) : reply::unknown; }  // (empty after a timeout)
 #ifdef LISTSET_HPP  // (for a set of liblistset, if <listset.hpp> is included before this file; `full` counts as `no`)
 inline reply reply_of(added it) { return reply_of(it == added::is_true); }
 #endif
@@ -241,8 +241,8 @@ inline constexpr auto by_erase = [](auto &set, auto &key) -> decltype(set.erase(
 inline constexpr auto by_contains = [](auto &set, auto &key) -> decltype(set.contains(key)) { return set.contains(key); };
 inline constexpr auto by_count = [](auto &set, auto &key) -> decltype(set.count(key)) { return set.count(key); };
 
-// Whether a set of type S has at least one of these calls for a key of type K. `called` makes the first call that the set
-// has.
+// Whether a set of type S has at least one of these calls for a key of type K. `called` calls the first of these names that
+// the set has.
 template <class S, class K, class... Calls> constexpr bool has(const Calls &...) { return (std::is_invocable_v<Calls, S &, const K &> || ...); }
 
 template <class S, class K, class First, class... Others> reply called(S &set, const K &key, First first, Others... others) {
@@ -254,17 +254,17 @@ template <class S, class K, class First, class... Others> reply called(S &set, c
 
 enum phase { GOING, OVER, FAILED, UNMADE };
 
-// A call as its thread records it, at its begin and at its end. After an unknown reply, the thread continues under a new
-// thread number.
+// A recorded call. Its thread writes the record when the call begins, and completes the record when the call ends. After an
+// unknown reply, the thread continues under a new thread number.
 struct slot {
     unsigned thread, key;
     kind call;
     reply answer;
-    std::atomic<unsigned> begin, end;  // 0 until the call begins, or ends
+    std::atomic<unsigned> begin, end;  // `begin` is 0 until the call begins, `end` until the call ends
 };
 
-// The part of a run that is in the file: the length of the file, and a moment. The file has all calls that began up to this
-// moment.
+// The calls of a run that are in the file: the length of the file, and a moment. The file contains all calls that began up to
+// this moment.
 struct saved {
     uint64_t length = 0;
     unsigned moment = 0;
@@ -274,11 +274,11 @@ struct saved {
 struct area {
     const shape of;
     const uint64_t seed;
-    const unsigned rows, parts, rounds;  // calls of a thread in a part (the last part can have fewer), parts of a set, parts of all sets together
+    const unsigned rows, parts, rounds;  // calls per thread and part (calls between two saves), parts per set, parts of all sets
     slot *slots = nullptr;               // the calls, thread by thread
     std::atomic<unsigned> tickets{0}, there{0}, done{0}, begun{0};
     saved saves[2];
-    std::atomic<unsigned> save{0};  // index of the valid element of `saves`: changing it replaces both numbers in one step
+    std::atomic<unsigned> save{0};  // index of the valid element of `saves`; one store replaces length and moment
     std::atomic<phase> at{GOING};
     std::atomic<bool> is_stopping{false}, is_busy{false}, is_end_known{true};
     char why[240] = "";
@@ -314,7 +314,8 @@ struct area {
         at = as;
     }
 
-    // Waits until `is_done`: polls `awake` times, then sleeps between polls. Returns false if the run was stopped.
+    // Waits until `is_done` returns true: polls `awake` times, then sleeps between polls. Returns false if the run was
+    // stopped.
     template <class Done> bool waits(Done is_done, unsigned awake = LONGEST) const {
         for (unsigned waited = 0; !is_done() && !is_stopping; waited++)
             if (waited >= awake) std::this_thread::sleep_for(std::chrono::microseconds(20));
@@ -332,7 +333,7 @@ struct area {
     }
 
     // Returns whether interrupted threads should sleep for longer. On a busy machine, a thread is seldom preempted during a
-    // call: often it has made all its calls before it is preempted.
+    // call: often it has finished all its calls before it is preempted.
     bool interrupts_longer() const { return is_busy || of.meets_once; }
 };
 
@@ -343,9 +344,9 @@ inline std::string line_of(const slot &it, unsigned end) {
     return text + (is_open ? "- -\n" : std::to_string(end) + (it.answer == reply::yes ? " true\n" : " false\n"));
 }
 
-// Returns the lines of the calls that have not been saved, ordered by start, and the lines of the pending calls. Threads may
-// be making calls meanwhile: a call that begins after the start of this function is left out, and a call that ends after the
-// start of this function is pending.
+// Returns the lines of the calls that have not been saved, ordered by start, and the lines of the pending calls. Threads can
+// begin and end calls meanwhile: a call that begins after the start of this function is left out, and a call that ends after
+// the start of this function is pending.
 inline std::pair<std::string, std::string> lines_of(const area &from) {
     const unsigned now = from.tickets, since = from.saves[from.save].moment;
     std::map<unsigned, std::pair<const slot *, unsigned>> found;
@@ -362,8 +363,8 @@ inline std::pair<std::string, std::string> lines_of(const area &from) {
 }
 
 // Interrupts its thread a few microseconds after the start of some calls, by a timer that sends the signal SIGURG. The thread
-// then sleeps for a microsecond. On a busy machine, it sleeps repeatedly until other threads have made calls, at most PATIENT
-// times. Works on Linux only.
+// then sleeps for a microsecond. On a busy machine, the thread sleeps repeatedly until other threads have executed calls, at
+// most PATIENT times. Works on Linux only.
 struct stops {
 #ifdef __linux__
     int timer = -1;
@@ -454,7 +455,7 @@ template <class Make, class K> struct maker {
         return unsigned(draw()) % below;
     }
 
-    // Makes the calls of one thread on a set, up to the next save of the recording.
+    // Executes the calls of one thread on a set, up to the next save of the recording.
     void call_set(area &run, unsigned thread, unsigned round, unsigned &number, std::mt19937 &draw, stops &own) {
         set_type &its = *set;
         slot *at = run.slots + size_t(thread) * run.rows;
@@ -487,7 +488,7 @@ template <class Make, class K> struct maker {
         if (how.ends) how.ends();
     }
 
-    // The maximum number of `contains` calls for a key, at the beginning or at the end, while the outcome is unknown.
+    // How often `contains` is called for a key at most, at the beginning or at the end of a run, if the outcome stays unknown.
     static constexpr unsigned MOST_ASKED = 100;
 
     // Calls `contains` for each key, and retries if the outcome is unknown. Returns a line for each key found.
@@ -506,7 +507,7 @@ template <class Make, class K> struct maker {
         if (!(file << lines << std::flush)) run.fail(UNMADE, "its recording cannot be written");
     }
 
-    // Appends lines to the file and marks all calls up to this moment as saved. Meanwhile, no thread makes a call.
+    // Appends lines to the file and marks all calls so far as saved. No thread is in a call meanwhile.
     void save(area &run, const std::string &lines) {
         const unsigned now = run.save;
         write(run, lines);
@@ -514,8 +515,8 @@ template <class Make, class K> struct maker {
         run.save = 1 - now;  // (if the process ends before this step, its last calls are only in memory)
     }
 
-    // Creates the sets one after another and lets the threads call them, part by part. After each part, writes its calls to
-    // the file.
+    // Creates the sets one after another. The threads call each set in parts (a part is the calls between two saves). After
+    // each part, writes its calls to the file.
     void lead(area &run, pointer &own) {
         std::string left, lines = "listset-calls 1\n";
         for (unsigned round = 0; round < run.rounds; round++, lines = "") {
@@ -536,10 +537,10 @@ template <class Make, class K> struct maker {
             if (run.is_stopping) return;
             save(run, lines_of(run).first);
         }
-        write(run, run.is_end_known ? left + "end\n" : "cut\n");  // (not marked as saved: the run can still be cut short)
+        write(run, run.is_end_known ? left + "end\n" : "cut\n");  // (lines not marked as saved: the run can still be cut short)
     }
 
-    // Runs all threads. If `is_own`, the process belongs to the set, and threads are interrupted during calls.
+    // Runs all threads. If `is_own`, this process was started for the set, and threads are interrupted during calls.
     void all(area &run, bool is_own) {
         std::vector<std::thread> threads;
         for (unsigned i = 0; i < run.of.threads; i++)
@@ -569,15 +570,15 @@ template <class Done> bool comes_to_end(const area &run, unsigned seconds, Done 
     return true;
 }
 
-// Returns whether this thread is the only one in its process. When a process is forked, another thread could hold a
-// lock.
+// Returns whether this thread is the only thread of its process. If there were a second thread, it could hold a lock during a
+// fork.
 inline bool is_alone() {
     std::error_code none;
     const std::filesystem::directory_iterator threads("/proc/self/task", none);
     return std::distance(begin(threads), end(threads)) <= 1;
 }
 
-// Makes a run in a child process. Returns the reason if the run was cut short, otherwise an empty text.
+// Performs a run in a child process. Returns the reason if the run was cut short, otherwise an empty text.
 template <class Maker> std::string made_in_child(Maker &by, area &run) {
     const pid_t process = fork();
     if (process < 0) throw no_verdict(say(NO_PROCESS, strerror(errno)));
@@ -599,7 +600,7 @@ template <class Maker> std::string made_in_child(Maker &by, area &run) {
     return run.at < OVER || ended != 0 ? say(ENDED_SO, ended) : "";
 }
 
-// Makes a run in threads of this process. Threads that hang are left running. Returns the reason if the run was cut short,
+// Performs a run in threads of this process. Threads that hang keep running. Returns the reason if the run was cut short,
 // otherwise an empty text.
 template <class Maker> std::string made_here(std::shared_ptr<Maker> by, std::shared_ptr<area> run) {
     const auto is_over = std::make_shared<std::atomic<bool>>(false);
@@ -744,7 +745,7 @@ inline std::string cut(const area &run, const std::string &path, const std::stri
 
 struct outcome {
     uint64_t seed = 0, calls = 0, overlapped = 0;
-    std::string said = "", file = "", text = "";  // about a failed run; `text` is the complete message
+    std::string said = "", file = "", text = "";  // for a failed run: the judge's output, the recording, and the complete message
 };
 
 struct number {
@@ -806,8 +807,8 @@ template <class Make, class Key> struct tester {
         return keys;
     }
 
-    // Describes the key with this number in the recording, and its set if the run has several. Returns an empty text if
-    // the number itself is the key, and the run has a single set.
+    // Describes the key that has this number in the recording and, if the run has several sets, the key's set. Returns an
+    // empty text if the number itself is the key, and the run has a single set.
     static std::string key_line(const std::string &number, const shape &it, const std::vector<K> &keys) {
         if (number.empty()) return "";
         const unsigned long at = std::stoul(number);
@@ -869,7 +870,7 @@ template <class Make, class Key> struct tester {
     verdict passed(verdict all) const {
         const bool few = is_few(all.overlapped, all.calls);
         all.text = say(few ? FEW : OK, all.calls, all.overlapped) + "; judge: " + all.judge;
-        if (few) fprintf(stderr, "listset: %s\n", all.text.c_str());  // (a test that passes can hide the verdict)
+        if (few) fprintf(stderr, "listset: %s\n", all.text.c_str());  // (the test framework can hide a passed test's output)
         all.ok = all.overlapped * 100 >= all.calls * how.at_least;
         if (!all.ok) all.text = all.said = say(TOO_FEW, all.overlapped, all.calls, how.at_least);
         return all;

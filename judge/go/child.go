@@ -21,7 +21,7 @@ import (
 // fileName is the variable that names the file with the shared memory of a run.
 const fileName = "LISTSET_AREA"
 
-// child is a process that runs a test again up to its Check, and then makes the runs of this Check.
+// child is a process that runs a test again up to its call of Check, and then performs the runs of this Check.
 type child struct {
 	*area
 	process *exec.Cmd
@@ -29,7 +29,8 @@ type child struct {
 	over    chan bool
 }
 
-// inChild returns the caller for the Check with this name. In the child process, it makes the runs and never returns.
+// inChild returns the caller (which performs the runs) for the Check with this name. In the child process, inChild
+// performs the runs and never returns.
 func inChild(name string, a *area) (caller, error) {
 	c := &child{area: a, over: make(chan bool)}
 	if os.Getenv(checkName) == name {
@@ -67,8 +68,8 @@ func (c *child) start(name, file string) error {
 	}
 	c.process = exec.Command(os.Args[0], "-test.run="+strings.Join(pieces, "/"))
 	c.process.Env = append(os.Environ(), checkName+"="+name, fileName+"="+file)
-	c.process.Stderr = io.MultiWriter(&c.errors, os.Stderr) // (the child writes its stacks there)
-	_, err := c.process.StdinPipe()                         // (this process has the other end: if it ends, the child ends too)
+	c.process.Stderr = io.MultiWriter(&c.errors, os.Stderr) // (a child that panics prints its stacks)
+	_, err := c.process.StdinPipe()                         // (this process has the write end: the child ends with this process)
 	if err == nil {
 		err = c.process.Start()
 	}
@@ -126,7 +127,7 @@ func (c *child) close() {
 	syscall.Munmap(c.memory)
 }
 
-// serve makes the runs that the parent process requests, until the parent ends.
+// serve performs the runs that the parent process requests, until the parent ends.
 func (c *child) serve() {
 	file, err := os.OpenFile(os.Getenv(fileName), os.O_RDWR, 0)
 	if err != nil || c.share(file) != nil {

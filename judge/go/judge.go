@@ -9,8 +9,8 @@
 // named by the environment variable LISTSET or, if that is not set, `listset` in PATH. LISTSET can also name a
 // listset.js, which is run with node. If LISTSET is `skip`, the test is skipped.
 //
-// On Unix, Check starts a separate process for the set, which runs this test again up to Check. If the set crashes or
-// hangs there, the calls made so far are judged.
+// On Unix, Check starts a separate process for the set, which runs this test again up to Check. If the set crashes or hangs
+// in that process, its calls so far are judged.
 package judge
 
 import (
@@ -124,7 +124,7 @@ type size struct {
 	meetsOnce                         bool
 }
 
-// rows returns the maximum number of calls of a goroutine between two saves of the recording, that is, in one part.
+// rows returns the maximum number of calls of a goroutine between two saves of the recording.
 func (s size) rows() int {
 	if most := manyPart / s.threads; most < s.calls {
 		return most
@@ -262,7 +262,7 @@ func Check[S Set](t Test, newSet func() S, options ...Options) {
 	check(t, func(int) (source, error) { return numbers(newSet), nil }, options)
 }
 
-// CheckKeys is Check for a set with keys of another type. key must return a different key for each number.
+// CheckKeys is like Check, but for a set with keys of type K. key must return a different key for each number.
 func CheckKeys[K comparable, S SetOf[K]](t Test, newSet func() S, key func(uint32) K, options ...Options) {
 	t.Helper()
 	check(t, func(keys int) (source, error) { return ofKeys(newSet, key, keys) }, options)
@@ -296,7 +296,7 @@ func check(t Test, of func(keys int) (source, error), options []Options) {
 	}
 }
 
-// checkName is the variable with the name of the Check that a child process was started for.
+// checkName is the environment variable that contains the name of a child process's Check.
 const checkName = "LISTSET_CHECK"
 
 var (
@@ -330,7 +330,7 @@ func numbers[S Set](newSet func() S) source {
 	return source{func() Set { return newSet() }, func(n uint32) string { return fmt.Sprint(n) }, false}
 }
 
-// keyed is a set with keys of another type. It is called with the numbers of its keys.
+// keyed is a set with keys of type K. It is called with numbers, which it converts to keys.
 type keyed[K any] struct {
 	set  SetOf[K]
 	keys []K
@@ -393,7 +393,7 @@ func judged(options Options, of func(keys int) (source, error), name string) (ve
 	return t.all()
 }
 
-// all makes the requested runs, each up to three times, and then more runs while few calls have overlapped.
+// all performs the requested runs, each up to three times, and then more runs as long as few calls have overlapped.
 func (t *tester) all() (verdict Verdict, err error) {
 	verdict.Judge = t.by.String()
 	began, o := time.Now(), t.options
@@ -417,7 +417,7 @@ func (t *tester) all() (verdict Verdict, err error) {
 		return verdict, err
 	}
 	if isFew(verdict.Overlapped, verdict.Calls) {
-		fmt.Fprintln(os.Stderr, verdict) // (a test that passes can hide its log)
+		fmt.Fprintln(os.Stderr, verdict) // (go test can hide the log of a test that passes)
 	}
 	if verdict.Overlapped*100 < verdict.Calls*o.AtLeast {
 		err = fmt.Errorf(sayTooFew, verdict.Overlapped, verdict.Calls, o.AtLeast)
@@ -429,7 +429,7 @@ func isWithin(since time.Time, seconds int) bool {
 	return time.Since(since) < time.Duration(seconds)*time.Second
 }
 
-// judgedRun makes a run and judges it. It returns the number of calls that overlapped a change of their key.
+// judgedRun performs a run and judges it. It returns the number of calls that overlapped a change of their key.
 func (t *tester) judgedRun(seed int64, s shape) (int, error) {
 	r, err := newRecording(seed, s.name, t.options.Record)
 	if err != nil {

@@ -30,10 +30,10 @@ const (
 	unmade
 )
 
-// slot is a call as its goroutine records it, at its begin and at its end. After an unknown outcome, the goroutine continues
-// under a new thread number.
+// slot is a recorded call. Its goroutine writes the record when the call begins, and completes the record when the call
+// ends. After an unknown outcome, the goroutine continues under a new thread number.
 type slot struct {
-	begin, end               uint32 // 0 until the call begins, or ends
+	begin, end               uint32 // begin is 0 until the call begins, end until the call ends
 	thread, call, key, reply uint32
 }
 
@@ -47,18 +47,18 @@ func (t *text) set(to string) { t.length = uint32(copy(t.bytes[:], to)) }
 
 func (t *text) String() string { return string(t.bytes[:t.length]) }
 
-// saved is the part of a run that is in the file: the length of the file, and a moment. The file has all calls that began up
-// to this moment.
+// saved describes the calls of a run that are in the file: the length of the file, and a moment. The file contains all calls
+// that began up to this moment.
 type saved struct {
 	length int64
 	moment uint32
 }
 
-// head has the numbers of a run that two processes can share: one makes the run, and the other watches it.
+// head has the numbers of a run that two processes can share: one process performs the run, and the other watches it.
 type head struct {
 	seed  int64
 	saves [2]saved
-	save  uint32 // the index of the valid element of saves: changing the index replaces both of its numbers in one step
+	save  uint32 // the index of the valid element of saves: changing the index replaces the element's two numbers in one step
 	size
 	tickets, there, done, begun uint32
 	at, isStopping, isBusy      uint32
@@ -72,7 +72,7 @@ type area struct {
 	options Options
 	source  source
 	memory  []byte
-	*head   // followed by:
+	*head   // in memory, the slots follow the head
 	slots   []slot
 }
 
@@ -94,8 +94,8 @@ func (a *area) lay(memory []byte) {
 func (a *area) saved() saved { return a.saves[atomic.LoadUint32(&a.save)] }
 
 // lines returns the lines of the calls that have not been saved, ordered by start, and the lines of the pending calls.
-// Goroutines may be making calls meanwhile: a call that begins after the start of lines is left out, and a call that ends
-// after the start of lines is pending.
+// Goroutines can begin and end calls meanwhile: a call that begins after the start of lines is left out, and a call that
+// ends after the start of lines is pending.
 func (a *area) lines() (lines, underWay string) {
 	now, since, of, begins := atomic.LoadUint32(&a.tickets), a.saved().moment, map[uint32]string{}, []uint32{}
 	for i := range a.slots[:a.threads*a.rows()] {
@@ -129,7 +129,7 @@ func (s *slot) line(end uint32) string {
 
 // ---- for the process that watches a run
 
-// caller makes runs.
+// caller performs runs.
 type caller interface {
 	begin()          // must be called when the memory of a run is ready
 	hasEnded() bool  // whether the run has ended
@@ -138,7 +138,7 @@ type caller interface {
 	close()          // frees the memory of the runs
 }
 
-// here makes runs in this process. Goroutines that hang are left running.
+// here performs runs in this process. Goroutines that hang keep running.
 type here struct{ *area }
 
 func (h *here) begin() { go h.callAll() }
@@ -151,7 +151,7 @@ func (h *here) stop() { atomic.StoreUint32(&h.isStopping, 1) }
 
 func (h *here) close() { h.stop() }
 
-// made makes the run with this seed. It returns the reason if the run was cut short.
+// made performs the run with this seed. It returns the reason if the run was cut short.
 func (a *area) made(seed int64, s size, file string, by caller) (trouble string, err error) {
 	for i := range a.memory {
 		a.memory[i] = 0
@@ -187,7 +187,7 @@ func (a *area) made(seed int64, s size, file string, by caller) (trouble string,
 	return trouble, err
 }
 
-// ---- for the process that makes a run
+// ---- for the process that performs a run
 
 // fail stores a panic. Only the first panic is kept.
 func (a *area) fail(as uint32, words string) {
@@ -197,7 +197,8 @@ func (a *area) fail(as uint32, words string) {
 	}
 }
 
-// waits waits until isDone: it polls awake times, then sleeps between polls. It returns false if the run was stopped.
+// waits waits until isDone returns true: it polls awake times, then sleeps between polls. It returns false if the run was
+// stopped.
 func (a *area) waits(awake int, isDone func() bool) bool {
 	for looks := 0; !isDone() && atomic.LoadUint32(&a.isStopping) == 0; looks++ {
 		if looks >= awake {
@@ -253,8 +254,8 @@ func (a *area) newSet() (set Set) {
 	return set
 }
 
-// lead creates the sets one after another and lets the goroutines call them, part by part. After each part, it saves its
-// calls in the file.
+// lead creates the sets one after another. The goroutines call each set in parts (a part is the calls between two saves).
+// After each part, lead saves its calls in the file.
 func (a *area) lead(on *stage) {
 	defer a.fail(failed, sayThrew)
 	file, err := os.OpenFile(a.file.String(), os.O_WRONLY, 0)
@@ -292,7 +293,7 @@ func (a *area) lead(on *stage) {
 	} else {
 		left += "end\n"
 	}
-	a.write(file, left) // (not marked as saved: the run can still be cut short)
+	a.write(file, left) // (lines not marked as saved: the run can still be cut short)
 }
 
 func (a *area) write(file *os.File, lines string) {
@@ -301,7 +302,7 @@ func (a *area) write(file *os.File, lines string) {
 	}
 }
 
-// saveLines appends lines to the file and marks all calls up to this moment as saved. Meanwhile, no goroutine makes a call.
+// saveLines appends lines to the file and marks all calls so far as saved. No goroutine is in a call meanwhile.
 func (a *area) saveLines(file *os.File, lines string) {
 	a.write(file, lines)
 	other := 1 - atomic.LoadUint32(&a.save)
@@ -319,7 +320,7 @@ func (a *area) saveOpening(file *os.File, set Set, round int) bool {
 	panic(fmt.Sprintf(sayNoOpening, mostAsked))
 }
 
-// number converts the index of a key to the number that the set is called with.
+// number converts the index of a key to the number that is passed to the set.
 func (a *area) number(key int) uint32 {
 	if a.source.isOwn {
 		return uint32(key)
@@ -327,7 +328,7 @@ func (a *area) number(key int) uint32 {
 	return uint32(key * a.times)
 }
 
-// mostAsked is the maximum number of Contains calls for a key, at the beginning or at the end, while the outcome is
+// mostAsked limits how often Contains is called for a key, at the beginning or at the end of a run, if the outcome stays
 // unknown.
 const mostAsked = 100
 
@@ -349,7 +350,7 @@ func (a *area) linesOfKeys(word string, set Set, round int) (lines string, areKn
 	return lines, areKnown
 }
 
-// callInRounds makes the calls of one goroutine, part by part.
+// callInRounds executes the calls of one goroutine, one part (the calls between two saves) after another.
 func (a *area) callInRounds(on *stage, thread int) {
 	draw, number, rows := rand.New(rand.NewSource(a.seed*64+int64(thread))), uint32(thread), a.rows()
 	for round := 0; round < a.rounds(); round++ {

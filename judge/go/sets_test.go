@@ -83,7 +83,7 @@ func (s *set) place(key uint32) uint32 {
 	return key
 }
 
-// called makes a call and loses one reply in fifty. The outcome is then unknown, or the call is repeated.
+// called executes a call, and loses one reply in fifty. After a lost reply, the outcome is unknown, or the call is repeated.
 func (s *set) called(call func(uint32) bool, key uint32) bool {
 	reply := call(s.place(key))
 	if s.is != "not known" && s.is != "again" || atomic.AddInt32(&s.calls, 1)%50 > 0 {
@@ -140,7 +140,7 @@ func (s *set) Contains(key uint32) bool {
 	return s.part(key).Contains(s.place(key))
 }
 
-// told is a test that prints the result and its kind.
+// told replaces methods of *testing.T: they print the result and its kind.
 type told struct{ *testing.T }
 
 func (told) Log(verdict ...any) { fmt.Printf("verdict: ok\n%v\n", verdict[0]) }

@@ -89,8 +89,8 @@ func firstOf(lines string) string {
 	return all[0]
 }
 
-// keyLine describes the key with this number in the recording, and its set if the run has several. It is empty if the
-// number itself is the key, and the run has a single set.
+// keyLine describes the key that has this number in the recording and, if the run has several sets, the key's set. It
+// returns an empty text if the number itself is the key, and the run has a single set.
 func keyLine(a *area, number int) string {
 	set, shown := "", a.source.shown(a.number(number%a.keys))
 	if a.sets > 1 {
@@ -129,7 +129,7 @@ func (r *recording) close() {
 type judgeFound struct {
 	name, proof string
 	answer      func(recording *os.File) (status int, said string)
-	command     []string // empty for the library
+	command     []string // empty if the judge is the library
 }
 
 // library is liblistset in a test with the tag `listset` (library.go), otherwise nil.

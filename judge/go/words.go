@@ -1,6 +1,6 @@
 package judge
 
-// Made of words.json by judge/make_words: manyPart and manyMeet in calls, manyPatience in seconds.
+// Copied from words.json by judge/make_words. manyPart and manyMeet are numbers of calls, manyPatience is in seconds.
 // made of words.json
 var presets = []shape{{"few keys", size{4, 1, 5000, 4, 1, false}}, {"fresh sets", size{4, 40, 10, 4, 1, false}}, {"multiples of 64", size{4, 1, 5000, 8, 64, false}}, {"one key", size{3, 1, 5000, 1, 1, false}}, {"sets that grow", size{4, 20, 125, 64, 1, false}}, {"many keys", size{4, 1, 2500, 1000, 1, false}}, {"multiples of 1,000", size{8, 1, 2500, 8, 1000, false}}}
 

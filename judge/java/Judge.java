@@ -68,7 +68,7 @@ public final class Judge {
 
         long allCalls() { return (long) threads * sets * calls; }
 
-        /** Returns the maximum number of calls of a thread between two saves of the recording, that is, in one part. */
+        /** Returns the maximum number of calls of a thread between two saves of the recording. */
         int rows() { return Math.min(calls, PART / threads); }
 
         int parts() { return (calls - 1) / rows() + 1; }
@@ -170,8 +170,8 @@ public final class Judge {
         }
 
         /**
-         * Sets whether sets are called in their own JVM. Otherwise this JVM ends or hangs with them, which is useful
-         * for debuggers and coverage.
+         * Sets whether sets are called in a JVM of their own. If not, sets are called in this JVM, which crashes or hangs
+         * with them. This is useful for debuggers and coverage.
          */
         public Options withOwnProcess(boolean it) { return with(made -> made.ownProcess = it); }
 
@@ -298,15 +298,15 @@ public final class Judge {
     }
 
     /**
-     * Creates a set. A method reference or lambda is sent to the other JVM, unless it refers to an object that cannot
-     * be sent.
+     * Creates a set. A method reference or lambda is sent to the JVM that calls the sets, unless it refers to an object that
+     * cannot be sent.
      */
     public interface Make<S> extends Supplier<S>, Serializable { }
 
     /** Converts a number to a key. Different numbers must have different keys. */
     public interface Keys<K> extends IntFunction<K>, Serializable { }
 
-    /** Makes a call on a set. */
+    /** Calls one operation of a set with a key. */
     public interface Call<S, K> extends BiPredicate<S, K>, Serializable { }
 
     public static Verdict judge(Make<? extends Set<Integer>> make) { return judge(make, new Options()); }
@@ -328,8 +328,8 @@ public final class Judge {
     }
 
     /**
-     * Judges sets with keys of another type. {@code keys} converts a number to a key, and must return a different key
-     * for each number.
+     * Judges sets with keys of any type. {@code keys} converts a number to a key, and must return a different key for each
+     * number.
      */
     public static <S, K> Verdict judge(Make<? extends S> make, Keys<K> keys, Call<S, K> add, Call<S, K> remove, Call<S, K> contains, Options how) {
         return Tester.judge(how, new Calls<>(make, keys, add, remove, contains));
@@ -351,7 +351,7 @@ public final class Judge {
             try {
                 throw (RuntimeException) Class.forName(name).getConstructor(String.class).newInstance(SKIPPED);
             } catch (ReflectiveOperationException another) {
-                // (the tests are run by another framework)
+                // (this framework does not run the tests)
             }
         }
         System.err.println(SKIPPED);
@@ -372,7 +372,7 @@ public final class Judge {
             }
         }
 
-        /** Makes the requested runs, each up to three times, and then more runs while few calls have overlapped. */
+        /** Performs the requested runs, each up to three times, and then more runs as long as few calls have overlapped. */
         private Verdict all() throws IOException {
             long began = System.nanoTime(), seed = how.seed;
             long[] sums = {0, 0}; // the number of calls, and the number of calls that overlapped
@@ -384,14 +384,14 @@ public final class Judge {
                 areFew(sums, seed, how.harder(how.harder(how.shapeOf(seed))));
             }
             Verdict verdict = new Verdict(sums[0], sums[1], program.toString());
-            if (isFew(sums[1], sums[0])) System.err.println(verdict); // (a test that passes can hide the verdict)
+            if (isFew(sums[1], sums[0])) System.err.println(verdict); // (the test framework can hide a passed test's output)
             if (sums[1] * 100 < sums[0] * how.atLeast) throw new TooFew(TOO_FEW.formatted(sums[1], sums[0], how.atLeast));
             return verdict;
         }
 
         private static boolean isWithin(long since, int seconds) { return System.nanoTime() - since < seconds * SECOND; }
 
-        /** Makes a run and adds its numbers to the sums. Returns whether few of its calls overlapped. */
+        /** Performs a run and adds its numbers of calls to the sums. Returns whether few of its calls overlapped. */
         private boolean areFew(long[] sums, long seed, Shape shape) throws IOException {
             long overlapped = judged(seed, shape);
             sums[0] += shape.allCalls();
@@ -399,7 +399,7 @@ public final class Judge {
             return isFew(overlapped, shape.allCalls());
         }
 
-        /** Makes a run and judges it. Returns the number of calls that overlapped a change of their key. */
+        /** Performs a run and judges it. Returns the number of calls that overlapped a change of their key. */
         private long judged(long seed, Shape shape) throws IOException {
             try (Recording recording = new Recording(seed, how.record)) {
                 Path file = recording.file;
@@ -428,8 +428,8 @@ public final class Judge {
         }
 
         /**
-         * Describes the key with this number in the recording, and its set if the run has several. Returns an empty
-         * text if the number itself is the key, and the run has a single set.
+         * Describes the key that has this number in the recording and, if the run has several sets, the key's set. Returns
+         * an empty text if the number itself is the key, and the run has a single set.
          */
         private String keyLine(int number, Shape shape) {
             String key = String.valueOf(calls.key(number % shape.keys, shape.times));
@@ -470,9 +470,9 @@ public final class Judge {
     /** The memory of a run, which JVMs can share. It contains the calls that have not been saved in the file yet. */
     private record Area(Options how, ByteBuffer memory) {
         private static final VarHandle INT = MethodHandles.byteBufferViewVarHandle(int[].class, ByteOrder.nativeOrder());
-        // Offsets in the memory. IS_HERE: whether the other JVM has started. SAVES: two records of the part that is saved in
-        // the file, each with the length of the file as a long and a moment; the file has all calls that began up to this
-        // moment. SAVE: the index of the valid record. SHAPE: six numbers. WHY and FILE: texts.
+        // Offsets in the memory. IS_HERE: whether the child JVM has started. SAVES: two records about the calls that are
+        // saved in the file, each with the length of the file as a long and a moment; the file contains all calls that began
+        // up to this moment. SAVE: the index of the valid record. SHAPE: six numbers. WHY and FILE: texts.
         private static final int TICKETS = 0, THERE = 4, DONE = 8, BEGUN = 12, AT = 16, STOPPING = 20, IS_HERE = 24, IS_BUSY = 28, SEED = 32, SAVE = 40,
             SAVES = 48, SAVED = 16, MOMENT = 8, SHAPE = SAVES + 2 * SAVED, WHY = SHAPE + 24, FILE = WHY + 4 + 240, SLOTS = FILE + 4 + 1024;
         private static final int BEGIN = 0, END = 4, CALL = 8, KEY = 12, REPLY = 16, THREAD = 20, SLOT = 24; // offsets in a call; the calls of one thread are adjacent in the memory
@@ -543,7 +543,7 @@ public final class Judge {
             }
         }
 
-        /** Appends lines to the file and marks all calls up to this moment as saved. Meanwhile, no thread makes a call. */
+        /** Appends lines to the file and marks all calls so far as saved. No thread is in a call meanwhile. */
         void save(String lines) throws IOException {
             int other = 1 - get(SAVE);
             memory.putLong(SAVES + other * SAVED, write(lines)).putInt(SAVES + other * SAVED + MOMENT, get(TICKETS));
@@ -551,8 +551,8 @@ public final class Judge {
         }
 
         /**
-         * Returns the calls that have not been saved, ordered by start. Threads may be making calls meanwhile: a call that
-         * begins after the start of this method is left out, and a call that ends after the start of this method is
+         * Returns the calls that have not been saved, ordered by start. Threads can begin and end calls meanwhile: a call
+         * that begins after the start of this method is left out, and a call that ends after the start of this method is
          * pending.
          */
         private List<Row> rows() {
@@ -576,7 +576,8 @@ public final class Judge {
 
     /** The threads of a run, and the set that they call. */
     private record Play<S, K>(Area area, Calls<S, K> calls, Shape of, AtomicReference<S> set) {
-        private static final int MOST_ASKED = 100; // the maximum number of contains calls for a key, at the beginning or at the end, while the outcome is unknown
+        // How often contains is called for a key at most, at the beginning or at the end of a run, if the outcome stays unknown.
+        private static final int MOST_ASKED = 100;
 
         void all(boolean interrupts) {
             List<Thread> threads = new ArrayList<>();
@@ -612,15 +613,15 @@ public final class Judge {
                 does.run();
             } catch (Throwable why) {
                 if (area.next(Area.STOPPING) > 1) return;
-                why.printStackTrace(); // (before the other JVM reads AT and ends this JVM)
+                why.printStackTrace(); // (before AT is set, because the parent JVM then ends this JVM)
                 area.putText(Area.WHY, Area.FILE - Area.WHY, (as == Area.UNMADE ? NOT_MADE : THREW).formatted(why));
                 area.set(Area.AT, as);
             }
         }
 
         /**
-         * Waits until {@code isDone}: polls {@code awake} times, then sleeps between polls. Returns false if the run
-         * was stopped.
+         * Waits until {@code isDone} returns true: polls {@code awake} times, then sleeps between polls. Returns false if
+         * the run was stopped.
          */
         private boolean waits(int awake, BooleanSupplier isDone) {
             for (int looks = 0; !isDone.getAsBoolean() && area.get(Area.STOPPING) == 0; looks++) {
@@ -643,8 +644,8 @@ public final class Judge {
         }
 
         /**
-         * Creates the sets one after another and lets the threads call them, part by part. After each part, saves its
-         * calls in the file.
+         * Creates the sets one after another. The threads call each set in parts (a part is the calls between two saves).
+         * After each part, saves its calls in the file.
          */
         private void lead() throws IOException {
             List<String> left = new ArrayList<>();
@@ -663,7 +664,7 @@ public final class Judge {
                 if (area.get(Area.STOPPING) > 0) return; // (the run was cut short)
                 area.save(area.lines());
             }
-            area.write(left.contains(null) ? "cut\n" : String.join("", left) + "end\n"); // (not marked as saved: the run can still be cut short)
+            area.write(left.contains(null) ? "cut\n" : String.join("", left) + "end\n"); // (lines not marked as saved: the run can still be cut short)
         }
 
         private String opening(int round) {
@@ -688,7 +689,7 @@ public final class Judge {
             return lines.toString();
         }
 
-        /** Makes the calls of one thread, part by part. */
+        /** Executes the calls of one thread, one part (the calls between two saves) after another. */
         private void callInRounds(int thread) {
             SplittableRandom draw = new SplittableRandom(area.memory.getLong(Area.SEED) * 64 + thread);
             int number = thread;
@@ -722,7 +723,7 @@ public final class Judge {
     }
 
     /**
-     * Makes runs one after another: in another JVM, which ends when its input ends, or in this JVM if {@code process} is
+     * Performs runs one after another: in a child JVM, which ends when its input ends, or in this JVM if {@code process} is
      * null.
      */
     private record Caller<S, K>(Calls<S, K> calls, Options how, Area area, Process process) implements AutoCloseable {
@@ -736,7 +737,7 @@ public final class Judge {
             return new Caller<>(calls, how, new Area(how, ByteBuffer.allocateDirect(Area.SIZE)), null);
         }
 
-        /** Starts the other JVM. Returns null if the calls cannot be sent to it, or if it cannot create a set. */
+        /** Starts the child JVM. Returns null if the child JVM cannot receive the calls, or cannot create a set. */
         private static <S, K> Caller<S, K> inChild(Calls<S, K> calls, Options how) throws IOException, ClassNotFoundException, URISyntaxException {
             byte[] given = written(how, calls);
             if (!isReadBackUnchanged(given)) return null;
@@ -774,7 +775,7 @@ public final class Judge {
             }
         }
 
-        /** Makes the run with this seed. Returns the reason if the run was cut short, otherwise null. */
+        /** Performs the run with this seed. Returns the reason if the run was cut short, otherwise null. */
         String made(long seed, Shape of, Path file) {
             area.begin(seed, of, file);
             if (process == null) start(() -> area.callAll(calls, false));
@@ -798,14 +799,14 @@ public final class Judge {
             return false;
         }
 
-        /** Ends the other JVM. Threads of this JVM that hang are left running. */
+        /** Ends the child JVM. Threads of this JVM that hang keep running. */
         @Override public void close() {
             if (process == null) area.next(Area.STOPPING);
             else process.destroyForcibly().onExit().join();
         }
     }
 
-    /** The main class of the other JVM. */
+    /** The main class of the child JVM. */
     private static final class Child {
         static Process started(String path, Path file) throws IOException {
             return new ProcessBuilder(Path.of(System.getProperty("java.home"), "bin", "java").toString(),

@@ -39,7 +39,8 @@ from typing import Any, Callable
 __all__ = ["CutShort", "Failed", "NoVerdict", "NotLinearizable", "TooFew", "Verdict", "judge"]
 
 GOING, ENDED, UNMADE = range(3)
-MOST_ASKED = 100  # the maximum number of `contains` calls for a key, at the beginning or at the end, while the outcome is unknown
+# How often `contains` is called for a key at most, at the beginning or at the end of a run, if the outcome stays unknown.
+MOST_ASKED = 100
 WORDS = ADD, REMOVE, CONTAINS = "add", "remove", "contains"
 NO, YES, UNKNOWN = range(3)
 FIRST_LINE = "listset-calls 1\n"
@@ -268,8 +269,8 @@ class Tester:
         self.make, self.how, self.by, self.calls, self.overlapped = make, how, Judge(), 0, 0
 
     def all(self) -> Verdict:
-        """Makes the requested runs, each up to three times, and then more runs while few calls have overlapped. Raises the
-        error of a failed run.
+        """Performs the requested runs, each up to three times, and then more runs as long as few calls have overlapped.
+        Raises the error of a failed run.
         """
         __tracebackhide__ = True  # (pytest then shows only the line of the test)
         began, how = time.monotonic(), self.how
@@ -288,7 +289,7 @@ class Tester:
         return Verdict(self.calls, self.overlapped, str(self.by))
 
     def judged_run(self, seed: int, shape: Shape) -> bool:
-        """Makes a run and judges it. Returns whether few of its calls overlapped. Raises if the run failed."""
+        """Performs a run and judges it. Returns whether few of its calls overlapped. Raises if the run failed."""
         __tracebackhide__ = True
         self.how.check_keys(shape)
         file, is_kept = recording_of(seed, self.how.record), self.how.record is not None
@@ -309,8 +310,8 @@ class Tester:
         return is_few(overlapped, calls)
 
     def key_line(self, number: str, shape: Shape) -> str:
-        """Describes the key with this number in the recording, and its set if the run has several. Returns an empty
-        text if the number itself is the key, and the run has a single set.
+        """Describes the key that has this number in the recording and, if the run has several sets, the key's set. Returns an
+        empty text if the number itself is the key, and the run has a single set.
         """
         one, at = divmod(int(number or 0), shape.keys)
         key = repr(self.how.key_of(at, shape))
@@ -356,19 +357,20 @@ def key_in(refused: str) -> str:
 
 
 class Run:
-    """A run. Its calls are recorded in memory that is shared with the set's own process, and are saved in the file part by
-    part.
+    """A run. Its calls are recorded in memory that is shared with the set's own process, and are saved in the file while the
+    run continues.
     """
 
-    SLOT, COUNT = struct.Struct("=IIIIBB"), struct.Struct("=Q")  # a call: begin, end (or 0), thread, key, operation, reply; the progress of a thread
-    SAVED = struct.Struct("=QI")  # the length of the file, and the begin of the last call in it
-    AT = 240  # the offset of the run's progress, after the error
+    # SLOT is a call: begin, end (or 0), thread, key, operation, reply. COUNT is a thread's progress.
+    SLOT, COUNT = struct.Struct("=IIIIBB"), struct.Struct("=Q")
+    SAVED = struct.Struct("=QI")  # the length of the file, and the moment when the last call in the file began
+    AT = 240  # the offset of the run's progress in the memory; the error precedes it
 
     def __init__(self, make, how, shape, seed, file):
         self.make, self.how, self.shape, self.seed, self.file = make, how, shape, seed, file
         self.tickets, self.there = itertools.count(1), threading.Barrier(shape.threads + 1)
-        self.most = min(shape.calls, PART // shape.threads)  # the maximum number of calls of a thread in a part
-        self.parts = -(-shape.calls // self.most)  # the number of parts of each set
+        self.most = min(shape.calls, PART // shape.threads)  # the maximum number of calls of a thread in a part, between two saves
+        self.parts = -(-shape.calls // self.most)  # the number of parts into which the calls on each set are divided
         self.rounds = shape.sets * self.parts
         # The memory contains, in this order: the error; the progress of the run, of each thread and of `contains`; the
         # numbers in SAVED; the calls.
@@ -393,8 +395,8 @@ class Run:
     # ---- in the process that watches the run
 
     def ended(self):
-        """Makes the run. Returns two texts: the reason if the run was cut short, and the pending calls. Both are empty if the
-        run was completed. If the run was cut short, writes the last calls.
+        """Performs the run. Returns two texts: the reason if the run was cut short, and the pending calls. Both texts are
+        empty if the run was completed. If the run was cut short, writes the last calls to the file.
         """
         is_own = self.how.own_process and hasattr(os, "fork") and threading.active_count() == 1
         trouble = self.made_in_child() if is_own else self.made_here()
@@ -414,7 +416,7 @@ class Run:
         return trouble, AND_MORE % (first, len(pending) - 1) if len(pending) > 1 else first
 
     def made_in_child(self):
-        """Makes the run in a child process. Returns the reason if the run was cut short."""
+        """Performs the run in a child process. Returns the reason if the run was cut short."""
         child, status = os.fork(), []
         if child == 0:
             try:
@@ -440,7 +442,7 @@ class Run:
         return ENDED_SO % ended if ended or self.slots[self.AT] == GOING and not self.slots[0] else ""
 
     def made_here(self):
-        """Makes the run in threads of this process. Threads that hang are left running. Returns the reason if the run was cut
+        """Performs the run in threads of this process. Threads that hang keep running. Returns the reason if the run was cut
         short.
         """
         leader = threading.Thread(target=self.make_all, daemon=True)
@@ -489,8 +491,8 @@ class Run:
         self.slots[self.AT] = self.slots[self.AT] or ENDED
 
     def lead(self):
-        """Creates the sets one after another and lets the threads call them, part by part. After each part, writes its calls
-        to the file.
+        """Creates the sets one after another. The threads call each set in parts (a part is the calls between two saves).
+        After each part, writes its calls to the file.
         """
         left = []
         try:
@@ -510,7 +512,7 @@ class Run:
                     if self.there.broken:  # (the run was cut short)
                         return
                     self.save(file, map(line_of, rows), rows[-1].begin)
-                # (not marked as saved: the run can still be cut short)
+                # (lines not marked as saved: the run can still be cut short)
                 file.write("".join([*left, "end\n"] if None not in left else ["cut\n"]).encode())
         except threading.BrokenBarrierError:
             pass
@@ -518,7 +520,7 @@ class Run:
             self.there.abort()
 
     def save(self, file, lines, last):
-        """Appends lines to the file and marks all calls as saved up to the call that began at the moment `last`."""
+        """Appends lines to the file, and marks all calls that began up to the moment `last` as saved."""
         text = "".join(lines).encode()
         file.write(text)
         # (if the process ends before this step, its last calls are only in memory)
@@ -562,7 +564,7 @@ class Run:
     # ---- the threads that call the sets
 
     def call_in_rounds(self, thread):
-        """Makes the calls of one thread, part by part."""
+        """Executes the calls of one thread, one part (the calls between two saves) after another."""
         draw, number = random.Random(self.seed * 64 + thread), thread
         try:
             for one in range(self.rounds):
@@ -578,18 +580,20 @@ class Run:
             self.there.abort()
 
     def call(self, places, of_set, thread, number, draw):
-        """Makes calls. Returns the number of the thread: it changes after an unknown reply."""
+        """Executes calls, and records them in the slots `places`. Returns the number of the thread, which changes after an
+        unknown reply.
+        """
         before, keys, few = sys.gettrace(), self.shape.keys, min(HOT, self.shape.keys)
         drawn = [word for word, share in enumerate(self.how.shares) for _ in range(share)]
         tracer = pausing(self.how.pauses, random.Random(draw.random()), before) if self.how.pauses else before
         try:
             for at in places:
                 word, number_of_key = draw.choice(drawn), draw.randrange(few if keys > 2 * HOT and draw.random() < 0.5 else keys)
-                if self.how.pauses:  # (with many keys, only calls of frequent keys pause)
+                if self.how.pauses:  # (if there are many keys, the thread pauses only in calls on the frequent keys)
                     sys.settrace(tracer if keys <= 64 or number_of_key < few else before)
                 key, at_slot, written = self.how.key_of(number_of_key, self.shape), self.at_slots + at * self.SLOT.size, of_set + number_of_key
                 self.count(thread, at)
-                begin = next(self.tickets)  # (a single step of the interpreter, so each call gets another number)
+                begin = next(self.tickets)  # (`next` is a single step of the interpreter, so no two calls get the same number)
                 self.SLOT.pack_into(self.slots, at_slot, begin, 0, number, written, word, NO)
                 reply = self.replies_of[word](key)
                 reply = UNKNOWN if reply is None else YES if reply else NO

@@ -17,7 +17,7 @@ import socket
 import threading
 import time
 
-OPENING = 30  # seconds to open a connection again while the server restarts
+OPENING = 30  # for how many seconds opening a connection is retried while the server restarts
 
 
 class Connection:
@@ -86,7 +86,7 @@ class Server:
 
 
 class Redis(Server):
-    """A set in Redis. Each set has a new name, so a late call on an earlier set has no effect on it."""
+    """A set in Redis. Each set has a new name, so a late call on an earlier set has no effect on the new set."""
 
     REPLIES, made = {":1": True, ":0": False}, 0
 

@@ -16,9 +16,9 @@ import scala.collection.concurrent.TrieMap;
 import static java.util.Collections.synchronizedSet;
 
 /**
- * Judges the sets of Java, JCTools, H2, Scala and commons-collections, each in a number of tests. The first argument is the
- * number of tests. An optional second argument is the name of the only set to judge. Prints a row of the table for each set,
- * and the shortest refusal on standard error.
+ * Judges sets built on the libraries of Java, JCTools, H2, Scala and commons-collections. The first argument is the number
+ * of tests for each set. An optional second argument is the name of the only set to judge. Prints a row of the table for
+ * each set, and the shortest refusal on standard error.
  */
 final class Published {
     private static int tests = 1;

@@ -1,4 +1,5 @@
-// Judges the sets of libcds (Debian's package libcds-dev), each in a number of tests:
+// Judges the sets of libcds (Debian's package libcds-dev). The first argument is the number of
+// tests for each set:
 //     g++ -O2 -std=c++17 -pthread libcds.cpp -lcds -o libcds && ./libcds 20
 #include "tests.hpp"
 #include <cds/container/cuckoo_set.h>

@@ -1,5 +1,5 @@
-// Judges the sets of TBB, liburcu and Concurrency Kit (Debian's packages libtbb-dev, liburcu-dev, libck-dev), each in a
-// number of tests:
+// Judges the sets of TBB, liburcu and Concurrency Kit (Debian's packages libtbb-dev, liburcu-dev, libck-dev). The first
+// argument is the number of tests for each set:
 //     g++ -O2 -std=c++17 -pthread others.cpp -ltbb -lurcu-cds -lurcu -lck -o others && ./others 20
 #include "tests.hpp"
 #include <mutex>
@@ -19,7 +19,7 @@ struct Tbb {
 
 constexpr unsigned long hash_of(unsigned long key) { return key * 0x9E3779B97F4A7C15; }
 
-// A set with one writer at a time. Its readers need no lock.
+// A set of Concurrency Kit. Writers use a lock, readers do not.
 struct Ck {
     ck_hs_t keys;
     std::mutex writers;

@@ -1,4 +1,5 @@
-// Package published judges the sets of Go and of golang-lru, each in a number of tests that the variable TESTS sets.
+// Package published judges sets built on Go's standard library and on golang-lru. The environment variable TESTS is
+// the number of tests for each set.
 package published
 
 import (

@@ -1,5 +1,6 @@
-"""Judges Redis in a number of tests, and also Redis with a `contains` that reads from a replica: redis.py TESTS. Starts the
-servers on the loopback. Prints a row of the table for each, and the shortest refusal on standard error.
+"""Judges a set in Redis, and also a set in Redis with a `contains` that reads from a replica: redis.py TESTS. TESTS is the
+number of tests for each of the two sets. Starts the servers on the loopback. Prints a row of the table for each, and the
+shortest refusal on standard error.
 """
 
 import contextlib

@@ -20,13 +20,13 @@ SECTIONS = {it.split("\n")[0]: re.sub(r"`|\*\*", "", it) for it in PAGE}
 
 
 def row_of(step, then):
-    """Parses a row: its step, and what to do after the step."""
+    """Parses a table row: its step, and the actions after the step."""
     then = then.replace("if pred is", "pred is").replace(" that there is none", " nothing").removesuffix(" whatever was seen")
     return step.split(), [it.strip() for it in then.split(";")]
 
 
 def rows_of(text):
-    """Parses the rows of a table. A row has a number, a step, and what to do after it."""
+    """Parses the rows of a table. A row has a number, a step, and the actions after the step."""
     cells = re.findall(r"^\|? *(\d+) \|([^|]*)\|([^|\n]*)", text, re.M)
     return {int(number): row_of(step.strip(), then.strip()) for number, step, then in cells}
 
@@ -141,12 +141,12 @@ class List:
             setattr(it, name, 0)
 
     def node(self, t, name):
-        """Returns the node that a name in a row means."""
+        """Returns the node that a name in a table row refers to."""
         own = 2 + t * self.quota + (0 if self.lacks == "new-slot" else self.threads[t].used)
         return {"head": 0, "own": own}[name] if name in ("head", "own") else getattr(self.threads[t], name)
 
     def index(self, t, name):
-        """Returns the index of the word that a name in a row means."""
+        """Returns the index of the word that a name in a table row refers to."""
         node, part = name.split(".")
         return 0 if node == "list" else 3 + 3 * self.node(t, node) + ["key", "link", "lock"].index(part)
 

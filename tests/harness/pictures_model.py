@@ -99,8 +99,8 @@ class Drawn:
         return [f"refused {self.picture.refusal.said}"] if self.picture.refusal else []
 
     def side(self, place):
-        """Returns whether an entry of the order is before the drawn moments (-1), in them (0) or after them (1). Decides by
-        the linearization point or, if there is none, by the start and the end of the call. Returns None for an unknown call.
+        """Returns -1, 0 or 1 if an entry of the order is before, within or after the drawn moments. Decides by the
+        linearization point or, if there is none, by the start and the end of the call. Returns None for an unknown call.
         """
         first = last = place.at
         if not self.has_points:

@@ -1,5 +1,5 @@
 """Runs a program to its end and returns its status and outputs (`ran`), or only its output if it must succeed (`well`). Also
-waits for conditions, and kills the processes of a folder.
+waits for conditions, and kills the processes that run in a folder.
 """
 
 import contextlib

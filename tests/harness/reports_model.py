@@ -34,7 +34,7 @@ def read_report(text):
 
 
 def faults_of(report):
-    """Yields the reasons why an order is refused, in the order of the checks."""
+    """Yields each reason to refuse the order of a report. The checks run in the same sequence as in the program."""
     def about(said, number):
         """Returns a refusal that concerns a call. The picture begins at this call."""
         return Refusal(said, report.calls[number].begun, None)
@@ -55,8 +55,8 @@ def faults_of(report):
 
 
 def wrong_replies(report):
-    """Yields each call with a wrong reply in the order, and the message: the reply differs from the reply in the history or
-    of the set.
+    """Yields each call with a wrong reply in the order of a report, and the message: the history has a different reply for
+    the call, or the set returns one.
     """
     held, after = SetModel(report.quota, report.opening), {0: "at first", 1: "after place 1", 2: "after places 1 and 2"}
     for place, (it, says) in enumerate(report.order):
@@ -134,8 +134,8 @@ def report_text(it):
 
 
 def damage(draw, it):
-    """Damages a report at random. An entry of the order is lost, duplicated, moved, or changed to another reply or an unknown
-    call; or a call ends with another reply; or final keys are lost, added, or reordered.
+    """Damages a report at random. An entry of the order is lost, duplicated, moved, or changed to a different reply or an
+    unknown call; or a call ends with a different reply; or final keys are lost, added, or reordered.
     """
     at, other = (draw.randrange(max(1, len(it.order))) for _ in range(2))
     number, reply = it.order[at] if it.order else (0, "true")

@@ -40,7 +40,7 @@ class SetModel:
         return self.quota is None or self.added[thread] < self.quota
 
     def reply(self, thread, word, key):
-        """Makes a call and returns its reply."""
+        """Executes a call and returns the reply."""
         reply = reply_of(word, key, self.keys, self.has_room(thread))
         if word in CHANGES and reply == "true":
             self.change(thread, word, key)

@@ -49,11 +49,11 @@ impl Error for Wrong {}
 /// The part of a run to draw. `None` selects the beginning, the end, or the default width.
 #[derive(Clone, Copy, Debug, Default)]
 pub struct Window {
-    /// The first moment.
+    /// The first moment to draw.
     pub from: Option<u32>,
-    /// The last moment.
+    /// The last moment to draw.
     pub to: Option<u32>,
-    /// The number of columns.
+    /// The number of columns of the picture.
     pub width: Option<u32>,
 }
 

@@ -12,7 +12,7 @@ const POLL: Duration = Duration::from_micros(50);
 const LONG: Duration = Duration::from_millis(5);
 const MOST_OPENING: u64 = 1 << 20;
 
-/// A set that renews itself: when a seat has used up its quota, the set is closed and another one is opened with its
+/// A set that renews itself: when a seat has used up its quota, the set is closed, and a new set is opened with the same
 /// keys.
 ///
 /// A thread gets its own seat from [`RenewedSet::split`], and returns it by dropping it. Calls wait during a renewal.
@@ -39,8 +39,8 @@ pub struct RenewedSet {
     list: List,
     quota: u32,
     patience: Duration,
-    renewing: Mutex<()>,   // Must be locked before a thread locks all places.
-    is_wanted: AtomicBool, // A thread has waited long for the places, so the next calls of other threads wait for it.
+    renewing: Mutex<()>,   // A thread locks this before it locks all places (the seats with their locks).
+    is_wanted: AtomicBool, // Whether a thread has waited so long for the locks that new calls of other threads must wait.
     places: Vec<Place>,
 }
 
@@ -57,7 +57,7 @@ struct Place {
 struct Part {
     seat: Seat,
     stage: Stage,
-    /// The number of keys that the set had when it was last opened. Only the first place has this number.
+    /// The number of keys that the set had when it was last opened. Only the number in the first place is used.
     opened_with: u64,
     /// The number of keys that this seat has added since the set was last opened.
     adds: u64,
@@ -65,7 +65,8 @@ struct Part {
     removes: u64,
 }
 
-/// The stage of the set. It is the same in all places, and changes only while all places are locked.
+/// The stage of the set. Each place (a seat with its lock) stores the same stage, which changes only while all places are
+/// locked.
 #[derive(Clone, Copy, Debug, PartialEq)]
 enum Stage {
     Open,
@@ -73,14 +74,14 @@ enum Stage {
     Closed,
 }
 
-/// The locks of all places, and the index of the caller's place. The fields are dropped in this order.
+/// The locks of all places (the seats of the set), and the index of the caller's place. The fields are dropped in this order.
 struct All<'a> {
     parts: Vec<MutexGuard<'a, Part>>,
     mine: usize,
     _wanted: Wanted<'a>,
 }
 
-/// The right to lock all places.
+/// The right to lock all places (the seats of the set), which only one thread has at a time.
 struct Wanted<'a> {
     set: &'a RenewedSet,
     _one: MutexGuard<'a, ()>,
@@ -118,7 +119,7 @@ impl All<'_> {
             - self.parts.iter().map(|it| it.removes).sum::<u64>()
     }
 
-    /// Makes a call with all seats. If the call fails, the stage becomes `ToBeRenewed`.
+    /// Sets the stage to `ToBeRenewed`, and calls `call` with all seats. If `call` succeeds, the caller sets the next stage.
     fn by_all(&mut self, call: impl FnOnce(&mut [Seat]) -> Result<(), Fault>) -> Result<(), Fault> {
         self.set_stage(Stage::ToBeRenewed);
         let taken = |it: &mut MutexGuard<Part>| std::mem::replace(&mut it.seat, Seat { raw: NONE });
@@ -195,12 +196,13 @@ impl RenewedSet {
         Ok(keys)
     }
 
-    /// Locks `lock`. The thread that holds `lock` can be in a `ceiling` of a lock-free list, which may retry until another
-    /// call unlinks a marked node. An `add` from the place `helper` unlinks the node, and changes no key if the seat of
-    /// `helper` has used up its quota.
+    /// Locks `lock`. The holder of `lock` can be in a `ceiling` on a lock-free list, which may retry until another call
+    /// unlinks a marked node. So the waiting thread calls `add` with the seat in `helper`, if this seat has used up its
+    /// quota: the `add` unlinks the node, and changes no key.
     ///
-    /// A thread with a helper locks all places. After 5 ms, the next calls of other threads wait for this thread, unless such
-    /// a call could be needed to unlink the node.
+    /// `helper` is the caller's own place (its seat with the seat's lock) if the caller is locking all places, otherwise
+    /// `None`. If such a caller has waited for 5 ms, new calls of other threads wait for the caller, unless such a call could
+    /// be needed to unlink the node.
     fn taken<'a, T>(&self, lock: &'a Mutex<T>, mut helper: Option<&mut Part>) -> Result<MutexGuard<'a, T>, Fault> {
         let begun = Instant::now();
         loop {
@@ -223,7 +225,7 @@ impl RenewedSet {
         }
     }
 
-    /// Locks all places. The caller's place is locked first.
+    /// Locks all places (the seats of the set). The caller's place, which has the index `mine`, is locked first.
     fn all(&self, mine: usize) -> Result<All<'_>, Fault> {
         let wanted = Wanted { set: self, _one: self.taken(&self.renewing, None)? };
         let mut own = self.taken(&self.places[mine].part, None)?;
@@ -239,7 +241,8 @@ impl RenewedSet {
         Ok(All { parts, mine, _wanted: wanted })
     }
 
-    /// Makes a call from a place. If an allocation failed during the last renewal, renews the set first.
+    /// Calls `call` with the part (the seat and its counts) at index `place`. If an allocation failed during the last
+    /// renewal, renews the set first.
     fn by<T>(&self, place: usize, call: impl FnOnce(&mut Part) -> T) -> Result<T, Fault> {
         loop {
             if self.is_wanted.load(Ordering::Acquire) {
@@ -257,7 +260,8 @@ impl RenewedSet {
         }
     }
 
-    /// Renews the set and adds a key from a place. Called if the seat of this place has used up its quota.
+    /// Adds a key with the seat at index `place`, after an `add` returned `Full`. Renews the set if an earlier renewal
+    /// failed, or if `add` returns `Full` again, unless no renewal can help (the quota is 0, or the set has too many keys).
     fn add_renewed(&self, place: usize, key: u32) -> Result<Added, Fault> {
         let mut all = self.all(place)?;
         if all.stage() == Stage::Open {
@@ -325,8 +329,8 @@ mod tests {
 
     use super::*;
 
-    /// Tests calls of other threads while a thread stays in a call: they time out and have no effect. Once that call has
-    /// ended, calls succeed again.
+    /// Tests calls of other threads while one thread stays in a call: the calls time out and have no effect. Once the
+    /// thread's call has ended, calls succeed again.
     #[test]
     fn a_call_that_does_not_return_makes_others_time_out() {
         let set = RenewedSet::open(List::Lazy, 2, 1, &[]).unwrap().with_patience(Duration::from_millis(20));
@@ -342,8 +346,8 @@ mod tests {
         assert_eq!((set.close(), set.keys()), (Err(Fault::Closed), Err(Fault::Closed)));
     }
 
-    /// Tests a call without a time limit while another thread stays in a call: it waits, and is made when the other call has
-    /// ended.
+    /// Tests a call without a time limit while another thread stays in a call: the call waits, and succeeds when the other
+    /// thread's call has ended.
     #[test]
     fn a_call_without_patience_waits() {
         for list in [List::Lazy, List::LockFree] {

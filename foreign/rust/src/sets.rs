@@ -167,7 +167,8 @@ unsafe impl Send for Seat {}
 // requires `Sync`.)
 unsafe impl Sync for Seat {}
 
-/// A receipt, which records everything that a seat had seen when it issued the receipt. It can be passed to any thread.
+/// A receipt, which covers the earlier calls of the seat that issued the receipt, of all seats that this seat had gathered,
+/// and of all receipts that this seat had accepted. It can be passed to any thread.
 #[derive(Debug)]
 pub struct Receipt {
     raw: Raw,
@@ -245,21 +246,21 @@ pub fn renew(seats: Vec<Seat>, list: List, count: u32, quota: u32) -> Result<Vec
     }
 }
 
-/// Renews a set. The places must contain all seats of the set, or the first place must contain the closed set. The other
-/// places may be empty.
+/// Renews a set. The slice `places` must contain all seats of the set, or begin with the closed set. All other elements may be
+/// empty.
 pub(crate) fn renew_in(places: &mut [Seat], list: List, count: u32, quota: u32) -> Result<(), Fault> {
     // SAFETY: the pointers point to an array of seats that only the caller has. No other set in this program has this number.
     by_all(places, |raws, many| unsafe { listset_renew(raws, many, list as u8, count, quota, next_number()) })
 }
 
-/// Closes a set. The places must contain all seats of the set, and can be empty otherwise. Afterwards, the first place
-/// contains the closed set.
+/// Closes a set. The slice `places` must contain all seats of the set; all other elements may be empty. Afterwards, the first
+/// element is the closed set.
 pub(crate) fn close_in(places: &mut [Seat]) -> Result<(), Fault> {
     // SAFETY: the pointer points to an array of seats that only the caller has.
     by_all(places, |raws, many| unsafe { listset_close_all(raws, many) })
 }
 
-/// Makes a call with an array of all seats in these places.
+/// Calls `call` with an array of the seats in `places`.
 fn by_all(places: &mut [Seat], call: impl FnOnce(*mut Raw, usize) -> u8) -> Result<(), Fault> {
     let mut raws: Vec<Raw> = places.iter_mut().map(|it| replace(&mut it.raw, NONE)).collect();
     let code = call(raws.as_mut_ptr(), raws.len());
@@ -269,13 +270,13 @@ fn by_all(places: &mut [Seat], call: impl FnOnce(*mut Raw, usize) -> u8) -> Resu
 
 /// Returns the keys of a closed set; `None` for any other seat.
 pub(crate) fn keys_of(closed: &mut Raw) -> Option<Vec<u32>> {
-    // SAFETY: only the caller has the seat, and the buffer has no places.
+    // SAFETY: only the caller has the seat, and the buffer has the length 0.
     let count = unsafe { listset_keys(closed, [].as_mut_ptr(), 0) };
     if count == usize::MAX {
         return None;
     }
     let mut keys = vec![0; count];
-    // SAFETY: only the caller has the seat, and the buffer has `count` places.
+    // SAFETY: only the caller has the seat, and the buffer has the length `count`.
     unsafe { listset_keys(closed, keys.as_mut_ptr(), count) };
     Some(keys)
 }
@@ -320,7 +321,7 @@ impl Seat {
         }
     }
 
-    /// Returns a receipt of everything that this seat has seen, to pass to [`Seat::after`] in another thread.
+    /// Returns a receipt that covers this seat's calls so far. Pass the receipt to [`Seat::after`] of another thread's seat.
     pub fn receipt(&mut self) -> Result<Receipt, Fault> {
         let mut made = Receipt { raw: NONE };
         told(unsafe { listset_receipt_of(&mut self.raw, &mut made.raw) })?;

@@ -70,7 +70,8 @@ impl Shared {
         all.close()
     }
 
-    /// Makes a call from a free seat. Threads start their search at different places, if there are enough places.
+    /// Calls `call` with a free seat. Threads begin their search for a free seat at different seats, if there are enough
+    /// seats.
     fn by<T>(&self, call: impl FnOnce(&mut Seat) -> T) -> T {
         static THREADS: AtomicUsize = AtomicUsize::new(0);
         thread_local!(static MINE: usize = THREADS.fetch_add(1, Ordering::Relaxed));
@@ -92,7 +93,7 @@ mod tests {
 
     use super::*;
 
-    /// Makes one call of each operation in a thread. Returns the replies, or `None` if they do not arrive.
+    /// Executes one call of each operation in a thread. Returns the replies, or `None` if they do not arrive.
     fn calls_in_a_thread(set: &Arc<Shared>) -> Option<(Added, bool, Option<u32>, bool)> {
         let (set, (told, heard)) = (Arc::clone(set), mpsc::channel());
         std::thread::spawn(move || told.send((set.add(7), set.contains(7), set.ceiling(0), set.remove(7))));

@@ -49,7 +49,7 @@ fn each_list_keeps_what_its_threads_put_in() {
             let split = seats[0].split().unwrap();
             seats.push(split);
         }
-        // On this list, several threads in `ceiling` calls could wait for a `remove` that no thread makes.
+        // On a lock-free list, several threads in `ceiling` calls could wait for a `remove` that no thread calls.
         let kinds = if list == List::LockFree { 3 } else { 4 };
         let left: BTreeSet<u32> = scope(|threads| {
             let run = |(thread, seat)| threads.spawn(move || calls_of(seat, thread, kinds));
@@ -92,8 +92,8 @@ fn a_shared_set_uses_the_quota_of_each_seat() {
     assert_eq!(Shared::open(List::Lazy, 0, 1, &[]).err(), Some(Fault::Seats));
 }
 
-/// Checks that the number of adds that return true is the sum of all quotas, whichever threads make them, and that exactly
-/// these keys remain.
+/// Checks that the number of adds that return true is the sum of all quotas, whichever threads call `add`, and that exactly
+/// the added keys remain.
 #[test]
 fn threads_use_the_quota_of_each_seat() {
     for (seats, quota) in [(2, 50), (64, 1)] {
@@ -293,8 +293,8 @@ fn a_renewed_set_keeps_what_its_threads_put_in() {
             let mut seat = set.split().unwrap();
             for key in (thread * OWN..(thread + 1) * OWN).cycle().take(2000) {
                 assert_eq!((seat.add(key), seat.contains(key)), (Ok(Added::True), Ok(true)));
-                // On the lock-free list, a ceiling can wait for an add of another thread, and the other threads may make no
-                // further adds.
+                // On the lock-free list, a ceiling can wait for an add of another thread, and possibly no thread calls add
+                // any more.
                 assert!(list == List::LockFree || seat.ceiling(key) == Ok(Some(key)));
                 assert_eq!((seat.remove(key), seat.remove(key)), (Ok(true), Ok(false)));
             }

@@ -27,7 +27,7 @@ final class Sets {
         Named() {
             if (is.equals("opens")) addAll(Set.of(1, 3));
             if (is.equals("not made")) throw new IllegalStateException("no room");
-            if (is.equals("ends") && MADE.incrementAndGet() > 1) new Thread(this::end).start(); // (the first set only shows that the other JVM can create a set)
+            if (is.equals("ends") && MADE.incrementAndGet() > 1) new Thread(this::end).start(); // (the first set only shows that the child JVM can create a set)
         }
 
         private void end() {
@@ -47,7 +47,7 @@ final class Sets {
             return found;
         }
 
-        /** Makes a call and loses one reply in fifty. The outcome is then unknown, or the call is repeated. */
+        /** Executes a call, and loses one reply in fifty: the outcome is then unknown, or the call is repeated. */
         private boolean called(BooleanSupplier call) {
             boolean reply = call.getAsBoolean();
             if (!is.equals("not known") && !is.equals("again") || calls.incrementAndGet() % 50 > 0) return reply;

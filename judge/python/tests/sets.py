@@ -65,7 +65,8 @@ class Named(Right):
         return key % 64 if self.name == "collides" else key
 
     def called(self, call, key):
-        """Makes a call and loses one reply in fifty. The outcome is then unknown, or the call is repeated."""
+        """Executes a call, and loses one reply in fifty. After a lost reply, the outcome is unknown, or the call is repeated.
+        """
         reply, is_lossy = call(self.place(key)), self.name in ("not known", "again")
         self.calls += is_lossy
         if not is_lossy or self.calls % 50:

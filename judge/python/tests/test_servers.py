@@ -24,7 +24,7 @@ SECONDS = 30  # the maximum wait until a server listens or ends
 
 
 class CheckThenAct(listset_servers.Redis):
-    """A client with an `add` of two requests. Another client's request can arrive between them."""
+    """A client with an `add` that sends two requests. A request of another client can arrive between the two."""
 
     def add(self, key):
         return not self.contains(key) and (super().add(key) or True)

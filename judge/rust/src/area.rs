@@ -1,4 +1,4 @@
-//! Makes a run and records it in memory that can be shared with the set's own process.
+//! Performs a run, and records its calls in memory that can be shared with the set's own process.
 use std::any::Any;
 use std::fs::File;
 use std::io::{self, Seek, SeekFrom, Write};
@@ -13,7 +13,7 @@ use crate::stops::Stops;
 use crate::words::*;
 use crate::{no_verdict, Failure, Options, Replies, Shape, Source};
 
-const UNKNOWN: u32 = 2; // a reply is 0 for false, 1 for true, or this
+const UNKNOWN: u32 = 2; // a reply is 0 for false, 1 for true, or UNKNOWN after a timeout, for example
 
 const WRITABLE: &str = "the recording can be written";
 
@@ -47,11 +47,11 @@ enum At {
     Saves,
 }
 
-const SAVES: usize = At::Saves as usize; // two records of the saved part: the file's length in two halves, and the last moment in the file;
-const WHY: usize = SAVES + 6; // then a text, one byte per number: why the run failed;
-const FILE: usize = WHY + 240; // then the path of the file;
-const SLOTS: usize = FILE + 1024; // then the calls,
-const SLOT: usize = 6; // each with end, begin, thread, word, key and reply. Begin and end are 0 until the call begins or ends
+const SAVES: usize = At::Saves as usize; // offset of two records: the file's length in two halves, and the last moment in the file
+const WHY: usize = SAVES + 6; // offset of a text, one byte per number: why the run failed
+const FILE: usize = WHY + 240; // offset of the path of the file, one byte per number
+const SLOTS: usize = FILE + 1024; // offset of the calls
+const SLOT: usize = 6; // a call: end (0 until the call ends), begin (0 until the call begins), thread, word, key and reply
 const SIZE: usize = SLOTS + PART as usize * SLOT;
 
 /// The memory of a run. It contains the calls that have not been saved in the file yet.
@@ -142,7 +142,7 @@ impl Area {
         Ok(length + lines.len() as u64)
     }
 
-    /// Appends lines to the file and marks all calls up to this moment as saved. Meanwhile, no thread makes a call.
+    /// Appends lines to the file and marks all calls so far as saved. No thread is in a call meanwhile.
     fn save(&self, lines: &str) {
         let length = self.write(lines).expect(WRITABLE);
         let other = 1 - self.get(At::Save);
@@ -157,8 +157,8 @@ impl Area {
     }
 
     /// Returns the lines of the calls that have not been saved, ordered by start, and the lines of the pending calls. Threads
-    /// may be making calls meanwhile: a call that begins after the start of this function is left out, and a call that ends
-    /// after the start of this function is pending.
+    /// can begin and end calls meanwhile: a call that begins after the start of this function is left out, and a call that
+    /// ends after the start of this function is pending.
     pub fn lines(&self) -> (String, String) {
         let (now, [_, _, saved]) = (self.get(At::Tickets), self.saved());
         let slots = self.memory[SLOTS..].chunks(SLOT);
@@ -195,7 +195,7 @@ impl Area {
     }
 
     /// Returns whether interrupted threads should sleep for longer. On a busy machine, a thread is seldom preempted during a
-    /// call: often it has made all its calls before it is preempted.
+    /// call: often it has finished all its calls before it is preempted.
     pub fn interrupts_longer(&self) -> bool {
         self.get(At::IsBusy) == 1 || self.get(At::MeetsOnce) == 1
     }
@@ -204,8 +204,8 @@ impl Area {
         self.get(At::IsHere) == 1
     }
 
-    /// Waits until a run has ended. Returns the reason if the run was cut short. `ended` returns how the process that makes
-    /// the run has ended, or `None` while it runs.
+    /// Waits until a run has ended. Returns the reason if the run was cut short. `ended` returns how the process that
+    /// performs the run has ended, or `None` while that process runs.
     pub fn watch(&self, ended: &dyn Fn() -> Option<String>) -> Result<Option<String>, Failure> {
         let trouble = self.end(ended);
         let phase = self.get(At::Phase);
@@ -235,9 +235,9 @@ impl Area {
         None
     }
 
-    // ---- for the process that makes a run
+    // ---- for the process that performs a run
 
-    /// Makes the runs that the test's process requests. Never returns.
+    /// Performs the runs that the test's process requests. Never returns.
     pub(crate) fn serve<S: Sync>(&self, source: &Source<S>) -> ! {
         self.set(At::IsHere, 1);
         loop {
@@ -269,7 +269,7 @@ impl Area {
             }
         }
         let end = left.map_or_else(|| "cut\n".to_string(), |keys| keys + "end\n");
-        self.tried(|| _ = self.write(&end).expect(WRITABLE)); // (not marked as saved: the run can still be cut short)
+        self.tried(|| _ = self.write(&end).expect(WRITABLE)); // (lines not marked as saved: the run can still be cut short)
         let _ = self.at(At::Phase).compare_exchange(GOING, OVER, SeqCst, SeqCst);
     }
 
@@ -289,7 +289,8 @@ impl Area {
         }
     }
 
-    /// Waits until `is_done`: polls `awake` times, then sleeps between polls. Returns `false` if the run was stopped.
+    /// Waits until `is_done` returns `true`: polls `awake` times, then sleeps between polls. Returns `false` if the run was
+    /// stopped.
     fn waits(&self, awake: u32, is_done: impl Fn() -> bool) -> bool {
         for looks in 0_u32.. {
             if is_done() || self.get(At::IsStopping) == 1 {
@@ -303,7 +304,7 @@ impl Area {
     }
 }
 
-/// The maximum number of `contains` calls for a key, at the beginning or at the end, while the outcome is unknown.
+/// How often `contains` is called for a key at most, at the beginning or at the end of a run, if the outcome stays unknown.
 const MOST_ASKED: u32 = 100;
 
 /// The calls on one set.
@@ -366,7 +367,7 @@ impl<S: Sync> Play<'_, S> {
         (0..self.of.keys).map(line).collect()
     }
 
-    /// Makes the calls of one thread, part by part.
+    /// Executes the calls of one thread, one part (the calls between two saves) after another.
     fn call_in_parts(&self, thread: u32, is_stopped: bool) {
         let (area, of, rows) = (self.area, self.of, self.of.rows());
         let stops = if is_stopped { Stops::of_this_thread(area) } else { None };
@@ -409,8 +410,8 @@ impl<S: Sync> Play<'_, S> {
         are_there
     }
 
-    /// Makes a random call, and records it at its begin and at its end. After an unknown outcome, the thread continues
-    /// under a new thread number.
+    /// Executes a random call. Records the call when it begins, and completes the record when it ends. After an unknown
+    /// outcome, the thread continues under a new thread number.
     fn call(&self, slot: &[AtomicU32], number: &mut u32, draws: &mut Draws) {
         let (area, keys) = (self.area, self.of.keys);
         let [adds, removes, finds] = area.options.shares;

@@ -1,5 +1,5 @@
-//! Makes runs. On Unix, makes them in a separate process, which runs this test again up to this judge. On other systems,
-//! makes them in this process.
+//! Performs runs: on Unix, in a separate process, which runs this test again up to this call of `judge`; on other systems,
+//! in this process.
 use std::cell::RefCell;
 use std::collections::HashMap;
 use std::fs::File;
@@ -15,8 +15,8 @@ use crate::memory::Memory;
 use crate::words::*;
 use crate::{no_verdict, Failure, Options, Shape, Source};
 
-const MEMORY: &str = "LISTSET_AREA"; // the variable that names the file with the shared memory,
-const MINE: &str = "LISTSET_CHECK"; // and the variable that names the judge that the process was started for
+const MEMORY: &str = "LISTSET_AREA"; // the environment variable that names the file with the shared memory of the two processes
+const MINE: &str = "LISTSET_CHECK"; // the environment variable that contains the name of a child process's call of `judge`
 
 /// A temporary file, deleted on drop.
 struct Temporary(PathBuf);
@@ -27,7 +27,7 @@ impl Drop for Temporary {
     }
 }
 
-/// Makes runs in a child process or in this process.
+/// Performs runs in a child process or in this process.
 pub struct Runner {
     pub area: Area,
     child: Option<RefCell<Child>>,
@@ -35,7 +35,8 @@ pub struct Runner {
 
 impl Runner {
     /// Starts a child process, or prepares this process for the runs. If this is a child process that was started for this
-    /// judge, makes runs and never returns. If it was started for another judge, returns `None`.
+    /// call of `judge`, performs runs and never returns. If it was started for a different call of `judge`, returns
+    /// `None`.
     pub(crate) fn started<S: Sync>(source: &Source<S>, options: &Options) -> Result<Option<Runner>, Failure> {
         let name = name_of_judge();
         if let Ok(mine) = std::env::var(MINE) {
@@ -50,7 +51,8 @@ impl Runner {
         }
     }
 
-    /// Starts a child process that runs the test again, and waits until it has reached this judge.
+    /// Starts a child process that runs the test again, and waits until the child process has reached this call of
+    /// `judge`.
     fn in_child(name: &str, options: &Options) -> Result<Runner, Failure> {
         static FILES: AtomicU32 = AtomicU32::new(0);
         let path = std::env::temp_dir().join(format!("listset-{}-{}.area", std::process::id(), FILES.fetch_add(1, SeqCst)));
@@ -69,7 +71,7 @@ impl Runner {
         Ok(Runner { area, child: Some(RefCell::new(child)) })
     }
 
-    /// Makes a run. Returns the reason if the run was cut short.
+    /// Performs a run. Returns the reason if the run was cut short.
     pub(crate) fn made<S: Sync>(
         &self,
         source: &Source<S>,
@@ -111,8 +113,8 @@ impl Drop for Runner {
     }
 }
 
-/// Returns the name of the test, followed by the number of its judge. Returns `None` if this thread has no name: then the
-/// test cannot be run again.
+/// Returns the name of the test, followed by the number of its call of `judge`. Returns `None` if this thread has no name:
+/// then the test cannot be run again.
 fn name_of_judge() -> Option<String> {
     static JUDGES: Mutex<Option<HashMap<String, u32>>> = Mutex::new(None);
     let test = std::thread::current().name()?.to_string();
@@ -133,7 +135,7 @@ fn process_of(name: &str, file: &Path) -> std::io::Result<Child> {
     command.env(MINE, name).env(MEMORY, file).stdin(Stdio::piped()).stdout(Stdio::null()).spawn()
 }
 
-/// Makes the runs that the parent process requests, until the parent ends.
+/// Performs the runs that the parent process requests, until the parent ends.
 fn serve<S: Sync>(source: &Source<S>, options: &Options) -> ! {
     let file = std::env::var_os(MEMORY).and_then(|it| File::options().read(true).write(true).open(it).ok());
     let memory = file.and_then(|it| Memory::of(&it, Area::SIZE).ok());

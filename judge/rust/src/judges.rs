@@ -11,7 +11,7 @@ use crate::{no_verdict, Failure};
 pub struct Judge {
     name: String,
     proof: String,
-    /// The command and its first arguments; empty for the library.
+    /// The command and its first arguments; empty if the judge is the library.
     command: Vec<String>,
 }
 

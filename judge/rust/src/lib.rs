@@ -15,8 +15,8 @@
 //! `LISTSET` or, if that is not set, `listset` in `PATH`. `LISTSET` can also name a `listset.js`, which is run with
 //! node. If `LISTSET` is `skip`, nothing is judged.
 //!
-//! On Unix, the sets are called in a separate process, which runs this test again up to this judge. If a set crashes or
-//! hangs there, the calls made so far are judged.
+//! On Unix, the sets are called in a separate process, which runs this test again up to this call of `judge`. If a set
+//! crashes or hangs in that process, its calls so far are judged.
 
 mod area;
 mod child;
@@ -117,7 +117,7 @@ pub(crate) struct Shape {
 }
 
 impl Shape {
-    /// Returns the maximum number of calls of a thread between two saves of the recording, that is, in one part.
+    /// Returns the maximum number of calls of a thread between two saves of the recording.
     fn rows(&self) -> u32 {
         self.calls.min(PART / self.threads)
     }
@@ -304,7 +304,7 @@ macro_rules! judge {
     };
 }
 
-/// How a test creates its sets, and how it calls them with the numbers of keys.
+/// How a test creates its sets, and how it calls them: each key has a number, and a call receives the number of its key.
 struct Source<'a, S> {
     make: &'a dyn Fn() -> S,
     reply: Replies<'a, S>,
@@ -333,8 +333,7 @@ pub fn judge<S: Sync, A: Reply, R: Reply, C: Reply>(
     judged(&Source { make: &make, reply: &reply, shown: &|key| key.to_string(), has_keys: false }, &options)
 }
 
-/// Judges sets with keys of another type. `key` converts a number to a key, and must return a different key for each
-/// number.
+/// Judges sets with keys of type `K`. `key` converts a number to a key, and must return a different key for each number.
 pub fn judge_keys<S: Sync, K: Eq + Hash + Debug + Sync, A: Reply, R: Reply, C: Reply>(
     make: impl Fn() -> S,
     key: impl Fn(u32) -> K,
@@ -384,7 +383,7 @@ fn judged<S: Sync>(source: &Source<S>, options: &Options) -> Result<Verdict, Fai
         Some(it) => it,
         None => {
             return Ok(Verdict { calls: 0, overlapped: 0, judge: String::new() });
-            // (this is a child process that was started for another judge of the test)
+            // (this is a child process that was started for a different call of `judge` in the test)
         }
     };
     let judge = Judge::found()?;
@@ -400,7 +399,7 @@ struct Tester<'a, S> {
 }
 
 impl<S: Sync> Tester<'_, S> {
-    /// Makes the requested runs, each up to three times, and then more runs while few calls have overlapped.
+    /// Performs the requested runs, each up to three times, and then more runs as long as few calls have overlapped.
     fn all(&self) -> Result<Verdict, Failure> {
         let mut verdict = Verdict { calls: 0, overlapped: 0, judge: self.judge.to_string() };
         let (began, options) = (Instant::now(), self.options);
@@ -430,7 +429,7 @@ impl<S: Sync> Tester<'_, S> {
             seed += 1;
         }
         if verdict.is_few() {
-            let _ = writeln!(std::io::stderr(), "{verdict}"); // (a passed test shows this, unlike the output of `eprintln!`)
+            let _ = writeln!(std::io::stderr(), "{verdict}"); // (cargo shows this even for a passed test, unlike `eprintln!`)
         }
         if verdict.overlapped * 100 < verdict.calls * u64::from(self.options.at_least) {
             return Err(Failure::TooFew(say(TOO_FEW, &[&verdict.overlapped, &verdict.calls, &self.options.at_least])));
@@ -438,7 +437,7 @@ impl<S: Sync> Tester<'_, S> {
         Ok(verdict)
     }
 
-    /// Makes a run and judges it. Returns the number of calls that overlapped a change of their key.
+    /// Performs a run and judges it. Returns the number of calls that overlapped a change of their key.
     fn judged_run(&self, seed: u64, mut shape: Shape) -> Result<u64, Failure> {
         if self.source.has_keys {
             shape.times = 1;

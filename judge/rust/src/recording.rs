@@ -56,8 +56,8 @@ impl<'a> Recording<'a> {
         Err(if trouble.is_some() { Failure::CutShort(failed) } else { Failure::NotLinearizable(failed) })
     }
 
-    /// Describes the key with this number in the recording, and its set if the run has several. Returns an empty text
-    /// if the number itself is the key, and the run has a single set.
+    /// Describes the key that has this number in the recording and, if the run has several sets, the key's set. Returns
+    /// an empty text if the number itself is the key, and the run has a single set.
     fn key_line<S>(&self, number: u32, source: &Source<S>) -> String {
         let shown = (source.shown)(number % self.shape.keys * self.shape.times);
         let of_set = if self.shape.sets > 1 { say(IN_SET, &[&(number / self.shape.keys + 1)]) } else { String::new() };

@@ -1,5 +1,5 @@
 //! Interrupts a thread during its calls for at least a microsecond, with a timer that sends SIGURG to the thread. On a busy
-//! machine, the thread then sleeps repeatedly until other threads have made calls, at most `PATIENT` times.
+//! machine, the thread then sleeps repeatedly until other threads have executed calls, at most `PATIENT` times.
 
 #[cfg(all(target_os = "linux", any(target_arch = "x86_64", target_arch = "aarch64")))]
 mod timer {
@@ -35,7 +35,7 @@ mod timer {
     }
 
     thread_local! {
-        /// The run that this thread makes calls in.
+        /// The run with the calls of this thread.
         static RUN: Cell<*const Area> = const { Cell::new(null()) };
     }
 

@@ -1,5 +1,5 @@
-//! The presets, ranges and messages that all languages have in common, from `words.json`. PART and MEET are in calls,
-//! PATIENCE in seconds.
+//! The presets, ranges and messages that all languages have in common, from `words.json`. PART and MEET are numbers
+//! of calls, PATIENCE is in seconds.
 use crate::{Range, Shape};
 
 // made of words.json by judge/make_words

@@ -48,7 +48,7 @@ impl Set {
         Set { is, keys: Right(Mutex::new(keys)), calls: AtomicU32::new(0), parts: Mutex::default() }
     }
 
-    /// Makes a call. With "first use", each key has its own set. The first call with the key creates this set; the bug is
+    /// Executes a call. With "first use", each key has its own set. The first call with the key creates this set; the bug is
     /// that two calls can both create it. With "collides", keys with the same remainder are treated as one key.
     fn call(&self, call: fn(&Right<u32>, &u32) -> bool, key: u32) -> bool {
         if self.is != "first use" {
@@ -63,7 +63,7 @@ impl Set {
         call(&part, &key)
     }
 
-    /// Makes a call and loses one reply in fifty. The outcome is then unknown, or the call is repeated.
+    /// Executes a call, and loses one reply in fifty. After a lost reply, the outcome is unknown, or the call is repeated.
     fn called(&self, call: fn(&Right<u32>, &u32) -> bool, key: u32) -> Option<bool> {
         let reply = self.call(call, key);
         let is_lost = ["not known", "again"].contains(&&*self.is) && self.calls.fetch_add(1, SeqCst) % 50 == 49;
