@@ -308,6 +308,33 @@ function wrongLine(trace, event, held, met) {
   return isGood ? [] : [`${kind}, event ${event.number}: row ${held.pc} at ${found.file}:${line}`];
 }
 
+// Checks that at each event of a run the next press of a thread is that of a run which ends there.
+function checkPresses(engine) {
+  inPage("held").engine = engine;
+  const LiveRun = inPage("LiveRun");
+  let seed = 7;
+  const draw = (many) => (seed = (seed * 48271) % 2147483647) % many;
+  for (const screen of inPage("SCREENS").flatMap((one) => [one, ...(one.parts ?? [])])) {
+    const { figure: { calls, ...spec } } = screen;
+    const run = new LiveRun(spec);
+    const left = (one, thread) => calls[thread]?.slice(one.trace.calls.filter((call) => call.thread === thread && call.begun <= one.count).length) ?? [];
+    const able = (one) => one.state.threads.map((_, thread) => thread).filter((thread) => !one.isIdle(thread) || left(one, thread).length > 0);
+    for (let turn = 0; turn < 40 && able(run).length > 0; turn++) {
+      const thread = able(run)[draw(able(run).length)];
+      const { isBegin, steps } = run.nextOf(thread, left(run, thread)[0]);
+      if (isBegin) run.begin(thread, left(run, thread)[0]);
+      run.go(thread, steps);
+    }
+    for (let count = run.first.length === 0 ? 0 : run.trace.total >> 1; count <= run.trace.total; count++) {
+      run.moveTo(count);
+      const own = new LiveRun(spec);
+      own.take(run.linesHere());
+      const pressOf = (one, thread) => JSON.stringify({ ...one.nextOf(thread, left(one, thread)[0]), last: undefined });
+      for (const thread of able(own)) check(`${screen.question}, event ${count}: the next press of ${thread}`, pressOf(run, thread) === pressOf(own, thread));
+    }
+  }
+}
+
 // Checks the contrast of each text with each of its backgrounds, light and dark, and of the edges of buttons and fields.
 function checkColours() {
   const sheet = ["page.css", "drawings.css"].map((name) => fs.readFileSync(path.join(folder, "style", name), "utf8")).join("");
@@ -331,6 +358,7 @@ async function main() {
   checkSeeds(engine);
   checkDocs(engine);
   checkRead();
+  checkPresses(engine);
   const crowds = crowded(engine);
   checkStage(engine, [...texts, ...crowds]);
   checkListing(engine, [...texts, ...crowds]);

@@ -46,7 +46,7 @@ const CLAIMS = [
   [/the next step will fail/, (_, { next }) => next !== null && !(next.deed === "exchange" && next.saw !== next.from)],
   [/the next step tries to unlink it/, (_, { next }) => next !== null && next.deed !== "exchange"],
   [/It will answer (\S+?)[.:]/, ([reply], { event }) => event.call.reply !== null && event.call.reply !== reply],
-  [/answers (\S+?)[.;,]/, ([reply], { event }) => event.call.reply !== reply],
+  [/returns (\S+?)[.;,]/, ([reply], { event }) => event.call.reply !== reply],
   [/the add goes ahead/i, (_, { event }) => event.call.operation !== "add"],
   [/the remove goes ahead/i, (_, { event }) => event.call.operation !== "remove"],
   [/(undefined|null|NaN|\[object)/, () => true],

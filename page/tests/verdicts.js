@@ -127,9 +127,9 @@ function overlapped({ calls }) {
 const callNamed = (calls, name, reply) =>
   calls.filter((call) => `${call.operation}(${call.key}) of ${"ABCD"[call.thread]}` === name && (reply === null || call.reply === reply));
 
-// Returns the call that a sentence describes, as in `add(5) of A answers true, from 1 to 4`.
+// Returns the call that a sentence describes, as in `add(5) of A returns true, from 1 to 4`.
 function callIn(calls, text) {
-  const [, name, reply, begun] = /^(.*) answers (\S+), from (\d+) to \d+$/.exec(text) ?? [];
+  const [, name, reply, begun] = /^(.*) returns (\S+), from (\d+) to \d+$/.exec(text) ?? [];
   return callNamed(calls, name, reply ?? null).find((call) => call.begun === Number(begun));
 }
 
@@ -784,16 +784,16 @@ const OF_OWN = [
   [/^Still missing: (.*)\.$/, (it, [told]) => {
     const isSaid = (call) => it.level !== "replies" || it.answer.replies.has(call.id);
     const lacking = it.calls.filter((call) => call.ended !== null && !(it.answer.points.has(call.id) && isSaid(call)));
-    return lacking.map((call) => `the point${isSaid(call) ? "" : " and the reply"} of ${nameIn(call)}`).join(", ") === told;
+    return lacking.map((call) => `the moment${isSaid(call) ? "" : " and the reply"} of ${nameIn(call)}`).join(", ") === told;
   }],
-  [/^check says ok: this order explains the run\.$/, (it) => faultsOf(it).length === 0],
-  [/^It is also the order of the replayer\.$/, (it) => it.answer.order().map(({ call }) => call.id).join() === it.places.map(({ call }) => call).join()],
-  [/^The replayer has another one: both explain the run\.$/, (it) => faultsOf(it).length === 0 && it.answer.order().map(({ call }) => call.id).join() !== it.places.map(({ call }) => call).join()],
-  [/^(\S+ of [A-D]) cannot answer (\S+) there: (before your first call|after (\S+ of [A-D]) in your order) the set is {(.*)}, and it would answer (\S+)\.$/,
+  [/^Right: in this order every reply is correct, and the calls leave the numbers of this run: a proved program checked it\.$/, (it) => faultsOf(it).length === 0],
+  [/^The program that made this run has the same order\.$/, (it) => it.answer.order().map(({ call }) => call.id).join() === it.places.map(({ call }) => call).join()],
+  [/^The program that made this run has another order: both are right\.$/, (it) => faultsOf(it).length === 0 && it.answer.order().map(({ call }) => call.id).join() !== it.places.map(({ call }) => call).join()],
+  [/^(\S+ of [A-D]) cannot return (\S+) there: (before your first call|after (\S+ of [A-D]) in your order) the set is {(.*)}, and the call would return (\S+)\.$/,
     (it, [name, reply, , other, set, due]) => faultsOf(it).some(({ call, before, keys, answer, said }) =>
       nameIn(call) === name && said === reply && (before === null ? other === undefined : nameIn(before) === other) && keys.join(", ") === set && answer === due && due !== reply)],
-  [/^(\S+ of [A-D]) does not answer (\S+) in this run\.$/, (it, [name, reply]) => it.answer.order().some(({ call, reply: said }) => nameIn(call) === name && said === reply && call.reply !== said)],
-  [/^Look at what it sees before it answers\.$/, () => true],
+  [/^(\S+ of [A-D]) does not return (\S+) in this run\.$/, (it, [name, reply]) => it.answer.order().some(({ call, reply: said }) => nameIn(call) === name && said === reply && call.reply !== said)],
+  [/^Look at what its thread sees before the call returns\.$/, () => true],
   [/^(\S+ of [A-D]) begins at event (\d+), and in your order it comes before (\S+ of [A-D]), which ended at event (\d+)\.$/, (it, [name, begun, other, ended]) => {
     const order = it.answer.order().map(({ call }) => call);
     const isOther = (call) => nameIn(call) === other && call.ended === Number(ended) && call.ended < Number(begun);

@@ -45,7 +45,7 @@ function breakHtml() {
   const cardOf = (name) => {
     const { story, lacks } = BREAK_LEVELS[name];
     const state = isBrokenOnce(name) ? { says: lacks, state: "done" } : {};
-    return { href: `#break=${numberOfLevel(name)}`, list: `${LIST_WORDS[LACKING[name]]} · #break=${numberOfLevel(name)}`, title: story, ...state };
+    return { href: `#break=${numberOfLevel(name)}`, list: LIST_WORDS[LACKING[name]], title: story, ...state };
   };
   const count = TEN.filter(isBrokenOnce).length;
   const next = TEN.find((name) => !isBrokenOnce(name)) ?? TEN[0];
@@ -98,8 +98,8 @@ function judgeHtml() {
     const { title, question } = itemOf({ id: name });
     return { href: `#example=${name}&judge`, list: LIST_WORDS[kind], title, says: question, state };
   };
-  const words = `You see a run without its replies. Say what each call answers, and put a point where it takes effect. The proved
-    <code>check</code> judges your order: every order that explains the run is accepted.`;
+  const words = `You see a run without its replies. Choose what each call returns, and when it takes effect: one moment between its start and its end.
+    If in the order of these moments every reply is correct, your answer is right. A proved program checks it.`;
   const top = `<p class="line"><button data-do="runs">Find the order of a run yourself ↓</button></p>`;
   return `${head("", "Judge", top, "title")}${drawRecordedBox()}<h2 id="judge-runs">Find the order of a run yourself</h2>${lead(words)}
     <div class="start-row"><label>list <select id="judge-seed-list">${listOptions()}</select></label>

@@ -38,7 +38,7 @@ export function layLabels(threads, calls, itemOf, room) {
   return { places, rows: Math.max(1, ...found.map(({ row }) => row + 1)), areWhole: found.length === places.size };
 }
 
-export function scaleOf(trace, count, width, hides = false, isLow = false) {
+export function scaleOf(trace, count, width, hides = false, isLow = false, grown = 1) {
   const { first, last } = windowOf(trace.total, count, width - HISTORY_LEFT - HISTORY_RIGHT);
   const isWhole = first === 1 && last >= trace.total;
   const step = (width - HISTORY_LEFT - HISTORY_RIGHT) / (last - first + 1);
@@ -48,7 +48,7 @@ export function scaleOf(trace, count, width, hides = false, isLow = false) {
   const leftOf = ({ begun }) => (begun < first ? HISTORY_LEFT - 6 : x(begun));
   const rightOf = ({ ended }) => (ended === null || ended > last ? edge : x(ended));
   const spanOf = (call) => ({ left: leftOf(call), right: rightOf(call) });
-  const itemOf = (call) => ({ ...spanOf(call), wide: widthOf(callText(call), call.reply ?? "") });
+  const itemOf = (call) => ({ ...spanOf(call), wide: grown * widthOf(callText(call), call.reply ?? "") });
   const labels = layLabels(trace.threads, shownIn(trace, first, last), itemOf, { start: HISTORY_LEFT - 6, edge: width, mostRows });
   const above = isLow && trace.threads <= 6 ? 0 : ROW_HEIGHT * (isWhole ? labels.rows : mostRows);
   const lane = above + bar + below;
@@ -56,7 +56,7 @@ export function scaleOf(trace, count, width, hides = false, isLow = false) {
   const height = 6 + trace.threads * lane + (isWhole && labels.areWhole ? 0 : ROW_HEIGHT);
   const y = (thread) => 2 + thread * lane + above + bar / 2;
   const { places, areWhole } = labels;
-  return { first, last, step, lane, bar, width, count, now, edge, height, x, y, spanOf, labels: places, areWhole, isIn: above === 0 };
+  return { first, last, step, lane, bar, width, grown, count, now, edge, height, x, y, spanOf, labels: places, areWhole, isIn: above === 0 };
 }
 
 // Decides whether a point is already known: after the call's change, or when the call returns.
@@ -93,7 +93,7 @@ function drawBar(call, scale) {
 
 function drawLabel(call, scale, left, top) {
   const place = scale.labels.get(call.id);
-  const [indent, base] = scale.isIn ? [6, top + 14] : [0, top - 4];
+  const [indent, base] = scale.isIn ? [6, top + 13 + scale.grown] : [0, top - 4];
   if (place === null) return label({ class: "call", x: left + indent, y: base }, signOf(call));
   const hasReply = call.reply !== null && call.ended <= scale.now;
   const done = call.ended !== null && call.ended <= scale.count;
@@ -145,8 +145,9 @@ export function drawCalls(trace, scale) {
 
 // ---- The labels above the bars. Their places follow from the whole run, so nothing jumps.
 const LETTER = 7.1; // pixels of a letter of a label
-const BOLD = 8; // and of one of a reply
-const BETWEEN = 8; // two labels of a row
+const BOLD = 8; // pixels of a letter of a reply
+const BETWEEN = 8; // pixels between two labels of a row
+export const GROWN = 1.25; // the labels of a slide are larger by this factor
 export const ROW_HEIGHT = 15;
 export const widthOf = (text, reply = "") => LETTER * text.length + (reply === "" ? 0 : LETTER + BOLD * reply.length);
 

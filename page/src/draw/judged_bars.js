@@ -19,17 +19,17 @@ function widthOfCall(call) {
   return Math.max(...replies.map((reply) => widthOf(callText(call), reply)));
 }
 
-export function judgeScale({ last, threads, calls }, width) {
+export function judgeScale({ last, threads, calls }, width, { bar = JUDGE_BAR, grown = 1 } = {}) {
   const step = (width - HISTORY_LEFT - JUDGE_RIGHT) / last;
   const across = { step, last, x: (moment) => HISTORY_LEFT + (moment - 0.5) * step };
-  const itemOf = (call) => ({ left: leftOf(call, across), right: rightOf(call, across), wide: widthOfCall(call) });
+  const itemOf = (call) => ({ left: leftOf(call, across), right: rightOf(call, across), wide: grown * widthOfCall(call) });
   const inOrder = [...calls].sort((one, other) => one.begun - other.begun);
   const { places: labels, rows } = layLabels(threads, inOrder, itemOf, { start: 2, edge: width, mostRows: MOST_ROWS });
   const above = ROW_HEIGHT * rows + 4;
-  const lane = above + JUDGE_BAR + JUDGE_BELOW;
-  const y = (thread) => 2 + thread * lane + above + JUDGE_BAR / 2;
+  const lane = above + bar + JUDGE_BELOW;
+  const y = (thread) => 2 + thread * lane + above + bar / 2;
   const momentAt = (x) => (x - HISTORY_LEFT) / step + 0.5;
-  return { ...across, width, edge: width - JUDGE_RIGHT, labels, height: 4 + threads * lane, y, momentAt };
+  return { ...across, width, bar, edge: width - JUDGE_RIGHT, labels, height: 4 + threads * lane, y, momentAt };
 }
 
 const momentInWords = (at) => (Number.isInteger(at) ? `at ${at}` : `after ${Math.floor(at)}`);
@@ -44,7 +44,7 @@ function drawJudgedCall(call, { answer, exercise, verdict, scale }) {
   const where = point === undefined ? "not placed yet" : momentInWords(point.at);
   const slider = {
     role: "slider", tabindex: 0, "data-call": call.id,
-    "aria-label": `where ${nameOfCall(call)}, ${reply === "?" ? "its reply not said yet" : reply}, takes effect`,
+    "aria-label": `when ${nameOfCall(call)}, ${reply === "?" ? "reply not chosen yet" : reply}, takes effect`,
     "aria-valuemin": call.begun, "aria-valuemax": lastMoment(exercise, call), "aria-valuenow": point?.at ?? call.begun,
     "aria-valuetext": `${where}${isClash ? ", and clashes there" : ""}`,
     class: `bar own ${colourOf(call.thread)}${isClash ? " clash" : ""}${call.ended === null ? " open" : ""}`,
@@ -55,9 +55,9 @@ function drawJudgedCall(call, { answer, exercise, verdict, scale }) {
 
 function drawJudgedBar(call, reply, scale, y) {
   const [left, right] = [leftOf(call, scale), rightOf(call, scale)];
-  const rect = { x: left, y: y - JUDGE_BAR / 2, width: Math.max(right - left, 12), height: JUDGE_BAR, rx: 4 };
+  const rect = { x: left, y: y - scale.bar / 2, width: Math.max(right - left, 12), height: scale.bar, rx: 4 };
   const { x, row } = scale.labels.get(call.id) ?? { x: left, row: null };
-  const above = { class: "call", x, y: y - JUDGE_BAR / 2 - 5 - ROW_HEIGHT * (row ?? 0) };
+  const above = { class: "call", x, y: y - scale.bar / 2 - 5 - ROW_HEIGHT * (row ?? 0) };
   const words = row === null ? signOf(call) : callText(call) + tag("tspan", { class: "reply" }, ` ${escaped(reply)}`);
   return tag("rect", rect) + tag("text", above, words);
 }

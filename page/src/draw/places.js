@@ -20,6 +20,7 @@ const HANDS = { height: 30, over: 9, left: 28, letter: 10.4, right: 12 };
 const SMALL_HANDS = { height: 26, over: 8, left: 21, letter: 9.8, right: 5 };
 const WIDE = { least: 0.9, key: 56, lock: 32, slot: 100, gap: 0.5, hand: HANDS, kind: "", below: [54, 30, 0] };
 const SMALL = { least: 0.82, key: 44, lock: 28, slot: 62, gap: 0.28, hand: SMALL_HANDS, kind: "small-hands", below: [44, 34] };
+const LEAST_OF_ALL = 0.6; // pixels of a unit
 const LOW = 46; // from the top of the chain to that of the nodes in its gaps
 const formOf = ({ wide }) => (wide < 600 ? SMALL : WIDE);
 
@@ -83,8 +84,9 @@ function unitsOf(state, room, slots, isFlat) {
     return { lanes, scale, isGood: lanesAt(scale) <= lanes };
   };
   const sizes = [1, 2, 3, 4, 5, MOST_POINTING].map(sizeWith).filter(({ isGood }) => isGood);
-  const { lanes, scale } = sizes.reduce((one, other) => (other.scale > one.scale + 0.001 ? other : one));
+  const { lanes, scale: largest } = sizes.reduce((one, other) => (other.scale > one.scale + 0.001 ? other : one));
   const heights = heightsOf(form.below[tight], lanes);
+  const scale = Math.min(largest, Math.max(LEAST_OF_ALL, room.high / heights.height)); // small labels rather than a picture that is cut
   return { ...heights, form, scale, tight, row, isLow: form.below[tight] === 0, width: Math.max(room.wide / scale, slots * form.slot), spare: Math.max(0, room.high / scale - heights.height) };
 }
 

@@ -79,9 +79,10 @@ function drawContent(part, scale) {
   const isLast = scale.now < part.to; // of what is shown: right of it nothing stands
   const shown = isLast && scale.now <= scale.last ? Math.max(left, scale.x(Math.max(scale.now, scale.first))) : end;
   const all = `{${part.keys.join(", ")}}`;
-  const room = Math.floor(((isLast ? scale.edge : shown) - left - 10) / KEY_WIDTH);
+  const wide = KEY_WIDTH * scale.grown;
+  const room = Math.floor(((isLast ? scale.edge : shown) - left - 10) / wide);
   const text = all.length <= room ? all : room > 6 ? `${all.slice(0, room - 2)}…` : "";
-  const right = text === "" ? shown : Math.max(shown, left + 10 + KEY_WIDTH * text.length);
+  const right = text === "" ? shown : Math.max(shown, left + 10 + wide * text.length);
   const isNow = scale.count < part.to && (scale.count >= part.from || part.from <= scale.first);
   return tag("g", { class: isNow ? "content now" : "content" },
     title(all),
@@ -97,9 +98,9 @@ function drawWindow(scale, total, x) {
 }
 
 // Names the row of the set's contents. A broken list can have other keys than the points of its calls imply.
-function nameOfContents({ lacks }) {
+function nameOfContents({ lacks }, grown) {
   if (lacks === null) return label({ class: "name", x: 6, y: 17 }, "set");
-  const lines = ["should", "have"].map((words, line) => label({ class: "name", x: 0, y: 10 + 12 * line, style: "font-size:12px;letter-spacing:-.6px" }, words));
+  const lines = ["should", "have"].map((words, line) => label({ class: "name", x: 0, y: 9 + grown + 12 * line, style: `font-size:${12 * grown}px;letter-spacing:-.6px` }, words));
   return tag("g", {}, title(`${BY_POINTS}; the list may have other keys`), ...lines);
 }
 const BY_POINTS = "the set by the linearization points of the calls";
@@ -113,7 +114,7 @@ export function drawContents(trace, scale) {
   const what = trace.lacks === null ? "the set" : BY_POINTS;
   const words = `${what} after event ${scale.count}: {${now.keys.slice(0, 40).join(", ")}}`;
   const frame = { width: scale.width, height: 50, viewBox: `0 0 ${scale.width} 50`, role: "img", "aria-label": words };
-  return tag("svg", frame, nameOfContents(trace), drawCursor(scale, 24), ...parts, number, drawWindow(scale, trace.total, x));
+  return tag("svg", frame, nameOfContents(trace, scale.grown), drawCursor(scale, 24), ...parts, number, drawWindow(scale, trace.total, x));
 }
 
 export function drawOrder(trace, count, hides = false) {

@@ -46,7 +46,7 @@ const MAKES = {
     ({ ...state, place: { ...state.place, activity, screen, id, given }, scene: SCENE_AT_FIRST }),
   scene: (state, { type, ...given }) => ({ ...state, scene: { ...state.scene, ...given } }),
   view: (state, { view, slide = 0 }) => ({ ...state, place: { ...state.place, view, slide } }),
-  task: (state, { task }) => onStage({ ...state, task, exercise: null }),
+  task: (state, { task }) => onStage({ ...state, task, exercise: null, scene: SCENE_AT_FIRST }),
   run: (state, { type, ...given }) => ({ ...state, run: { ...state.run, ...given } }),
   // Takes a trace. An exercise about the previous trace ends.
   trace: (state, { trace, state: ofTrace, count }) =>

@@ -17,7 +17,7 @@ export const withNewline = (text) => (text === "" || text.endsWith("\n") ? text 
 export const recordedInWords = (call) =>
   call.ended === null
     ? `${nameOfCall(call)}, begun at ${call.begun}, is pending`
-    : `${nameOfCall(call)} answers ${call.reply}, from ${call.begun} to ${call.ended}`;
+    : `${nameOfCall(call)} returns ${call.reply}, from ${call.begun} to ${call.ended}`;
 
 function okInWords({ count, isCutOff }) {
   const calls = count === 1 ? "this one call" : `these ${count.toLocaleString("en")} calls`;

@@ -27,7 +27,7 @@ function lockText(event) {
 function effectText({ trace, event }, hidden) {
   const { call } = event;
   if (event.answer === undefined) return "";
-  const answers = `<b>${callText(call)} answers ${hidden.includes("reply") ? "… what?" : event.answer}</b>`;
+  const answers = `<b>${callText(call)} returns ${hidden.includes("reply") ? "… what?" : event.answer}</b>`;
   if (hidden.includes("effect")) return hidden.includes("reply") ? answers : `${answers}.`;
   if (call.at === event.number) return `${answers}, and takes effect here.`;
   const other = trace.event(call.at).thread;

@@ -44,7 +44,7 @@ function levelTask(number) {
 function seedTask(seed) {
   if (!isSeed(seed)) return null;
   const { kind, number, calls } = partsOfSeed(seed);
-  const says = `${calls} calls: what does each answer, and where does it take effect?`;
+  const says = `${calls} calls: what does each return, and when does it take effect?`;
   return { id: `judge ${seed}`, kind: "Judge", title: `Run ${number}, ${LISTS[kind].name}`, says, href: `#seed=${seed}&judge`, seed };
 }
 
@@ -94,11 +94,11 @@ export function taskOfJudged(line, tasks) {
 function linesDone(tasks) {
   const { solutions } = new KeptLessons().ofCourse(BOOK_NAME);
   const broken = Object.fromEntries(brokenLines());
-  const judged = Object.values(judgedLines());
+  const judged = Object.values(judgedLines()).sort((one, other) => Number(/ replies /.test(other)) - Number(/ replies /.test(one)));
   const lineOf = {
     Solve: ({ id }) => (solutions.has(id) ? solutionLine(id, solutions.get(id)) : undefined),
     Break: ({ id }) => broken[id.slice("break ".length)],
-    Judge: (task) => judged.find((line) => taskOfJudged(line, [task]) !== null),
+    Judge: (task) => judged.find((line) => taskOfJudged(line, [task]) !== null), // the harder level comes first
   };
   return Object.fromEntries(tasks.map((task) => [task.id, lineOf[task.kind](task)]));
 }

@@ -6,7 +6,8 @@ import { askCall, beginOwn, chooseCall, pressed } from "./dock.js";
 import { LiveRun } from "./live_run.js";
 
 const BIT = 400; // milliseconds between two steps of one press
-const BETWEEN = 450; // and between two presses that the page makes
+const QUICK = 140; // milliseconds for which each step is shown if the next press is waiting
+const BETWEEN = 450; // milliseconds between two presses that the page makes
 const sleep = (time) => new Promise((done) => setTimeout(done, time));
 const made = { count: 0 };
 const markBusy = (isBusy) => (document.body.dataset.busy = isBusy ? "yes" : "no");
@@ -19,7 +20,7 @@ export class Figure {
   active = 0; // the thread that runs to a line of the code
   past = []; // the lines of the run before each change, for undo
   isBusy = false; // steps are being shown
-  isHurried = false;
+  isHurried = false; // the next press is waiting for them
   isEnded = false;
   isOpen = true; // the reader may step
   hidesDock = false;
@@ -125,17 +126,19 @@ export class Figure {
     if (!this.isEnded) this.onStep?.(this);
   }
 
-  // Shows the rest of the steps at once. Returns a promise of their end.
+  // Shows the rest of the steps quickly, and none for less than QUICK. Returns a promise of their end.
   hurry() {
     this.isHurried = true;
     this.wake();
     return this.playing;
   }
 
-  // Waits between two steps, until a press comes.
-  wait(time) {
+  // Waits between two steps. A press ends the wait, but not before QUICK is over.
+  async wait(time) {
     this.isBusy = true;
-    return Promise.race([sleep(time), new Promise((done) => (this.wake = done))]);
+    const quick = sleep(Math.min(time, QUICK));
+    await Promise.race([sleep(time), new Promise((done) => (this.wake = done))]);
+    await quick;
   }
 
   show(from, total = this.run.trace.total) {
@@ -149,14 +152,14 @@ export class Figure {
     for (let count = Math.min(from + 1, total); count <= total; count++) {
       if (this.isEnded) return;
       const isOfLock = this.spec.plain === true && this.run.trace.event(count).word === "list.lock"; // a list without its lock ignores this step
-      if (count < total && (this.isHurried || wantsStill() || isOfLock)) continue;
+      if (count < total && (wantsStill() || isOfLock)) continue;
       this.run.moveTo(count);
       this.part("said").setAttribute("aria-live", count < total ? "off" : "polite"); // of a play only the last sentence is read out
       this.isBusy = count < total;
       this.draw(true);
       this.onShown?.();
       if (this.isSlow) await this.wait(fallTime()); // the loss is drawn before it is put into words
-      if (count < total) await this.wait(BIT);
+      if (count < total || this.isHurried) await this.wait(this.isHurried ? QUICK : BIT);
     }
     this.isBusy = false;
     markBusy(false);

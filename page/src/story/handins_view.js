@@ -23,9 +23,10 @@ export const handInsHtml = () => `<section class="panel" id="handins"><h2>What t
   <div id="in-table" class="scroll" tabindex="0" role="group" aria-label="what was handed in"></div>
   <p class="line" id="in-save" hidden><button class="primary" data-do="csv">Save as CSV</button>
   <button data-do="csv" data-parted=";">Save with semicolons (German, French)</button>
-  <label><input type="checkbox" id="in-wrong"> only rows with a wrong solution or an error</label><button class="quiet" data-do="clear">Clear</button></p>
+  <label><input type="checkbox" id="in-wrong"> only rows with a wrong solution or an error</label> <span id="in-hidden" class="small" role="status"></span><button class="quiet" data-do="clear">Clear</button></p>
   <p class="small">In the CSV a wrong solution is 0, a missing one an empty cell. The check shows that a solution solves its task, and that two students
-  have the same schedule. It cannot show who wrote a text: use it to admit students to an exam rather than for marks.</p></section>`;
+  have the same schedule. It cannot show who wrote a text: use it to admit students to an exam rather than for marks. A level of Break counts when the
+  run breaks the list; “check named” adds that the student also chose the missing check on the page.</p></section>`;
 
 async function check() {
   const turn = ++given.turn; // the result of an earlier check is not shown
@@ -81,9 +82,12 @@ export function beginHandIns() {
   check();
 }
 
-// Shows only the rows with a wrong solution or a line that cannot be read, if the box is ticked.
+// If the box is ticked, shows only the rows with a wrong solution or with a text that cannot be counted, and how many other rows are hidden.
 function showRows() {
-  for (const row of piece("table").querySelectorAll("tbody tr")) row.hidden = piece("wrong").checked && row.querySelector(".no, .garbled") === null;
+  const rows = [...piece("table").querySelectorAll("tbody tr")];
+  for (const row of rows) row.hidden = piece("wrong").checked && row.querySelector(".no, .garbled") === null;
+  const hidden = rows.filter((row) => row.hidden).length;
+  piece("hidden").textContent = hidden === 0 ? "" : `${hidden} of ${counted(rows.length, "row")} hidden`;
 }
 
 function notesOf({ notes }) {
@@ -92,9 +96,10 @@ function notesOf({ notes }) {
 }
 
 function drawRow(row, columns) {
-  const cells = columns.map((column) => `<td class="mark">${MARKS[markOf(row, column)]}</td>`).join("");
+  const how = ({ id }) => (row.hows.has(id) ? ` <span class="small">${row.hows.get(id)}</span>` : "");
+  const cells = columns.map((column) => `<td class="mark">${MARKS[markOf(row, column)]}${how(column)}</td>`).join("");
   return `<tr><th scope="row">${escaped(row.name)}</th><td>${escaped(row.number)}</td>${cells}<td class="mark"><b>${countOf(row, columns)}</b></td>
-    <td class="same">${escaped(copiesText(row))}</td><td class="notes${row.faults > 0 ? " garbled" : ""}">${notesOf(row)}</td></tr>`;
+    <td class="same">${escaped(copiesText(row) || row.large)}</td><td class="notes${row.faults > 0 || row.isOdd ? " garbled" : ""}">${notesOf(row)}</td></tr>`;
 }
 
 function drawResult({ rows, columns, empty, common }) {

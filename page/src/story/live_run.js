@@ -77,7 +77,7 @@ export class LiveRun extends ShownRun {
 
   take(lines) {
     this.lines = [...lines];
-    this.nexts = {}; // the answers of `nextOf` for these lines
+    this.nexts = {}; // the results of `nextOf` for these lines
     this.trace = this.traceOf(this.lines);
     this.state = new State(this.trace);
     this.moveTo(this.trace.total);
@@ -96,21 +96,20 @@ export class LiveRun extends ShownRun {
     this.state.moveTo(this.count);
   }
 
-  // Returns the next press of a thread: the number of its steps, its phase, and the thread for whose lock it waits. A thread knows that it waits once
-  // it has tried.
+  // Returns the next press of a thread after the shown event: the number of its steps, its phase, and the thread that holds the lock for which it
+  // waits. A thread waits only after a failed try.
   nextOf(thread, call = null) {
-    const asked = [thread, this.state.threads[thread].pc, call].join();
-    return (this.nexts[asked] ??= this.newNextOf(thread, call));
+    return (this.nexts[[this.count, thread, call].join()] ??= this.newNextOf(thread, call));
   }
 
   newNextOf(thread, call) {
     const isBegin = this.isIdle(thread);
-    const lines = isBegin ? [...this.lines, `begin ${thread} ${call.join(" ")}`] : this.lines;
-    const trace = this.traceOf([...lines, `go ${thread} ${MOST_STEPS}`]);
-    const begun = this.trace.total + lines.length - this.lines.length;
+    const before = this.count < this.trace.total ? this.linesHere() : this.lines;
+    const trace = this.traceOf([...before, ...(isBegin ? [`begin ${thread} ${call.join(" ")}`] : []), `go ${thread} ${MOST_STEPS}`]);
+    const begun = this.count + Number(isBegin);
     const row = isBegin ? trace.event(begun).changes.pc : this.state.threads[thread].pc;
     const next = this.chunk(trace, begun, row);
-    const tried = this.trace.events().findLast((event) => event.thread === thread);
+    const tried = this.trace.events().slice(0, this.count).findLast((event) => event.thread === thread);
     const waitsFor = next.waits && next.steps === 1 && tried?.word === next.last.word && tried.saw === next.last.saw ? Number(tried.saw.slice(1)) : null;
     return { ...next, thread, row, isBegin, waitsFor };
   }

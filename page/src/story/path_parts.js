@@ -13,7 +13,8 @@ export function dots(number, done) {
   const names = [...SCREENS.map(({ nav }) => nav), "And now?"];
   const items = names.map((name, index) => {
     const isDone = done[SCREENS[index]?.id] === true;
-    const given = { href: `#story=${index + 1}`, class: isDone ? "done" : "", title: name };
+    const kind = index === SCREENS.length ? "end" : isDone ? "done" : ""; // the last screen has no question
+    const given = { href: `#story=${index + 1}`, class: kind, title: name };
     const words = `<span>${name}</span>${isDone ? '<span class="unseen">, done</span>' : ""}`;
     return tag("li", {}, tag("a", index + 1 === number ? { ...given, "aria-current": "step" } : given, words));
   });
@@ -27,7 +28,7 @@ export const GONE = '<p class="welcome" role="status">All saved data has been de
 
 export function welcome(done) {
   const count = SCREENS.filter(({ id }) => done[id]).length;
-  const words = `Welcome back: you have done ${count} of ${SCREENS.length}. You are where you stopped.`;
+  const words = `Welcome back: you have answered ${count} of the ${SCREENS.length} questions. You are where you stopped.`;
   return `<p class="welcome">${words} <a href="#story=1">From the start</a></p>`;
 }
 
@@ -39,7 +40,7 @@ export function promptOf(screen, { stage, chosen, note }, figure) {
   const ledger = screen.ledger ? drawLedger(figure.run) : "";
   if (stage === "task" || stage === "again") return `<div class="doing">${ledger}<div>${reply}${asked(screen.task ?? screen.playTask, note)}</div></div>`;
   if (stage === "moment") return reply + asked(screen.then.task, note);
-  if (stage === "playing") return (isLecture() ? asked(screen.ask) : "") + reply;
+  if (stage === "playing") return isLecture() ? asked(screen.ask) + (reply || '<p class="you"></p>').replace("</p>", " Press → for the next step.</p>") : reply;
   const isOther = screen.options !== undefined && !screen.options[chosen]?.right;
   return `<div class="reveal${isOther ? " other" : ""}">${ledger}<div>${reply}<p class="why">${screen.reveal(figure)}</p></div></div>`;
 }
@@ -104,7 +105,7 @@ export function endHtml(done) {
     one more check. Without them, numbers get lost.</p>
     <table class="five"><thead><tr><th>The list</th><td>Who waits?</td><td>What does it pay for that?</td></tr></thead>
     <tbody>${LISTS_AT_END.map(rowOfList).join("")}</tbody></table>
-    <h2>You have done ${count} of ${SCREENS.length}. And now?</h2><div class="ways">${ways.join("")}</div>
+    <h2>You have answered ${count} of the ${SCREENS.length} questions. And now?</h2><div class="ways">${ways.join("")}</div>
     <h2>When is one lock enough?</h2>
     <p class="prose">While calls are short. With 16 numbers, the extra locks and checks cost more than they save, and only lock-free was faster. With
     1,000 numbers, lazy and lock-free win, and a balanced tree behind one lock beats each list.</p>

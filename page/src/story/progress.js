@@ -1,12 +1,13 @@
 // The progress stored in this browser: finished screens, guesses, broken lists, the student's name.
 import { BOOK_NAME } from "../../made/book.js";
 import { LACKING } from "../../made/classics.js";
+import { NAMED as NAMED_TOO } from "../course/hand_in.js";
 import { isText, keepUnder, keptUnder } from "../page/kept.js";
 import { change } from "../page/now.js";
 
 const STORY = "listset-story";
-const BROKEN = "listset-broken"; // of each list that was broken the line that is handed in
-const NAMED = "listset-named-checks"; // the lists of which the reader has said what they lack
+const BROKEN = "listset-broken"; // for each broken list, the line to hand in
+const NAMED = "listset-named-checks"; // the lists for which the reader has chosen the missing check
 const NOTHING = { at: 1, done: {}, asks: {}, student: "", number: "", homework: null };
 
 /** @returns {{ at: number, done: Record<string, boolean>, asks: Record<string, string>, student: string, number: string, homework: any }} */
@@ -17,7 +18,8 @@ const JUDGED = "listset-judged";
 export const judgedLines = () => Object.fromEntries(textsKept(keptUnder(JUDGED)));
 export const keepJudged = (run, line) => keepUnder(JUDGED, { ...keptUnder(JUDGED), [run]: line });
 const isBrokenLine = ([name, line]) => Object.hasOwn(LACKING, name) && isText(line);
-export const brokenLines = () => Object.entries(keptUnder(BROKEN) ?? {}).filter(isBrokenLine);
+// The lines of the broken lists, by list.
+export const brokenLines = () => Object.entries(keptUnder(BROKEN) ?? {}).filter(isBrokenLine).map(([name, line]) => [name, isNamed(name) ? `${line} ${NAMED_TOO}` : line]);
 export const isBrokenOnce = (name) => brokenLines().some(([one]) => one === name);
 export const keepBrokenLine = (name, line) => keepUnder(BROKEN, { ...keptUnder(BROKEN), [name]: line });
 export const isNamed = (name) => (keptUnder(NAMED) ?? []).includes(name);

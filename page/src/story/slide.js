@@ -2,7 +2,7 @@
 import { LECTURE, slideAddress } from "../data/lecture.js";
 import { isLecture, now } from "../page/now.js";
 import { goByHand } from "../page/play.js";
-import { scene } from "./scene.js";
+import { scene, setScene } from "./scene.js";
 
 const queue = { last: Promise.resolve(), waiting: 0 };
 const hurry = () => scene.figure?.isBusy && scene.figure.hurry();
@@ -22,16 +22,27 @@ function inTurn(deed) {
 
 export const pressInScene = (event) => (isLecture() ? inTurn(() => scene.view?.press?.(event)) : scene.view?.press?.(event));
 
-// Opens the next or the previous slide. Returns false if there is none.
+// Opens the next or the previous slide. Returns false if no such slide exists.
 export function toSlide(by) {
   const number = now.place.slide + by;
-  if (now.place.slide === 0 || LECTURE[number - 1] === undefined) return false;
+  if (now.place.slide === 0 || number === 0) return false;
+  if (number > LECTURE.length) return endLecture();
   const isThere = new Promise((done) => window.addEventListener("popstate", () => setTimeout(done), { once: true }));
   location.hash = slideAddress(number);
   return isThere;
 }
 
+// At the end of the last slide, the first press shows the answer, and the second press leaves the lecture.
+function endLecture() {
+  if (now.scene.note === "") setScene({ note: `The answer: ${LECTURE.at(-1)[4]} One more → ends the lecture.` });
+  else location.hash = "#teachers";
+  return true;
+}
+
 function goesOnStage(by) {
+  const isEnding = now.scene.note !== "";
+  if (isEnding && by < 0) setScene({ note: "" });
+  if (isEnding) return by < 0;
   const count = now.run.count + by;
   const isThere = count >= 0 && count <= now.run.trace.total;
   if (isThere) goByHand(count);

@@ -22,7 +22,8 @@ function lectureHtml() {
   const sum = LECTURE.reduce((total, [minutes]) => total + minutes, 0);
   return `<section class="panel" id="slides"><h2>A lecture of ${sum} minutes</h2>
     <p class="prose">Each slide is as large as the screen. A presenter’s keys, the arrows and Space go on and back, through all of them; A and B
-    let a thread step; Escape leads back here. Ask the class first, then step.</p>
+    let a thread step; Escape leads back here. Ask the class first, then step. The project has no licence yet: show the slides and link to them, but ask
+    before you copy them.</p>
     <p class="line"><a class="button" target="_blank" href="#notes">Notes and a clock, for your own screen ↗</a><a class="button" target="_blank" href="#handout">A handout to print ↗</a></p><ol class="plan">${LECTURE.map(slide).join("")}</ol></section>`;
 }
 
@@ -86,7 +87,7 @@ function homeworkHtml() {
     <div class="line"><label class="wide-label">Title <input id="hw-title" value="Concurrent lists, week 1" maxlength="60"></label>
     <label class="wide-label">Due (optional; students see it) <input id="hw-due" type="date"></label></div>
     <div class="columns">${picks("learn", "Solve", lessons)}${picks("break", "Break", levels)}
-    <fieldset><legend>Judge: numbered runs</legend><p class="small">All students get the same run and state what each call returns and where it
+    <fieldset><legend>Judge: numbered runs</legend><p class="small">All students get the same run and state what each call returns and when it
       takes effect.</p><div class="line"><select id="hw-kind" aria-label="list of the run">${listOptions("lazy")}</select>
       <input id="hw-number" type="number" min="1" max="9999" value="${FIRST_NUMBER}" aria-label="number of the run">
       <button data-do="add">Add this run</button></div><ul id="hw-seeds"></ul></fieldset></div>

@@ -109,13 +109,30 @@ def test_hand_ins_of_a_class_are_checked(visitor):
     assert "2 rows with this name, since a number is missing: max.txt, max-2.txt" in row("Max Maier")
     assert "handed in for “Week 2”: not counted" in row("Eva")
     assert visitor.text(".class tfoot").split()[2:5] == ["31", "of", "33"]
+    assert "CoarseList, #break=1: as Student" in row("Student 6\t") and "more" in row("Student 6\t") and "check not named" in row("Student 6\t")
     visitor.click("#in-wrong")
-    assert visitor.script("return [...document.querySelectorAll('.class tbody tr')].filter((it) => it.getClientRects().length > 0).length") == 0
+    assert visitor.script("return [...document.querySelectorAll('.class tbody tr')].filter((it) => it.getClientRects().length > 0).map((it) => it.cells[0].innerText)") == ["Eva"]
+    assert visitor.text("#in-hidden") == "32 of 33 rows hidden"
     visitor.click("#in-wrong")
+    assert visitor.text("#in-hidden") == ""
     visitor.click(".class thead button", "Same schedules")
     assert "2 of 2 with" in visitor.text(".class tbody tr")
     visitor.type("#in-link", "http://example.org/foo")
     assert visitor.text("#in-said") == "This is not the link of an assignment: “#assignment=” is missing." and not visitor.is_seen(".class")
+
+
+def test_the_table_shows_levels_and_unreadable_texts(visitor):
+    order = "judge #list=lazy&threads=2&quota=4&s=b0.add.5,g0.11,b1.contains.5,g1.4&event=17 {} 0-true,1-true"
+    texts = {"Ada (1)": order.format("replies"), "Bo (2)": order.format("points"), "Cy (3)": f"{order.format('points')}\n{order.format('replies')}\n{BROKEN} named",
+             "Di (4)": "#list=lazy", "Ed (5)": ""}
+    visitor.open("#teachers")
+    dropped(visitor, [[f"{name}.txt", HAND_IN.format("Week 3", name, lines)] for name, lines in texts.items()])
+    visitor.wait("return document.querySelectorAll('.class tbody tr').length === 5")
+    rows = visitor.script("return [...document.querySelectorAll('.class tbody tr')].map((it) => it.innerText)")
+    assert "replies and moments" in rows[0] and "moments alone" in rows[1] and "check named" in rows[2]
+    visitor.click("#in-wrong")
+    seen = visitor.script("return [...document.querySelectorAll('.class tbody tr:not([hidden]) th')].map((it) => it.innerText)")
+    assert seen == ["Di", "Ed"] and visitor.text("#in-hidden") == "3 of 5 rows hidden"
 
 
 def test_hand_ins_with_the_same_number_are_one_student(visitor):
@@ -204,6 +221,35 @@ def test_a_slide_accepts_every_key_and_stops_at_the_decision(visitor):
     assert "pred is no longer in the list" in visitor.text(".said") and "No." in visitor.text(".why")
     visitor.press("PageDown")
     visitor.wait("return document.querySelector('.said').innerText.includes('returns true')")
+
+
+def test_the_presenters_keys_end_the_last_slide(visitor):
+    visitor.open("#lecture=11")
+    total = visitor.inside("return listsets.now.run.trace.total")
+    for _ in range(total):
+        visitor.press("PageDown")
+    visitor.wait("return document.getElementById('where').innerText === arguments[0]", f"event {total} of {total}")
+    assert visitor.text("#judge-verdict") == ""
+    visitor.press("PageDown")
+    visitor.wait("return document.getElementById('judge-verdict').innerText.startsWith('The answer: contains returns false')")
+    assert visitor.hash == "#lecture=11" and visitor.in_window("#judge-verdict")
+    visitor.press("PageUp")
+    visitor.wait("return document.getElementById('judge-verdict').innerText === ''")
+    visitor.press("PageDown")
+    visitor.wait("return document.getElementById('judge-verdict').innerText !== ''")
+    visitor.press("PageDown")
+    visitor.wait("return location.hash === '#teachers'")
+
+
+def test_a_slide_names_the_key_of_the_next_step(visitor):
+    for number, key in ((2, "3"), (3, "2")):
+        visitor.open(f"#lecture={number}")
+        visitor.press(key)
+        visitor.idle()
+        visitor.wait("return document.getElementById('prompt').innerText.includes('Press → for the next step')")
+        visitor.press("Right")
+        visitor.revealed()
+        assert "Press →" not in visitor.text("#prompt")
 
 
 def test_a_slide_adapts_to_its_window(visitor):

@@ -116,7 +116,7 @@ def test_the_readers_order_is_judged(visitor):
     for call, moment in enumerate((10, 23.5, 23, 36)):
         visitor.inside("""const { judging } = listsets; judging.place(judging.exercise.calls[given[0]], given[1])""", call, moment)
     visitor.click("#judge-ask")
-    assert visitor.text("#judge-verdict").startswith("check says ok") or "in your order" in visitor.text("#judge-verdict")
+    assert visitor.text("#judge-verdict").startswith("Right: in this order") or "in your order" in visitor.text("#judge-verdict")
     visitor.click("#judge-end")
     assert visitor.is_seen("#past") and visitor.focus() == "BUTTON judge-begin"
 
