@@ -109,7 +109,7 @@ def test_hand_ins_of_a_class_are_checked(visitor):
     assert "2 rows with this name, since a number is missing: max.txt, max-2.txt" in row("Max Maier")
     assert "handed in for “Week 2”: not counted" in row("Eva")
     assert visitor.text(".class tfoot").split()[2:5] == ["31", "of", "33"]
-    assert "CoarseList, #break=1: as Student" in row("Student 6\t") and "more" in row("Student 6\t") and "check not named" in row("Student 6\t")
+    assert "CoarseList, #break=1: as Max Maier, Max Maier and 29 more" in row("Student 6\t") and "check not named" in row("Student 6\t")
     visitor.click("#in-wrong")
     assert visitor.script("return [...document.querySelectorAll('.class tbody tr')].filter((it) => it.getClientRects().length > 0).map((it) => it.cells[0].innerText)") == ["Eva"]
     assert visitor.text("#in-hidden") == "32 of 33 rows hidden"
@@ -122,9 +122,9 @@ def test_hand_ins_of_a_class_are_checked(visitor):
 
 
 def test_the_table_shows_levels_and_unreadable_texts(visitor):
-    order = "judge #list=lazy&threads=2&quota=4&s=b0.add.5,g0.11,b1.contains.5,g1.4&event=17 {} 0-true,1-true"
+    order = "judge read-in-anothers-step {} 0-true,2-true,1-false,3-true"
     texts = {"Ada (1)": order.format("replies"), "Bo (2)": order.format("points"), "Cy (3)": f"{order.format('points')}\n{order.format('replies')}\n{BROKEN} named",
-             "Di (4)": "#list=lazy", "Ed (5)": ""}
+             "Di (4)": "This is no line of a solution.", "Ed (5)": ""}
     visitor.open("#teachers")
     dropped(visitor, [[f"{name}.txt", HAND_IN.format("Week 3", name, lines)] for name, lines in texts.items()])
     visitor.wait("return document.querySelectorAll('.class tbody tr').length === 5")
