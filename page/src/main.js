@@ -1,4 +1,4 @@
-// Connects the parts of the page, and starts it.
+// Connects the modules of the page, and starts the page.
 import { listenToBench, showBar, showPlace, showRun } from "./activities/bench.js";
 import { listenToCourses } from "./activities/courses.js";
 import { compareView } from "./activities/compare.js";
@@ -95,4 +95,4 @@ async function openPage() {
   await openFirst();
 }
 
-if (typeof document !== "undefined") startPage(); // in node there is none
+if (typeof document !== "undefined") startPage(); // node has no document

@@ -1,4 +1,4 @@
-// The panel in which the reader judges the current run.
+// The panel for judging the current run: the reader chooses a moment and a reply for each call.
 import { CLASSICS } from "../../made/classics.js";
 import { GROWN } from "../draw/history.js";
 import { drawJudged, drawOwnOrder, judgeScale } from "../draw/judged_bars.js";
@@ -17,8 +17,8 @@ const judgePart = (name) => byId(`judge-${name}`);
 class Judging {
   answer = null;
   verdict = null;
-  held = null; // the call whose point is dragged
-  tries = 0; // that were refused
+  held = null; // the call with the point that is being dragged
+  tries = 0; // the number of refused answers
 
   get exercise() {
     return now.exercise;
@@ -120,7 +120,7 @@ class Judging {
 
   drawVerdict() {
     const { verdict, tries } = this;
-    const isAsked = homeworkOf(now.place, now.task) !== null && verdict?.isRight !== true; // buttons that reveal the answer are hidden until it is right
+    const isAsked = homeworkOf(now.place, now.task) !== null && verdict?.isRight !== true; // in homework, buttons that reveal the answer are hidden until the reader's answer is right
     for (const name of ["end", "levels"]) judgePart(name).style.visibility = isAsked ? "hidden" : "";
     const told = isLecture() ? now.scene.note : ""; // the answer, at the end of the last slide
     const kind = told === "" ? ({ true: "right", false: "wrong" }[verdict?.isRight] ?? "") : "told";
@@ -153,7 +153,7 @@ export function beginJudging() {
   if (trace.total > MOST_JUDGED) return say(`A run of at most ${MOST_JUDGED} events can be judged; this one has ${trace.total}.`);
   say("");
   judging.begin(homeworkOf(now.place, now.task) === null ? judgePart("level").value : "replies");
-  byId("next").focus(); // the arrows step; on the level they would change it
+  byId("next").focus(); // focuses Step: with the focus on the level, an arrow key would change the level
 }
 
 export function listenToJudging() {

@@ -112,7 +112,7 @@ function openSeed() {
   location.hash = `#seed=${Number(number) > 0 ? seedOf(kind, Number(number)) : anotherSeed(null, kind)}&judge`;
 }
 
-// ---- Read: the documents, the terms of the page, and what is proved.
+// ---- The activity Read: the documents, the terms of the page, and a list of the proved statements.
 export const PAGES = [
   ["how-it-works.html", "How it works", "The five lists, from one lock to none, each with the runs that show why."],
   ["classic.html", "The examples", "Eighteen runs, each with its question, the answer, and what goes wrong without the check."],
@@ -135,7 +135,7 @@ const TERMS = {
 };
 
 function readHtml() {
-  const isAlone = document.body.dataset.alone !== undefined; // the page is one file, without the others beside it
+  const isAlone = document.body.dataset.alone !== undefined; // the page is a single file: the documents are not beside it
   const pages = isAlone ? "" : cards(PAGES.map(([href, title, says]) => ({ href, list: "", title, says: escaped(says) })));
   const terms = Object.entries(TERMS).map(([term, says]) => `<div><dt>${term}</dt><dd>${escaped(says)}</dd></div>`);
   return `${head("", "Read", "", "title")}${pages}<h2>Terms</h2>${tag("dl", { class: "words card" }, ...terms)}

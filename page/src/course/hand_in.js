@@ -11,7 +11,7 @@
 //     break mark-in-add #list=lock-free&threads=2&quota=2&opening=3.7&s=b0.add.5,g0.5&event=6 named
 //     end
 //
-// The text often comes by mail: lines can be quoted, folded or encoded, and other lines can surround it. One file can have the texts of a whole
+// The text is often sent by mail: lines can be quoted, wrapped or encoded, and surrounded by other lines. One file can contain the texts of a whole
 // class, and courses.
 import { CLASSICS, LACKING } from "../../made/classics.js";
 import { AddressFault, addressOf, readAddress } from "../run/address.js";
@@ -44,7 +44,7 @@ export function textOfBytes(bytes) {
 }
 
 function unmailed(text) {
-  const isCoded = /=3D/i.test(text); // quoted-printable: a line goes on behind =, and =3D is =
+  const isCoded = /=3D/i.test(text); // quoted-printable: `=` at the end of a line continues the line, and =3D is `=`
   const lines = [];
   let goesOn = false;
   text.split(/\r\n|\r|\n/).forEach((given, index) => {
@@ -77,8 +77,8 @@ export function textsIn(text) {
   return found;
 }
 
-// A mail program can wrap a line at a space or within a word. A part keeps its line breaks until it is complete, and `unwrapped` decides what each of
-// them stands for. The predicates: a line begins a part, a line is the name of a lesson, a part is incomplete, a line can continue a part.
+// A mail program can wrap a line at a space or within a word. A part is a line as it was before. Each part is collected with its
+// line breaks; then `unwrapped` replaces a break between two words by a space, and deletes a break within a word.
 const broken = (word) => [...word].join("\\n?");
 const JUDGE = new RegExp(`^(judge)[ \\n]+(\\S[^]*?)[ \\n]+(${Object.keys(LEVELS).map(broken).join("|")})[ \\n]+([^]+)$`);
 const BREAK = new RegExp(`^(break)[ \\n]+([a-z0-9\\n-]+?)[ \\n]+((?:<?https?:[^#]+)?#[^]*?)(?:[ \\n]+(${broken(NAMED)}))?$`);
@@ -121,7 +121,8 @@ export function readSchedule(link) {
   }
 }
 
-// Judges a solution. Its `line` can end with lines that do not belong to it; `shorter` has it with fewer lines at its end. The first solved one counts.
+// Judges a solution. If later lines of the mail were joined to `line` by mistake, `shorter` has the same part with fewer joined lines. The first of
+// these texts that solves its task counts.
 export function judgedSolution(ask, lessons, { line, shorter }) {
   const lines = [line, ...shorter];
   /** @type {any[]} */

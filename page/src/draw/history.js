@@ -1,13 +1,13 @@
-// Draws the history: a bar for each call, and the moment at which it takes effect.
+// Draws the history: a bar for each call, with a point at the moment when the call takes effect.
 import { callText, colourOf, label, letterOf, tag, title } from "../run/markup.js";
 
 export const HISTORY_LEFT = 50;
 const HISTORY_RIGHT = 16;
-const LEAST_STEP = 7; // pixels of one event
+const LEAST_STEP = 7; // least pixels of one event
 const BAR = 20; // pixels: the height of a bar
 const BELOW = 6; // pixels between a bar and the labels of the next lane
 
-// Returns the events to draw: all if they fit, else a window that moves by thirds.
+// Returns the first and last event to draw: all events if they fit, else a window that moves by a third of its width.
 function windowOf(total, count, room) {
   const most = Math.max(30, Math.floor(room / LEAST_STEP));
   if (total <= most) return { first: 1, last: Math.max(total, 1) };
@@ -59,7 +59,7 @@ export function scaleOf(trace, count, width, hides = false, isLow = false, grown
   return { first, last, step, lane, bar, width, grown, count, now, edge, height, x, y, spanOf, labels: places, areWhole, isIn: above === 0 };
 }
 
-// Decides whether a point is already known: after the call's change, or when the call returns.
+// Decides whether the point of a call is known after `count` events: once the call has changed the set, or has returned.
 export const isReached = (call, count) => call.at <= count && (call.changes || (call.ended !== null && call.ended <= count));
 
 export function drawLane(scale, thread, place = thread) {
@@ -143,7 +143,7 @@ export function drawCalls(trace, scale) {
   return tag("svg", frame, ...lanes, drawCursor(scale, height, scale.y(0) - scale.bar / 2 - 2), ...stems, ...bars, ...points, signs);
 }
 
-// ---- The labels above the bars. Their places follow from the whole run, so nothing jumps.
+// ---- The labels above the bars. Their places depend on the whole run and not on the current event, so no label jumps.
 const LETTER = 7.1; // pixels of a letter of a label
 const BOLD = 8; // pixels of a letter of a reply
 const BETWEEN = 8; // pixels between two labels of a row
@@ -151,8 +151,8 @@ export const GROWN = 1.25; // the labels of a slide are larger by this factor
 export const ROW_HEIGHT = 15;
 export const widthOf = (text, reply = "") => LETTER * text.length + (reply === "" ? 0 : LETTER + BOLD * reply.length);
 
-// Returns the place { x, row } of each label { left, right, wide }, or null if no row has space. The labels come by their left ends. A label begins
-// at the left end of its bar, in the first free row (row 0 is next to the bar), or else ends at the bar's right end.
+// Returns the place { x, row } of each label { left, right, wide }, or null if no row has space. The labels must be sorted by their left ends. A label
+// begins at the left end of its bar, in the first free row (row 0 is next to the bar), or else ends at the right end of the bar.
 function placeLabels(items, { start, edge, mostRows }) {
   const taken = Array.from({ length: mostRows }, () => start);
   return items.map(({ left, right, wide }) => {
@@ -166,7 +166,7 @@ function placeLabels(items, { start, edge, mostRows }) {
   });
 }
 
-// A call whose label has no space is written by signs, which a line of the drawing explains.
+// The short label of a call if the long label has no space. A line below the drawing explains these signs.
 const SIGNS = {
   add: (key) => `+${key}`,
   remove: (key) => `\u2212${key}`,

@@ -1,4 +1,4 @@
-// Draws the bars on which the reader places points. Each bar is a slider for the keyboard. The clashing call is red.
+// Draws the bars of Judge: on each bar the reader places the moment of a call. For the keyboard, a bar is a slider. A refused call is red.
 import { lastMoment, nameOfCall } from "../run/judged.js";
 import { callText, chipOf, colourOf, escaped, label, tag, title } from "../run/markup.js";
 import { recordedInWords } from "../run/recorded.js";
@@ -7,8 +7,8 @@ import { drawLane, HISTORY_LEFT, layLabels, ROW_HEIGHT, signOf, widthOf } from "
 const JUDGE_RIGHT = 20;
 const JUDGE_BAR = 30;
 const JUDGE_BELOW = 8; // pixels between a bar and the labels of the next lane
-const MOST_ROWS = 3; // of labels
-const SLOT_WIDTH = 60; // of the words of a point
+const MOST_ROWS = 3; // rows of labels
+const SLOT_WIDTH = 60; // pixels for the label of a point
 const leftOf = ({ begun }, { x, step }) => x(begun) - step / 2;
 const rightOf = (call, { x, step, last }) => x(call.ended ?? last) + step / 2;
 
@@ -64,7 +64,7 @@ function drawJudgedBar(call, reply, scale, y) {
 
 const frameOf = ({ width, height }) => ({ width, height, viewBox: `0 0 ${width} ${height}` });
 
-// Draws recorded calls as bars, at equal distances of their moments.
+// Draws recorded calls as bars. Neighbouring moments have equal distances.
 export function drawRecorded(calls, width) {
   const inOrder = (numbers) => [...new Set(numbers)].sort((one, other) => (one < other ? -1 : 1));
   const threads = inOrder(calls.map(({ thread }) => thread));
@@ -88,7 +88,7 @@ function drawOwnPoint(call, at, y, scale) {
   return tag("g", { class: `point own ${colourOf(call.thread)}` }, stem, tag("circle", { cx: x, cy: y, r: 8 }), drawWhen(call, at, y, scale));
 }
 
-// Labels a point with its moment, if its own bar has room. Over another call's bar the label would seem to belong to that call.
+// Labels a point with its moment if the bar has room. Beyond the bar, the label could seem to belong to another call.
 function drawWhen(call, at, y, scale) {
   const x = scale.x(at);
   const isRoomy = (room) => room >= SLOT_WIDTH;
@@ -105,7 +105,7 @@ export function drawJudged(judged) {
   return tag("svg", frame, ...lanes, count === 0 ? "" : tag("line", line), ...calls);
 }
 
-// Writes the reader's order. The calls that are not placed yet follow in pale, so the line keeps its size.
+// Writes the reader's order. The calls without a moment follow in a pale colour, so that the line keeps its size.
 export function drawOwnOrder(answer) {
   const { calls } = answer.exercise;
   const placed = answer.order().map(({ call, at, reply }) => {

@@ -1,5 +1,5 @@
-// Judge yourself. The calls and the keys are those of the run; the order and the replies are the reader's. The proved `check` accepts every order
-// that explains the run, not only the replayer's.
+// An exercise of Judge: the run has calls and final keys, and the reader chooses the order and the replies. The proved `check` accepts every order that
+// explains the run, not only the order of the replayer.
 import { readReport, readVerdict } from "../engine/answers.js";
 import { callText, letterOf, openReply } from "./markup.js";
 
@@ -115,7 +115,8 @@ function faultInWords(answer, { fault, call, place, reply, set, answer: due, beg
 // Returns the last word of a line to hand in, as in `judge read-in-anothers-step replies 0-true,2-true,1-false,3-true`, or "".
 export const wordOfAnswer = (answer) => answer.order().map(({ call, reply }) => `${call.id}-${reply}`).join();
 
-// Reads such a word. Each call is placed at the earliest moment of its bar that keeps the order. Returns null for any other word.
+// Reads the last word of such a line. Each call is placed at the earliest moment of its bar that keeps the order. Returns null if the text is no such
+// word.
 export function answerOfWord(exercise, word) {
   const answer = new OwnAnswer(exercise);
   let at = 0;

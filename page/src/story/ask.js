@@ -1,5 +1,5 @@
-// Eleven questions. The `lines` of an example lead to the question, `rest` follows the question. `lacks` names the broken list without the check
-// that the example is about.
+// Eleven questions. The `lines` of the schedule are run before the question, `rest` after it. `lacks` names the broken list without the check that the
+// question is about.
 export const QUESTIONS = [
   {
     name: "failed-tries", list: "coarse", title: "Two adds of one number", opening: [3, 8],

@@ -41,7 +41,7 @@ async function guessed(index) {
   const asked = figure.run.count;
   figure.run = new LiveRun({ ...figure.spec, lines: now.scene.branches[0].lines });
   Object.assign(figure, { isOpen: true, isGuess: false });
-  const stop = isLecture() ? figure.run.endOfBit(asked) : figure.run.trace.total; // in a lecture the run stops after the deciding step
+  const stop = isLecture() ? figure.run.endOfBit(asked) : figure.run.trace.total; // on a slide the run stops after the deciding step
   await figure.show(asked, stop);
   if (scene.figure !== figure) return;
   setScene({ branches: [{ ...now.scene.branches[0], from: asked }] });

@@ -1,4 +1,4 @@
-// Assignments. An assignment is its address and is stored nowhere else: #assignment=Week+3&learn=one-lock.lost-pred&break=6.7&judge=lazy.2.5.2.17.
+// Assignments. The address of an assignment contains all its tasks: #assignment=Week+3&learn=one-lock.lost-pred&break=6.7&judge=lazy.2.5.2.17.
 import { BOOK, BOOK_NAME } from "../../made/book.js";
 import { LACKING } from "../../made/classics.js";
 import { LISTS } from "../../made/rows.js";
@@ -56,7 +56,7 @@ export function homeworkOf({ activity, id }, task = { kind: "", id: "" }) {
   return wordsIn(homework.given[activity], isRun ? "," : ".").includes(isRun ? task.id : id) ? homework : null;
 }
 
-// Returns the link that follows a place. A task of the assignment leads to its next task, or back to the assignment.
+// Returns the link to the next place. A task of the assignment leads to the next task, and the last task to the assignment.
 export function wayOn({ activity, id }, own) {
   const homework = homeworkOf({ activity, id });
   if (homework === null) return own;
@@ -65,7 +65,7 @@ export function wayOn({ activity, id }, own) {
   return next === undefined ? { href: addressOfAssignment(homework), words: "All tasks →" } : { href: next.href, words: "Next task →" };
 }
 
-// Returns the link that leads back from a place: to the assignment if the place is one of its tasks, else the place's own.
+// Returns the link back from a place: to the assignment if the place is a task of the assignment, else the link `own`.
 export function wayBack(place, own, task = undefined) {
   const homework = homeworkOf(place, task);
   return homework === null ? own : { href: addressOfAssignment(homework), words: `← ${titleOfAssignment(homework)}` };
@@ -98,12 +98,12 @@ function linesDone(tasks) {
   const lineOf = {
     Solve: ({ id }) => (solutions.has(id) ? solutionLine(id, solutions.get(id)) : undefined),
     Break: ({ id }) => broken[id.slice("break ".length)],
-    Judge: (task) => judged.find((line) => taskOfJudged(line, [task]) !== null), // the harder level comes first
+    Judge: (task) => judged.find((line) => taskOfJudged(line, [task]) !== null), // the line of the harder level, if both levels were solved
   };
   return Object.fromEntries(tasks.map((task) => [task.id, lineOf[task.kind](task)]));
 }
 
-// ---- The student's view: the tasks of a link, which of them are done, and the text to hand in.
+// ---- The student's view: the tasks of a link, a tick for each solved task, and the text to hand in.
 export const titleOfAssignment = ({ id }) => id || "Assignment";
 
 function doneOf(place) {

@@ -6,21 +6,21 @@ import { askCall, beginOwn, chooseCall, pressed } from "./dock.js";
 import { LiveRun } from "./live_run.js";
 
 const BIT = 400; // milliseconds between two steps of one press
-const QUICK = 140; // milliseconds for which each step is shown if the next press is waiting
+const QUICK = 140; // milliseconds for each step, if another press is waiting
 const BETWEEN = 450; // milliseconds between two presses that the page makes
 const sleep = (time) => new Promise((done) => setTimeout(done, time));
 const made = { count: 0 };
 const markBusy = (isBusy) => (document.body.dataset.busy = isBusy ? "yes" : "no");
 
 // A spec describes a run, the `calls` of each thread, the threads with a button (`shown`), and the parts beside the list.
-export const STILL = { dock: false, names: true, strip: true, prompt: false, again: false }; // of a run that is made elsewhere
+export const STILL = { dock: false, names: true, strip: true, prompt: false, again: false }; // the spec of a figure that shows a run made elsewhere
 
 export class Figure {
   id = `f${made.count++}`;
   active = 0; // the thread that runs to a line of the code
   past = []; // the lines of the run before each change, for undo
   isBusy = false; // steps are being shown
-  isHurried = false; // the next press is waiting for them
+  isHurried = false; // another press waits until these steps are shown
   isEnded = false;
   isOpen = true; // the reader may step
   hidesDock = false;
@@ -30,11 +30,11 @@ export class Figure {
   isSlow = false; // a node falls out of the chain, in slow motion
   hides = true; // the history shows no later events
   drawn = { count: 0, chain: [], slots: 0, tight: 0 }; // the event and the chain of the last drawing; the most nodes and the tightest form of all drawings
-  wide = 0; // of the list, in pixels
+  wide = 0; // width of the list in pixels
   tall = 0;
   stripWide = 0;
   scroll = 0;
-  said = null; // the sentence shown in place of that of the step
+  said = null; // a sentence that replaces the sentence about the step
   /** @type {(value?: any) => void} */
   wake = () => {}; // ends the wait between two steps
   onShown = null;
@@ -50,7 +50,7 @@ export class Figure {
     this.said = spec.says ?? null;
     this.chosen = spec.chosen ?? {}; // for each idle thread, the call in its fields
     frameOf(this);
-    box.addEventListener("click", (event) => this.isEnded || pressed(this, event)); // the box can belong to the next figure by then
+    box.addEventListener("click", (event) => this.isEnded || pressed(this, event)); // after the end of this figure, the box can belong to another figure
     box.addEventListener("input", ({ target }) => target.closest(".choose") !== null && chooseCall(this, target.closest("[data-thread]")));
     this.stretch = new ResizeObserver(() => {
       const { clientWidth, clientHeight } = this.part("list");
@@ -97,7 +97,7 @@ export class Figure {
     this.past.push([...this.run.lines]);
   }
 
-  // Makes the next steps of a thread. An idle thread begins its call first. A press while steps are shown makes its own steps after them.
+  // Makes the next steps of a thread. An idle thread begins its call first. If earlier steps are still being shown, waits until all of them were seen.
   async step(thread) {
     while (this.isOpen && this.isBusy && !this.isEnded) await this.hurry();
     if (!this.isOpen || this.isEnded) return;
@@ -126,14 +126,14 @@ export class Figure {
     if (!this.isEnded) this.onStep?.(this);
   }
 
-  // Shows the rest of the steps quickly, and none for less than QUICK. Returns a promise of their end.
+  // Shows the remaining steps quickly, each for QUICK. Returns a promise that resolves after the last step.
   hurry() {
     this.isHurried = true;
     this.wake();
     return this.playing;
   }
 
-  // Waits between two steps. A press ends the wait, but not before QUICK is over.
+  // Waits between two steps. Another press ends the wait, but not before QUICK is over.
   async wait(time) {
     this.isBusy = true;
     const quick = sleep(Math.min(time, QUICK));
@@ -151,10 +151,10 @@ export class Figure {
     markBusy(true);
     for (let count = Math.min(from + 1, total); count <= total; count++) {
       if (this.isEnded) return;
-      const isOfLock = this.spec.plain === true && this.run.trace.event(count).word === "list.lock"; // a list without its lock ignores this step
+      const isOfLock = this.spec.plain === true && this.run.trace.event(count).word === "list.lock"; // a list that ignores its lock does not show this step
       if (count < total && (wantsStill() || isOfLock)) continue;
       this.run.moveTo(count);
-      this.part("said").setAttribute("aria-live", count < total ? "off" : "polite"); // of a play only the last sentence is read out
+      this.part("said").setAttribute("aria-live", count < total ? "off" : "polite"); // a screen reader reads only the last sentence
       this.isBusy = count < total;
       this.draw(true);
       this.onShown?.();

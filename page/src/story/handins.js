@@ -7,9 +7,9 @@ import { askNow } from "../page/now.js";
 import { counted, inLetters } from "../run/markup.js";
 import { bookCourse, taskOfJudged, tasksOf } from "./assignment.js";
 
-const MOST_NAMES = 12; // of students with the same schedule
-const FEW_NAMES = 2; // of a large group, in a cell of the table
-const MANY = 10; // if one in so many students has a schedule, that is no sign of a copy
+const MOST_NAMES = 12; // names of students with the same schedule
+const FEW_NAMES = 2; // names of a large group in a cell of the table
+const MANY = 10; // if at least one in MANY students has a schedule, the schedule is no sign of copying
 
 const stripped = (name) => name.replace(/^.*\//, "").replace(/\.[A-Za-z]+$/, "");
 
@@ -19,7 +19,7 @@ function studentOf(text, file) {
   return { name: name || stripped(file), number: number ?? "" };
 }
 
-// Returns the assignment of a link, with title and tasks, or a sentence that says why the link is none.
+// Returns the title and the tasks of the assignment in a link. If the link has no assignment, returns the reason as `fault`.
 export function assignmentOfLink(link) {
   const { assignment: title, ...given } = Object.fromEntries(new URLSearchParams(link.replaceAll("&amp;", "&").replace(/^[^#]*#?/, "")));
   const { tasks, unknown } = tasksOf(given);
@@ -28,7 +28,7 @@ export function assignmentOfLink(link) {
   return tasks.length === 0 ? { fault: "The assignment of this link has no task." } : { title, tasks };
 }
 
-// Returns the rows of the table, one for each student. A file is { name, text }. Without an `assignment` the columns are all tasks that were handed in.
+// Returns the rows of the table, one for each student. A file is { name, text }. Without an `assignment`, the table has a column for each task that was handed in.
 export async function checkAll(files, assignment, sayProgress = (_at, _of) => {}) {
   const found = files.flatMap(({ name, text }) => textsIn(text).map((one) => ({ ...one, file: name })));
   const without = files.filter(({ name }) => !found.some(({ file }) => file === name));
@@ -46,7 +46,7 @@ export async function checkAll(files, assignment, sayProgress = (_at, _of) => {}
   const columns = assignment?.tasks ?? ids.map((id) => ({ id, title: titleOf(id, courses) }));
   const common = noteCopies(rows).sort((one, other) => other.rows.length - one.rows.length);
   for (const { task, rows: same } of common) {
-    for (const row of same) row.large ||= `(${titleOf(task, courses)}: as ${fewNames(same.filter((other) => other !== row), FEW_NAMES)})`; // sorted after copies
+    for (const row of same) row.large ||= `(${titleOf(task, courses)}: as ${fewNames(same.filter((other) => other !== row), FEW_NAMES)})`; // the parenthesis sorts these cells after cells with copies
   }
   for (const row of rows) row.notes.unshift(...notesOnNames(row, rows));
   return { rows, columns, empty, common: common.map(({ task, rows: same }) => `${titleOf(task, courses)} (${counted(same.length, "student")}: ${fewNames(same)})`) };
@@ -82,7 +82,7 @@ function judgePart(own, lessons, solution, tasks, odd) {
   const task = (line.startsWith("judge ") ? taskOfJudged(line, tasks ?? [])?.id : undefined) ?? verdict.task;
   if (tasks !== null && task !== null && !tasks.some(({ id }) => id === task)) return void odd.others.add(task);
   const title = task === null ? line.slice(0, 40) : (tasks?.find(({ id }) => id === task)?.title ?? titleOf(task, [{ lessons }]));
-  const isOwn = verdict.schedule !== undefined && !verdict.isVeryAnswer; // two students can share such a schedule only by copying
+  const isOwn = verdict.schedule !== undefined && !verdict.isVeryAnswer; // only a solution of the student's own is compared with those of other students
   if (verdict.isSolved) {
     own.solved.set(task, isOwn ? oneByOne(verdict.schedule) : null);
     if (verdict.how !== undefined && (!own.hows.has(task) || verdict.isMost)) own.hows.set(task, verdict.how);

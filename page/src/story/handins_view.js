@@ -6,8 +6,8 @@ import { counted, escaped, tag } from "../run/markup.js";
 import { assignmentOfLink, checkAll, copiesText, countOf, csvOf, markOf, sumsOf } from "./handins.js";
 import { part } from "./scene.js";
 
-const MOST_BYTES = 2_000_000; // of a file
-const MOST_NOTES = 3; // of a student in the table; the CSV has all
+const MOST_BYTES = 2_000_000; // largest size of a file
+const MOST_NOTES = 3; // notes of a student in the table; the CSV has all notes
 const given = { files: [], tooLong: [], result: null, turn: 0 };
 const MARKS = { solved: '<b class="yes">✓</b>', wrong: '<b class="no" title="handed in, and wrong">✗</b>', none: "–" };
 const piece = (name) => part(`#in-${name}`);
@@ -29,14 +29,14 @@ export const handInsHtml = () => `<section class="panel" id="handins"><h2>What t
   run breaks the list; “check named” adds that the student also chose the missing check on the page.</p></section>`;
 
 async function check() {
-  const turn = ++given.turn; // the result of an earlier check is not shown
+  const turn = ++given.turn; // if a later check has begun, the result of this check is not shown
   if (given.files.length + given.tooLong.length === 0) return;
   const link = piece("link").value.trim();
   const assignment = link === "" ? null : assignmentOfLink(link);
   if (assignment?.fault !== undefined) return showNothing(assignment.fault);
   Object.assign(piece("progress"), { hidden: false, max: 1, value: 0 });
   piece("said").textContent = `${given.files.length} files …`;
-  const isNow = () => turn === given.turn && piece("progress") !== null; // the reader can open another place meanwhile
+  const isNow = () => turn === given.turn && piece("progress") !== null; // meanwhile, the reader can have opened another place
   const result = await checkAll(given.files, assignment, (value, max) => isNow() && Object.assign(piece("progress"), { value, max }));
   if (!isNow()) return;
   piece("progress").hidden = true;
@@ -82,7 +82,7 @@ export function beginHandIns() {
   check();
 }
 
-// If the box is ticked, shows only the rows with a wrong solution or with a text that cannot be counted, and how many other rows are hidden.
+// If the box is ticked, hides the rows without a wrong solution, an unreadable line or a text that does not count, and shows how many rows are hidden.
 function showRows() {
   const rows = [...piece("table").querySelectorAll("tbody tr")];
   for (const row of rows) row.hidden = piece("wrong").checked && row.querySelector(".no, .garbled") === null;
@@ -136,7 +136,7 @@ export const handInDeeds = {
   clear,
   sort({ dataset: { at } }) {
     const body = piece("table").querySelector("tbody");
-    const sign = at > given.result.columns.length + 2 ? -1 : 1; // the largest counts and the longest notes come first
+    const sign = at > given.result.columns.length + 2 ? -1 : 1; // largest counts and longest notes first
     const compared = (one, other) => sign * one.cells[at].innerText.localeCompare(other.cells[at].innerText, undefined, { numeric: true });
     body.append(...[...body.rows].sort(compared));
   },

@@ -55,7 +55,7 @@ export function drawBar(stage, number, words = number === SCREENS.length ? "And 
   show.className = isLecture() && stage === "playing" ? "primary" : "quiet";
   on.hidden = !isDone && isNarrow();
   show.textContent = (isLecture() && { guess: "Reveal", playing: "Next step →" }[stage]) || SHOW[stage];
-  drawOn(isDone, isLecture() ? "Next slide →" : words); // (a slide leaves out screens of the path)
+  drawOn(isDone, isLecture() ? "Next slide →" : words); // (the slides do not have all screens of the path)
 }
 
 // Turns the stretches of the row "set" into buttons.
@@ -67,12 +67,12 @@ export function openContents(figure, press) {
     stretch.classList.add("press");
     stretch.onclick = () => press(contents, index);
     stretch.onkeydown = ({ key }) => {
-      if (key === "Enter" || key === " ") press(contents, index); // no other key is touched: a returned false would cancel Tab
+      if (key === "Enter" || key === " ") press(contents, index); // other keys keep their effect: returning false would cancel Tab
     };
   });
 }
 
-// ---- The last screen: a summary, and where to go next.
+// ---- The last screen: a summary, and links to the other activities.
 export const LAST = SCREENS.length + 1; // the number of the last screen
 
 const WAYS = [

@@ -1,4 +1,5 @@
-// A slide of the lecture. A presenter's keys move within the slide, and from its end to the next slide. Keys pressed during a step are kept.
+// Handles keys on a slide of the lecture. A presenter's keys move through the steps of the slide, and from its end to the next slide. Keys pressed
+// during an animation are handled after it.
 import { LECTURE, slideAddress } from "../data/lecture.js";
 import { isLecture, now } from "../page/now.js";
 import { goByHand } from "../page/play.js";
@@ -7,7 +8,7 @@ import { scene, setScene } from "./scene.js";
 const queue = { last: Promise.resolve(), waiting: 0 };
 const hurry = () => scene.figure?.isBusy && scene.figure.hurry();
 
-// Runs the keys one after the other. Steps of earlier keys are then shown without delay.
+// Handles the keys one after the other. If a key is waiting, steps of earlier keys are shown quickly.
 function inTurn(deed) {
   queue.waiting++;
   hurry();
@@ -49,7 +50,7 @@ function goesOnStage(by) {
   return isThere;
 }
 
-// Moves forward or back. If steps are being shown and nothing else is left on the slide, a press only shows the rest of these steps.
+// Moves forward or back. If the last steps of the slide are still being shown, a press shows the rest of these steps and does not leave the slide.
 export function goOnSlide(by) {
   const isPlaying = scene.figure?.isBusy === true;
   return inTurn(async () => (now.place.screen === "stage" ? goesOnStage(by) : await scene.view?.goes?.(by)) || isPlaying || toSlide(by));

@@ -45,7 +45,7 @@ function beginEmbed() {
   which.value = "two-removers";
   which.onchange = () => {
     part("#embed-text").textContent = snippetOf(which.value);
-    part("#embed-frame").src = `${location.pathname}?embed=${which.value}#ask=${which.value}&view=embed`; // another address than this page's, so that the frame loads
+    part("#embed-frame").src = `${location.pathname}?embed=${which.value}#ask=${which.value}&view=embed`; // the query makes the address differ from this page's address, so that the frame loads
   };
   which.onchange();
 }
@@ -106,7 +106,7 @@ function fill() {
   piece("count").textContent = count === 0 ? "Nothing is ticked yet." : `${count} task${count === 1 ? "" : "s"}`;
   piece("link").textContent = linkTo(address);
   piece("open").href = address;
-  if (count > 0) Object.assign(part("#in-link"), { value: linkTo(address) }).oninput?.(); // the hand-ins are checked for this assignment
+  if (count > 0) Object.assign(part("#in-link"), { value: linkTo(address) }).oninput?.(); // the panel of hand-ins then checks for this assignment
   const item = (seed, at) => `<li><code>${seed}</code> <a href="#seed=${seed}" target="_blank">look</a>
     <button class="quiet small" data-do="drop" data-at="${at}" aria-label="leave out ${seed}">✕</button></li>`;
   piece("seeds").innerHTML = work.seeds.map(item).join("");
