@@ -39,7 +39,7 @@ function checkLevels(ask, name, report) {
   }
 }
 
-// Checks that no sentence of a run gives away the answer.
+// Checks that no sentence about a run reveals the answer.
 function checkHidden(ask, name, schedule) {
   const trace = new (inPage("Trace"))(ask("listset_trace", schedule).text);
   const state = new (inPage("State"))(trace);
@@ -265,7 +265,7 @@ function checkTroubles(ask) {
   check(`no answer: ${none.says}`, none.isRight === null && none.says === "This order is not judged: the engine stopped: unreachable.");
 }
 
-// Checks two lists side by side. In each turn, both lists make a step, except a list whose call has already returned.
+// Checks two lists side by side. In each turn, both lists make a step, except if the call has already returned in one of them.
 function checkSides(ask) {
   const [Sides, readProgram, programText] = ["Sides", "readProgram", "programText"].map(inPage);
   const program = readProgram("0: add 5, remove 5\n t1 : contains 5\n");

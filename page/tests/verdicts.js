@@ -110,7 +110,7 @@ function waysLeft(calls, key, isThere) {
 
 const quotaIn = (report) => Number(/^quota (\d+)$/m.exec(report)[1]);
 
-// ---- What is judged, and the properties of the sentences.
+// ---- The judged cases, and the properties of the sentences.
 
 // A case has the calls, the opening keys, the final keys (null if unknown), and the quota.
 const isExplained = ({ calls, opening, keys, quota }) => {
@@ -313,7 +313,7 @@ function checkText(ask, it, told) {
   return result.failed.push(`the text and the record differ:\n${lines.join("\n")}\n${JSON.stringify(told)} on\n${it.text}`);
 }
 
-// ---- What is wrong in a recording, by the same engine: a headline, calls and facts.
+// ---- The diagnosis of a recording: a headline, calls and facts.
 
 const holdsReply = (call) => call.ended !== null;
 const turned = (call) => ({ ...call, reply: call.reply === "true" ? "false" : "true" });
@@ -661,7 +661,7 @@ const OF_WHY = [
   [/^because they disagree as long as nothing changes the key$/, () => true],
 ];
 
-// ---- A key whose calls disagree for long: adds find it present and removes absent, while nothing changes it.
+// ---- A key with calls that disagree for a long time: adds find the key present and removes find it absent, while nothing changes it.
 
 // Returns a recording of one key, in which a change is followed by many answers that disagree, and then, perhaps, by another change. Some answers overlap.
 function drawnSplit() {
@@ -862,7 +862,7 @@ async function main() {
     checkOwn(ask);
   }
   for (const drawn of kindsOf({ draw, pick, replyOf, keysAfter, paddingAfter })) for (let number = 0; number < CASES; number++) checkKind(ask, drawn);
-  // (a recording with few calls has few of the facts from which a cause is guessed)
+  // (a recording with few calls contains few facts for a guess of the cause)
   const isRare = (pattern) => /^\^because|which do not increase|have no order\\\.|at first, and/.test(pattern.source);
   const properties = [...OF_RECORDING, ...OF_SPLIT, ...OF_LACKING, ...OF_OWN];
   result.failed.push(...properties.filter(([pattern]) => CASES >= 150 && !met.has(pattern) && !isRare(pattern)).map(([pattern]) => `no case has ${pattern}`));

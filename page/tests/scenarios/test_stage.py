@@ -51,7 +51,7 @@ STILL = """const own = window.matchMedia.bind(window);
 
 
 def fit(visitor, width, height):
-    """Resizes the window. Narrow windows in Chromium are those of a phone, with touch. In Firefox and WebKit, windows
+    """Resizes the window. In Chromium, a narrow window is a phone with touch. In Firefox and WebKit, windows
     cannot be narrower than 450 to 500 pixels.
     """
     if width < 500 and visitor.name == "chromium":

@@ -1,4 +1,4 @@
-"""Tests what teachers use: a lecture, an assignment as a single link, and what a class handed in. Also tests the student
+"""Tests the page for teachers: a lecture, an assignment as a single link, and the hand-ins of a class. Also tests the student
 who opens the link.
 """
 
