@@ -63,7 +63,7 @@ function learnHtml() {
     ({ href: `#learn=${name}`, list: `${at + 1} · ${LIST_WORDS[list]}`, title: escaped(title), state: panel.isSolved(name) ? "done" : "" });
   const count = lessons.filter((lesson) => panel.isSolved(lesson.name)).length;
   const isBook = name === BOOK_NAME;
-  const words = "In each lesson you choose which thread makes the next step, until the run shows what is asked. There is more than one way.";
+  const words = "In each lesson you choose which thread makes the next step, until the run meets the task. There is more than one way.";
   const top = lead(words, count === 0 ? "" : `<b>${count}</b> of ${lessons.length} solved`);
   const back = isBook ? "" : '<p><button id="lesson-book" data-do="book">Back to the twelve lessons</button></p>';
   return `${head("", isBook ? "Solve it" : escaped(name), top, "title")}${cards(lessons.map(cardOf))}
@@ -124,7 +124,7 @@ const TERMS = {
   schedule: "Which thread makes the next step, from the first event to the last. It is the whole input of a run.",
   history: "The calls with their begin, end, thread and reply. Two calls overlap if neither ends before the other begins.",
   pending: "A call that has begun and not ended.",
-  "takes effect": "At its linearization point: the moment between begin and end at which a call counts in the order.",
+  "takes effect": "A call takes effect at its linearization point: a moment between its begin and its end. The order of these moments is the order of the calls.",
   order: "A sequence of all calls. It explains a run if a sequential set gives the same replies in this order.",
   linearizable: "Some order explains the replies and keeps the order of calls that do not overlap.",
   "row, step table": "The algorithm as numbered steps; a row says what the thread does next.",

@@ -29,7 +29,7 @@ export function judged(ask, lesson, schedule) {
   if (trace === null) return unjudged(fault.says, fault);
   const run = new Run(trace);
   const conditions = withinBound(() => conditionsOfLesson(ask, lesson, schedule, run));
-  if (conditions === null) return unjudged("This run is not judged: there are too many ways in which it could meet the goal.");
+  if (conditions === null) return unjudged("This run is not judged: it could meet the goal in too many ways.");
   const isSolved = conditions.every(({ isMet }) => isMet);
   const deadEnd = withinBound(() => lesson.deadEnds.map((lines) => conditionsOf(lines, run)[0]).find(({ isMet }) => isMet));
   return { isSolved, reason: null, fault: null, conditions, deadEnd: isSolved ? null : (deadEnd?.says ?? null) };

@@ -53,7 +53,7 @@ export const BREAK_LEVELS = {
   "hand-over-hand": {
     story: "A walk should never be without a lock, not for one moment.",
     hints: ["An add of 5 beside a remove of 3, its neighbour.",
-      "There is a moment in which the walk of the add holds no lock. Find it.",
+      "For a moment, the walk of the add holds no lock. Find this moment.",
       "Stop B on its way from the node of 3 to that of 7. Let A remove 3. Then let B end."],
     lacks: "While walking, it releases one lock before it acquires the next.",
     others: { "It releases its locks before it writes.": "it releases them only after that",
@@ -105,7 +105,7 @@ export const BREAK_LEVELS = {
   "mark-at-key": {
     story: "A marked node can stay in the chain for a while. Which call reads it there?",
     hints: ["Three calls: an add of 5, a remove of 7, and then a contains of 7.",
-      "A remove whose last compare-and-set fails leaves its node in the chain, marked.",
+      "If the last compare-and-set of a remove fails, its node stays in the chain, marked.",
       "Stop A before it links 5 in. Let B remove 7 up to its last step. Link 5 in, let B end. Then call contains(7)."],
     lacks: "A contains does not look at the mark of the node with its key.",
     others: { "A remove does not mark its node.": "it marks the node before it unlinks it",

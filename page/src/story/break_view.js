@@ -88,7 +88,7 @@ function wonHtml({ note, wrong }) {
   const asked = `<p class="ask">What does this list do wrong?</p>${optionButtons(optionsOf(name), wrong)}<p role="status">${reply}</p>`;
   const { total } = run.trace;
   const known = total > shortest[0] ? ` A run with ${shortest[0]} steps is known.` : "";
-  const named = `<p><b class="yes">✓ ${lacks}</b> In the code, the missing part is struck out. Your run is shown again from the step at which the correct list differs. <span class="small">Your run has ${total} steps (one press can make several).${known}</span></p>
+  const named = `<p><b class="yes">✓ ${lacks}</b> In the code, the missing part is struck out. Your run is shown again from the step where the correct list differs. <span class="small">Your run has ${total} steps (one press can make several).${known}</span></p>
     <p class="line"><button data-do="replay">See your run again</button> <button data-do="afresh" class="quiet">Break it in another way</button></p>`;
   const ledger = isOddRun(run) ? drawLedger(run) : "";
   return `<div class="reveal won">${ledger}<div><p class="why"><b>Broken.</b> ${note}</p>${isDone ? named : asked}</div></div>`;

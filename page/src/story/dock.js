@@ -72,7 +72,7 @@ const isLow = () => innerHeight < 760 || isLecture();
 // The path draws its bars larger, and aligns the list with them.
 const zoomOf = ({ spec, stripWide }) => (isLecture() ? innerHeight / 450 : !spec.isPath ? 1 : stripWide < 600 ? 1.34 : stripWide < 1500 ? 1.35 : 1.55);
 export const barEnds = (figure) => [(HISTORY_LEFT - 6) * zoomOf(figure), 16 * zoomOf(figure)];
-const LEGEND = '<p class="small legend">● the call changes the set · ○ earliest moment at which its answer is correct</p>';
+const LEGEND = '<p class="small legend">● the call changes the set · ○ earliest moment when its answer is correct</p>';
 const MOST_CALLS = 400; // pixels; if the bars are higher, they scroll
 
 export function scrollToLane(figure) {

@@ -20,7 +20,7 @@ export const handInsHtml = () => `<section class="panel" id="handins"><h2>What t
   <label class="drop" id="in-drop"><input type="file" multiple id="in-files"><b>Drop files or a folder here</b>
     <span class="small">or press to choose them</span></label>
   <progress id="in-progress" hidden aria-label="files checked"></progress><p id="in-said" role="status"></p>
-  <div id="in-table" class="scroll" tabindex="0" role="group" aria-label="what was handed in"></div>
+  <div id="in-table" class="scroll" tabindex="0" role="group" aria-label="the hand-ins"></div>
   <p class="line" id="in-save" hidden><button class="primary" data-do="csv">Save as CSV</button>
   <button data-do="csv" data-parted=";">Save with semicolons (German, French)</button>
   <label><input type="checkbox" id="in-wrong"> only rows with a wrong solution or an error</label> <span id="in-hidden" class="small" role="status"></span><button class="quiet" data-do="clear">Clear</button></p>

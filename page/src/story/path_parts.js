@@ -79,15 +79,15 @@ const WAYS = [
   ["#ask", "Guess, then see", "Runs that stop at the question. What comes next, and why?"],
   ["#code=lock-free", "Step by the code", "Any list, any calls: press a line, and its thread executes it."],
   ["#break", "Break it", "Lists that lack one check each. Find a run that shows it."],
-  ["#learn", "Solve it", "Twelve lessons: choose the steps until the run shows what is asked."],
+  ["#learn", "Solve it", "Twelve lessons: choose the steps until the run meets the task."],
   ["#teachers", "Teach it", "A lecture of 45 minutes, homework in one link, hand-ins checked."],
 ];
 
 const TRUTH = `<details class="truth"><summary>How true is this?</summary><p>Each step that you saw was computed by a program. A machine has
-  checked the proof that this program runs the lists step by step. “Lost” is said only if a proved judge finds that no order of the calls explains their answers and
-  what is left. The list of screens 1 and 2 is CoarseList, with its lock ignored; that of “Why two locks?” is FineList, whose remove
-  does not lock the node that it takes out; that of screen 5 is OptimisticList without its second walk.
-  That the page draws what the program says is only tested. <a href="#read">More</a></p></details>`;
+  checked the proof that this program runs the lists step by step. “Lost” is said only if a proved judge finds that no order of the calls explains their replies and
+  the final list. The list of screens 1 and 2 is CoarseList, with its lock ignored; that of “Why two locks?” is FineList, with a remove
+  that does not lock the node that it takes out; that of screen 5 is OptimisticList without its second walk.
+  Whether the page draws these steps correctly is only tested. <a href="#read">More</a></p></details>`;
 
 const TREE = ["A balanced tree, one lock", "", "", "", "", 9.1, 4.1];
 const rowOf = (name, ...cells) => tag("tr", {}, tag("th", { scope: "row" }, name), ...cells.map((text) => tag("td", {}, text)));

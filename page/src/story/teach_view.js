@@ -151,7 +151,7 @@ const OWN = `<section class="panel" id="own"><h2>Lessons of your own</h2>
 
 function html() {
   const jump = ([id, name]) => tag("button", { class: "quiet", "data-do": "jump", "data-panel": id }, name);
-  const lead = `<p class="lead">A lecture of 45 minutes, figures for your own pages, homework as a single link, and automatic checking of what is handed in.
+  const lead = `<p class="lead">A lecture of 45 minutes, figures for your own pages, homework as a single link, and automatic checking of hand-ins.
     No account, no server: all of it happens in the browser.</p><p class="jump">${Object.entries(PANELS).map(jump).join("")}</p>`;
   return `${head("", "For teachers", lead, "title")}${lectureHtml()}${embedHtml()}${homeworkHtml()}${handInsHtml()}${OWN}
     <footer class="foot"><span id="scene-said" class="small" role="status"></span><span class="spread"></span>
