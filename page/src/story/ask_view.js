@@ -92,7 +92,7 @@ function press(event) {
   const number = numberOfKey(event);
   if (stage === "guess" && number !== -1 && number < here().options.length) return guessed(number);
   if (stage === "guess") return;
-  if (stage === "playing") return void figure.hurry();
+  if (stage === "playing") return void figure.hurry(true);
   const step = { ArrowLeft: -1, ArrowRight: 1, PageUp: -1, PageDown: 1 }[event.key];
   if (step !== undefined) figure.moveTo(figure.run.count + step);
   else if (threadOfKey(event) !== -1 && figure.shown.includes(threadOfKey(event))) {

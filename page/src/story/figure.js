@@ -21,6 +21,7 @@ export class Figure {
   past = []; // the lines of the run before each change, for undo
   isBusy = false; // steps are being shown
   isHurried = false; // another press waits until these steps are shown
+  isSkipped = false; // the reader wants to see the last step only
   isEnded = false;
   isOpen = true; // the reader may step
   hidesDock = false;
@@ -126,9 +127,9 @@ export class Figure {
     if (!this.isEnded) this.onStep?.(this);
   }
 
-  // Shows the remaining steps quickly, each for QUICK. Returns a promise that resolves after the last step.
-  hurry() {
-    this.isHurried = true;
+  // Shows the remaining steps quickly, each for QUICK, or only the last one. Returns a promise that resolves after the last step.
+  hurry(isSkipped = false) {
+    Object.assign(this, { isHurried: true, isSkipped });
     this.wake();
     return this.playing;
   }
@@ -138,7 +139,7 @@ export class Figure {
     this.isBusy = true;
     const quick = sleep(Math.min(time, QUICK));
     await Promise.race([sleep(time), new Promise((done) => (this.wake = done))]);
-    await quick;
+    if (!this.isSkipped) await quick;
   }
 
   show(from, total = this.run.trace.total) {
@@ -147,19 +148,19 @@ export class Figure {
 
   async showSteps(from, total) {
     this.isBusy = true;
-    this.isHurried = false;
+    this.isHurried = this.isSkipped = false;
     markBusy(true);
     for (let count = Math.min(from + 1, total); count <= total; count++) {
       if (this.isEnded) return;
       const isOfLock = this.spec.plain === true && this.run.trace.event(count).word === "list.lock"; // a list that ignores its lock does not show this step
-      if (count < total && (wantsStill() || isOfLock)) continue;
+      if (count < total && (this.isSkipped || wantsStill() || isOfLock)) continue;
       this.run.moveTo(count);
       this.part("said").setAttribute("aria-live", count < total ? "off" : "polite"); // a screen reader reads only the last sentence
       this.isBusy = count < total;
       this.draw(true);
       this.onShown?.();
       if (this.isSlow) await this.wait(fallTime()); // the loss is drawn before it is put into words
-      if (count < total || this.isHurried) await this.wait(this.isHurried ? QUICK : BIT);
+      if (count < total || (this.isHurried && !this.isSkipped)) await this.wait(this.isHurried ? QUICK : BIT);
     }
     this.isBusy = false;
     markBusy(false);
