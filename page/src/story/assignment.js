@@ -6,7 +6,7 @@ import { BREAK_LEVELS, levelOfNumber, numberOfLevel } from "../data/levels.js";
 import { isSeed, partsOfSeed, scheduleOfSeed } from "../run/address.js";
 import { NO_TASK } from "../run/broken.js";
 import { counted, escaped, inLetters, tag } from "../run/markup.js";
-import { handInText, readSchedule, solutionLine } from "../course/hand_in.js";
+import { handInText, NAMED, readSchedule, solutionLine } from "../course/hand_in.js";
 import { triedCourse } from "../course/lesson.js";
 import { saveText } from "../page/files.js";
 import { askNow, now } from "../page/now.js";
@@ -137,7 +137,8 @@ function html(place) {
   const verb = done.length === 0 ? "Begin" : "Go on";
   const next = (task) => tag("a", { class: "button primary", href: task.href }, `${verb}: ${escaped(task.title)} →`);
   const bar = first === undefined ? foot(tasks.length === 0 ? "No task." : "All done.", '<button class="primary" data-do="hand">Hand in ↑</button>') : foot("", next(first));
-  const items = tasks.map((task) => itemOf(task, lines[task.id] !== undefined));
+  const lacksName = ({ id, kind }) => kind === "Break" && lines[id] !== undefined && !lines[id].endsWith(` ${NAMED}`);
+  const items = tasks.map((task) => itemOf({ ...task, says: lacksName(task) ? "Broken. Now name the missing check too." : task.says }, lines[task.id] !== undefined));
   const title = head("Assignment", escaped(titleOfAssignment(place)), lead, "title");
   return `${title}${tag("ol", { class: "tasks" }, ...items)}${HAND(keptStory(), done.length)}${bar}`;
 }

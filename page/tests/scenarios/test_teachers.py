@@ -68,7 +68,11 @@ def test_completed_tasks_are_ticked_and_handed_in(visitor):
     visitor.unfold("#hand details")
     text = visitor.text("#hand-text")
     assert "student Ada Lovelace (4711000)" in text and "one-lock #list=coarse" in text and "break second-walk #" in text
-    assert "assignment Week 3\n" in text
+    assert "assignment Week 3\n" in text and " named\n" not in text and "Now name the missing check" in visitor.text(".tasks .task[href='#break=7']")
+    visitor.script("localStorage.setItem('listset-named-checks', '[\"second-walk\"]')")
+    visitor.open(LINK)
+    visitor.unfold("#hand details")
+    assert " named\n" in visitor.text("#hand-text") and "Now name" not in visitor.text(".tasks")
     visitor.click("[data-do=save]")
     assert visitor.text("#scene-said") == "Saved: ada-lovelace-4711000-week-3.txt. Hand in this file."
 
