@@ -46,7 +46,7 @@ export async function checkAll(files, assignment, sayProgress = (_at, _of) => {}
   const columns = assignment?.tasks ?? ids.map((id) => ({ id, title: titleOf(id, courses) }));
   const common = noteCopies(rows).sort((one, other) => other.rows.length - one.rows.length);
   for (const { task, rows: same } of common) {
-    for (const row of same) row.large ||= `(${titleOf(task, courses)}: as ${fewNames(same.filter((other) => other !== row), FEW_NAMES)})`; // the parenthesis sorts these cells after cells with copies
+    for (const row of same) row.large ||= `(${titleOf(task, courses)}: as ${fewNames(same.filter((other) => other !== row), FEW_NAMES)})`;
   }
   for (const row of rows) row.notes.unshift(...notesOnNames(row, rows));
   return { rows, columns, empty, common: common.map(({ task, rows: same }) => `${titleOf(task, courses)} (${counted(same.length, "student")}: ${fewNames(same)})`) };

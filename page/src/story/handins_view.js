@@ -99,7 +99,7 @@ function drawRow(row, columns) {
   const how = ({ id }) => (row.hows.has(id) ? ` <span class="small">${row.hows.get(id)}</span>` : "");
   const cells = columns.map((column) => `<td class="mark">${MARKS[markOf(row, column)]}${how(column)}</td>`).join("");
   return `<tr><th scope="row">${escaped(row.name)}</th><td>${escaped(row.number)}</td>${cells}<td class="mark"><b>${countOf(row, columns)}</b></td>
-    <td class="same">${escaped(copiesText(row) || row.large)}</td><td class="notes${row.faults > 0 || row.isOdd ? " garbled" : ""}">${notesOf(row)}</td></tr>`;
+    <td class="same" data-sort="${escaped(copiesText(row))}">${escaped(copiesText(row) || row.large)}</td><td class="notes${row.faults > 0 || row.isOdd ? " garbled" : ""}">${notesOf(row)}</td></tr>`;
 }
 
 function drawResult({ rows, columns, empty, common }) {
@@ -137,7 +137,8 @@ export const handInDeeds = {
   sort({ dataset: { at } }) {
     const body = piece("table").querySelector("tbody");
     const sign = at > given.result.columns.length + 2 ? -1 : 1; // largest counts and longest notes first
-    const compared = (one, other) => sign * one.cells[at].innerText.localeCompare(other.cells[at].innerText, undefined, { numeric: true });
+    const textOf = ({ cells }) => cells[at].dataset.sort ?? cells[at].innerText;
+    const compared = (one, other) => sign * textOf(one).localeCompare(textOf(other), undefined, { numeric: true });
     body.append(...[...body.rows].sort(compared));
   },
 };

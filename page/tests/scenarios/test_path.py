@@ -76,7 +76,7 @@ def test_each_step_of_fast_presses_is_seen(visitor, address, keys):
         visitor.open(address)
         visitor.script(SENTENCES)
         pressed(keys)
-        visitor.wait("return listsets.scene.figure.past.length === arguments[0]" if visitor.name != "firefox" else "return window.wrappedJSObject.listsets.scene.figure.past.length === arguments[0]", len(keys))
+        visitor.wait("return (window.wrappedJSObject ?? window).eval('listsets.scene.figure.past.length') === arguments[0]", len(keys))
         visitor.settle()
         visitor.idle()
         told.append(visitor.script("return window.told"))
