@@ -15,8 +15,7 @@ const SLIDER_KEYS = { ...HALF_STEPS, PageDown: -5, PageUp: 5, Home: -Infinity, E
 const judgePart = (name) => byId(`judge-${name}`);
 
 class Judging {
-  answer = null;
-  verdict = null;
+  answer = null; verdict = null;
   held = null; // the call with the point that is being dragged
   tries = 0; // the number of refused answers
 

@@ -68,8 +68,7 @@ export const BREAK_LEVELS = {
     lacks: "After locking it does not walk the list again: pred may have been removed.",
     others: { "It does not lock curr.": "it locks pred and curr",
       "It does not check whether pred still points to curr.": "it checks that while it holds both locks" },
-    start: [["add", 5], ["remove", 3]], shortest: [23, 2],
-    missing: [{ row: 6, part: "walk from the head again" }, { row: 7, part: "until pred is met, else not valid" }],
+    start: [["add", 5], ["remove", 3]], shortest: [23, 2], missing: [{ row: 6, part: "walk from the head again" }, { row: 7, part: "until pred is met, else not valid" }],
   },
   "marks-in-validation": {
     story: "Marks are set here. Does every call read them?",

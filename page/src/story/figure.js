@@ -32,15 +32,11 @@ export class Figure {
   hides = true; // the history shows no later events
   drawn = { count: 0, chain: [], slots: 0, tight: 0 }; // the event and the chain of the last drawing; the most nodes and the tightest form of all drawings
   wide = 0; // width of the list in pixels
-  tall = 0;
-  stripWide = 0;
-  scroll = 0;
+  tall = 0; stripWide = 0; scroll = 0;
   said = null; // a sentence that replaces the sentence about the step
   /** @type {(value?: any) => void} */
   wake = () => {}; // ends the wait between two steps
-  onShown = null;
-  onStep = null;
-  onFork = null;
+  onShown = null; onStep = null; onFork = null;
 
   /** @param {any} box @param {import("./live_run.js").RunSpec & { [name: string]: any }} spec */
   constructor(box, spec) {

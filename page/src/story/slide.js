@@ -41,9 +41,7 @@ function endLecture() {
 }
 
 function goesOnStage(by) {
-  const isEnding = now.scene.note !== "";
-  if (isEnding && by < 0) setScene({ note: "" });
-  if (isEnding) return by < 0;
+  if (now.scene.note !== "") return by < 0 && (setScene({ note: "" }), true); // the answer is shown
   const count = now.run.count + by;
   const isThere = count >= 0 && count <= now.run.trace.total;
   if (isThere) goByHand(count);
