@@ -1,15 +1,15 @@
 // The teacher's tool, in node:
 //
-//     node page/check_lessons.js FILE|FOLDER ..        what was handed in, by one student or by a whole class; - is the standard input
-//         --assignment LINK                            the tasks are those of an assignment; else all that anybody handed in
-//         --csv FILE                                   and as a table for a spreadsheet
-//     node page/check_lessons.js COURSE FILE ..        the tasks are the lessons of courses of one's own
-//     node page/check_lessons.js COURSE                whether a course is one: each lesson is read and tried
-//     node page/check_lessons.js --link COURSE         the part of a link that opens the course on the page
+//     node page/check_lessons.js FILE|FOLDER ..        checks the hand-ins of one student or of a class; - is the standard input
+//         --assignment LINK                            counts the tasks of this assignment; else all tasks that anybody handed in
+//         --csv FILE                                   also writes a table for a spreadsheet
+//     node page/check_lessons.js COURSE FILE ..        counts the lessons of the teacher's own courses
+//     node page/check_lessons.js COURSE                checks a course: each lesson is read and tried
+//     node page/check_lessons.js --link COURSE         prints the part of a link that opens the course on the page
 //
-// A file may have courses and texts of many students, as they came by mail (hand_in.js). The table is that of the page's teachers' place
-// (handins.js). The status is 0 where nothing is missing, 1 where something is, 2 where the words are wrong, a file cannot be read or has
-// no such text, and 70 where there is no engine.
+// A file can contain courses and the texts of many students, also as mail (hand_in.js). The page for teachers shows the same table (handins.js).
+// The exit status is 0 if every task is solved, 1 if not, 2 if an argument is wrong or a file cannot be read or has no such text, and 70 without an
+// engine.
 "use strict";
 
 const fs = require("fs");
@@ -23,13 +23,13 @@ const USAGE = "node page/check_lessons.js [--assignment LINK] [--csv FILE] FILE|
 
 class Trouble extends Error {}
 
-const UNTRUSTED = /[\x00-\x1f\x7f-\x9f\u2028\u2029\u202a-\u202e]/g; // what no text may send to a terminal
+const UNTRUSTED = /[\x00-\x1f\x7f-\x9f\u2028\u2029\u202a-\u202e]/g; // characters that are not printed to a terminal
 const printable = (text) => text.replace(UNTRUSTED, "?");
 const counted = (count, word) => inPage("counted")(count, word);
 const say = (line) => process.stdout.write(`${printable(line)}\n`);
 const tell = (line) => process.stderr.write(`lessons: ${printable(line)}\n`);
 
-// Returns what a function makes of a file. A file that cannot be read is an error.
+// Calls a function on a file, and returns the result. A file that cannot be read is an error.
 function withFile(file, deed) {
   try {
     return deed(file);
@@ -71,7 +71,7 @@ async function toldCourses(courses, isLink) {
   return 0;
 }
 
-// Prints for each student how much is solved, what is missing, and the notes of the table.
+// Prints the solved and missing tasks of a student, and the notes of the table. Returns whether every task is solved and every line is readable.
 function toldRow(row, columns) {
   const who = row.number === "" ? row.name : `${row.name} (${row.number})`;
   const open = columns.filter(({ id }) => !row.solved.has(id)).map(({ title }) => title);
@@ -123,7 +123,7 @@ async function main() {
     if (positionals.length === 0 || (values.link && positionals.length > 1)) throw new Trouble(`the words are ${USAGE}`);
     const engine = await startedEngine();
     if (engine === null) return [NO_ENGINE, tell(NOT_RUN)][0];
-    inPage("held").engine = engine; // what the page's own modules ask
+    inPage("held").engine = engine; // the engine for the page's modules
     return await checked(inPage("askNow"), values, positionals);
   } catch (fault) {
     if (!(fault instanceof Trouble) && !fault.code?.startsWith("ERR_PARSE_ARGS")) throw fault;
@@ -132,5 +132,5 @@ async function main() {
   }
 }
 
-process.stdout.on("error", (fault) => process.exit(fault.code === "EPIPE" ? 0 : 2)); // as with | head
+process.stdout.on("error", (fault) => process.exit(fault.code === "EPIPE" ? 0 : 2)); // for example, if the output is piped to `head`
 main().then((status) => (process.exitCode = status));

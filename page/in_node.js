@@ -7,12 +7,12 @@ const { Duplex } = require("stream");
 const vm = require("vm");
 const zlib = require("zlib");
 
-const NO_ENGINE = 70; // the status of a tool that has none
+const NO_ENGINE = 70; // the exit status of a tool without an engine
 const NOT_RUN = "this node does not run the WebAssembly module; version 18 does";
 
 const bundle = { names: null };
 
-// Node 18 has no global `crypto`, and its streams do not know the format of a course in a link. Those of zlib do.
+// Node 18 has no global `crypto`, and its streams do not know the format of a course in a link. The streams of zlib know it.
 globalThis.crypto ??= require("crypto").webcrypto;
 try {
   new CompressionStream("deflate-raw");

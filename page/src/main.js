@@ -1,4 +1,4 @@
-// Connects the parts of the page, and starts it.
+// Connects the modules of the page, and starts the page.
 import { listenToBench, showBar, showPlace, showRun } from "./activities/bench.js";
 import { listenToCourses } from "./activities/courses.js";
 import { compareView } from "./activities/compare.js";
@@ -41,9 +41,17 @@ function listen() {
   Object.assign(keysOf, { scene: pressInScene, slide: goOnSlide });
   document.addEventListener("click", stopUnable, true);
   document.addEventListener("keydown", pressKey);
+  document.addEventListener("focusin", uncover);
   window.addEventListener("resize", show);
   window.addEventListener("popstate", followAddress);
   window.addEventListener("pagehide", keepNow);
+}
+
+// Scrolls to a focused element that the bar at the bottom covers. (Firefox does not scroll to an element that is partly in the window.)
+function uncover({ target }) {
+  const foot = [...document.querySelectorAll(".foot")].find((one) => one.getClientRects().length > 0);
+  const isCovered = foot !== undefined && !foot.contains(target) && target.getBoundingClientRect().bottom > foot.getBoundingClientRect().top;
+  if (isCovered && target.matches(":focus-visible")) target.scrollIntoView({ block: "nearest" });
 }
 
 // Draws everything from the state: first which parts are visible, then their contents.
@@ -95,4 +103,4 @@ async function openPage() {
   await openFirst();
 }
 
-if (typeof document !== "undefined") startPage(); // in node there is none
+if (typeof document !== "undefined") startPage(); // node has no document

@@ -1,4 +1,4 @@
-// node tests/break_it.js checks the broken lists. Each list must be broken by its schedule in examples/schedules/lacks, as docs/CLASSIC.md says.
+// node tests/break_it.js checks the broken lists. Each list must be broken by its schedule in examples/schedules/lacks, as docs/CLASSIC.md claims.
 // Also checks drafts, hand-ins and a lesson on broken lists. Prints as JSON how many checks passed, and which failed.
 "use strict";
 
@@ -71,7 +71,7 @@ function checkContents(trace) {
   }
 }
 
-// Checks a trace that comes from a file. Without the name of the broken list, the correct list makes another trace of its schedule.
+// Checks a trace from a file. If the trace does not name its broken list, the correct list makes a different trace of the same schedule.
 function checkFile(ask, name) {
   const { text } = ask("listset_lacking", name, scheduleOf(name), "trace");
   check(`${name}: its trace is one`, inPage("traceIn")(text)?.lacks === name);

@@ -13,6 +13,8 @@ const PAGE = path.join(__dirname, "..");
 const BOOK = path.join(PAGE, "book.course");
 const NAME = inPage("BOOK_NAME");
 const ORDER = "judge read-in-anothers-step replies 0-true,2-true,1-false,3-true";
+const ORDER_OF_RUN =
+  "judge #list=lazy&threads=2&quota=4&s=b0.add.5,g0.11,b1.remove.5,g1.11,b0.contains.5,g0.1,g0.1,g0.2,b1.contains.5,g1.4&event=33 replies 0-true,1-true,2-false,3-false";
 const BROKEN = "break new-slot #list=lock-free&threads=1&quota=2&s=b0.add.4,g0.6,b0.add.5,g0.8&event=16";
 const BROKEN_OWN =
   "break mark-in-remove #list=lock-free&threads=2&quota=2&opening=3.7&s=b0.remove.3,g0.4,b1.remove.3,g1.4,g0.2,g1.2&event=14";
@@ -27,9 +29,14 @@ const same = (one, other) => JSON.stringify(one) === JSON.stringify(other);
 const quoted = (text) => text.replace(/^/gm, "> ");
 const folded = (text, width) => text.replace(new RegExp(`(\\S{${width}})(?=\\S)`, "g"), "$1\n");
 const atSpaces = (text) => text.replace(/^(?!student|course|listset).*$/gm, (line) => line.replaceAll(" ", "\n"));
+const isShort = (line) => /^(student|course|listset|end)/.test(line);
+const wrappedHard = (text, width) => text.replace(/^.+$/gm, (line) => (isShort(line) ? line : line.replace(new RegExp(`(.{${width}})(?=.)`, "g"), "$1\n")));
+// Breaks a line after the last space, comma, hyphen or `&` before the width, or at the width if there is none.
+const wrappedAtSigns = (text, width) =>
+  text.replace(/^.+$/gm, (line) => (isShort(line) ? line : line.replace(new RegExp(`(.{1,${width - 1}}[ ,&-]|.{${width}})(?=.)`, "g"), "$1\n").replace(/ \n/g, "\n")));
 const coded = (text) => text.replaceAll("=", "=3D").replace(/(.{60}[^=]{3})(?=.)/g, "$1=\n");
 
-// Ways in which mail changes a text, such as adding lines around it.
+// Changes of a text by mail, such as quoting, wrapping, and adding lines around it.
 const MAILED = {
   "as it is": (text) => text,
   "with CRLF": (text) => text.replaceAll("\n", "\r\n"),
@@ -42,6 +49,8 @@ const MAILED = {
   "quoted-printable": coded,
   "quoted-printable, quoted": (text) => quoted(coded(text)),
   "as HTML": (text) => text.replaceAll("&", "&amp;"),
+  ...Object.fromEntries([45, 46, 47, 52, 53, 60, 64, 71, 72, 73, 74, 75, 76, 77, 78, 79, 80, 98].map((width) => [`wrapped hard at ${width}`, (text) => wrappedHard(text, width)])),
+  ...Object.fromEntries([45, 60, 72, 76, 80].map((width) => [`wrapped at signs before ${width}`, (text) => wrappedAtSigns(text, width)])),
   "with links": (text) => text.replaceAll("#", "https://lists.example/page/index.html#"),
   "with links in brackets": (text) => text.replace(/(#\S+)/g, "<https://lists.example/page/index.html$1>"),
   "with blank lines and spaces": (text) => text.replaceAll("\n", "  \n\n"),
@@ -51,16 +60,16 @@ const MAILED = {
 
 function checkMail(course) {
   const answers = course.lessons.map(({ name, solution }) => ({ name, schedule: solution }));
-  const text = handInText(NAME, "Ada Lovelace", answers, [ORDER, BROKEN]);
+  const text = handInText(NAME, "Ada Lovelace", answers, [ORDER, ORDER_OF_RUN, `${BROKEN} named`]);
   const wanted = readHandIn(textsIn(text)[0]);
   check(
     "a text that is made is read",
-    wanted.solutions.length === 14 && wanted.student === "Ada Lovelace" && wanted.faults.length === 0,
+    wanted.solutions.length === 15 && wanted.student === "Ada Lovelace" && wanted.faults.length === 0,
   );
   for (const [how, mailed] of Object.entries(MAILED)) {
     const found = textsIn(mailed(text));
     const read = found.length === 1 ? readHandIn(found[0]) : {};
-    const linesOf = ({ solutions }) => solutions?.map(({ line }) => line.replace(/<?https:\S*?(?=#)/, "").replace(/>$/, ""));
+    const linesOf = ({ solutions }) => solutions?.map(({ line }) => line.replace(/<?https:\S*?(?=#)/, "").replace(/>( |$)/, "$1"));
     const isWhole = read.student === wanted.student && read.course === NAME && read.faults.length === 0;
     const isSame = isWhole && same(linesOf(read), linesOf(wanted));
     check(`${how}: ${JSON.stringify(read).slice(0, 600)}`, isSame);
@@ -143,6 +152,13 @@ function checkOwn(ask, course, folder) {
   const copies = group.filter((line) => line.includes("same schedules: "));
   const due = ["Ada: same schedules: 3 of 3 with Dee", "Dee: same schedules: 3 of 3 with Ada"];
   check(`the same schedules: ${copies}`, same(copies.slice(0, 2), due) && copies.length === 3 && /many students have one.*\(\d+ students: /.test(copies[2]));
+  const table = path.join(folder, "groups.csv");
+  const files = ["Ada", "Bo", "Cy", "Di", "Ed"].map((name, at) => [`g${at}.txt`, text(name, [], [`${BROKEN_OWN}${at % 2 === 0 ? " named" : ""}`, at < 2 ? ORDER : ORDER.replace(/replies/, "points")])]);
+  for (const [name, words] of files) fs.writeFileSync(path.join(folder, name), words);
+  told("--csv", table, ...files.map(([name]) => path.join(folder, name)));
+  const rows = fs.readFileSync(table, "utf8").split("\r\n").slice(1);
+  check(`the group of a schedule is named: ${rows[0]}`, rows[0].includes("LockFreeList, #break=2: as Bo, Cy and 2 more"));
+  check(`how a task was solved: ${rows}`, rows[0].includes("check named") && rows[1].includes("check not named") && rows[0].includes("replies and moments") && rows[2].includes("moments alone"));
   const example = ask("listset_example", "stale-pred").text;
   const trace = new (inPage("Trace"))(ask("listset_lacking", "second-walk", example, "trace").text, inPage("versionOf")(example));
   const shown = inPage("scheduleOfTrace")(trace);
@@ -184,7 +200,7 @@ This is not a line of a solution.
     "Marked, and still in the chain: more follows the address",
     'Over removed nodes: "g0.x" is no s of an address',
     'there is no lesson "no-lesson"',
-    "judge snip points: Still missing: the point of remove(5) of A, the point of add(7) of B.",
+    "judge snip points: Still missing: the moment of remove(5) of A, the moment of add(7) of B.",
     'judge nosuch points: there is no example "nosuch"',
     "judge snip deep: expected a level, one of points, replies",
     "judge snip replies: This order is not judged: listset: line 8: Line.",

@@ -26,7 +26,7 @@ function checkLevels(ask, name, report) {
     const verdict = verdictOn(ask, own);
     check(
       `${name}, ${level}: the replayer's own order: ${verdict.says}`,
-      verdict.isRight === true && verdict.says.endsWith("It is also the order of the replayer."),
+      verdict.isRight === true && verdict.says.endsWith("has the same order."),
     );
     check(`${name}, ${level}: its report is the engine's`, reportOfAnswer(own) === report);
     check(`${name}, ${level}: and back to its word`, wordOfAnswer(own) === places.join());
@@ -39,7 +39,7 @@ function checkLevels(ask, name, report) {
   }
 }
 
-// Checks that no sentence of a run gives away the answer.
+// Checks that no sentence about a run reveals the answer.
 function checkHidden(ask, name, schedule) {
   const trace = new (inPage("Trace"))(ask("listset_trace", schedule).text);
   const state = new (inPage("State"))(trace);
@@ -47,7 +47,7 @@ function checkHidden(ask, name, schedule) {
     for (let count = 1; count <= trace.total; count++) {
       const text = inPage("sentenceOf")(inPage("momentAt")(state, count), LEVELS[level].hidden).replace(/<[^>]*>/g, "");
       const isPoint = /takes effect|took effect|into the set|out of the set/.test(text);
-      const isTold = isPoint || (level === "replies" && /answers? (true|false|at-|full|nothing)/.test(text));
+      const isTold = isPoint || (level === "replies" && /(?:answers?|returns?) (true|false|at-|full|nothing)/.test(text));
       check(`${name}, event ${count}, ${level}: "${text}"`, !isTold);
     }
   }
@@ -63,10 +63,10 @@ function checkByHand(ask) {
   const says = () => verdictOn(ask, answer).says;
   check(`a reply is missing: ${says()}`, says() === "Still missing: the reply of contains(5) of A.");
   answer.setReply(contains, "true");
-  check(`the wrong reply: ${says()}`, says().startsWith("contains(5) of A does not answer true in this run."));
+  check(`the wrong reply: ${says()}`, says().startsWith("contains(5) of A does not return true in this run."));
   answer.setReply(contains, "false");
-  const set = "after add(5) of B in your order the set is {5}, and it would answer true.";
-  const wrong = `contains(5) of A cannot answer false there: ${set}`;
+  const set = "after add(5) of B in your order the set is {5}, and the call would return true.";
+  const wrong = `contains(5) of A cannot return false there: ${set}`;
   check(`the wrong moment: ${says()}`, says() === wrong && verdictOn(ask, answer).clash === 1);
   answer.place(contains, 23.6);
   check("the right moment", verdictOn(ask, answer).isRight === true && answer.points.get(1).at === 23.5);
@@ -79,7 +79,7 @@ function checkByHand(ask) {
     check(`no answer: ${word}`, answerOfWord(exercise, word) === null);
   }
   const early = verdictOn(ask, answerOfWord(exercise, "2-true,0-true,1-false,3-true")).says;
-  check(`told why: ${early}`, /cannot answer|is ordered before/.test(early));
+  check(`told why: ${early}`, /cannot return|is ordered before/.test(early));
   const ceiling = exerciseOf(ask("listset_replay", ask("listset_example", "behind-the-walk").text).text, "replies");
   check("replies of a ceiling", repliesOf(ceiling, { operation: "ceiling" }).join() === "nothing,at-5,at-9");
 }
@@ -200,7 +200,7 @@ function checkRefusals(ask) {
   const both = saidOf(ask, inPage("RECORDED_EXAMPLE"));
   const reasons = [
     "No order explains the calls of key 5 up to moment 4.",
-    "add(5) of B answers true, from 2 to 3, and leaves key 5 present; add(5) of A answers true, from 1 to 4, and needs it absent.",
+    "add(5) of B returns true, from 2 to 3, and leaves key 5 present; add(5) of A returns true, from 1 to 4, and needs it absent.",
     "No remove(5) that answered true or is pending overlaps the time of both. They contradict each other in the other order too.",
   ];
   check(`two adds of one key: ${both.reasons.join(" ")}`, both.kind === "none" && both.reasons.join() === reasons.join());
@@ -210,7 +210,7 @@ function checkRefusals(ask) {
   const at = (moment) => String(late + BigInt(moment));
   const lines = [`0 contains 5 ${at(1)} ${at(2)} false`, `1 add 7 ${at(3)} ${at(4)} true`, `2 contains 7 ${at(5)} ${at(6)} false`];
   const stale = saidOf(ask, `${TITLE}${lines.map((line) => `call ${line}\n`).join("")}key 7\nend`);
-  const made = `add(7) of B answers true, from ${at(3)} to ${at(4)}, and leaves key 7 present; contains(7) of C answers false, from ${at(5)} to ${at(6)}, and needs it absent.`;
+  const made = `add(7) of B returns true, from ${at(3)} to ${at(4)}, and leaves key 7 present; contains(7) of C returns false, from ${at(5)} to ${at(6)}, and needs it absent.`;
   check(`why: ${stale.reasons.join(" ")}`, stale.reasons[1] === made);
   check(`the calls: ${stale.calls.map(({ thread }) => thread)}`, stale.calls.map(({ thread }) => thread).join() === "1,2");
   const left = saidOf(ask, `${TITLE}call 0 contains 5 1 2 false\nkey 5\nend`).reasons;
@@ -265,7 +265,7 @@ function checkTroubles(ask) {
   check(`no answer: ${none.says}`, none.isRight === null && none.says === "This order is not judged: the engine stopped: unreachable.");
 }
 
-// Checks two lists side by side. In each turn, both lists make a step, except a list whose call has already returned.
+// Checks two lists side by side. In each turn, both lists make a step, except if the call has already returned in one of them.
 function checkSides(ask) {
   const [Sides, readProgram, programText] = ["Sides", "readProgram", "programText"].map(inPage);
   const program = readProgram("0: add 5, remove 5\n t1 : contains 5\n");

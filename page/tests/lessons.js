@@ -20,7 +20,7 @@ function check(name, isGood) {
 
 const scheduleOf = (lesson, events) => scheduleText(lesson, events.split(",").map(inPage("longLine")));
 
-const SPLIT = ["one-lock"]; // lessons whose conditions have been split since: a schedule meets all of them if it met all of the old ones
+const SPLIT = ["one-lock"]; // lessons with conditions that were split later: a schedule meets all new conditions if it met all old ones
 
 // Checks that a run meets exactly the conditions of a goal that recorded.txt lists for the run.
 function checkRecorded(ask, { lessons }) {
@@ -185,7 +185,7 @@ function checkTrials(ask) {
   check("CRLF, a mark of order and tabs are no fault", triedCourse(ask, other).faults.length === 0);
 }
 
-// Checks that the course on the teachers' page is valid, even if it is indented, and that its goal requires what its question asks for.
+// Checks that the course on the teachers' page is valid, even if it is indented, and that its goal requires the same run as its question.
 function checkOwnCourse(ask) {
   const text = inPage("OWN_COURSE");
   const indented = text.replace(/^(?=.)/gm, "    ");

@@ -19,7 +19,7 @@ REFUSED = "listset-schedule 1\nlist lazy\nthreads 2\nquota 4\nbegin 0 add 5\ngo 
 
 
 def said(words, text=b"", output=subprocess.PIPE):
-    """Returns what a program writes to its output and to standard error, and its exit status."""
+    """Runs a program. Returns its output, its standard error, and its exit status."""
     done = subprocess.run(words, input=text, stdout=output, stderr=subprocess.PIPE, timeout=SECONDS)
     return done.stdout, done.stderr, done.returncode
 
@@ -42,7 +42,7 @@ def difference(words, ours, due):
 
 
 def compared_unwritten(program, script, words):
-    """Compares both programs with an output that takes no bytes, and with a closed output."""
+    """Compares both programs with an output that accepts no bytes, and with a closed output."""
     with open("/dev/full", "wb") as full:
         ours, due = (said([*which, *words], output=full) for which in (script, program))
     closed, due_closed = (said(["sh", "-c", 'exec "$@" >&-', "sh", *which, *words]) for which in (script, program))

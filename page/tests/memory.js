@@ -18,7 +18,7 @@ function check(what, is) {
   else failed.push(what);
 }
 
-// Fills the memory with blocks of a size. Checks where the blocks are, that a small block still fits, and that a freed block can be allocated
+// Fills the memory with blocks of a size. Checks the places of the blocks, that a small block still fits, and that a freed block can be allocated
 // again.
 function fill(size) {
   const { memory, page_alloc: alloc, page_free: free } = new WebAssembly.Instance(built, { env: { read: () => -1n } }).exports;

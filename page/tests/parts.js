@@ -89,7 +89,7 @@ function checkRead() {
   }
 }
 
-// Checks that a number stands for the same run in every browser, that the run is small enough to judge, and that its calls overlap. The run in
+// Checks that a number names the same run in every browser, that the run is small enough to judge, and that its calls overlap. The run in
 // README.md must not change.
 function checkSeeds(engine) {
   const ask = (name, ...texts) => engine.ask(name, ...texts);
@@ -213,7 +213,7 @@ function checkContents(engine, texts) {
   check("boxes of contents were drawn", boxes > 500);
 }
 
-// Checks that the traces from which the pages of docs/ take their links equal the engine's.
+// Checks that the traces in made/traces.js, used for the links in docs/, equal the engine's traces.
 function checkTraces(engine, names) {
   const kept = fs.readFileSync(path.join(folder, "made", "traces.js"), "utf8");
   for (const name of names) {
@@ -256,7 +256,7 @@ function checkStage(engine, texts) {
   check(`a long chain is folded: ${items.length}, ${units.width}`, items.length <= 14 && units.width * units.scale <= 1281 && items.some(({ names }) => names.length > 20));
 }
 
-// Returns a schedule of each list in which five threads make calls and take turns of one to three steps.
+// Returns a schedule of each list: five threads make calls, and alternate after one to three steps.
 function crowded(engine) {
   const calls = ["add 5", "remove 5", "add 7", "contains 7", "remove 7"].map((call, thread) => `begin ${thread} ${call}`);
   const turns = Array.from({ length: 60 }, (_, turn) => `go ${(turn * 3) % 5} ${1 + (turn % 3)}`);
@@ -266,13 +266,13 @@ function crowded(engine) {
   });
 }
 
-// Returns the text with one more line, or unchanged if the line is refused.
+// Appends a line to the text. Returns the text unchanged if the engine refuses the line.
 function longerBy(engine, text, line) {
   const longer = `${text}${line}\n`;
   return engine.ask("listset_trace", longer).text.includes("\nrefused ") ? text : longer;
 }
 
-// Checks the line of the proved code at which the page shows each thread in a call. Before the call's first step, it is a line that begins a
+// Checks the line of the proved code that the page shows for each thread in a call. Before the call's first step, it is a line that begins a
 // call; before the last step, a line that can end one; if `find` restarts its walk, a line of `find`. Each line that makes rows must occur.
 function checkListing(engine, texts) {
   const met = new Set();
@@ -290,7 +290,7 @@ function checkListing(engine, texts) {
   check(`lines at which no thread stood: ${lines.filter((line) => !met.has(line))}`, lines.every((line) => met.has(line)));
 }
 
-// Returns what is wrong with the line of the thread that makes this event next, or an empty array. (The ceilings of two lists have no code.)
+// Returns the errors in the line of the thread that makes this event next, as an array. (The ceilings of two lists have no code.)
 function wrongLine(trace, event, held, met) {
   const { kind } = trace;
   const found = inPage("codeOf")(kind, held.call);
@@ -306,6 +306,33 @@ function wrongLine(trace, event, held, met) {
     (isAnswer ? /_last\(|\.look_at_|\.exchange\(/.test(text) : !text.includes("_last(")) &&
     (held.pc !== 1 || held.came !== 3 || code.name === "find");
   return isGood ? [] : [`${kind}, event ${event.number}: row ${held.pc} at ${found.file}:${line}`];
+}
+
+// Checks that after each event of a run the next press of a thread equals the next press in a run that ends with this event.
+function checkPresses(engine) {
+  inPage("held").engine = engine;
+  const LiveRun = inPage("LiveRun");
+  let seed = 7;
+  const draw = (many) => (seed = (seed * 48271) % 2147483647) % many;
+  for (const screen of inPage("SCREENS").flatMap((one) => [one, ...(one.parts ?? [])])) {
+    const { figure: { calls, ...spec } } = screen;
+    const run = new LiveRun(spec);
+    const left = (one, thread) => calls[thread]?.slice(one.trace.calls.filter((call) => call.thread === thread && call.begun <= one.count).length) ?? [];
+    const able = (one) => one.state.threads.map((_, thread) => thread).filter((thread) => !one.isIdle(thread) || left(one, thread).length > 0);
+    for (let turn = 0; turn < 40 && able(run).length > 0; turn++) {
+      const thread = able(run)[draw(able(run).length)];
+      const { isBegin, steps } = run.nextOf(thread, left(run, thread)[0]);
+      if (isBegin) run.begin(thread, left(run, thread)[0]);
+      run.go(thread, steps);
+    }
+    for (let count = run.first.length === 0 ? 0 : run.trace.total >> 1; count <= run.trace.total; count++) {
+      run.moveTo(count);
+      const own = new LiveRun(spec);
+      own.take(run.linesHere());
+      const pressOf = (one, thread) => JSON.stringify({ ...one.nextOf(thread, left(one, thread)[0]), last: undefined });
+      for (const thread of able(own)) check(`${screen.question}, event ${count}: the next press of ${thread}`, pressOf(run, thread) === pressOf(own, thread));
+    }
+  }
 }
 
 // Checks the contrast of each text with each of its backgrounds, light and dark, and of the edges of buttons and fields.
@@ -331,6 +358,7 @@ async function main() {
   checkSeeds(engine);
   checkDocs(engine);
   checkRead();
+  checkPresses(engine);
   const crowds = crowded(engine);
   checkStage(engine, [...texts, ...crowds]);
   checkListing(engine, [...texts, ...crowds]);

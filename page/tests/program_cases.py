@@ -1,4 +1,4 @@
-"""Makes test cases for the page's engine from the program's answers. Each function that takes a text gets each example,
+"""Makes test cases for the page's engine from the program's answers. Each function of a text gets each example,
 generated schedules, drafts, recorded calls, reports, and broken texts. Other cases are pictures with options, broken
 lists, values for gen, and names.
 """
@@ -33,12 +33,12 @@ class Program:
         self.path = path
 
     def program_answers(self, *words, text=b""):
-        """Returns what the program prints (its output, or its line about an error) and its exit status."""
+        """Runs the program. Returns its output, or its line about an error, and its exit status."""
         done = subprocess.run([self.path, *words], input=text, stdout=subprocess.PIPE, stderr=subprocess.PIPE, timeout=SECONDS)
         return done.stdout + done.stderr, done.returncode
 
     def case(self, function, words, *texts, given=b""):
-        """Returns a case: a function of the module with its texts, and what the program prints for the arguments
+        """Returns a case: a function of the module with its texts, and the output of the program for the arguments
         `words` and the input `given`.
         """
         output, status = self.program_answers(*words, text=given)

@@ -46,7 +46,7 @@ const CLAIMS = [
   [/the next step will fail/, (_, { next }) => next !== null && !(next.deed === "exchange" && next.saw !== next.from)],
   [/the next step tries to unlink it/, (_, { next }) => next !== null && next.deed !== "exchange"],
   [/It will answer (\S+?)[.:]/, ([reply], { event }) => event.call.reply !== null && event.call.reply !== reply],
-  [/answers (\S+?)[.;,]/, ([reply], { event }) => event.call.reply !== reply],
+  [/returns (\S+?)[.;,]/, ([reply], { event }) => event.call.reply !== reply],
   [/the add goes ahead/i, (_, { event }) => event.call.operation !== "add"],
   [/the remove goes ahead/i, (_, { event }) => event.call.operation !== "remove"],
   [/(undefined|null|NaN|\[object)/, () => true],
@@ -64,7 +64,7 @@ function factsAfter(state, event, others) {
   return { ...others, event, thread: `t${event.thread}`, chain, keys, keyOf, lockOf, linkOf, locks: state.locks() };
 }
 
-// Patterns and tests for the short sentences of the path (`said.js`), in the form of CLAIMS.
+// Patterns and tests of the short sentences of the path (story/said.js), in the same form as CLAIMS.
 const ownerOf = ({ word }) => word.split(".")[0];
 const isNextOn = (next, field, ...owners) => next === null || owners.some((owner) => next.word === `${owner}.${field}`);
 const isTrueOrKey = (answer) => answer === "true" || answer?.startsWith("at-") === true;
@@ -121,7 +121,7 @@ function falseIn(claims, sentence, facts) {
 }
 const seen = new Set(); // the claims that some sentence has made
 
-// Returns the sentences of a run, each with the patterns for which it is false.
+// Returns the sentences of a run, each with the patterns that it matches although the statement is false.
 function readRun(trace) {
   const state = new (inPage("State"))(trace);
   const events = trace.events();

@@ -1,4 +1,4 @@
-// Tests the page's state without a browser: how actions change it, what it makes visible, its address and its title.
+// Tests the page's state without a browser: the actions, the visible parts, the address and the title.
 "use strict";
 
 const { inPage } = require("../in_node.js");

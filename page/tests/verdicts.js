@@ -110,7 +110,7 @@ function waysLeft(calls, key, isThere) {
 
 const quotaIn = (report) => Number(/^quota (\d+)$/m.exec(report)[1]);
 
-// ---- What is judged, and the properties of the sentences.
+// ---- The judged cases, and the properties of the sentences.
 
 // A case has the calls, the opening keys, the final keys (null if unknown), and the quota.
 const isExplained = ({ calls, opening, keys, quota }) => {
@@ -127,9 +127,9 @@ function overlapped({ calls }) {
 const callNamed = (calls, name, reply) =>
   calls.filter((call) => `${call.operation}(${call.key}) of ${"ABCD"[call.thread]}` === name && (reply === null || call.reply === reply));
 
-// Returns the call that a sentence describes, as in `add(5) of A answers true, from 1 to 4`.
+// Returns the call that a sentence describes, as in `add(5) of A returns true, from 1 to 4`.
 function callIn(calls, text) {
-  const [, name, reply, begun] = /^(.*) answers (\S+), from (\d+) to \d+$/.exec(text) ?? [];
+  const [, name, reply, begun] = /^(.*) returns (\S+), from (\d+) to \d+$/.exec(text) ?? [];
   return callNamed(calls, name, reply ?? null).find((call) => call.begun === Number(begun));
 }
 
@@ -313,7 +313,7 @@ function checkText(ask, it, told) {
   return result.failed.push(`the text and the record differ:\n${lines.join("\n")}\n${JSON.stringify(told)} on\n${it.text}`);
 }
 
-// ---- What is wrong in a recording, by the same engine: a headline, calls and facts.
+// ---- The diagnosis of a recording: a headline, calls and facts.
 
 const holdsReply = (call) => call.ended !== null;
 const turned = (call) => ({ ...call, reply: call.reply === "true" ? "false" : "true" });
@@ -688,7 +688,7 @@ const OF_WHY = [
   [/^because they disagree as long as nothing changes the key$/, () => true],
 ];
 
-// ---- A key whose calls disagree for long: adds find it present and removes absent, while nothing changes it.
+// ---- A key with calls that disagree for a long time: adds find the key present and removes find it absent, while nothing changes it.
 
 // Returns a recording of one key, in which a change is followed by many answers that disagree, and then, perhaps, by another change. Some answers overlap.
 function drawnSplit() {
@@ -811,16 +811,16 @@ const OF_OWN = [
   [/^Still missing: (.*)\.$/, (it, [told]) => {
     const isSaid = (call) => it.level !== "replies" || it.answer.replies.has(call.id);
     const lacking = it.calls.filter((call) => call.ended !== null && !(it.answer.points.has(call.id) && isSaid(call)));
-    return lacking.map((call) => `the point${isSaid(call) ? "" : " and the reply"} of ${nameIn(call)}`).join(", ") === told;
+    return lacking.map((call) => `the moment${isSaid(call) ? "" : " and the reply"} of ${nameIn(call)}`).join(", ") === told;
   }],
-  [/^check says ok: this order explains the run\.$/, (it) => faultsOf(it).length === 0],
-  [/^It is also the order of the replayer\.$/, (it) => it.answer.order().map(({ call }) => call.id).join() === it.places.map(({ call }) => call).join()],
-  [/^The replayer has another one: both explain the run\.$/, (it) => faultsOf(it).length === 0 && it.answer.order().map(({ call }) => call.id).join() !== it.places.map(({ call }) => call).join()],
-  [/^(\S+ of [A-D]) cannot answer (\S+) there: (before your first call|after (\S+ of [A-D]) in your order) the set is {(.*)}, and it would answer (\S+)\.$/,
+  [/^Right: in this order every reply is correct, and the calls leave the numbers of this run: a proved program checked it\.$/, (it) => faultsOf(it).length === 0],
+  [/^The program that made this run has the same order\.$/, (it) => it.answer.order().map(({ call }) => call.id).join() === it.places.map(({ call }) => call).join()],
+  [/^The program that made this run has another order: both are right\.$/, (it) => faultsOf(it).length === 0 && it.answer.order().map(({ call }) => call.id).join() !== it.places.map(({ call }) => call).join()],
+  [/^(\S+ of [A-D]) cannot return (\S+) there: (before your first call|after (\S+ of [A-D]) in your order) the set is {(.*)}, and the call would return (\S+)\.$/,
     (it, [name, reply, , other, set, due]) => faultsOf(it).some(({ call, before, keys, answer, said }) =>
       nameIn(call) === name && said === reply && (before === null ? other === undefined : nameIn(before) === other) && keys.join(", ") === set && answer === due && due !== reply)],
-  [/^(\S+ of [A-D]) does not answer (\S+) in this run\.$/, (it, [name, reply]) => it.answer.order().some(({ call, reply: said }) => nameIn(call) === name && said === reply && call.reply !== said)],
-  [/^Look at what it sees before it answers\.$/, () => true],
+  [/^(\S+ of [A-D]) does not return (\S+) in this run\.$/, (it, [name, reply]) => it.answer.order().some(({ call, reply: said }) => nameIn(call) === name && said === reply && call.reply !== said)],
+  [/^Look at what its thread sees before the call returns\.$/, () => true],
   [/^(\S+ of [A-D]) begins at event (\d+), and in your order it comes before (\S+ of [A-D]), which ended at event (\d+)\.$/, (it, [name, begun, other, ended]) => {
     const order = it.answer.order().map(({ call }) => call);
     const isOther = (call) => nameIn(call) === other && call.ended === Number(ended) && call.ended < Number(begun);
@@ -889,7 +889,7 @@ async function main() {
     checkOwn(ask);
   }
   for (const drawn of kindsOf({ draw, pick, replyOf, keysAfter, paddingAfter })) for (let number = 0; number < CASES; number++) checkKind(ask, drawn);
-  // (a recording with few calls has few of the facts from which a cause is guessed)
+  // (a recording with few calls contains few facts for a guess of the cause)
   const isRare = (pattern) => /^\^because|which do not increase|have no order\\\.|at first, and/.test(pattern.source);
   const properties = [...OF_RECORDING, ...OF_SPLIT, ...OF_LACKING, ...OF_OWN];
   result.failed.push(...properties.filter(([pattern]) => CASES >= 150 && !met.has(pattern) && !isRare(pattern)).map(([pattern]) => `no case has ${pattern}`));

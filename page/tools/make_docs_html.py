@@ -65,7 +65,7 @@ class Runs:
             rows, stood = self.rows[re.search(r"^list (.*)$", trace, re.M)[1]], {}
             for number, line in enumerate(self.events[name], 1):
                 thread, begins, row = TRACE_LINE.match(line).groups()
-                if not begins:  # (a row stands in the line before of the event's thread)
+                if not begins:  # (the row is in the previous line of the event's thread)
                     rows.setdefault(int(stood[thread]), (name, number))
                 stood[thread] = row
 
@@ -78,7 +78,7 @@ class Runs:
         return f'<a href="index.html#example={name}&amp;event={event}">{said}</a>'
 
     def numbers(self, name, text):
-        """Returns a text whose numbers link to the events of an example."""
+        """Returns a text with links from its numbers to the events of an example."""
         return re.sub(r"\d+", lambda it: self.link(name, int(it[0]), it[0]), text)
 
 
@@ -175,7 +175,7 @@ def link_of(found):
     path, sign, heading = target.partition("#")
     if path and not re.match("[a-z]+:", path):
         target = (PAGES.get(path) or os.path.relpath(os.path.normpath(f"docs/{path}"), "page")) + sign + heading
-    if target.startswith("../"):  # where the page is served alone there is no such file
+    if target.startswith("../"):  # a page that is served alone does not have this file
         return f'<span title="{target.removeprefix("../")} of the repository">{said}</span>'
     return f'<a href="{target}">{said}</a>'
 

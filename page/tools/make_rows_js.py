@@ -8,7 +8,7 @@ from lists import lists as all_lists
 
 REGISTERS = ["pred", "curr", "succ", "node", "pkey", "ckey"]
 CALLS = ["add", "remove", "contains", "ceiling"]
-# Patterns for the column "Then", by the reason for which it leads to another row.
+# Patterns for the column "Then", by the reason of a jump to another row.
 LEADS = {
     "below": r"below K: (?:[^;]*, )?(\d+)",  # on with the walk
     "invalid": r"reply none, (\d+)",  # the validation failed
@@ -22,7 +22,7 @@ def plain(text):
 
 
 def leads_of(then):
-    """Returns the rows to which the column "Then" leads, by the reason."""
+    """Returns the rows that can follow by the column "Then", by the reason."""
     found = {name: re.search(pattern, then) for name, pattern in LEADS.items()}
     return {name: int(next(filter(None, match.groups()))) for name, match in found.items() if match}
 
@@ -48,7 +48,7 @@ def deciding_rows(section):
 
 
 def reads_of(section):
-    """Returns the rows of `contains` and `ceiling`, for lists in which these calls take no lock."""
+    """Returns the rows of `contains` and `ceiling`, for lists that take no lock in these calls."""
     rows = rows_of(section)
     ceiling = int(re.search(r"`ceiling` at row (\d+)", section)[1])
     return {"contains": {number: row for number, row in rows.items() if number < ceiling},

@@ -1,4 +1,4 @@
-// The bench: the run at the current event, its slider, its question, and the folded parts below.
+// The bench shows a run at the current event: its figure, its slider, its question, and the folded parts below.
 import { LECTURE } from "../data/lecture.js";
 import { LISTS } from "../../made/rows.js";
 import { loadMore, more } from "../engine/more.js";
@@ -103,7 +103,7 @@ function drawSeedBox(seed) {
   byId("seed-judge").href = `#seed=${seed}&judge`;
 }
 
-// Sets the address of "Go on from here" only when it is pressed, since a long run has a long address.
+// Sets the address of the link "Go on from here" only when the link is pressed, since the address of a long run is long.
 function aimGoOn() {
   const { trace, count } = now.run;
   byId("go-on-here").hash = addressOfCode(trace.kind, trace.opening, linesOf(scheduleOfTrace(trace, count)), trace);

@@ -1,4 +1,4 @@
-// Compare: two lists side by side run the same calls. The address has the turns.
+// The activity Compare: two lists side by side run the same calls. A turn is a step of one thread in both lists; the address contains the turns.
 import { LISTS } from "../../made/rows.js";
 import { byId, redraw } from "../page/dom.js";
 import { toggleLecture } from "../page/play.js";
@@ -20,7 +20,7 @@ const PRESETS = [
 const PICTURE = '<header class="line"><h2></h2> <a class="small">Watch this run</a></header><div class="pair"></div>';
 const SIDES = ["one", "other"];
 const QUOTA = 4;
-const shown = { sides: null, figures: [] }; // the scene's `at` is the number of turns shown
+const shown = { sides: null, figures: [] }; // `now.scene.at` is the number of turns shown
 const sidesPart = (name) => byId(`sides-${name}`);
 const listsOf = ({ given }) => (given.sides ?? "coarse.lazy").split(".");
 
@@ -73,7 +73,7 @@ function beginSides(turns = []) {
 
 const takeTurns = () => setScene({ text: addressOfSides(), at: shown.sides.turns.length });
 
-// Continues from the current turn, and drops the later ones.
+// Drops the turns after the current one, and makes a turn of this thread.
 function turnOf(thread) {
   const { turns } = shown.sides;
   if (now.scene.at < turns.length) beginSides(turns.slice(0, now.scene.at));

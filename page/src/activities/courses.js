@@ -1,4 +1,4 @@
-// The parts below the lessons: handing in, and choosing, opening, writing, checking and sharing courses.
+// The folded parts below the lessons: handing in, and choosing, opening, writing, checking and sharing courses.
 import { BOOK, BOOK_NAME } from "../../made/book.js";
 import { courseAddress, courseOfAddress } from "../course/course_text.js";
 import { handInText } from "../course/hand_in.js";
@@ -45,7 +45,7 @@ export function showCourseText(text) {
 async function copyCourseLink() {
   const { course } = learning.panel;
   const address = await courseAddress(course.text);
-  if (course !== learning.panel.course || lessonPart("faults").dataset.isGood !== "yes") return; // another text was checked meanwhile
+  if (course !== learning.panel.course || lessonPart("faults").dataset.isGood !== "yes") return; // another course was checked while the link was made
   const tooLong = "This course is too long for a link: save it, and hand out the file.";
   if (address === null) return (lessonPart("faults").textContent = tooLong);
   const link = linkTo(address);

@@ -1,8 +1,9 @@
-// The panel in which the reader judges the current run.
+// The panel for judging the current run: the reader chooses a moment and a reply for each call.
 import { CLASSICS } from "../../made/classics.js";
+import { GROWN } from "../draw/history.js";
 import { drawJudged, drawOwnOrder, judgeScale } from "../draw/judged_bars.js";
 import { byId, redraw } from "../page/dom.js";
-import { askNow, dispatch, exampleShown, isJudging, now, say } from "../page/now.js";
+import { askNow, dispatch, exampleShown, isJudging, isLecture, now, say } from "../page/now.js";
 import { addressOf, partsOfSeed } from "../run/address.js";
 import { exerciseOf, LEVELS, MOST_JUDGED, OwnAnswer, repliesOf, verdictOn, wordOfAnswer } from "../run/judged.js";
 import { callText, chipOf, escaped } from "../run/markup.js";
@@ -14,10 +15,9 @@ const SLIDER_KEYS = { ...HALF_STEPS, PageDown: -5, PageUp: 5, Home: -Infinity, E
 const judgePart = (name) => byId(`judge-${name}`);
 
 class Judging {
-  answer = null;
-  verdict = null;
-  held = null; // the call whose point is dragged
-  tries = 0; // that were refused
+  answer = null; verdict = null;
+  held = null; // the call with the point that is being dragged
+  tries = 0; // the number of refused answers
 
   get exercise() {
     return now.exercise;
@@ -47,8 +47,8 @@ class Judging {
   }
 
   drag(event) {
-    const left = judgePart("bars").firstElementChild.getBoundingClientRect().left;
-    this.place(this.held, this.scale.momentAt(event.clientX - left));
+    const { left, width } = judgePart("bars").firstElementChild.getBoundingClientRect();
+    this.place(this.held, this.scale.momentAt(((event.clientX - left) * this.scale.width) / width));
   }
 
   place(call, at) {
@@ -91,7 +91,9 @@ class Judging {
   draw() {
     const { level, calls } = this.exercise;
     this.count = now.run.count;
-    this.scale = judgeScale(this.exercise, Math.max(300, judgePart("bars").clientWidth));
+    const zoom = isLecture() ? innerHeight / 450 : 1;
+    judgePart("bars").style.setProperty("--zoom", String(zoom));
+    this.scale = judgeScale(this.exercise, Math.max(300, judgePart("bars").clientWidth / zoom), isLecture() ? { bar: 20, grown: GROWN } : {});
     judgePart("task").textContent = `${now.task.kind === "seed" ? `Run ${partsOfSeed(now.task.id).number}. ` : ""}${LEVELS[level].task}`;
     redraw(judgePart("bars"), drawJudged(this));
     const asked = level === "replies" ? calls.filter((call) => call.ended !== null) : [];
@@ -110,18 +112,19 @@ class Judging {
       this.changed();
     };
     const box = document.createElement("label");
-    box.innerHTML = `${chipOf(call.thread)} ${callText(call)} answers `;
+    box.innerHTML = `${chipOf(call.thread)} ${callText(call)} returns `;
     box.append(choice);
     return box;
   }
 
   drawVerdict() {
     const { verdict, tries } = this;
-    const isAsked = homeworkOf(now.place, now.task) !== null && verdict?.isRight !== true; // buttons that reveal the answer are hidden until it is right
+    const isAsked = homeworkOf(now.place, now.task) !== null && verdict?.isRight !== true; // in homework, buttons that reveal the answer are hidden until the reader's answer is right
     for (const name of ["end", "levels"]) judgePart(name).style.visibility = isAsked ? "hidden" : "";
-    const kind = { true: "right", false: "wrong" }[verdict?.isRight] ?? "";
+    const told = isLecture() ? now.scene.note : ""; // the answer, at the end of the last slide
+    const kind = told === "" ? ({ true: "right", false: "wrong" }[verdict?.isRight] ?? "") : "told";
     judgePart("verdict").className = kind;
-    judgePart("verdict").textContent = verdict?.says ?? "";
+    judgePart("verdict").textContent = told || (verdict?.says ?? "");
     judgePart("tries").textContent = tries === 0 ? "" : `${tries} ${tries === 1 ? "try" : "tries"} refused`;
     judgePart("hint").textContent = kind === "wrong" && tries >= 2 ? hintOfRun() : "";
     judgePart("line").innerHTML = kind === "right" ? `<details><summary>Saved. The line to hand in</summary><code>${escaped(this.line)}</code></details>` : "";
@@ -149,7 +152,7 @@ export function beginJudging() {
   if (trace.total > MOST_JUDGED) return say(`A run of at most ${MOST_JUDGED} events can be judged; this one has ${trace.total}.`);
   say("");
   judging.begin(homeworkOf(now.place, now.task) === null ? judgePart("level").value : "replies");
-  byId("next").focus(); // the arrows step; on the level they would change it
+  byId("next").focus(); // focuses Step: with the focus on the level, an arrow key would change the level
 }
 
 export function listenToJudging() {

@@ -45,7 +45,7 @@ function breakHtml() {
   const cardOf = (name) => {
     const { story, lacks } = BREAK_LEVELS[name];
     const state = isBrokenOnce(name) ? { says: lacks, state: "done" } : {};
-    return { href: `#break=${numberOfLevel(name)}`, list: `${LIST_WORDS[LACKING[name]]} · #break=${numberOfLevel(name)}`, title: story, ...state };
+    return { href: `#break=${numberOfLevel(name)}`, list: LIST_WORDS[LACKING[name]], title: story, ...state };
   };
   const count = TEN.filter(isBrokenOnce).length;
   const next = TEN.find((name) => !isBrokenOnce(name)) ?? TEN[0];
@@ -63,7 +63,7 @@ function learnHtml() {
     ({ href: `#learn=${name}`, list: `${at + 1} · ${LIST_WORDS[list]}`, title: escaped(title), state: panel.isSolved(name) ? "done" : "" });
   const count = lessons.filter((lesson) => panel.isSolved(lesson.name)).length;
   const isBook = name === BOOK_NAME;
-  const words = "In each lesson you choose which thread makes the next step, until the run shows what is asked. There is more than one way.";
+  const words = "In each lesson you choose which thread makes the next step, until the run meets the task. There is more than one way.";
   const top = lead(words, count === 0 ? "" : `<b>${count}</b> of ${lessons.length} solved`);
   const back = isBook ? "" : '<p><button id="lesson-book" data-do="book">Back to the twelve lessons</button></p>';
   return `${head("", isBook ? "Solve it" : escaped(name), top, "title")}${cards(lessons.map(cardOf))}
@@ -98,8 +98,8 @@ function judgeHtml() {
     const { title, question } = itemOf({ id: name });
     return { href: `#example=${name}&judge`, list: LIST_WORDS[kind], title, says: question, state };
   };
-  const words = `You see a run without its replies. Say what each call answers, and put a point where it takes effect. The proved
-    <code>check</code> judges your order: every order that explains the run is accepted.`;
+  const words = `You see a run without its replies. Choose what each call returns, and when it takes effect: one moment between its start and its end.
+    If in the order of these moments every reply is correct, your answer is right. A proved program checks it.`;
   const top = `<p class="line"><button data-do="runs">Find the order of a run yourself ↓</button></p>`;
   return `${head("", "Judge", top, "title")}${drawRecordedBox()}<h2 id="judge-runs">Find the order of a run yourself</h2>${lead(words)}
     <div class="start-row"><label>list <select id="judge-seed-list">${listOptions()}</select></label>
@@ -112,7 +112,7 @@ function openSeed() {
   location.hash = `#seed=${Number(number) > 0 ? seedOf(kind, Number(number)) : anotherSeed(null, kind)}&judge`;
 }
 
-// ---- Read: the documents, the terms of the page, and what is proved.
+// ---- The activity Read: the documents, the terms of the page, and a list of the proved statements.
 export const PAGES = [
   ["how-it-works.html", "How it works", "The five lists, from one lock to none, each with the runs that show why."],
   ["classic.html", "The examples", "Eighteen runs, each with its question, the answer, and what goes wrong without the check."],
@@ -124,7 +124,7 @@ const TERMS = {
   schedule: "Which thread makes the next step, from the first event to the last. It is the whole input of a run.",
   history: "The calls with their begin, end, thread and reply. Two calls overlap if neither ends before the other begins.",
   pending: "A call that has begun and not ended.",
-  "takes effect": "At its linearization point: the moment between begin and end at which a call counts in the order.",
+  "takes effect": "A call takes effect at its linearization point: a moment between its begin and its end. The order of these moments is the order of the calls.",
   order: "A sequence of all calls. It explains a run if a sequential set gives the same replies in this order.",
   linearizable: "Some order explains the replies and keeps the order of calls that do not overlap.",
   "row, step table": "The algorithm as numbered steps; a row says what the thread does next.",
@@ -135,7 +135,7 @@ const TERMS = {
 };
 
 function readHtml() {
-  const isAlone = document.body.dataset.alone !== undefined; // the page is one file, without the others beside it
+  const isAlone = document.body.dataset.alone !== undefined; // the page is a single file: the documents are not beside it
   const pages = isAlone ? "" : cards(PAGES.map(([href, title, says]) => ({ href, list: "", title, says: escaped(says) })));
   const terms = Object.entries(TERMS).map(([term, says]) => `<div><dt>${term}</dt><dd>${escaped(says)}</dd></div>`);
   return `${head("", "Read", "", "title")}${pages}<h2>Terms</h2>${tag("dl", { class: "words card" }, ...terms)}

@@ -1,4 +1,4 @@
-// What an address opens, and what the page shows first.
+// Opens the place that an address names, and chooses the first place of a visit.
 import { LECTURE } from "../data/lecture.js";
 import { numberOfLevel } from "../data/levels.js";
 import { byId } from "../page/dom.js";
@@ -52,14 +52,14 @@ function openRun(wanted) {
   if (wanted.isJudged) beginJudging();
 }
 
-// Opens a linked schedule: on the bench, or that of a broken list in its level.
+// Opens a linked schedule: a schedule of a broken list in its level of Break, any other schedule on the bench.
 function openLink({ text, event, lacks = null, view = null }) {
   if (lacks !== null) return openStory({ activity: "break", id: String(numberOfLevel(lacks)), given: { text }, view });
   if (text === now.run.text && now.run.isRun && now.place.screen === "stage") return goTo(event);
   openTask(OWN_TASK, text, event);
 }
 
-// Returns the slide that an address names, directly or by its content's address, or 0.
+// Returns the number of the slide with this address or with this content, or 0.
 export function slideOf(hash) {
   const [, number = "1"] = /^#lecture(?:=(.*))?$/.exec(hash) ?? [null, `${1 + LECTURE.findIndex(([, , address]) => address === hash)}`];
   if (number === "0" || LECTURE[Number(number) - 1] !== undefined) return Number(number);
@@ -122,5 +122,5 @@ export async function openFirst() {
   keepSoon();
 }
 
-// Returns the last address. A screen of the path greets a returning reader.
+// Returns the stored address of the last visit. The address of a screen of the path also asks for a greeting (`back=yes`).
 const addressBack = () => addressKept().replace(/^#story=(?!1$)\d+$/, "$&&back=yes");

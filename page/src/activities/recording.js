@@ -8,7 +8,7 @@ import { RECORDED_EXAMPLE, recordedInWords, verdictOnCalls, withNewline } from "
 import { diagnosisIn } from "../run/why.js";
 
 const WIDEST = 800; // pixels of a drawing, before it is made larger
-const recorded = { text: "" }; // the text of the box while another activity is shown
+const recorded = { text: "" }; // the text of the box, kept while another activity is shown
 const recordedPart = (name) => byId(`recorded-${name}`);
 
 const PARTS = `<p class="prose">The templates in the folder <code>judge</code> of this page’s repository run a stress test on your own set. They record when each
@@ -35,7 +35,7 @@ function threadsInWords(calls) {
   return threads.length === 0 ? [] : [`Threads: ${threads.map((thread) => `${letterOf(thread)} is thread ${thread}`).join(", ")} of the recording.`];
 }
 
-// A recording without `key` lines says that the set is empty at the end. Returns a remark if that can be a mistake.
+// Returns a remark if the recording has no `key` line, which means an empty final set, and its calls make that unlikely.
 function keysInWords(text, { kind }) {
   const isEmptied = kind === "none" && !/^key /m.test(text) && /^call \d+ add \S+ \S+ \S+ true/m.test(text) && /^end$/m.test(text);
   return isEmptied ? ["The recording has no line <code>key</code>, so it says that the set is empty at the end. Add a line <code>key K</code> for each key K of the final set."] : [];

@@ -24,7 +24,7 @@ const LESSON_WORDS = {
 };
 const WORDS = Object.keys(LESSON_WORDS);
 
-// Returns the lines of a text without their common indentation, as a course copied from a page has.
+// Returns the lines of a text without their common indentation: a course copied from a page is indented.
 function withoutIndent(text) {
   const lines = text.replace(/^\ufeff/, "").split("\n").map((line) => line.replaceAll("\t", "  ").trimEnd());
   const first = lines.findIndex((line) => line !== "");
@@ -38,7 +38,7 @@ class CourseReader {
     this.faults = [];
     this.name = "";
     this.lessons = [];
-    this.block = null; // the part to which lines belong that begin with two spaces
+    this.block = null; // the part that contains the following lines that begin with two spaces
     const lines = withoutIndent(text).map((line, index) => ({ line, number: index + 1 }));
     const [title, ...rest] = lines.filter(({ line }) => line !== "" && !line.startsWith("#"));
     if (title?.line !== COURSE_TITLE) this.fault(title?.number ?? 1, `expected "${COURSE_TITLE}" here`);
@@ -92,7 +92,7 @@ class CourseReader {
       return null;
     }
     const linesOf = (word) => (parts[word]?.lines ?? []).map(({ line }) => line);
-    const events = ["start", "answer"].flatMap((word) => parts[word]?.lines ?? []); // with their numbers
+    const events = ["start", "answer"].flatMap((word) => parts[word]?.lines ?? []); // lines with their numbers
     const lacks = parts.lacks?.value ?? null;
     if (lacks !== null && LACKING[lacks] !== parts.list.value) {
       const own = Object.keys(LACKING).filter((name) => LACKING[name] === parts.list.value);

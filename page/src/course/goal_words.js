@@ -1,11 +1,12 @@
-// The goals of lessons. Each line finds something in the run and can name it. `say ..` holds if all lines above it hold together.
+// Evaluates the goals of lessons. Each line of a goal asks for a call or an event of the run, and can name it for later lines. A condition (`say ..`)
+// holds if one choice of calls and events satisfies all lines above it.
 import { isFailed, isLock, ownerIn } from "../run/outcomes.js";
 import { State } from "../run/state.js";
 
 export class GoalFault extends Error {
   constructor(line, fault) {
     super(fault);
-    this.line = line; // from 1, among the lines of the goal
+    this.line = line; // the number of the line in the goal, from 1
   }
 }
 
@@ -14,7 +15,7 @@ const endOf = (found) => (found.event ? found.event.number : (found.ended ?? Inf
 const answeredKey = (call) => Number(call.reply?.slice("at-".length));
 const hasSmaller = (call, { keys }) => [...keys].some((key) => call.key <= key && key < answeredKey(call));
 
-// The clauses: their words, with X for an earlier name and N for a number, and the test of a candidate.
+// Clauses of a line: a pattern (X is an earlier name, N a number) and a test of a candidate call or event.
 const CALL_CLAUSES = [
   [/^(add|remove|contains|ceiling)$/, (call, [operation]) => call.operation === operation],
   [/^key (\d+)$/, (call, [key]) => call.key === Number(key)],
@@ -113,7 +114,7 @@ function foundBy(line, run, bound) {
   return steps.filter(({ event }) => event.deed !== "begin" && (thread === null || event.thread === thread));
 }
 
-const MOST_WAYS = 100000; // to meet the lines of a goal, that are tried: some 0.2 s
+const MOST_WAYS = 100000; // combinations of calls and events that are tried for a goal, in about 0.2 s
 export class TooManyWays extends Error {}
 
 function canMeet(lines, run) {
@@ -136,7 +137,7 @@ export function conditionsOf(goal, run) {
   return ends.map(({ says, index }) => ({ says, isMet: canMeet(goal.slice(0, index), run) }));
 }
 
-// ---- A run event by event: the row of its thread before, and the state after.
+// ---- A run: for each event the row of its thread before the event, and the state after the event.
 export class Run {
   constructor(trace) {
     const state = new State(trace);
@@ -153,7 +154,7 @@ export class Run {
     return this.moments[call.ended - 1];
   }
 
-  // Returns the times in which a thread makes no step: the moment of its last step, and the other threads' moments up to its next.
+  // Returns the pauses of a thread: for each of its steps, the moment of the step and the moments of the other threads' steps until its next step.
   restsOf(thread) {
     const steps = this.moments.filter(({ event }) => event.thread === thread);
     return steps.map((step, at) => {

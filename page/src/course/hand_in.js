@@ -1,5 +1,6 @@
 // A text to hand in: a title, the course and the student, then a line for each solution. A solution is the name of a lesson, a space and the address
-// of a schedule (or a whole link that ends with the address), an order that was judged right, or a run that breaks a list.
+// of a schedule (or a whole link that ends with the address), an order that was judged right, or a run that breaks a list (`named`: the student has
+// also chosen the missing check).
 //
 //     listset-lessons 2
 //     course The twelve lessons of the five lists
@@ -7,10 +8,10 @@
 //     student Ada
 //     marked-in-chain #list=lazy&threads=2&quota=4&opening=5&s=b1.remove.5,g1.7,b0.contains.5,g0.3&event=12
 //     judge snip points 2-true,0-true,1-true
-//     break mark-in-add #list=lock-free&threads=2&quota=2&opening=3.7&s=b0.add.5,g0.5&event=6
+//     break mark-in-add #list=lock-free&threads=2&quota=2&opening=3.7&s=b0.add.5,g0.5&event=6 named
 //     end
 //
-// The text often comes by mail: lines can be quoted, folded or encoded, and other lines can surround it. One file can have the texts of a whole
+// The text is often sent by mail: lines can be quoted, wrapped or encoded, and surrounded by other lines. One file can contain the texts of a whole
 // class, and courses.
 import { CLASSICS, LACKING } from "../../made/classics.js";
 import { AddressFault, addressOf, readAddress } from "../run/address.js";
@@ -22,6 +23,7 @@ import { COURSE_TITLE } from "./course_text.js";
 import { judged, missingIn, MOST_EVENTS } from "./lesson.js";
 
 const HAND_IN_TITLE = "listset-lessons 2";
+export const NAMED = "named"; // the last word of a line about a broken list, if the student has also chosen the missing check
 
 export const solutionLine = (name, schedule) => `${name} ${addressOf(schedule, eventsAsked(schedule))}`;
 
@@ -42,7 +44,7 @@ export function textOfBytes(bytes) {
 }
 
 function unmailed(text) {
-  const isCoded = /=3D/i.test(text); // quoted-printable: a line goes on behind =, and =3D is =
+  const isCoded = /=3D/i.test(text); // quoted-printable: `=` at the end of a line continues the line, and =3D is `=`
   const lines = [];
   let goesOn = false;
   text.split(/\r\n|\r|\n/).forEach((given, index) => {
@@ -75,23 +77,34 @@ export function textsIn(text) {
   return found;
 }
 
-// Predicates for folded lines: whether a line begins a part, whether a part is incomplete, and whether a line can continue it.
-const isBegin = (line) => /^(student|course|assignment|judge|break) /.test(line) || /^[a-z][a-z0-9-]* +(\S*#|<?https?:)/.test(line);
-const lacksWords = (line) =>
-  /^judge /.test(line) ? line.split(" ").length < 4 : !/^(student|course|assignment) /.test(line) && !line.includes("#");
+// A mail program can wrap a line at a space or within a word. A part is a line as it was before. Each part is collected with its
+// line breaks; then `unwrapped` replaces a break between two words by a space, and deletes a break within a word.
+const broken = (word) => [...word].join("\\n?");
+const JUDGE = new RegExp(`^(judge)[ \\n]+(\\S[^]*?)[ \\n]+(${Object.keys(LEVELS).map(broken).join("|")})[ \\n]+([^]+)$`);
+const BREAK = new RegExp(`^(break)[ \\n]+([a-z0-9\\n-]+?)[ \\n]+((?:<?https?:[^#]+)?#[^]*?)(?:[ \\n]+(${broken(NAMED)}))?$`);
+const isBegin = (line) => /^(student|course|assignment|judge|break)( |$)/.test(line) || /^[a-z][a-z0-9-]* +(\S*#|<?https?:)/.test(line);
+const isName = (line, last, next) => /^[a-z][a-z0-9-]*$/.test(line) && (!/^(judge|break)\b/.test(last?.line) || /^(#|<?https?:)/.test(next?.line));
+const lacksWords = (line) => (/^judge\b/.test(line) ? !JUDGE.test(line) : !/^(student|course|assignment) /.test(line) && !line.includes("#"));
 const isPiece = (line) => !line.includes(" ") || /^\S*[.,=&]\S* /.test(line);
+
+function unwrapped(line) {
+  const words = (JUDGE.exec(line) ?? BREAK.exec(line) ?? /^([a-z][a-z0-9-]*)[ \n]+([^]+)$/.exec(line) ?? ["", line]).slice(1);
+  return words.filter((word) => word !== undefined).map((word) => word.replaceAll("\n", "")).join(" ");
+}
 
 export function readHandIn({ lines, isEnded, number }) {
   const parts = [];
   const faults = [];
-  for (const given of lines) {
+  for (const [at, given] of lines.entries()) {
     const last = parts.at(-1);
-    const isName = /^[a-z][a-z0-9-]*$/.test(given.line) && (last === undefined || !lacksWords(last.line));
-    if (isBegin(given.line) || isName) parts.push({ ...given, shorter: [] });
-    else if (last !== undefined && lacksWords(last.line)) last.line += ` ${given.line}`;
-    else if (last !== undefined && isPiece(given.line)) Object.assign(last, { line: last.line + given.line, shorter: [last.line, ...last.shorter] });
+    const longer = `${last?.line}\n${given.line}`;
+    const isWhole = last === undefined || !lacksWords(last.line);
+    if (isBegin(given.line) || (isWhole && isName(given.line, last, lines[at + 1]))) parts.push({ ...given, shorter: [] });
+    else if (last !== undefined && lacksWords(last.line)) last.line = longer;
+    else if (last !== undefined && isPiece(given.line)) Object.assign(last, { line: longer, shorter: [last.line, ...last.shorter] });
     else faults.push({ line: given.number, fault: `"${given.line.slice(0, 40)}" is not a line of a solution` });
   }
+  for (const part of parts) Object.assign(part, { line: unwrapped(part.line), shorter: part.shorter.map(unwrapped) });
   const valueOf = (word) => parts.find(({ line }) => line.startsWith(`${word} `))?.line.slice(word.length + 1) ?? null;
   if (!isEnded) faults.push({ line: number, fault: 'the text is incomplete: the final line "end" is missing' });
   const solutions = parts.filter(({ line }) => !/^(student|course|assignment) /.test(line));
@@ -108,7 +121,8 @@ export function readSchedule(link) {
   }
 }
 
-// Judges a solution. Its `line` can end with lines that do not belong to it; `shorter` has it with fewer lines at its end. The first solved one counts.
+// Judges a solution. If later lines of the mail were joined to `line` by mistake, `shorter` has the same part with fewer joined lines. The first of
+// these texts that solves its task counts.
 export function judgedSolution(ask, lessons, { line, shorter }) {
   const lines = [line, ...shorter];
   /** @type {any[]} */
@@ -145,7 +159,7 @@ function judgedOrder(ask, [run = "", level = "", word = "", ...more]) {
   const answer = answerOfWord(exerciseOf(report.text, level), word);
   if (answer === null) return not("expected the order, such as 0-true,2-true,1-false");
   const { isRight, says } = verdictOn(ask, answer);
-  return { task, isSolved: isRight === true, says: isRight === true ? "" : says };
+  return { task, isSolved: isRight === true, says: isRight === true ? "" : says, how: LEVELS[level].name, isMost: level === "replies" };
 }
 
 function judgedBreak(ask, [name = "", link = "", ...more]) {
@@ -153,13 +167,13 @@ function judgedBreak(ask, [name = "", link = "", ...more]) {
   const not = (says) => ({ task, isSolved: false, says });
   if (!Object.hasOwn(LACKING, name) || name === NO_TASK) return not("there is no such list to break");
   if (!link.includes("#")) return not("expected the address of a schedule, from # on");
-  if (more.length > 0) return not("more follows the address");
+  if (more.length > 0 && more.join() !== NAMED) return not("more follows the address");
   const { schedule, fault } = readSchedule(link);
   if (fault !== undefined) return not(fault);
   if (eventsAsked(schedule) > MOST_EVENTS) return not(`expected at most ${MOST_EVENTS} events`);
   const verdict = verdictOnLacking(ask, name, schedule);
   if (!isTaskDone(name, verdict)) return not(verdict.says);
-  return { task, isSolved: true, says: "", schedule, ofExample: exampleBy(ask, name, schedule) };
+  return { task, isSolved: true, says: "", schedule, ofExample: exampleBy(ask, name, schedule), how: `check ${more.length > 0 ? "" : "not "}named`, isMost: more.length > 0 };
 }
 
 function exampleBy(ask, name, schedule) {

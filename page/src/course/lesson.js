@@ -1,4 +1,4 @@
-// Judges schedules by a lesson. A lesson is checked when it is read: its start must not meet its goal yet, and its answer must.
+// Judges schedules by a lesson. A lesson is checked when it is read: its start must not reach its goal, and its answer must reach it.
 import { readFault, sentenceOn } from "../engine/answers.js";
 import { askList, TO_BREAK, verdictOnLacking } from "../run/broken.js";
 import { eventsAsked, scheduleOfDraft, scheduleText, versionOf } from "../run/schedule_text.js";
@@ -6,7 +6,7 @@ import { conditionsOf, Run, TooManyWays } from "./goal_words.js";
 import { HEADER_LINES, isTrace, Trace } from "../run/trace.js";
 import { readCourse } from "./course_text.js";
 
-export const MOST_EVENTS = 1000; // of a solution
+export const MOST_EVENTS = 1000; // events of a solution
 const OTHER_SET = "The list, the number of threads, the quota and the opening keys must be those of the lesson.";
 const setOf = (schedule) => schedule.split("\n").slice(1).filter((line) => !/^(begin|go) /.test(line)).join("\n");
 
@@ -29,7 +29,7 @@ export function judged(ask, lesson, schedule) {
   if (trace === null) return unjudged(fault.says, fault);
   const run = new Run(trace);
   const conditions = withinBound(() => conditionsOfLesson(ask, lesson, schedule, run));
-  if (conditions === null) return unjudged("This run is not judged: there are too many ways in which it could meet the goal.");
+  if (conditions === null) return unjudged("This run is not judged: it could meet the goal in too many ways.");
   const isSolved = conditions.every(({ isMet }) => isMet);
   const deadEnd = withinBound(() => lesson.deadEnds.map((lines) => conditionsOf(lines, run)[0]).find(({ isMet }) => isMet));
   return { isSolved, reason: null, fault: null, conditions, deadEnd: isSolved ? null : (deadEnd?.says ?? null) };
@@ -44,7 +44,7 @@ function withinBound(search) {
   }
 }
 
-// Checks that a goal can be evaluated, on a run of about sixty events of the lesson's list and threads.
+// Checks that a goal can be evaluated in bounded time, on a run of about sixty events of the lesson's list and threads.
 function isBounded(ask, { list, threads, goal }) {
   const { text, status } = ask("listset_gen", [list, Math.max(threads, 2), 4, 6, 3, 1].join("\0"));
   const { trace } = status === 0 ? runOfSchedule(ask, text, null) : { trace: null };

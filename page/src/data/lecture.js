@@ -1,4 +1,4 @@
-// The slides of the lecture, opened by #lecture=1 and so on: minutes, title, address, what to ask, and the answer.
+// The slides of the lecture, opened by #lecture=1 and so on: minutes, title, address, the question to the class, and the answer.
 /** @type {[number, string, string, string, string][]} */
 export const LECTURE = [
   [4, "Lose a number", "#story=2&view=lecture", "No lock. Let the class call out A or B until a number is lost.",

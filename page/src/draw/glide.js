@@ -1,4 +1,4 @@
-// Animates changes of a drawing. The drawing is complete at once; each part with a data-part moves in from its previous place.
+// Animates changes of a drawing. The new drawing is complete at once; each element with `data-part` then moves in from its previous place.
 
 const TIME = 260; // milliseconds
 const EASE = { duration: TIME, easing: "cubic-bezier(.2, .7, .2, 1)" };
@@ -26,10 +26,10 @@ function glideArrow(part, before) {
   }
 }
 
-const SLOW = 1200; // milliseconds of a fall
+const SLOW = 1200; // milliseconds in which a lost node falls out of the chain
 export const fallTime = () => (wantsStill() || document.hidden ? 0 : SLOW);
 
-// Animates a loss in two halves: the arrow moves from the lost nodes to the new one, then these change places.
+// Animates a loss in two halves: first the arrow turns from the lost node to the new node, then the lost node moves out of the chain.
 function fall(box, before, fallen) {
   const timing = { duration: SLOW, easing: "ease-in-out" };
   const shift = (was, { dataset }) => `${was.x - Number(dataset.x)}px ${was.y - Number(dataset.y)}px`;

@@ -1,13 +1,13 @@
-// Draws the history: a bar for each call, and the moment at which it takes effect.
+// Draws the history: a bar for each call, with a point at the moment when the call takes effect.
 import { callText, colourOf, label, letterOf, tag, title } from "../run/markup.js";
 
 export const HISTORY_LEFT = 50;
 const HISTORY_RIGHT = 16;
-const LEAST_STEP = 7; // pixels of one event
+const LEAST_STEP = 7; // least pixels of one event
 const BAR = 20; // pixels: the height of a bar
 const BELOW = 6; // pixels between a bar and the labels of the next lane
 
-// Returns the events to draw: all if they fit, else a window that moves by thirds.
+// Returns the first and last event to draw: all events if they fit, else a window that moves by a third of its width.
 function windowOf(total, count, room) {
   const most = Math.max(30, Math.floor(room / LEAST_STEP));
   if (total <= most) return { first: 1, last: Math.max(total, 1) };
@@ -38,7 +38,7 @@ export function layLabels(threads, calls, itemOf, room) {
   return { places, rows: Math.max(1, ...found.map(({ row }) => row + 1)), areWhole: found.length === places.size };
 }
 
-export function scaleOf(trace, count, width, hides = false, isLow = false) {
+export function scaleOf(trace, count, width, hides = false, isLow = false, grown = 1) {
   const { first, last } = windowOf(trace.total, count, width - HISTORY_LEFT - HISTORY_RIGHT);
   const isWhole = first === 1 && last >= trace.total;
   const step = (width - HISTORY_LEFT - HISTORY_RIGHT) / (last - first + 1);
@@ -48,7 +48,7 @@ export function scaleOf(trace, count, width, hides = false, isLow = false) {
   const leftOf = ({ begun }) => (begun < first ? HISTORY_LEFT - 6 : x(begun));
   const rightOf = ({ ended }) => (ended === null || ended > last ? edge : x(ended));
   const spanOf = (call) => ({ left: leftOf(call), right: rightOf(call) });
-  const itemOf = (call) => ({ ...spanOf(call), wide: widthOf(callText(call), call.reply ?? "") });
+  const itemOf = (call) => ({ ...spanOf(call), wide: grown * widthOf(callText(call), call.reply ?? "") });
   const labels = layLabels(trace.threads, shownIn(trace, first, last), itemOf, { start: HISTORY_LEFT - 6, edge: width, mostRows });
   const above = isLow && trace.threads <= 6 ? 0 : ROW_HEIGHT * (isWhole ? labels.rows : mostRows);
   const lane = above + bar + below;
@@ -56,10 +56,10 @@ export function scaleOf(trace, count, width, hides = false, isLow = false) {
   const height = 6 + trace.threads * lane + (isWhole && labels.areWhole ? 0 : ROW_HEIGHT);
   const y = (thread) => 2 + thread * lane + above + bar / 2;
   const { places, areWhole } = labels;
-  return { first, last, step, lane, bar, width, count, now, edge, height, x, y, spanOf, labels: places, areWhole, isIn: above === 0 };
+  return { first, last, step, lane, bar, width, grown, count, now, edge, height, x, y, spanOf, labels: places, areWhole, isIn: above === 0 };
 }
 
-// Decides whether a point is already known: after the call's change, or when the call returns.
+// Decides whether the point of a call is known after `count` events: once the call has changed the set, or has returned.
 export const isReached = (call, count) => call.at <= count && (call.changes || (call.ended !== null && call.ended <= count));
 
 export function drawLane(scale, thread, place = thread) {
@@ -93,7 +93,7 @@ function drawBar(call, scale) {
 
 function drawLabel(call, scale, left, top) {
   const place = scale.labels.get(call.id);
-  const [indent, base] = scale.isIn ? [6, top + 14] : [0, top - 4];
+  const [indent, base] = scale.isIn ? [6, top + 13 + scale.grown] : [0, top - 4];
   if (place === null) return label({ class: "call", x: left + indent, y: base }, signOf(call));
   const hasReply = call.reply !== null && call.ended <= scale.now;
   const done = call.ended !== null && call.ended <= scale.count;
@@ -143,15 +143,16 @@ export function drawCalls(trace, scale) {
   return tag("svg", frame, ...lanes, drawCursor(scale, height, scale.y(0) - scale.bar / 2 - 2), ...stems, ...bars, ...points, signs);
 }
 
-// ---- The labels above the bars. Their places follow from the whole run, so nothing jumps.
+// ---- The labels above the bars. Their places depend on the whole run and not on the current event, so no label jumps.
 const LETTER = 7.1; // pixels of a letter of a label
-const BOLD = 8; // and of one of a reply
-const BETWEEN = 8; // two labels of a row
+const BOLD = 8; // pixels of a letter of a reply
+const BETWEEN = 8; // pixels between two labels of a row
+export const GROWN = 1.25; // the labels of a slide are larger by this factor
 export const ROW_HEIGHT = 15;
 export const widthOf = (text, reply = "") => LETTER * text.length + (reply === "" ? 0 : LETTER + BOLD * reply.length);
 
-// Returns the place { x, row } of each label { left, right, wide }, or null if no row has space. The labels come by their left ends. A label begins
-// at the left end of its bar, in the first free row (row 0 is next to the bar), or else ends at the bar's right end.
+// Returns the place { x, row } of each label { left, right, wide }, or null if no row has space. The labels must be sorted by their left ends. A label
+// begins at the left end of its bar, in the first free row (row 0 is next to the bar), or else ends at the right end of the bar.
 function placeLabels(items, { start, edge, mostRows }) {
   const taken = Array.from({ length: mostRows }, () => start);
   return items.map(({ left, right, wide }) => {
@@ -165,7 +166,7 @@ function placeLabels(items, { start, edge, mostRows }) {
   });
 }
 
-// A call whose label has no space is written by signs, which a line of the drawing explains.
+// The short label of a call if the long label has no space. A line below the drawing explains these signs.
 const SIGNS = {
   add: (key) => `+${key}`,
   remove: (key) => `\u2212${key}`,

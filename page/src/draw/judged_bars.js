@@ -1,4 +1,4 @@
-// Draws the bars on which the reader places points. Each bar is a slider for the keyboard. The clashing call is red.
+// Draws the bars of Judge: on each bar the reader places the moment of a call. For the keyboard, a bar is a slider. A refused call is red.
 import { lastMoment, nameOfCall } from "../run/judged.js";
 import { callText, chipOf, colourOf, escaped, label, tag, title } from "../run/markup.js";
 import { recordedInWords } from "../run/recorded.js";
@@ -7,8 +7,8 @@ import { drawLane, HISTORY_LEFT, layLabels, ROW_HEIGHT, signOf, widthOf } from "
 const JUDGE_RIGHT = 20;
 const JUDGE_BAR = 30;
 const JUDGE_BELOW = 8; // pixels between a bar and the labels of the next lane
-const MOST_ROWS = 3; // of labels
-const SLOT_WIDTH = 60; // of the words of a point
+const MOST_ROWS = 3; // rows of labels
+const SLOT_WIDTH = 60; // pixels for the label of a point
 const leftOf = ({ begun }, { x, step }) => x(begun) - step / 2;
 const rightOf = (call, { x, step, last }) => x(call.ended ?? last) + step / 2;
 
@@ -19,17 +19,17 @@ function widthOfCall(call) {
   return Math.max(...replies.map((reply) => widthOf(callText(call), reply)));
 }
 
-export function judgeScale({ last, threads, calls }, width) {
+export function judgeScale({ last, threads, calls }, width, { bar = JUDGE_BAR, grown = 1 } = {}) {
   const step = (width - HISTORY_LEFT - JUDGE_RIGHT) / last;
   const across = { step, last, x: (moment) => HISTORY_LEFT + (moment - 0.5) * step };
-  const itemOf = (call) => ({ left: leftOf(call, across), right: rightOf(call, across), wide: widthOfCall(call) });
+  const itemOf = (call) => ({ left: leftOf(call, across), right: rightOf(call, across), wide: grown * widthOfCall(call) });
   const inOrder = [...calls].sort((one, other) => one.begun - other.begun);
   const { places: labels, rows } = layLabels(threads, inOrder, itemOf, { start: 2, edge: width, mostRows: MOST_ROWS });
   const above = ROW_HEIGHT * rows + 4;
-  const lane = above + JUDGE_BAR + JUDGE_BELOW;
-  const y = (thread) => 2 + thread * lane + above + JUDGE_BAR / 2;
+  const lane = above + bar + JUDGE_BELOW;
+  const y = (thread) => 2 + thread * lane + above + bar / 2;
   const momentAt = (x) => (x - HISTORY_LEFT) / step + 0.5;
-  return { ...across, width, edge: width - JUDGE_RIGHT, labels, height: 4 + threads * lane, y, momentAt };
+  return { ...across, width, bar, edge: width - JUDGE_RIGHT, labels, height: 4 + threads * lane, y, momentAt };
 }
 
 const momentInWords = (at) => (Number.isInteger(at) ? `at ${at}` : `after ${Math.floor(at)}`);
@@ -44,7 +44,7 @@ function drawJudgedCall(call, { answer, exercise, verdict, scale }) {
   const where = point === undefined ? "not placed yet" : momentInWords(point.at);
   const slider = {
     role: "slider", tabindex: 0, "data-call": call.id,
-    "aria-label": `where ${nameOfCall(call)}, ${reply === "?" ? "its reply not said yet" : reply}, takes effect`,
+    "aria-label": `when ${nameOfCall(call)}, ${reply === "?" ? "reply not chosen yet" : reply}, takes effect`,
     "aria-valuemin": call.begun, "aria-valuemax": lastMoment(exercise, call), "aria-valuenow": point?.at ?? call.begun,
     "aria-valuetext": `${where}${isClash ? ", and clashes there" : ""}`,
     class: `bar own ${colourOf(call.thread)}${isClash ? " clash" : ""}${call.ended === null ? " open" : ""}`,
@@ -55,16 +55,16 @@ function drawJudgedCall(call, { answer, exercise, verdict, scale }) {
 
 function drawJudgedBar(call, reply, scale, y) {
   const [left, right] = [leftOf(call, scale), rightOf(call, scale)];
-  const rect = { x: left, y: y - JUDGE_BAR / 2, width: Math.max(right - left, 12), height: JUDGE_BAR, rx: 4 };
+  const rect = { x: left, y: y - scale.bar / 2, width: Math.max(right - left, 12), height: scale.bar, rx: 4 };
   const { x, row } = scale.labels.get(call.id) ?? { x: left, row: null };
-  const above = { class: "call", x, y: y - JUDGE_BAR / 2 - 5 - ROW_HEIGHT * (row ?? 0) };
+  const above = { class: "call", x, y: y - scale.bar / 2 - 5 - ROW_HEIGHT * (row ?? 0) };
   const words = row === null ? signOf(call) : callText(call) + tag("tspan", { class: "reply" }, ` ${escaped(reply)}`);
   return tag("rect", rect) + tag("text", above, words);
 }
 
 const frameOf = ({ width, height }) => ({ width, height, viewBox: `0 0 ${width} ${height}` });
 
-// Draws recorded calls as bars, at equal distances of their moments.
+// Draws recorded calls as bars. Neighbouring moments have equal distances.
 export function drawRecorded(calls, width) {
   const inOrder = (numbers) => [...new Set(numbers)].sort((one, other) => (one < other ? -1 : 1));
   const threads = inOrder(calls.map(({ thread }) => thread));
@@ -88,7 +88,7 @@ function drawOwnPoint(call, at, y, scale) {
   return tag("g", { class: `point own ${colourOf(call.thread)}` }, stem, tag("circle", { cx: x, cy: y, r: 8 }), drawWhen(call, at, y, scale));
 }
 
-// Labels a point with its moment, if its own bar has room. Over another call's bar the label would seem to belong to that call.
+// Labels a point with its moment if the bar has room. Beyond the bar, the label could seem to belong to another call.
 function drawWhen(call, at, y, scale) {
   const x = scale.x(at);
   const isRoomy = (room) => room >= SLOT_WIDTH;
@@ -105,7 +105,7 @@ export function drawJudged(judged) {
   return tag("svg", frame, ...lanes, count === 0 ? "" : tag("line", line), ...calls);
 }
 
-// Writes the reader's order. The calls that are not placed yet follow in pale, so the line keeps its size.
+// Writes the reader's order. The calls without a moment follow in a pale colour, so that the line keeps its size.
 export function drawOwnOrder(answer) {
   const { calls } = answer.exercise;
   const placed = answer.order().map(({ call, at, reply }) => {

@@ -4,14 +4,14 @@ import { ownerIn } from "../run/outcomes.js";
 import { isWritten, keyNumber } from "../run/state.js";
 import { NODE_REGISTERS } from "../run/trace.js";
 
-export const LIST_LOCK = 40; // above a list with one lock
+export const LIST_LOCK = 40; // height of the lock that is drawn above a list with one lock
 const MARGIN = 8;
-const WIDEST = 190; // of a node
-const BESIDE = 18; // between two nodes that are not in the chain
-const AROUND = 10; // such nodes, where they are in a gap of the chain
-const NARROWEST = 60; // of a node
-const BESIDE_HANDS = 2; // between two hands in a row, so that their edges meet
-const MOST_POINTING = 6; // threads whose hands are drawn
+const WIDEST = 190; // largest width of a node
+const BESIDE = 18; // distance of two nodes that are not in the chain
+const AROUND = 10; // distance of two nodes in a gap of the chain
+const NARROWEST = 60; // smallest width of a node
+const BESIDE_HANDS = 2; // distance of two hands in a row, so that their edges meet
+const MOST_POINTING = 6; // threads that get hands
 
 // A form has the least pixels of a unit (so that every label is large enough to read), the heights of a node's two parts (its key and its lock), the
 // room of a node with its gap, the gap as a share of a node, and the measures of a hand. `below` lists how far below the chain other nodes can be
@@ -20,7 +20,8 @@ const HANDS = { height: 30, over: 9, left: 28, letter: 10.4, right: 12 };
 const SMALL_HANDS = { height: 26, over: 8, left: 21, letter: 9.8, right: 5 };
 const WIDE = { least: 0.9, key: 56, lock: 32, slot: 100, gap: 0.5, hand: HANDS, kind: "", below: [54, 30, 0] };
 const SMALL = { least: 0.82, key: 44, lock: 28, slot: 62, gap: 0.28, hand: SMALL_HANDS, kind: "small-hands", below: [44, 34] };
-const LOW = 46; // from the top of the chain to that of the nodes in its gaps
+const LEAST_OF_ALL = 0.6; // pixels of a unit, if the stage is too low for a form
+const LOW = 46; // from the upper edge of the chain to the upper edge of the nodes in its gaps
 const formOf = ({ wide }) => (wide < 600 ? SMALL : WIDE);
 
 function pointersOf(state, event) {
@@ -60,14 +61,14 @@ function foldedChain(chain, important, most) {
   return items.map((item) => (item.names.length === 1 ? { name: item.names[0], names: item.names } : item));
 }
 
-// Returns the largest unit and heights that fit the stage. They depend on the run, not on its step, so nothing jumps.
+// Returns the largest unit and heights that fit the stage. These depend on the run and not on the current step, so nothing jumps.
 function unitsOf(state, room, slots, isFlat) {
   const form = formOf(room);
   const least = Math.max(form.least, room.least ?? 0);
   const row = form.key + (room.lock === "nodes" ? form.lock : 0);
   const heightsOf = (below, lanes) => {
     const top = (room.lock === "list" ? LIST_LOCK : 0) + lanes * (form.hand.height + 2) - form.hand.over + MARGIN;
-    const down = isFlat ? 0 : below === 0 ? LOW : Math.max(row + below, lanes * (form.hand.height + 2) - 2); // below the chain's hands
+    const down = isFlat ? 0 : below === 0 ? LOW : Math.max(row + below, lanes * (form.hand.height + 2) - 2); // leaves space for the hands of the nodes below the chain
     return { top, down, height: top + down + row + MARGIN + 4 };
   };
   const lanesAt = (scale) => Math.ceil(Math.min(state.threads.length, MOST_POINTING) / handsPerSlot(form, room, room.wide / scale, slots));
@@ -83,8 +84,9 @@ function unitsOf(state, room, slots, isFlat) {
     return { lanes, scale, isGood: lanesAt(scale) <= lanes };
   };
   const sizes = [1, 2, 3, 4, 5, MOST_POINTING].map(sizeWith).filter(({ isGood }) => isGood);
-  const { lanes, scale } = sizes.reduce((one, other) => (other.scale > one.scale + 0.001 ? other : one));
+  const { lanes, scale: largest } = sizes.reduce((one, other) => (other.scale > one.scale + 0.001 ? other : one));
   const heights = heightsOf(form.below[tight], lanes);
+  const scale = Math.min(largest, Math.max(LEAST_OF_ALL, room.high / heights.height)); // if the stage is too low, labels are smaller and nothing is cut
   return { ...heights, form, scale, tight, row, isLow: form.below[tight] === 0, width: Math.max(room.wide / scale, slots * form.slot), spare: Math.max(0, room.high / scale - heights.height) };
 }
 
@@ -102,7 +104,7 @@ function placesOfChain(items, room, units, slots) {
   const { width, row, top, down, spare, scale, form, isLow } = units;
   const [left, right] = (room.ends ?? [0, 0]).map((end) => Math.max(MARGIN, end / scale));
   const all = width - left - right;
-  const node = Math.min(isLow ? (all - 24) / (2 * slots - 3) : WIDEST, widthOfNode(form, all, slots)); // in a gap a node has to fit
+  const node = Math.min(isLow ? (all - 24) / (2 * slots - 3) : WIDEST, widthOfNode(form, all, slots)); // nodes in the gaps of the chain need gaps as wide as a node
   const gap = (all - items.length * node) / Math.max(1, items.length - 1);
   const y = top + spare * (down === 0 ? 0.5 : 0.35);
   const places = {};
@@ -123,7 +125,7 @@ function nodesAside(state, chain, important, most) {
   return { shown, more: aside.length - shown.length };
 }
 
-// Places the nodes outside the chain below the gap where their keys belong, side by side. In a gap they are as narrow as it asks for.
+// Places each node outside the chain below the gap that its key belongs to. Nodes below one gap are side by side, and are narrow enough for the gap.
 function placeAside(state, chain, shown, places, { width, down, spare, isLow }) {
   const { width: widest, gap, row, key, y } = places.head;
   const groups = new Map();
@@ -168,7 +170,7 @@ function handsOn(pointers, places, { form: { hand }, width }, hides) {
     hands.sort((one, other) => one.thread - other.thread);
     const { x, y, width: node, gap, aside } = places[hands[0].name];
     return rowsOf(hands, node + (aside ? 10 : 0.45 * gap)).flatMap((row, index) => {
-      let left = Math.max(2, Math.min(width - row.wide - 2, x + (node - row.wide) / 2)); // at the ends of the chain, towards its middle
+      let left = Math.max(2, Math.min(width - row.wide - 2, x + (node - row.wide) / 2)); // a row of hands at an end of the chain is moved inwards
       return row.hands.map((own) => {
         left += own.wide + BESIDE_HANDS;
         return { ...own, x: left - own.wide - BESIDE_HANDS, y: Math.max(1, y - hand.height + hand.over - index * (hand.height + 2)) };

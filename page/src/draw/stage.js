@@ -20,7 +20,7 @@ function nodeInWords(state, name, { aside }, hasNames) {
 
 function drawNode(state, name, place, event, room) {
   const { x, y, width, row, key, aside } = place;
-  const middle = y + key / 2 + 4.5; // below the hands on its edge
+  const middle = y + key / 2 + 4.5; // the baseline of the key, below the hands on the upper edge
   const isNamed = room.names && /^n\d/.test(name);
   const node = state.nodes[name];
   const isMarked = node.link.endsWith("*");
@@ -43,7 +43,7 @@ function drawKey(node, x, middle, width, hasSign, isBelowName) {
   const text = wordOf(node);
   const isNumber = /^\d/.test(text);
   const size = isBelowName ? 20 : text.length > 4 ? 18 : hasSign ? 24 : isNumber ? 30 : width > 110 ? 20 : width > 70 ? 18 : 16;
-  const spacing = !isNumber && width <= 80 ? ";letter-spacing:-.8px;font-weight:500;stroke-width:1.5" : ""; // a narrow node has just room for "head"
+  const spacing = !isNumber && width <= 80 ? ";letter-spacing:-.8px;font-weight:500;stroke-width:1.5" : ""; // in a narrow node the word "head" needs narrow letters
   const key = label({ class: "key", x, y: middle + (hasSign ? -1 : isBelowName ? 13 : isNumber ? 9.5 : 4), style: `font-size:${size}px${spacing}` }, text);
   return key + (hasSign ? label({ class: "sign", x, y: middle + 18.5 }, "marked") : "");
 }
@@ -83,7 +83,7 @@ const STRIPES = tag("rect", { class: "ground", width: 9, height: 9 }) + tag("lin
 const DEFINITIONS = tag("defs", {}, tag("pattern", HATCH, STRIPES), ...["in", "out", "hot"].map(drawTip));
 
 /**
- * Returns the list as an SVG element. `own` is put before the names in the element, so that two elements do not share one.
+ * Returns the list as an SVG element. `own` is a prefix of the ids in the element, so that two drawings have different ids.
  * @param {import("./places.js").Room} room
  */
 export function drawStage(state, event, room, own = "", list = arranged(state, event, room)) {

@@ -1,10 +1,10 @@
-// Draws what is below the list: the set's contents, the order of the calls, the tables of threads and rows.
+// Draws the contents of the set over time, the order of the calls, and the tables of threads and of rows.
 import { LISTS } from "../../made/rows.js";
 import { callText, chipOf, escaped, keyText, label, openReply, tag, title } from "../run/markup.js";
 import { contentsIn } from "../run/state.js";
 import { drawCursor, HISTORY_LEFT, isReached } from "./history.js";
 
-const MOST_ROWS = 8; // of more threads only those with an open call are shown
+const MOST_ROWS = 8; // if a run has more threads, only threads with a pending call are shown
 
 function threadsShown(state, event) {
   const every = state.threads.map((_, thread) => thread);
@@ -24,7 +24,7 @@ function rowCell(held, kind) {
   return `<b>${held.pc}</b> ${row ? `${row.step} <small>${row.book}</small>` : ""}`;
 }
 
-// Registers that the call's rows do not write have no visible value.
+// Decides whether a register is shown: only registers that the rows of the call write.
 const hasRegister = (kind, call, name) => LISTS[kind].calls[call.operation].registers.includes(name);
 
 function registerCell(held, name, moved, event, kind) {
@@ -76,12 +76,13 @@ const KEY_WIDTH = 8; // pixels, of each character of the contents
 function drawContent(part, scale) {
   const left = part.from <= scale.first ? HISTORY_LEFT - 6 : scale.x(part.from);
   const end = part.to > scale.last ? scale.edge : scale.x(part.to);
-  const isLast = scale.now < part.to; // of what is shown: right of it nothing stands
+  const isLast = scale.now < part.to; // the last part that is drawn: the space right of it is free
   const shown = isLast && scale.now <= scale.last ? Math.max(left, scale.x(Math.max(scale.now, scale.first))) : end;
   const all = `{${part.keys.join(", ")}}`;
-  const room = Math.floor(((isLast ? scale.edge : shown) - left - 10) / KEY_WIDTH);
+  const wide = KEY_WIDTH * scale.grown;
+  const room = Math.floor(((isLast ? scale.edge : shown) - left - 10) / wide);
   const text = all.length <= room ? all : room > 6 ? `${all.slice(0, room - 2)}…` : "";
-  const right = text === "" ? shown : Math.max(shown, left + 10 + KEY_WIDTH * text.length);
+  const right = text === "" ? shown : Math.max(shown, left + 10 + wide * text.length);
   const isNow = scale.count < part.to && (scale.count >= part.from || part.from <= scale.first);
   return tag("g", { class: isNow ? "content now" : "content" },
     title(all),
@@ -96,10 +97,10 @@ function drawWindow(scale, total, x) {
   return label({ class: "note", y: 42, ...place }, `events ${scale.first} to ${scale.last} of ${total}`);
 }
 
-// Names the row of the set's contents. A broken list can have other keys than the points of its calls imply.
-function nameOfContents({ lacks }) {
+// Returns the name of the row with the contents of the set. A broken list can contain other keys than the linearization points imply.
+function nameOfContents({ lacks }, grown) {
   if (lacks === null) return label({ class: "name", x: 6, y: 17 }, "set");
-  const lines = ["should", "have"].map((words, line) => label({ class: "name", x: 0, y: 10 + 12 * line, style: "font-size:12px;letter-spacing:-.6px" }, words));
+  const lines = ["should", "have"].map((words, line) => label({ class: "name", x: 0, y: 9 + grown + 12 * line, style: `font-size:${12 * grown}px;letter-spacing:-.6px` }, words));
   return tag("g", {}, title(`${BY_POINTS}; the list may have other keys`), ...lines);
 }
 const BY_POINTS = "the set by the linearization points of the calls";
@@ -113,7 +114,7 @@ export function drawContents(trace, scale) {
   const what = trace.lacks === null ? "the set" : BY_POINTS;
   const words = `${what} after event ${scale.count}: {${now.keys.slice(0, 40).join(", ")}}`;
   const frame = { width: scale.width, height: 50, viewBox: `0 0 ${scale.width} 50`, role: "img", "aria-label": words };
-  return tag("svg", frame, nameOfContents(trace), drawCursor(scale, 24), ...parts, number, drawWindow(scale, trace.total, x));
+  return tag("svg", frame, nameOfContents(trace, scale.grown), drawCursor(scale, 24), ...parts, number, drawWindow(scale, trace.total, x));
 }
 
 export function drawOrder(trace, count, hides = false) {

@@ -1,4 +1,4 @@
-// Parses the engine's answers into records. Other modules put them into words.
+// Parses the engine's answers into records. Other modules write sentences about these records.
 
 const linesIn = (text) => text.trimEnd().split("\n");
 
@@ -68,16 +68,16 @@ export function readVerdict({ text }) {
   const callBehind = (word) => (find(word) === null ? null : callOfRecording(find(word).slice(`${word} `.length)));
   const why = {
     key: key === null ? null : Number(key),
-    moment, // up to which the calls have no order; null: the key is left otherwise
-    // two calls that contradict each other: whether the first leaves the key present; null in place of a call: the key at first, or at the end
+    moment, // the calls until this moment have no order; null: the calls have one, but no order leaves the key as recorded
+    // two contradicting calls, and whether the first leaves the key present. A call is null if the opening or the final key contradicts the other call
     clash: was === null ? null : { isPresent: was === "true", first: callBehind("first"), second: callBehind("second") },
-    noSuchReply: reply === null ? null : Number(reply), // the call whose reply no set returns to it
+    noSuchReply: reply === null ? null : Number(reply), // the number of a call with a reply that no set can return, or null
   };
   const ofCalls = { count: Number(count), overlapped: Number(valuesOf("overlapped")[0]), isCutOff: cut === "true" };
   return { kind, ...ofCalls, order: orderIn(valuesOf("order"), valuesOf("set")), why: kind === "none" ? why : null };
 }
 
-// The values in the record of each error of an order. Errors that are not listed have a call.
+// The values in the record of each error of an order. Errors that are not listed have one value, the call.
 const FAULT_VALUES = {
   HistoryReply: ["call", "reply"],
   SetReply: ["call", "reply", "place", "answer"],

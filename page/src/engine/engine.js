@@ -1,7 +1,7 @@
 // The engine: the proved replayer as the WebAssembly module listset.wasm. Text in, text out.
 
-const FIRST_ROOM = 1 << 22; // bytes handed to the engine for its answer, at first
-const LARGE_MEMORY = 1 << 28; // past so many bytes an instance is not used again
+const FIRST_ROOM = 1 << 22; // bytes of the first buffer for an answer of the engine
+const LARGE_MEMORY = 1 << 28; // bytes; an instance with a larger memory is not used again
 
 export class Engine {
   // `read` copies bytes of a host input to the start of `room`, and returns how many, or -1.
@@ -43,7 +43,7 @@ export class Engine {
     try {
       return answer(this.instance.exports);
     } catch (fault) {
-      this.instance = null; // after a trap the memory is not looked at again
+      this.instance = null; // after a trap the memory of the instance is not used again
       throw new Error(`the engine stopped: ${fault.message}`);
     }
   }
@@ -58,7 +58,8 @@ function answerOf(engine, name, given) {
   return { status: answer.status, text: new TextDecoder().decode(answer.bytes), bytes: answer.bytes };
 }
 
-// Copies the texts into memory, as blocks and lengths. The last three parameters are the room's block and length, and the status.
+// Copies the texts into memory, and returns blocks and lengths. The last three parameters are the block and the length of the answer's buffer, and the
+// status.
 function textsOf(engine, parameters, given) {
   return Array.from({ length: (parameters - 3) / 2 }, (_, at) => {
     const text = given[at] ?? new Uint8Array(0);
@@ -92,10 +93,10 @@ export async function passed(bytes, stream) {
 
 export const bytesOf = (base64) => Uint8Array.from(atob(base64), (letter) => letter.charCodeAt(0));
 
-// Compiles the module. Its packed bytes are in engine.js, a third of listset.wasm.
+// Compiles the module. The file engine.js contains its packed bytes.
 async function engineModule() {
   if (typeof ENGINE === "undefined") {
-    if (document.readyState !== "complete") await new Promise((done) => window.addEventListener("load", done, { once: true })); // the page does not wait for it
+    if (document.readyState !== "complete") await new Promise((done) => window.addEventListener("load", done, { once: true })); // first the page is loaded, then the engine
     await loadScript("engine.js");
   }
   return WebAssembly.compile(await passed(bytesOf(ENGINE), new DecompressionStream("gzip")));

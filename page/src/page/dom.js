@@ -1,4 +1,4 @@
-// Access to the page's elements by id, and changes that keep the keyboard focus.
+// Functions that find elements by id, and that change elements without losing the keyboard focus.
 
 /** @type {(id: string) => any} */
 export const byId = (id) => document.getElementById(id);
@@ -16,7 +16,7 @@ export function redraw(box, html) {
   (same ?? box.querySelector("button:not([data-undo], [data-again]), a") ?? box).focus();
 }
 
-// Marks a button as disabled for screen readers. It keeps the focus.
+// Marks a button as disabled for screen readers. The button can keep the focus.
 export const setAble = (id, isAble) => byId(id).setAttribute("aria-disabled", String(!isAble));
 
 // Hides or shows a part. If the hidden part had the focus, `other` gets it.

@@ -46,7 +46,7 @@ export function traceIn(text) {
   }
 }
 
-// Says whether a trace from a file is the engine's trace of the same schedule.
+// Compares the trace of a file with the engine's trace of the same schedule, and puts the result into words.
 export function comparedTrace(given, own) {
   const [theirs, ours] = [given, own].map((text) => text.split("\n").filter((line) => !/^(chain|refused|end)\b/.test(line)));
   const line = theirs.findIndex((one, index) => one !== ours[index]);
@@ -66,7 +66,7 @@ export async function openFile(text, name) {
   showReport(text, `The report in ${name}:`);
 }
 
-// Opens the schedule of a trace. A trace of a broken list opens its level.
+// Opens the schedule of a trace: a trace of a broken list opens the list's level of Break.
 function openTrace(text) {
   const trace = traceIn(text);
   if (trace === null) return sayError("this is not a trace of listset");
@@ -76,7 +76,7 @@ function openTrace(text) {
   if (now.run.isRun) say(comparedTrace(text, now.run.trace.text));
 }
 
-// Opens the report box and waits for its toggle event, which first fills in the schedule's own report.
+// Opens the report box and waits for its toggle event. The handler of this event first fills the box with the report of the current schedule.
 async function openReportBox() {
   const box = byId("report-box");
   if (box.open) return;

@@ -1,5 +1,5 @@
-// What this browser stores, as JSON under names that begin with "listset-".
-export const HERE = "listset-here"; // the address of what was shown last
+// Reads and writes the data that the page stores in this browser, as JSON under names that begin with "listset-".
+export const HERE = "listset-here"; // the address of the place shown last
 
 export function keptUnder(name) {
   try {

@@ -1,4 +1,4 @@
-// The current state of the page. Each change is an action of reducer.js, after which one render draws everything.
+// The current state of the page. Each change of the state is an action of reducer.js; then one render draws everything.
 import { readFault, sentenceOn } from "../engine/answers.js";
 import { LEVELS } from "../run/judged.js";
 import { State } from "../run/state.js";
@@ -21,7 +21,7 @@ export function dispatch(type, given) {
   show();
 }
 
-// The listeners of each occasion: `ran` follows a run of a text; `recorded` and `course` get the text of a file.
+// The listeners by occasion: `ran` is called after a text was run; `recorded` and `course` are called with the text of a file.
 const listeners = { ran: [], recorded: [], course: [] };
 export const on = (what, ...deeds) => listeners[what].push(...deeds);
 
@@ -30,7 +30,7 @@ export function announce(what, ...given) {
 }
 
 export const isLecture = () => now.place.view === "lecture";
-export const isSceneSlide = () => isLecture() && now.place.screen === "scene"; // whose figure takes the height that is left
+export const isSceneSlide = () => isLecture() && now.place.screen === "scene"; // a slide with a scene: its figure fills the remaining height
 export const isJudging = () => now.exercise !== null;
 export const hiddenOutcomes = () => (isJudging() ? LEVELS[now.exercise.level].hidden : []);
 export const exampleShown = () => exampleIn(now);
@@ -65,7 +65,7 @@ export function askNow(name, ...texts) {
   }
 }
 
-export const LONG_TEXT = 200000; // characters of a text that takes the engine a while
+export const LONG_TEXT = 200000; // characters; the engine needs some time for a longer text
 
 // Returns the engine's answer. The engine gets a long text after a pause, so that the page is drawn first.
 export async function askSoon(name, text) {

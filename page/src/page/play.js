@@ -1,4 +1,4 @@
-// Plays the events until the end or a pause, slowly if the system asks for less motion.
+// Plays the events until the end or a pause. Plays slowly if the system asks for less motion.
 import { wantsStill } from "../draw/glide.js";
 import { byId } from "./dom.js";
 import { goTo, isLecture, now, show } from "./now.js";
@@ -22,7 +22,7 @@ function startPlay() {
   const { count, trace } = now.run;
   if (trace.total === 0) return;
   if (count === trace.total) goTo(0);
-  play.timer = setInterval(playOn, wantsStill() ? 1600 : 700); // milliseconds of an event
+  play.timer = setInterval(playOn, wantsStill() ? 1600 : 700); // milliseconds for each event
   showPlay();
 }
 
@@ -48,7 +48,7 @@ function goToTurn(step) {
 }
 
 // ---- The keys. Letters and digits can be switched off.
-export const keysOf = { scene: (event) => event, slide: (by) => by }; // the handlers of keys in a scene, and of a presenter's keys on a slide
+export const keysOf = { scene: (event) => event, slide: (by) => by }; // handlers: of all keys in a scene, and of a presenter's keys on a slide
 const WAYS = { PageDown: 1, ArrowRight: 1, ArrowDown: 1, " ": 1, PageUp: -1, ArrowLeft: -1, ArrowUp: -1 };
 const isPress = ({ key, target }) => key === " " && target.matches(":is(button, a, summary):focus-visible"); // Space presses the focused button or link
 
@@ -58,7 +58,7 @@ export function pressKey(event) {
   if (event.key === "Escape" && now.place.view !== null) return toggleLecture();
   if (isLecture() && event.key in WAYS && !isPress(event)) {
     event.preventDefault();
-    if (document.activeElement.matches("button")) document.activeElement.blur(); // Space would press it too
+    if (document.activeElement.matches("button")) document.activeElement.blur(); // otherwise Space would also press the button
     return keysOf.slide(WAYS[event.key]);
   }
   if (now.place.screen === "scene") return keysOf.scene(event);

@@ -2,7 +2,7 @@
 //
 // @ts-check
 /**
- * A place is a scene or the bench (its activity is "watch" or "judge"). A scene has the id of what is shown, and `given`, the other parts of its
+ * A place is a scene or the bench (its activity is "watch" or "judge"). A scene has the id of its question, level or lesson, and `given`, the other parts of its
  * address. The state of a scene has the answer that was pressed (-1 if the page showed the answer), the schedule of its run if the address has one,
  * and the branch that is shown. A run has the text, its trace, and the state after `count` events; `isRun` says that the trace belongs to the text. A
  * task is the purpose of the run.
@@ -46,9 +46,9 @@ const MAKES = {
     ({ ...state, place: { ...state.place, activity, screen, id, given }, scene: SCENE_AT_FIRST }),
   scene: (state, { type, ...given }) => ({ ...state, scene: { ...state.scene, ...given } }),
   view: (state, { view, slide = 0 }) => ({ ...state, place: { ...state.place, view, slide } }),
-  task: (state, { task }) => onStage({ ...state, task, exercise: null }),
+  task: (state, { task }) => onStage({ ...state, task, exercise: null, scene: SCENE_AT_FIRST }),
   run: (state, { type, ...given }) => ({ ...state, run: { ...state.run, ...given } }),
-  // Takes a trace. An exercise about the previous trace ends.
+  // Stores a new trace. An exercise about the previous trace ends.
   trace: (state, { trace, state: ofTrace, count }) =>
     ({ ...state, run: { ...state.run, trace, state: ofTrace, isRun: true, count: within(count, trace) }, exercise: null }),
   count: (state, { count }) => ({ ...state, run: { ...state.run, count: within(count, state.run.trace) } }),
@@ -63,7 +63,7 @@ export function reduce(state, action) {
   return make(state, action);
 }
 
-/** Returns the key of an entry of the browser's history. A place or a task has an entry of its own, a step of a run has none. @param {State} state */
+/** Returns the key of an entry of the browser's history. Each place and each task has its own entry; steps of a run have none. @param {State} state */
 export function entryOf({ place, task, exercise }) {
   const ofRun = place.screen === "stage" ? [task.kind, task.id, exercise !== null] : [place.id, JSON.stringify(place.given)];
   return [place.activity, place.screen, place.view, place.slide, ...ofRun].join("\n");

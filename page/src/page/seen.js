@@ -1,4 +1,4 @@
-// Which parts of the page are visible in which state. Other parts are visible whenever their parent is.
+// Decides for each part of the page whether the state shows it. Parts that are not listed are visible if their parent is visible.
 import { byId, setHidden } from "./dom.js";
 import { change } from "./now.js";
 

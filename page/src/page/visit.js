@@ -1,4 +1,4 @@
-// Keeps the address bar and the stored state in step with what is shown.
+// Updates the address bar, the browser's history and the stored address after each change of the state.
 import { CLASSICS } from "../../made/classics.js";
 import { LISTS } from "../../made/rows.js";
 import { slideAddress } from "../data/lecture.js";
@@ -12,7 +12,7 @@ import { now, say } from "./now.js";
 import { entryOf } from "./reducer.js";
 
 const MOMENT = 400; // milliseconds without a change before the address bar is updated: browsers refuse frequent updates
-// The current entry of the browser's history, whether the first address was read, and the packed course.
+// `entry` is the key of the current entry of the browser's history, `isRead` is true after the first address was read, `course` is the packed course.
 export const visit = { timer: 0, entry: null, isRead: false, course: null };
 const addressHere = () => addressIn(now, visit);
 
@@ -41,7 +41,7 @@ function setAddress() {
   try {
     history[how](kept, "", place);
   } catch {
-    history[how](null, "", place); // a state may be too large for a browser
+    history[how](null, "", place); // a browser can refuse a large state
   }
 }
 
@@ -59,7 +59,7 @@ export async function copyLink() {
 // Copies a text. Returns whether the browser allowed it.
 export const copied = async (text) => navigator.clipboard?.writeText(text).then(() => true, () => false) ?? false;
 
-const SCENES = ["assignment", "story", "ask", "code", "teachers", "notes", "handout"]; // run/address.js reads the others, with their schedules
+const SCENES = ["assignment", "story", "ask", "code", "teachers", "notes", "handout"]; // run/address.js reads the addresses of the other activities, which can contain schedules
 const SCENE_VIEWS = ["lecture", "embed"];
 
 export function sceneOfHash(hash) {
@@ -82,7 +82,7 @@ export function addressOfCode(list, opening, lines, set = SET_OF_CODE) {
   return `#code=${list}${ofSet}${ofOpening}${lines.length > 0 ? `&s=${lines.map(shortLine).join()}` : ""}`;
 }
 
-// Returns the address of a task with the schedule of a try, if there is one and it fits.
+// Adds the schedule of an attempt to the address of a task, if the reader has made one and the address does not become too long.
 function withTry(named, text) {
   const own = text === "" ? null : addressOf(text, eventsAsked(text));
   const whole = own === null ? named : `${named}&${own.slice(1)}`;

@@ -7,7 +7,7 @@ import { announce, askNow, change, now, sayErrorLine, sayFault, takeTrace } from
 import { stopPlay } from "./play.js";
 import { OWN_TASK } from "./reducer.js";
 
-const MOST_EVENTS = 200000; // of a schedule that the page runs
+const MOST_EVENTS = 200000; // events of a schedule that the page runs
 
 export function openTask(task, text, at) {
   change("task", { task });

@@ -25,7 +25,7 @@ export class AddressFault extends Error {}
 
 // Returns the address of a schedule at an event, or null if the text is no schedule or too long.
 export function addressOf(text, event, lacks = null) {
-  if (text.length > 2 * LONGEST_ADDRESS) return null; // an address has more than half as many letters
+  if (text.length > 2 * LONGEST_ADDRESS) return null; // the address of a schedule has more than half the characters of its text
   const [title, list, threads, quota, ...lines] = text.split("\n").slice(0, -1);
   const isOpening = (line) => line.startsWith("opening ");
   const opening = lines.filter(isOpening).map((line) => line.slice("opening ".length));
@@ -114,10 +114,10 @@ function textOfParts(parts) {
 export const warningOf = (link) =>
   link.startsWith("file:") ? " Others cannot open it, since it leads to a file on this computer: copy it from a page on a web server." : "";
 
-// ---- Numbered runs: the engine generates a schedule from a number. A number gives everyone the same run.
+// ---- Numbered runs: the engine generates a schedule from a number. All readers get the same run for the same number.
 const TRIES = 200;
 const MOST_TRIED_CALLS = 8; // a run with more calls is not chosen among several
-const MOST_SEEN = 60; // events that a reader can tell apart
+const MOST_SEEN = 60; // events; in a longer run a reader cannot distinguish them
 
 // Five calls of two threads over two keys: short enough to judge by eye.
 export const seedOf = (kind, number) => `${kind}.2.5.2.${number}`;
@@ -128,7 +128,7 @@ export function partsOfSeed(seed) {
   return { kind, threads, calls, keys, number };
 }
 
-// Returns the schedule of a seed: the first one that the engine generates and that is worth a look.
+// Returns the schedule of a seed: of the schedules that the engine generates for the seed, the first that is worth a look.
 export function scheduleOfSeed(ask, seed) {
   const { kind, threads, calls, keys, number } = partsOfSeed(seed);
   const tries = calls > MOST_TRIED_CALLS ? 1 : TRIES;

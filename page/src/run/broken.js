@@ -11,7 +11,7 @@ const BY_POINTS = "Not by its linearization points: check refuses that order.";
 const OTHER = "Another order explains these replies.";
 const UNKNOWN = "Whether another order explains these replies is not known.";
 const UNEXPLAINED = "No order of these calls explains that (proved).";
-export const TO_BREAK = "No order explains the calls and the keys left (proved)."; // the condition of a lesson
+export const TO_BREAK = "No order explains the calls and the keys left (proved)."; // the condition of a lesson about a broken list
 
 // LazyList's `contains` without the mark. No run of it is known that no order explains, so it is no task.
 export const NO_TASK = "mark-in-contains";
@@ -33,7 +33,7 @@ export function verdictOnLacking(ask, lacks, schedule) {
     const why = whyNone(text, verdict.why);
     return { kind: "broken", why, says: `Broken: ${why}. ${UNEXPLAINED}`, report: text };
   }
-  const isExplained = verdict.kind === "another"; // else that is not known
+  const isExplained = verdict.kind === "another"; // otherwise the answer is not known
   return { kind: "points", isExplained, says: `${BY_POINTS} ${isExplained ? OTHER : UNKNOWN}`, report: text };
 }
 

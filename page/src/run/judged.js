@@ -1,15 +1,15 @@
-// Judge yourself. The calls and the keys are those of the run; the order and the replies are the reader's. The proved `check` accepts every order
-// that explains the run, not only the replayer's.
+// An exercise of Judge: the run has calls and final keys, and the reader chooses the order and the replies. The proved `check` accepts every order that
+// explains the run, not only the order of the replayer.
 import { readReport, readVerdict } from "../engine/answers.js";
 import { callText, letterOf, openReply } from "./markup.js";
 
 export const MOST_JUDGED = 60; // events of a run that is judged
 
 export const LEVELS = {
-  points: { name: "points alone", task: "The replies are shown. Where does each call take effect?", hidden: ["change", "effect"] },
+  points: { name: "moments alone", task: "The replies are shown. When does each call take effect?", hidden: ["change", "effect"] },
   replies: {
-    name: "replies and points",
-    task: "What does each call answer, and where does it take effect?",
+    name: "replies and moments",
+    task: "What does each call return, and when does it take effect?",
     hidden: ["change", "reply", "leftInChain", "effect"],
   },
 };
@@ -67,7 +67,7 @@ export class OwnAnswer {
   }
 
   unsaid() {
-    const lackOf = (call) => [this.points.has(call.id) ? "" : "point", this.replyOf(call) === null ? "reply" : ""].filter((it) => it !== "");
+    const lackOf = (call) => [this.points.has(call.id) ? "" : "moment", this.replyOf(call) === null ? "reply" : ""].filter((it) => it !== "");
     const lacking = this.exercise.calls.filter((call) => call.ended !== null && lackOf(call).length > 0);
     return lacking.map((call) => `the ${lackOf(call).join(" and the ")} of ${nameOfCall(call)}`);
   }
@@ -94,17 +94,17 @@ export function verdictOn(ask, answer) {
 function rightInWords(answer) {
   const own = answer.order().map(({ call, reply }) => `${call.id}-${reply}`);
   const isSame = own.join() === answer.exercise.places.map(({ call, reply }) => `${call}-${reply}`).join();
-  const also = isSame ? "It is also the order of the replayer." : "The replayer has another one: both explain the run.";
-  return `check says ok: this order explains the run. ${also}`;
+  const also = isSame ? "The program that made this run has the same order." : "The program that made this run has another order: both are right.";
+  return `Right: in this order every reply is correct, and the calls leave the numbers of this run: a proved program checked it. ${also}`;
 }
 
 function faultInWords(answer, { fault, call, place, reply, set, answer: due, begun, other, ended }) {
   const named = (id) => nameOfCall(answer.exercise.calls[Number(id)]);
   if (fault === "SetReply") {
     const before = Number(place) === 1 ? "before your first call" : `after ${named(answer.order()[Number(place) - 2].call.id)} in your order`;
-    return `${named(call)} cannot answer ${reply} there: ${before} the set is ${set}, and it would answer ${due}.`;
+    return `${named(call)} cannot return ${reply} there: ${before} the set is ${set}, and the call would return ${due}.`;
   }
-  if (fault === "HistoryReply") return `${named(call)} does not answer ${reply} in this run. Look at what it sees before it answers.`;
+  if (fault === "HistoryReply") return `${named(call)} does not return ${reply} in this run. Look at what its thread sees before the call returns.`;
   if (fault === "TooEarly") {
     return `${named(call)} begins at event ${begun}, and in your order it comes before ${named(other)}, which ended at event ${ended}.`;
   }
@@ -115,7 +115,8 @@ function faultInWords(answer, { fault, call, place, reply, set, answer: due, beg
 // Returns the last word of a line to hand in, as in `judge read-in-anothers-step replies 0-true,2-true,1-false,3-true`, or "".
 export const wordOfAnswer = (answer) => answer.order().map(({ call, reply }) => `${call.id}-${reply}`).join();
 
-// Reads such a word. Each call is placed at the earliest moment of its bar that keeps the order. Returns null for any other word.
+// Reads the last word of such a line. Each call is placed at the earliest moment of its bar that keeps the order. Returns null if the text is no such
+// word.
 export function answerOfWord(exercise, word) {
   const answer = new OwnAnswer(exercise);
   let at = 0;

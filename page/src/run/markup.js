@@ -23,7 +23,7 @@ export const keyText = (key) => String(key).replace("-inf", "−∞").replace("+
 export const valueText = (value) => (value.endsWith("*") ? `${value.slice(0, -1)}, marked` : keyText(value));
 export const counted = (count, word) => `${count} ${word}${count === 1 ? "" : "s"}`;
 export const callText = (call) => `${call.operation}(${call.key})`;
-export const openReply = "true"; // an open call that stands in the order has changed the set
+export const openReply = "true"; // the reply of a pending call in an order: a pending call is in an order only if it has changed the set
 
 export function inLetters(text) {
   const letters = (numbers) => numbers.replace(/\d+/g, (number) => letterOf(Number(number)));

@@ -24,7 +24,7 @@ function marksOf(trace) {
 }
 
 function wholeName({ trace, event }, name) {
-  const whose = isOpeningNode(trace, name) ? "the node of an opening key" : `${chipOf(ownerOf(trace, name))}'s node`;
+  const whose = isOpeningNode(trace, name) ? "the node of an opening key" : `<span class="whole">${chipOf(ownerOf(trace, name))}'s node</span>`;
   const mark = marksOf(trace).get(name);
   if (mark === undefined || mark.number > event.number) return `${name}</b>, ${whose}`;
   return `${name}</b>, ${whose}, which ${chipOf(mark.thread)} marked at event ${mark.number}`;

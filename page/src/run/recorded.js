@@ -17,7 +17,7 @@ export const withNewline = (text) => (text === "" || text.endsWith("\n") ? text 
 export const recordedInWords = (call) =>
   call.ended === null
     ? `${nameOfCall(call)}, begun at ${call.begun}, is pending`
-    : `${nameOfCall(call)} answers ${call.reply}, from ${call.begun} to ${call.ended}`;
+    : `${nameOfCall(call)} returns ${call.reply}, from ${call.begun} to ${call.ended}`;
 
 function okInWords({ count, isCutOff }) {
   const calls = count === 1 ? "this one call" : `these ${count.toLocaleString("en")} calls`;
@@ -37,7 +37,7 @@ function remarksOn({ count, overlapped, isCutOff }) {
 
 const stateInWords = (isPresent) => (isPresent ? "present" : "absent");
 
-// Decides whether two calls overlap. If they do, they contradict each other in both orders.
+// Decides whether two contradicting calls overlap: then they contradict each other in both orders.
 const overlap = (first, second) => first !== null && second !== null && BigInt(second.begun) < BigInt(first.ended);
 
 function clashInWords(key, { isPresent, first, second }) {

@@ -1,4 +1,4 @@
-// Writes one sentence about an event: what it did, and its effect.
+// Writes one sentence about an event: the step and its effect.
 import { LISTS } from "../../made/rows.js";
 import { callText, chipOf, holderOf, letterOf, valueText } from "./markup.js";
 import { isFailed, isLock, mono, OUTCOMES, ownerIn, setsMark } from "./outcomes.js";
@@ -23,11 +23,11 @@ function lockText(event) {
   return isFailed(event) ? `tries to lock ${name}, but ${holderOf(event.saw)} holds it. It will try again.` : `locks ${name}.`;
 }
 
-// Returns the reply of a call and where it took effect. `hidden` leaves out either, for readers who judge the run.
+// Returns the reply of a call and the event at which the call took effect. `hidden` names what a reader who judges the run must not see.
 function effectText({ trace, event }, hidden) {
   const { call } = event;
   if (event.answer === undefined) return "";
-  const answers = `<b>${callText(call)} answers ${hidden.includes("reply") ? "… what?" : event.answer}</b>`;
+  const answers = `<b>${callText(call)} returns ${hidden.includes("reply") ? "… what?" : event.answer}</b>`;
   if (hidden.includes("effect")) return hidden.includes("reply") ? answers : `${answers}.`;
   if (call.at === event.number) return `${answers}, and takes effect here.`;
   const other = trace.event(call.at).thread;
@@ -41,7 +41,7 @@ function openingText(trace) {
   return `Before the first event the set is {${some}${trace.opening.length > 20 ? ", …" : ""}}, and every thread is idle.`;
 }
 
-// Moves a state to `count` events of its trace. Returns the last event and what its thread held before.
+// Moves a state to `count` events of its trace. Returns the last event and the registers of its thread before the event.
 export function momentAt(state, count) {
   const { trace } = state;
   const event = count > 0 ? trace.event(count) : null;

@@ -1,7 +1,7 @@
 // The memory words, the threads and the chain after a number of events, as recorded in the trace.
 import { firstOpeningNode } from "./trace.js";
 
-// A call that has just begun: the last row that it made (`came`, 0 for none), and its registers.
+// A call that has just begun: its last row (`came`, 0 before its first step), and its registers.
 const BEGUN = { came: 0, pred: "head", curr: "head", succ: "head", node: "head", pkey: "-inf", ckey: "-inf", reply: "none" };
 const AT_REST = { pc: 0, used: 0, call: null, ...BEGUN };
 export const linkTarget = (link) => link.replace("*", "");
@@ -59,7 +59,7 @@ export class State {
     if (!target.reached) set(target, "reached", true);
   }
 
-  // Returns the held locks by thread, as { t0: ["head.lock"] }. Locks of nodes come by increasing keys.
+  // Returns the held locks by thread, as { t0: ["head.lock"] }. The locks of nodes are sorted by the keys of the nodes.
   locks() {
     const held = {};
     const add = (lock, word) => lock !== "free" && (held[lock] ??= []).push(word);
@@ -94,7 +94,7 @@ function openingNodes(trace) {
   return nodes;
 }
 
-// A slot at the start. It is `reached` once a reached node has pointed to it. Before that, only its thread sees it.
+// A slot at the start. A node is `reached` once a reached node has pointed to it. Before, only its own thread sees the node.
 const newNode = () => ({ key: "-inf", link: "head", lock: "free", reached: false });
 export const isWritten = (node) => node.key !== "-inf" || node.link !== "head" || node.lock !== "free";
 export const ownerOf = (trace, name) => Math.floor((Number(name.slice(1)) - 2) / trace.quota);
@@ -116,7 +116,8 @@ export function contentsIn(trace, first, last) {
   return parts;
 }
 
-// The keys in the set after some events by the points of the calls; below, the keys of the unmarked nodes in the chain of a state.
+// `promisedKeys` returns the keys in the set after `count` events according to the linearization points; `keysInChain` returns the keys of the unmarked
+// nodes in the chain of a state.
 export const promisedKeys = (trace, count = trace.total) => contentsIn(trace, count + 1, count + 1)[0].keys;
 
 export function keysInChain(state) {

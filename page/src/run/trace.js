@@ -16,11 +16,11 @@ export class Trace {
     this.threads = Number(threads);
     this.quota = Number(quota);
     this.opening = [];
-    this.starts = []; // where the line of each event begins
+    this.starts = []; // the offset of the line of each event in the text
     this.calls = [];
     this.callsOf = Array.from({ length: this.threads }, () => []);
     this.changes = []; // the events that change the set
-    this.starred = []; // the numbers of the events whose line has a mark
+    this.starred = []; // the numbers of the events that have a mark (`*`) in their line
     this.refused = null;
     this.scan();
     if (this.opening.length > 0) this.version = 2;
@@ -105,7 +105,7 @@ function takeValue(event, name, value) {
   else if (name !== "call") event.changes[name] = value;
 }
 
-// The nodes of the opening keys come after the slots of all threads.
+// The nodes of the opening keys are numbered after the slots of all threads.
 export const firstOpeningNode = (trace) => 2 + trace.threads * trace.quota;
 
 export function eventsInCommon(one, other) {
@@ -118,7 +118,7 @@ export function eventsInCommon(one, other) {
   return count;
 }
 
-// Returns the calls in their order: by moment, at one moment the call that changes the set first, then by number.
+// Sorts the calls by the moment when they take effect. At one moment the call that changes the set is first; the others are sorted by their numbers.
 function orderOf(calls) {
   const placed = calls.filter((call) => call.at !== null);
   return placed.sort((one, other) => one.at - other.at || Number(other.changes) - Number(one.changes) || one.id - other.id);

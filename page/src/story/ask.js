@@ -1,5 +1,5 @@
-// Eleven questions. The `lines` of an example lead to the question, `rest` follows the question. `lacks` names the broken list without the check
-// that the example is about.
+// Eleven questions. The `lines` of the schedule are run before the question, `rest` after it. `lacks` names the broken list without the check that the
+// question is about.
 export const QUESTIONS = [
   {
     name: "failed-tries", list: "coarse", title: "Two adds of one number", opening: [3, 8],
@@ -10,7 +10,7 @@ export const QUESTIONS = [
       { text: "Only A", right: true, says: "" },
       { text: "Only B", says: "B gets the lock only when A is done. What does it find then?" },
     ],
-    why: "<b>Only A.</b> The thread that holds the lock comes first. B’s try fails and changes nothing. When B gets the lock it walks, finds 5, and returns false. The ring marks the earliest moment at which false was correct: when A’s 5 was added.",
+    why: "<b>Only A.</b> The thread that holds the lock comes first. B’s try fails and changes nothing. When B gets the lock it walks, finds 5, and returns false. The ring marks the earliest moment when false was correct: when A’s 5 was added.",
     lacks: "lock", without: { lines: ["begin 0 add 5", "go 0 to 5", "begin 1 add 5", "go 1 out", "go 0 out"] },
     broken: "Both return true, and 5 was added once.",
   },
@@ -41,7 +41,7 @@ export const QUESTIONS = [
   {
     name: "stale-pred", list: "optimistic", title: "A pred that is gone", opening: [3], hides: [6, 7],
     lines: ["begin 0 add 5", "go 0 4", "begin 1 remove 3", "go 1 out", "go 0 2"], rest: ["go 0 out"],
-    question: "A’s pred is 3. Meanwhile B has removed 3, whose node still points to the end. A has its locks. Is it safe for A to write?",
+    question: "A’s pred is 3. Meanwhile B has removed 3, but its node still points to the end. A has its locks. Is it safe for A to write?",
     options: [
       { text: "Yes: pred still points to curr", says: "It does. But a walk from the head no longer reaches this 3." },
       { text: "No", right: true, says: "" },
@@ -70,7 +70,7 @@ export const QUESTIONS = [
       { text: "The mark on 3", right: true, says: "" },
       { text: "Nothing: 5 gets lost", says: "It would, if A did not check one more word." },
     ],
-    why: "<b>The mark.</b> B set it before it unlinked the node. So one read of pred does here what a whole second walk does in the optimistic list.",
+    why: "<b>The mark.</b> B set it before it unlinked the node. So here, one read of pred replaces the whole second walk of the optimistic list.",
     lacks: "marks-in-validation",
     broken: "5 is lost: it is linked behind a node that is no longer in the list.",
   },

@@ -1,4 +1,4 @@
-// The figure of a question: its run, a branch of it, or a run of a list that lacks a check.
+// The figure of a question: the run of the question, a branch of this run, or a run of a list that lacks a check.
 import { BREAK_LEVELS } from "../data/levels.js";
 import { tag } from "../run/markup.js";
 import { isLecture, now } from "../page/now.js";
@@ -23,7 +23,7 @@ export function takeBranch({ lines, opening, lacks = null, isFree = false }) {
   }));
 }
 
-// Returns the operations whose code is shown. A slide shows the pending calls only, in larger type.
+// Returns the operations to show the code of. A slide shows the code of pending calls only, in larger type.
 function operationsIn({ lines, rest }) {
   const isOver = (line, at) => isLecture() && lines.slice(at).includes(`go ${line.split(" ")[1]} out`);
   const shown = [...lines.filter((line, at) => !isOver(line, at)), ...rest];
@@ -36,7 +36,7 @@ function freshBox() {
   return box;
 }
 
-// ---- What if: the reader can change a run from any moment on. Each branch is kept.
+// ---- What if: the reader can continue a run differently from any event. Each such branch is kept.
 function takeOwnBranch(branch) {
   const figure = takeBranch({ ...branch, isFree: true });
   Object.assign(figure, { onFork: fork, onStep: grow });
@@ -89,7 +89,7 @@ export function whatIf() {
   setScene({ stage: "task" });
 }
 
-// Opens the same run on the list that lacks the check, or another run if that one does not break it.
+// Opens the same run on the list that lacks the check, or another run if the same run does not break this list.
 export function withoutCheck(item) {
   const { branches } = now.scene;
   const known = branches.findIndex(({ isFixed }) => isFixed);

@@ -9,7 +9,7 @@ export const APPENDIX = [
       { text: "No: 7 is there", says: "It is, now. But the call has been pending for a while." },
       { text: "Yes", right: true, says: "" },
     ],
-    why: "<b>Yes.</b> From B’s add of 9 to its add of 7 the smallest number from 6 on was 9. A’s walk goes on from the node of 5, which is out of the chain, and whose arrow still leads to 9.",
+    why: "<b>Yes.</b> From B’s add of 9 to its add of 7 the smallest number from 6 on was 9. A’s walk continues from the node of 5, which is out of the chain but still points to 9.",
   },
   {
     name: "ceiling-meets-mark", list: "lock-free", title: "ceiling meets a mark", opening: [5],
@@ -49,7 +49,7 @@ export const APPENDIX = [
     rest: ["go 0 out"],
     question: "Whenever A took a step, 7 was in the set. Its ceiling(6) is going to return that there is none. Is that correct?",
     options: [
-      { text: "No", says: "Look at the time in which A was paused." },
+      { text: "No", says: "Look at the time while A was paused." },
       { text: "Yes", right: true, says: "" },
     ],
     why: "<b>Yes.</b> Between two steps of A, B removed 7 and then 5, and added 7 again. The arrow of 5 led to the end when it was marked, and no thread changes an arrow with a mark.",
@@ -62,7 +62,7 @@ export const APPENDIX = [
       { text: "Yes: 5 is gone", says: "Another thread could still be at that node." },
       { text: "No", right: true, says: "" },
     ],
-    why: "<b>No: add answers full.</b> Each node is used once, so no thread ever meets a node whose number has changed.",
+    why: "<b>No: add answers full.</b> Each node is used once, so no thread ever meets a node with a changed number.",
   },
   {
     name: "opens-with-keys", list: "lazy", title: "Numbers from the start", opening: [5, 9], threads: 1, quota: 1,

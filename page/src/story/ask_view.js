@@ -41,7 +41,7 @@ async function guessed(index) {
   const asked = figure.run.count;
   figure.run = new LiveRun({ ...figure.spec, lines: now.scene.branches[0].lines });
   Object.assign(figure, { isOpen: true, isGuess: false });
-  const stop = isLecture() ? figure.run.endOfBit(asked) : figure.run.trace.total; // in a lecture the run stops after the deciding step
+  const stop = isLecture() ? figure.run.endOfBit(asked) : figure.run.trace.total; // on a slide the run stops after the deciding step
   await figure.show(asked, stop);
   if (scene.figure !== figure) return;
   setScene({ branches: [{ ...now.scene.branches[0], from: asked }] });
@@ -92,7 +92,7 @@ function press(event) {
   const number = numberOfKey(event);
   if (stage === "guess" && number !== -1 && number < here().options.length) return guessed(number);
   if (stage === "guess") return;
-  if (stage === "playing") return void figure.hurry();
+  if (stage === "playing") return void figure.hurry(true);
   const step = { ArrowLeft: -1, ArrowRight: 1, PageUp: -1, PageDown: 1 }[event.key];
   if (step !== undefined) figure.moveTo(figure.run.count + step);
   else if (threadOfKey(event) !== -1 && figure.shown.includes(threadOfKey(event))) {

@@ -1,4 +1,4 @@
-// Assignments. An assignment is its address and is stored nowhere else: #assignment=Week+3&learn=one-lock.lost-pred&break=6.7&judge=lazy.2.5.2.17.
+// Assignments. The address of an assignment contains all its tasks: #assignment=Week+3&learn=one-lock.lost-pred&break=6.7&judge=lazy.2.5.2.17.
 import { BOOK, BOOK_NAME } from "../../made/book.js";
 import { LACKING } from "../../made/classics.js";
 import { LISTS } from "../../made/rows.js";
@@ -6,7 +6,7 @@ import { BREAK_LEVELS, levelOfNumber, numberOfLevel } from "../data/levels.js";
 import { isSeed, partsOfSeed, scheduleOfSeed } from "../run/address.js";
 import { NO_TASK } from "../run/broken.js";
 import { counted, escaped, inLetters, tag } from "../run/markup.js";
-import { handInText, readSchedule, solutionLine } from "../course/hand_in.js";
+import { handInText, NAMED, readSchedule, solutionLine } from "../course/hand_in.js";
 import { triedCourse } from "../course/lesson.js";
 import { saveText } from "../page/files.js";
 import { askNow, now } from "../page/now.js";
@@ -44,7 +44,7 @@ function levelTask(number) {
 function seedTask(seed) {
   if (!isSeed(seed)) return null;
   const { kind, number, calls } = partsOfSeed(seed);
-  const says = `${calls} calls: what does each answer, and where does it take effect?`;
+  const says = `${calls} calls: what does each return, and when does it take effect?`;
   return { id: `judge ${seed}`, kind: "Judge", title: `Run ${number}, ${LISTS[kind].name}`, says, href: `#seed=${seed}&judge`, seed };
 }
 
@@ -56,7 +56,7 @@ export function homeworkOf({ activity, id }, task = { kind: "", id: "" }) {
   return wordsIn(homework.given[activity], isRun ? "," : ".").includes(isRun ? task.id : id) ? homework : null;
 }
 
-// Returns the link that follows a place. A task of the assignment leads to its next task, or back to the assignment.
+// Returns the link to the next place. A task of the assignment leads to the next task, and the last task to the assignment.
 export function wayOn({ activity, id }, own) {
   const homework = homeworkOf({ activity, id });
   if (homework === null) return own;
@@ -65,7 +65,7 @@ export function wayOn({ activity, id }, own) {
   return next === undefined ? { href: addressOfAssignment(homework), words: "All tasks →" } : { href: next.href, words: "Next task →" };
 }
 
-// Returns the link that leads back from a place: to the assignment if the place is one of its tasks, else the place's own.
+// Returns the link back from a place: to the assignment if the place is a task of the assignment, else the link `own`.
 export function wayBack(place, own, task = undefined) {
   const homework = homeworkOf(place, task);
   return homework === null ? own : { href: addressOfAssignment(homework), words: `← ${titleOfAssignment(homework)}` };
@@ -94,16 +94,16 @@ export function taskOfJudged(line, tasks) {
 function linesDone(tasks) {
   const { solutions } = new KeptLessons().ofCourse(BOOK_NAME);
   const broken = Object.fromEntries(brokenLines());
-  const judged = Object.values(judgedLines());
+  const judged = Object.values(judgedLines()).sort((one, other) => Number(/ replies /.test(other)) - Number(/ replies /.test(one)));
   const lineOf = {
     Solve: ({ id }) => (solutions.has(id) ? solutionLine(id, solutions.get(id)) : undefined),
     Break: ({ id }) => broken[id.slice("break ".length)],
-    Judge: (task) => judged.find((line) => taskOfJudged(line, [task]) !== null),
+    Judge: (task) => judged.find((line) => taskOfJudged(line, [task]) !== null), // the line of the harder level, if both levels were solved
   };
   return Object.fromEntries(tasks.map((task) => [task.id, lineOf[task.kind](task)]));
 }
 
-// ---- The student's view: the tasks of a link, which of them are done, and the text to hand in.
+// ---- The student's view: the tasks of a link, a tick for each solved task, and the text to hand in.
 export const titleOfAssignment = ({ id }) => id || "Assignment";
 
 function doneOf(place) {
@@ -137,7 +137,8 @@ function html(place) {
   const verb = done.length === 0 ? "Begin" : "Go on";
   const next = (task) => tag("a", { class: "button primary", href: task.href }, `${verb}: ${escaped(task.title)} →`);
   const bar = first === undefined ? foot(tasks.length === 0 ? "No task." : "All done.", '<button class="primary" data-do="hand">Hand in ↑</button>') : foot("", next(first));
-  const items = tasks.map((task) => itemOf(task, lines[task.id] !== undefined));
+  const lacksName = ({ id, kind }) => kind === "Break" && lines[id] !== undefined && !lines[id].endsWith(` ${NAMED}`);
+  const items = tasks.map((task) => itemOf({ ...task, says: lacksName(task) ? "Broken. Now name the missing check too." : task.says }, lines[task.id] !== undefined));
   const title = head("Assignment", escaped(titleOfAssignment(place)), lead, "title");
   return `${title}${tag("ol", { class: "tasks" }, ...items)}${HAND(keptStory(), done.length)}${bar}`;
 }

@@ -36,7 +36,7 @@ function begin(place) {
   if (place.given.text !== undefined) looked();
 }
 
-// Decides whether the broken run came with the link, so that the reader has not found it.
+// Decides whether the broken run was in the link: then the reader has not found it.
 const isShown = (run) => now.place.given.text !== undefined && run.lines.join() === run.first.join() && !isBrokenOnce(nameNow());
 
 function looked() {
@@ -53,7 +53,7 @@ function looked() {
   setScene({ stage: "done", note: whyOf(verdict, wasShown) });
 }
 
-// Returns what is left to do if a key is outside the list, or why a run that looks broken is not.
+// Returns a hint if a key is missing in the list while calls are pending, or the reason why a run that looks broken is not broken.
 function notYet(run, { kind, isExplained }) {
   const lost = run.promised().filter((key) => !run.has().includes(key));
   if (run.trace.calls.some(({ ended }) => ended === null)) return lost.length === 0 ? "" : `${lost.join(" and ")} ${lost.length === 1 ? "is" : "are"} not in the list. Now let each call return.`;
@@ -64,7 +64,7 @@ function notYet(run, { kind, isExplained }) {
 }
 
 const whyOf = ({ why }, wasShown) => {
-  const ofList = why.replace(/the set (has|does not have) it/, "the list $1 it"); // no set is this
+  const ofList = why.replace(/the set (has|does not have) it/, "the list $1 it"); // a broken list is no set
   return `${ofList}. No order of the calls explains that. (Checked by a proved program.)${wasShown ? " This run was shown to you: find one of your own." : ""}`;
 };
 
@@ -88,7 +88,7 @@ function wonHtml({ note, wrong }) {
   const asked = `<p class="ask">What does this list do wrong?</p>${optionButtons(optionsOf(name), wrong)}<p role="status">${reply}</p>`;
   const { total } = run.trace;
   const known = total > shortest[0] ? ` A run with ${shortest[0]} steps is known.` : "";
-  const named = `<p><b class="yes">✓ ${lacks}</b> In the code, the missing part is struck out. Your run is shown again from the step at which the correct list differs. <span class="small">Your run has ${total} steps (one press can make several).${known}</span></p>
+  const named = `<p><b class="yes">✓ ${lacks}</b> In the code, the missing part is struck out. Your run is shown again from the step where the correct list differs. <span class="small">Your run has ${total} steps (one press can make several).${known}</span></p>
     <p class="line"><button data-do="replay">See your run again</button> <button data-do="afresh" class="quiet">Break it in another way</button></p>`;
   const ledger = isOddRun(run) ? drawLedger(run) : "";
   return `<div class="reveal won">${ledger}<div><p class="why"><b>Broken.</b> ${note}</p>${isDone ? named : asked}</div></div>`;
@@ -122,7 +122,7 @@ function answer(index) {
   replay();
 }
 
-// Replays the winning run from the step at which the correct list differs.
+// Replays the winning run from two steps before the correct list would do another step.
 function replay() {
   const { figure } = scene;
   figure.replay(Math.max(0, (departureOf(askNow, figure.run.trace) ?? 1) - 2));

@@ -6,7 +6,7 @@ const WORDS = /\b(while|if|else|return|start again|loop|until|unlock|lock|find|v
 /**
  * Shows the lines of the calls `operations`, without the rows `hides`, and with `instead` in place of a row's text. `fresh` rows are new in this
  * list (0: the lines without a row); of a `struck` row one part is struck out. `next` has the rows that threads make next, `made` the last row made;
- * thread `active` runs to a line at which no thread is.
+ * a press on a line without a thread lets thread `active` run to this line.
  * @typedef {{ thread: number, row: number }} At
  * @typedef {{ list: string, operations: string[], plain?: boolean, fresh?: number[], hides?: number[], instead?: Record<number, string>,
  *   struck?: { row: number, part: string }[], next: At[], made: At | null, canStep: boolean, active: number }} CodeSpec
@@ -58,11 +58,11 @@ function drawOwnLine({ text, rows = [], isPlain = false }, { next, made, fresh =
 /** @param {CodeSpec} spec */
 export const drawOwnCode = (spec) => tag("ol", { class: "steps" }, ...linesShown(spec).map((line) => drawOwnLine(line, spec)));
 
-// ---- The algorithm of each list. `rows` are the table rows that a line stands for, `of` the operations that run it.
+// ---- The algorithm of each list. `rows` are the table rows of a line, `of` the operations that execute the line.
 
 const CHANGES = ["add", "remove"];
 
-// The lines in which an add and a remove of a list with locks write. Rows of a mark come before the unlinking.
+// Returns the lines of add and remove that write, for a list with locks. The rows of `mark` are made before the node is unlinked.
 const writes = (make, link, unlink, mark = []) => [
   { of: ["add"], text: "add, if curr.key ≠ key:" },
   { of: ["add"], text: "    node = new Node(key, next = curr)", rows: make },

@@ -1,7 +1,7 @@
 // The parts below the list: a row for each thread with its call and its next step, the history, and the slider.
 import { callText, chipOf, colourOf, letterOf, tag } from "../run/markup.js";
 import { drawContents } from "../draw/tables.js";
-import { drawCalls, HISTORY_LEFT, scaleOf } from "../draw/history.js";
+import { drawCalls, GROWN, HISTORY_LEFT, scaleOf } from "../draw/history.js";
 import { redraw, setHtml } from "../page/dom.js";
 import { isLecture } from "../page/now.js";
 import { phaseText } from "./presses.js";
@@ -13,6 +13,7 @@ const AGAIN = `<span class="again"><button data-undo class="quiet small" title="
 export function showDock(figure) {
   const { spec, run } = figure;
   if (spec.dock === false || figure.hidesDock) return redraw(figure.part("dock"), "");
+  if (figure.isBusy && figure.part("dock").childElementCount > 0) return; // while steps are shown, the buttons stay as they are
   const isChanged = run.lines.length !== run.first.length && spec.again !== false;
   redraw(figure.part("dock"), figure.shown.map((thread) => rowOf(figure, thread)).join("") + (isChanged ? AGAIN : ""));
 }
@@ -59,8 +60,9 @@ function chooser(figure, thread, own) {
 export function showStrip(figure) {
   const { run } = figure;
   const wide = Math.max(250, figure.stripWide / zoomOf(figure));
-  const room = 26 + 9 * `{${run.promised().join(", ")}}`.length; // right of the last event: room for the keys of the set
-  const scale = scaleOf(run.trace, run.count, wide - room, figure.hides, isLow() && (!figure.spec.isPath || isLecture()));
+  const grown = isLecture() ? GROWN : 1;
+  const room = 26 + 9 * grown * `{${run.promised().join(", ")}}`.length; // pixels right of the last event, for the keys of the set
+  const scale = scaleOf(run.trace, run.count, wide - room, figure.hides, isLow() && (!figure.spec.isPath || isLecture()), grown);
   Object.assign(scale, { edge: scale.edge + room, width: wide });
   figure.scale = scale;
   figure.part("strip").style.setProperty("--zoom", String(zoomOf(figure)));
@@ -70,8 +72,8 @@ const isLow = () => innerHeight < 760 || isLecture();
 // The path draws its bars larger, and aligns the list with them.
 const zoomOf = ({ spec, stripWide }) => (isLecture() ? innerHeight / 450 : !spec.isPath ? 1 : stripWide < 600 ? 1.34 : stripWide < 1500 ? 1.35 : 1.55);
 export const barEnds = (figure) => [(HISTORY_LEFT - 6) * zoomOf(figure), 16 * zoomOf(figure)];
-const LEGEND = '<p class="small legend">● the call changes the set · ○ earliest moment at which its answer is correct</p>';
-const MOST_CALLS = 400; // pixels; higher bars scroll
+const LEGEND = '<p class="small legend">● the call changes the set · ○ earliest moment when its answer is correct</p>';
+const MOST_CALLS = 400; // pixels; if the bars are higher, they scroll
 
 export function scrollToLane(figure) {
   const { run, scale } = figure;

@@ -6,20 +6,22 @@ import { askCall, beginOwn, chooseCall, pressed } from "./dock.js";
 import { LiveRun } from "./live_run.js";
 
 const BIT = 400; // milliseconds between two steps of one press
-const BETWEEN = 450; // and between two presses that the page makes
+const QUICK = 140; // milliseconds for each step, if another press is waiting
+const BETWEEN = 450; // milliseconds between two presses that the page makes
 const sleep = (time) => new Promise((done) => setTimeout(done, time));
 const made = { count: 0 };
 const markBusy = (isBusy) => (document.body.dataset.busy = isBusy ? "yes" : "no");
 
 // A spec describes a run, the `calls` of each thread, the threads with a button (`shown`), and the parts beside the list.
-export const STILL = { dock: false, names: true, strip: true, prompt: false, again: false }; // of a run that is made elsewhere
+export const STILL = { dock: false, names: true, strip: true, prompt: false, again: false }; // the spec of a figure that shows a run made elsewhere
 
 export class Figure {
   id = `f${made.count++}`;
   active = 0; // the thread that runs to a line of the code
   past = []; // the lines of the run before each change, for undo
   isBusy = false; // steps are being shown
-  isHurried = false;
+  isHurried = false; // another press waits until these steps are shown
+  isSkipped = false; // the reader wants to see the last step only
   isEnded = false;
   isOpen = true; // the reader may step
   hidesDock = false;
@@ -29,16 +31,12 @@ export class Figure {
   isSlow = false; // a node falls out of the chain, in slow motion
   hides = true; // the history shows no later events
   drawn = { count: 0, chain: [], slots: 0, tight: 0 }; // the event and the chain of the last drawing; the most nodes and the tightest form of all drawings
-  wide = 0; // of the list, in pixels
-  tall = 0;
-  stripWide = 0;
-  scroll = 0;
-  said = null; // the sentence shown in place of that of the step
+  wide = 0; // width of the list in pixels
+  tall = 0; stripWide = 0; scroll = 0;
+  said = null; // a sentence that replaces the sentence about the step
   /** @type {(value?: any) => void} */
   wake = () => {}; // ends the wait between two steps
-  onShown = null;
-  onStep = null;
-  onFork = null;
+  onShown = null; onStep = null; onFork = null;
 
   /** @param {any} box @param {import("./live_run.js").RunSpec & { [name: string]: any }} spec */
   constructor(box, spec) {
@@ -49,7 +47,7 @@ export class Figure {
     this.said = spec.says ?? null;
     this.chosen = spec.chosen ?? {}; // for each idle thread, the call in its fields
     frameOf(this);
-    box.addEventListener("click", (event) => this.isEnded || pressed(this, event)); // the box can belong to the next figure by then
+    box.addEventListener("click", (event) => this.isEnded || pressed(this, event)); // after the end of this figure, the box can belong to another figure
     box.addEventListener("input", ({ target }) => target.closest(".choose") !== null && chooseCall(this, target.closest("[data-thread]")));
     this.stretch = new ResizeObserver(() => {
       const { clientWidth, clientHeight } = this.part("list");
@@ -96,7 +94,7 @@ export class Figure {
     this.past.push([...this.run.lines]);
   }
 
-  // Makes the next steps of a thread. An idle thread begins its call first. A press while steps are shown makes its own steps after them.
+  // Makes the next steps of a thread. An idle thread begins its call first. If earlier steps are still being shown, waits until all of them were seen.
   async step(thread) {
     while (this.isOpen && this.isBusy && !this.isEnded) await this.hurry();
     if (!this.isOpen || this.isEnded) return;
@@ -125,17 +123,19 @@ export class Figure {
     if (!this.isEnded) this.onStep?.(this);
   }
 
-  // Shows the rest of the steps at once. Returns a promise of their end.
-  hurry() {
-    this.isHurried = true;
+  // Shows the remaining steps quickly, each for QUICK, or only the last one. Returns a promise that resolves after the last step.
+  hurry(isSkipped = false) {
+    Object.assign(this, { isHurried: true, isSkipped });
     this.wake();
     return this.playing;
   }
 
-  // Waits between two steps, until a press comes.
-  wait(time) {
+  // Waits between two steps. Another press ends the wait, but not before QUICK is over.
+  async wait(time) {
     this.isBusy = true;
-    return Promise.race([sleep(time), new Promise((done) => (this.wake = done))]);
+    const quick = sleep(Math.min(time, QUICK));
+    await Promise.race([sleep(time), new Promise((done) => (this.wake = done))]);
+    if (!this.isSkipped) await quick;
   }
 
   show(from, total = this.run.trace.total) {
@@ -144,19 +144,19 @@ export class Figure {
 
   async showSteps(from, total) {
     this.isBusy = true;
-    this.isHurried = false;
+    this.isHurried = this.isSkipped = false;
     markBusy(true);
     for (let count = Math.min(from + 1, total); count <= total; count++) {
       if (this.isEnded) return;
-      const isOfLock = this.spec.plain === true && this.run.trace.event(count).word === "list.lock"; // a list without its lock ignores this step
-      if (count < total && (this.isHurried || wantsStill() || isOfLock)) continue;
+      const isOfLock = this.spec.plain === true && this.run.trace.event(count).word === "list.lock"; // a list that ignores its lock does not show this step
+      if (count < total && (this.isSkipped || wantsStill() || isOfLock)) continue;
       this.run.moveTo(count);
-      this.part("said").setAttribute("aria-live", count < total ? "off" : "polite"); // of a play only the last sentence is read out
+      this.part("said").setAttribute("aria-live", count < total ? "off" : "polite"); // a screen reader reads only the last sentence
       this.isBusy = count < total;
       this.draw(true);
       this.onShown?.();
       if (this.isSlow) await this.wait(fallTime()); // the loss is drawn before it is put into words
-      if (count < total) await this.wait(BIT);
+      if (count < total || (this.isHurried && !this.isSkipped)) await this.wait(this.isHurried ? QUICK : BIT);
     }
     this.isBusy = false;
     markBusy(false);

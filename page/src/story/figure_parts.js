@@ -11,7 +11,7 @@ import { barEnds, scrollToLane, showDock, showScrub, showStrip } from "./dock.js
 import { saidOf } from "./said.js";
 
 export const NARROW = "(max-width: 760px)";
-const ROOMY = "(min-width: 1500px)"; // beside the list the code has room too
+const ROOMY = "(min-width: 1500px)"; // the window has room for the code beside the list
 export const isNarrow = () => matchMedia(NARROW).matches;
 const opensCode = ({ opensCode: isAsked }) => !isNarrow() && !isLecture() && (isAsked === true || matchMedia(ROOMY).matches);
 
@@ -47,7 +47,7 @@ export function drawFigure(figure, moment, isNear) {
   scrollSoon(figure, moment.event?.thread ?? figure.active);
 }
 
-// Scrolls what has moved into view, after the next layout.
+// After the next layout, scrolls the changed node, line and bar into view.
 function scrollSoon(figure, moved) {
   cancelAnimationFrame(figure.scroll);
   figure.scroll = requestAnimationFrame(() => {
@@ -69,7 +69,7 @@ function saidHere({ run, spec }, moment) {
   return `${before} <b>${callText(call)} returns ${answer}.</b>`;
 }
 
-const HIDDEN = { false: ["succ"], true: [] }; // a reader of the path has two hands to follow; the code of the lock-free list names a third
+const HIDDEN = { false: ["succ"], true: [] }; // the path shows pred and curr only; the code of the lock-free list also uses succ
 export const lockShown = ({ list, plain, locks = true }) => (!locks || plain ? "" : list === "coarse" ? "list" : list === "lock-free" ? "" : "nodes");
 
 function placeTheList(figure, { state, event: made }, isNear) {
@@ -84,7 +84,7 @@ function placeTheList(figure, { state, event: made }, isNear) {
   const list = arranged(state, event, room);
   const fallen = drawn.chain.filter((name) => !list.chain.includes(name) && !state.nodes[name]?.link.endsWith("*"));
   const isStep = isNear && run.count === drawn.count + 1;
-  const isLoss = isStep && fallen.length > 0 && event?.call?.operation === "add"; // an add unlinks nothing: what falls out is lost
+  const isLoss = isStep && fallen.length > 0 && event?.call?.operation === "add"; // an add unlinks nothing: a node that leaves the chain is lost
   figure.isSlow = isLoss;
   Object.assign(drawn, { count: run.count, chain: list.chain, slots: Math.max(drawn.slots, list.slots), tight: list.units.tight });
   glide(box, () => (box.innerHTML = drawStage(state, event, room, id, list)), isNear, isLoss ? fallen : null);
@@ -121,7 +121,7 @@ function showCode(figure, { state, event, before }) {
   const box = figure.part("lines");
   if (box === null) return;
   const { spec, run, canStep, isGuess } = figure;
-  const { list, plain, fresh, struck, hides, instead } = Object.assign({}, spec, isGuess ? spec.hidden : {}); // some is shown only after it
+  const { list, plain, fresh, struck, hides, instead } = Object.assign({}, spec, isGuess ? spec.hidden : {}); // before the guess, `spec.hidden` hides some lines
   const isAble = (thread) => !run.isIdle(thread) || figure.left(thread).length > 0;
   if (!isAble(figure.active)) figure.active = figure.shown.find(isAble) ?? figure.active;
   const { active } = figure;

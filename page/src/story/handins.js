@@ -7,8 +7,9 @@ import { askNow } from "../page/now.js";
 import { counted, inLetters } from "../run/markup.js";
 import { bookCourse, taskOfJudged, tasksOf } from "./assignment.js";
 
-const MOST_NAMES = 12; // of students with the same schedule
-const MANY = 10; // if one in so many students has a schedule, that is no sign of a copy
+const MOST_NAMES = 12; // names of students with the same schedule
+const FEW_NAMES = 2; // names of a large group in a cell of the table
+const MANY = 10; // if at least one in MANY students has a schedule, the schedule is no sign of copying
 
 const stripped = (name) => name.replace(/^.*\//, "").replace(/\.[A-Za-z]+$/, "");
 
@@ -18,7 +19,7 @@ function studentOf(text, file) {
   return { name: name || stripped(file), number: number ?? "" };
 }
 
-// Returns the assignment of a link, with title and tasks, or a sentence that says why the link is none.
+// Returns the title and the tasks of the assignment in a link. If the link has no assignment, returns the reason as `fault`.
 export function assignmentOfLink(link) {
   const { assignment: title, ...given } = Object.fromEntries(new URLSearchParams(link.replaceAll("&amp;", "&").replace(/^[^#]*#?/, "")));
   const { tasks, unknown } = tasksOf(given);
@@ -27,7 +28,7 @@ export function assignmentOfLink(link) {
   return tasks.length === 0 ? { fault: "The assignment of this link has no task." } : { title, tasks };
 }
 
-// Returns the rows of the table, one for each student. A file is { name, text }. Without an `assignment` the columns are all tasks that were handed in.
+// Returns the rows of the table, one for each student. A file is { name, text }. Without an `assignment`, the table has a column for each task that was handed in.
 export async function checkAll(files, assignment, sayProgress = (_at, _of) => {}) {
   const found = files.flatMap(({ name, text }) => textsIn(text).map((one) => ({ ...one, file: name })));
   const without = files.filter(({ name }) => !found.some(({ file }) => file === name));
@@ -43,7 +44,10 @@ export async function checkAll(files, assignment, sayProgress = (_at, _of) => {}
   const rows = [...students.values()].sort((one, other) => one.name.localeCompare(other.name));
   const ids = [...new Set(rows.flatMap(({ solved, wrong }) => [...solved.keys(), ...wrong]))].sort();
   const columns = assignment?.tasks ?? ids.map((id) => ({ id, title: titleOf(id, courses) }));
-  const common = noteCopies(rows);
+  const common = noteCopies(rows).sort((one, other) => other.rows.length - one.rows.length);
+  for (const { task, rows: same } of common) {
+    for (const row of same) row.large ||= `(${titleOf(task, courses)}: as ${fewNames(same.filter((other) => other !== row), FEW_NAMES)})`;
+  }
   for (const row of rows) row.notes.unshift(...notesOnNames(row, rows));
   return { rows, columns, empty, common: common.map(({ task, rows: same }) => `${titleOf(task, courses)} (${counted(same.length, "student")}: ${fewNames(same)})`) };
 }
@@ -53,7 +57,7 @@ function takeText(students, text, courses, assignment) {
   const read = readHandIn(text);
   const who = studentOf(read.student, text.file);
   const key = who.number === "" ? `${text.file}\n${text.number}` : `${who.number} ${who.name.toLowerCase()}`;
-  const own = students.get(key) ?? { ...who, files: [], solved: new Map(), wrong: new Set(), notes: [], faults: 0, copies: [] };
+  const own = students.get(key) ?? { ...who, files: [], solved: new Map(), hows: new Map(), wrong: new Set(), notes: [], faults: 0, isOdd: false, copies: [], large: "" };
   students.set(key, own);
   if (!own.files.includes(text.file)) own.files.push(text.file);
   const isOther = assignment !== null && ![null, assignment.title].includes(read.assignment);
@@ -63,6 +67,7 @@ function takeText(students, text, courses, assignment) {
   const course = read.course === null ? courses[0] : courses.find(({ name }) => name === read.course);
   if (course === undefined) own.notes.push(`the course “${read.course}” is not among the files`);
   own.faults += read.faults.length + (course === undefined ? 1 : 0);
+  own.isOdd ||= isOther || read.solutions.length === 0;
   const odd = { others: new Set(), answers: new Set() };
   for (const one of isOther ? [] : read.solutions) judgePart(own, course?.lessons ?? [], one, assignment?.tasks ?? null, odd);
   const [others, answers] = [odd.others, odd.answers].map((some) => [...some].map((task) => titleOf(task, courses)));
@@ -77,9 +82,11 @@ function judgePart(own, lessons, solution, tasks, odd) {
   const task = (line.startsWith("judge ") ? taskOfJudged(line, tasks ?? [])?.id : undefined) ?? verdict.task;
   if (tasks !== null && task !== null && !tasks.some(({ id }) => id === task)) return void odd.others.add(task);
   const title = task === null ? line.slice(0, 40) : (tasks?.find(({ id }) => id === task)?.title ?? titleOf(task, [{ lessons }]));
-  const isOwn = verdict.schedule !== undefined && !verdict.isVeryAnswer; // two students can share such a schedule only by copying
-  if (verdict.isSolved) own.solved.set(task, isOwn ? oneByOne(verdict.schedule) : null);
-  else {
+  const isOwn = verdict.schedule !== undefined && !verdict.isVeryAnswer; // only a solution of the student's own is compared with those of other students
+  if (verdict.isSolved) {
+    own.solved.set(task, isOwn ? oneByOne(verdict.schedule) : null);
+    if (verdict.how !== undefined && (!own.hows.has(task) || verdict.isMost)) own.hows.set(task, verdict.how);
+  } else {
     if (task === null) own.faults++;
     else own.wrong.add(task);
     own.notes.push(`${title}: ${inLetters(verdict.says)}`);
@@ -140,7 +147,7 @@ export function copiesText({ copies }, all = false) {
   const groups = copies.filter(({ isListed }) => all || isListed);
   return groups.map(({ count, of, rows }) => `${count} of ${of} with ${namesOf(rows)}`).join("; ");
 }
-const fewNames = (rows) => `${namesOf(rows.slice(0, MOST_NAMES))}${rows.length > MOST_NAMES ? ` and ${rows.length - MOST_NAMES} more` : ""}`;
+const fewNames = (rows, most = MOST_NAMES) => `${namesOf(rows.slice(0, most))}${rows.length > most ? ` and ${rows.length - most} more` : ""}`;
 const namesOf = (rows) => rows.map(({ name, number }) => (number === "" ? name : `${name} (${number})`)).join(", ");
 
 export const sumsOf = ({ rows, columns }) => columns.map(({ id }) => rows.filter(({ solved }) => solved.has(id)).length);
@@ -154,8 +161,9 @@ export function csvOf({ rows, columns }, parted = ",") {
   };
   const head = ["student", "number", ...columns.map(({ title }) => title), "solved", "of", "same schedules", "notes", "files"];
   const line = (row) => {
+    const hows = columns.filter(({ id }) => row.hows.has(id)).map(({ id, title }) => `${title}: ${row.hows.get(id)}`);
     const marks = columns.map((column) => ({ solved: 1, wrong: 0, none: "" })[markOf(row, column)]);
-    return [row.name, row.number, ...marks, countOf(row, columns), columns.length, copiesText(row, true), row.notes.join(" | "), row.files.join(" ")];
+    return [row.name, row.number, ...marks, countOf(row, columns), columns.length, [copiesText(row, true), row.large].filter((text) => text !== "").join("; "), [...hows, ...row.notes].join(" | "), row.files.join(" ")];
   };
   return `\ufeff${[head, ...rows.map(line)].map((cells) => cells.map(cell).join(parted)).join("\r\n")}\r\n`;
 }

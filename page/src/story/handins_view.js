@@ -6,8 +6,8 @@ import { counted, escaped, tag } from "../run/markup.js";
 import { assignmentOfLink, checkAll, copiesText, countOf, csvOf, markOf, sumsOf } from "./handins.js";
 import { part } from "./scene.js";
 
-const MOST_BYTES = 2_000_000; // of a file
-const MOST_NOTES = 3; // of a student in the table; the CSV has all
+const MOST_BYTES = 2_000_000; // largest size of a file
+const MOST_NOTES = 3; // notes of a student in the table; the CSV has all notes
 const given = { files: [], tooLong: [], result: null, turn: 0 };
 const MARKS = { solved: '<b class="yes">✓</b>', wrong: '<b class="no" title="handed in, and wrong">✗</b>', none: "–" };
 const piece = (name) => part(`#in-${name}`);
@@ -20,22 +20,23 @@ export const handInsHtml = () => `<section class="panel" id="handins"><h2>What t
   <label class="drop" id="in-drop"><input type="file" multiple id="in-files"><b>Drop files or a folder here</b>
     <span class="small">or press to choose them</span></label>
   <progress id="in-progress" hidden aria-label="files checked"></progress><p id="in-said" role="status"></p>
-  <div id="in-table" class="scroll" tabindex="0" role="group" aria-label="what was handed in"></div>
+  <div id="in-table" class="scroll" tabindex="0" role="group" aria-label="the hand-ins"></div>
   <p class="line" id="in-save" hidden><button class="primary" data-do="csv">Save as CSV</button>
   <button data-do="csv" data-parted=";">Save with semicolons (German, French)</button>
-  <label><input type="checkbox" id="in-wrong"> only rows with a wrong solution or an error</label><button class="quiet" data-do="clear">Clear</button></p>
+  <label><input type="checkbox" id="in-wrong"> only rows with a wrong solution or an error</label> <span id="in-hidden" class="small" role="status"></span><button class="quiet" data-do="clear">Clear</button></p>
   <p class="small">In the CSV a wrong solution is 0, a missing one an empty cell. The check shows that a solution solves its task, and that two students
-  have the same schedule. It cannot show who wrote a text: use it to admit students to an exam rather than for marks.</p></section>`;
+  have the same schedule. It cannot show who wrote a text: use it to admit students to an exam rather than for marks. A level of Break counts when the
+  run breaks the list; “check named” adds that the student also chose the missing check on the page.</p></section>`;
 
 async function check() {
-  const turn = ++given.turn; // the result of an earlier check is not shown
+  const turn = ++given.turn; // if a later check has begun, the result of this check is not shown
   if (given.files.length + given.tooLong.length === 0) return;
   const link = piece("link").value.trim();
   const assignment = link === "" ? null : assignmentOfLink(link);
   if (assignment?.fault !== undefined) return showNothing(assignment.fault);
   Object.assign(piece("progress"), { hidden: false, max: 1, value: 0 });
   piece("said").textContent = `${given.files.length} files …`;
-  const isNow = () => turn === given.turn && piece("progress") !== null; // the reader can open another place meanwhile
+  const isNow = () => turn === given.turn && piece("progress") !== null; // meanwhile, the reader can have opened another place
   const result = await checkAll(given.files, assignment, (value, max) => isNow() && Object.assign(piece("progress"), { value, max }));
   if (!isNow()) return;
   piece("progress").hidden = true;
@@ -81,9 +82,12 @@ export function beginHandIns() {
   check();
 }
 
-// Shows only the rows with a wrong solution or a line that cannot be read, if the box is ticked.
+// If the box is ticked, hides the rows without a wrong solution, an unreadable line or a text that does not count, and shows how many rows are hidden.
 function showRows() {
-  for (const row of piece("table").querySelectorAll("tbody tr")) row.hidden = piece("wrong").checked && row.querySelector(".no, .garbled") === null;
+  const rows = [...piece("table").querySelectorAll("tbody tr")];
+  for (const row of rows) row.hidden = piece("wrong").checked && row.querySelector(".no, .garbled") === null;
+  const hidden = rows.filter((row) => row.hidden).length;
+  piece("hidden").textContent = hidden === 0 ? "" : `${hidden} of ${counted(rows.length, "row")} hidden`;
 }
 
 function notesOf({ notes }) {
@@ -92,9 +96,10 @@ function notesOf({ notes }) {
 }
 
 function drawRow(row, columns) {
-  const cells = columns.map((column) => `<td class="mark">${MARKS[markOf(row, column)]}</td>`).join("");
+  const how = ({ id }) => (row.hows.has(id) ? ` <span class="small">${row.hows.get(id)}</span>` : "");
+  const cells = columns.map((column) => `<td class="mark">${MARKS[markOf(row, column)]}${how(column)}</td>`).join("");
   return `<tr><th scope="row">${escaped(row.name)}</th><td>${escaped(row.number)}</td>${cells}<td class="mark"><b>${countOf(row, columns)}</b></td>
-    <td class="same">${escaped(copiesText(row))}</td><td class="notes${row.faults > 0 ? " garbled" : ""}">${notesOf(row)}</td></tr>`;
+    <td class="same" data-sort="${escaped(copiesText(row))}">${escaped(copiesText(row) || row.large)}</td><td class="notes${row.faults > 0 || row.isOdd ? " garbled" : ""}">${notesOf(row)}</td></tr>`;
 }
 
 function drawResult({ rows, columns, empty, common }) {
@@ -131,8 +136,9 @@ export const handInDeeds = {
   clear,
   sort({ dataset: { at } }) {
     const body = piece("table").querySelector("tbody");
-    const sign = at > given.result.columns.length + 2 ? -1 : 1; // the largest counts and the longest notes come first
-    const compared = (one, other) => sign * one.cells[at].innerText.localeCompare(other.cells[at].innerText, undefined, { numeric: true });
+    const sign = at > given.result.columns.length + 2 ? -1 : 1; // largest counts and longest notes first
+    const textOf = ({ cells }) => cells[at].dataset.sort ?? cells[at].innerText;
+    const compared = (one, other) => sign * textOf(one).localeCompare(textOf(other), undefined, { numeric: true });
     body.append(...[...body.rows].sort(compared));
   },
 };

@@ -9,7 +9,7 @@ import { learning } from "./learning.js";
 import { linesOf, runOfText } from "./live_run.js";
 import { backLink, drawHintAndOn, onStage, foot, head, hintAndOn, LACKS_ONE, LIST_WORDS, part, pressThread, scene, setScene, takeFreeFigure, showPrompt } from "./scene.js";
 
-const HINT = 1; // values of the scene's `hints`: the hint is shown, the answer is shown
+const HINT = 1; // values of `now.scene.hints`: HINT shows the hint, ANSWER also offers the answer
 const ANSWER = 2;
 const shown = { verdict: null, ticks: new Set() }; // the verdict on the shown run, and the conditions that it or an earlier run met
 

@@ -51,7 +51,7 @@ class Learning {
     return this.course.lessons.find(({ name }) => !this.isSolved(name));
   }
 
-  // Judges an attempt, and stores it. It counts as a solution unless it is the answer that the reader has looked at.
+  // Judges an attempt, and stores it. A solution does not count if the reader has looked at the lesson's answer and the attempt equals this answer.
   judge(text, isBegun) {
     const { lesson, own } = this;
     const { name, solution } = lesson;
@@ -69,7 +69,7 @@ class Learning {
   }
 }
 
-// The panel is created on first use: checking its lessons takes the engine a while.
+// The panel is created on first use, since checking its lessons needs some time.
 export const learning = {
   get panel() {
     return (made.panel ??= new Learning());

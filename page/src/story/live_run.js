@@ -7,7 +7,7 @@ import { keysInChain, promisedKeys, State } from "../run/state.js";
 import { isTrace, Trace } from "../run/trace.js";
 import { joinedRows, phaseAt } from "./presses.js";
 
-const MOST_STEPS = 80; // of one call, in the short lists of the story
+const MOST_STEPS = 80; // steps of one call; lists of the story are short
 export const linesOf = (schedule) => schedule.split("\n").filter((line) => /^(begin|go) /.test(line));
 
 export function runOfText(text) {
@@ -77,7 +77,7 @@ export class LiveRun extends ShownRun {
 
   take(lines) {
     this.lines = [...lines];
-    this.nexts = {}; // the answers of `nextOf` for these lines
+    this.nexts = {}; // the results of `nextOf` for these lines
     this.trace = this.traceOf(this.lines);
     this.state = new State(this.trace);
     this.moveTo(this.trace.total);
@@ -96,21 +96,20 @@ export class LiveRun extends ShownRun {
     this.state.moveTo(this.count);
   }
 
-  // Returns the next press of a thread: the number of its steps, its phase, and the thread for whose lock it waits. A thread knows that it waits once
-  // it has tried.
+  // Returns the next press of a thread after the shown event: the number of its steps, its phase, and, if the thread waits for a lock, the holder of
+  // this lock. A thread waits once it has tried to take the lock and failed.
   nextOf(thread, call = null) {
-    const asked = [thread, this.state.threads[thread].pc, call].join();
-    return (this.nexts[asked] ??= this.newNextOf(thread, call));
+    return (this.nexts[[this.count, thread, call].join()] ??= this.newNextOf(thread, call));
   }
 
   newNextOf(thread, call) {
     const isBegin = this.isIdle(thread);
-    const lines = isBegin ? [...this.lines, `begin ${thread} ${call.join(" ")}`] : this.lines;
-    const trace = this.traceOf([...lines, `go ${thread} ${MOST_STEPS}`]);
-    const begun = this.trace.total + lines.length - this.lines.length;
+    const before = this.count < this.trace.total ? this.linesHere() : this.lines;
+    const trace = this.traceOf([...before, ...(isBegin ? [`begin ${thread} ${call.join(" ")}`] : []), `go ${thread} ${MOST_STEPS}`]);
+    const begun = this.count + Number(isBegin);
     const row = isBegin ? trace.event(begun).changes.pc : this.state.threads[thread].pc;
     const next = this.chunk(trace, begun, row);
-    const tried = this.trace.events().findLast((event) => event.thread === thread);
+    const tried = this.trace.events().slice(0, this.count).findLast((event) => event.thread === thread);
     const waitsFor = next.waits && next.steps === 1 && tried?.word === next.last.word && tried.saw === next.last.saw ? Number(tried.saw.slice(1)) : null;
     return { ...next, thread, row, isBegin, waitsFor };
   }
@@ -128,7 +127,7 @@ export class LiveRun extends ShownRun {
       if (last.answer !== undefined) break;
       const after = last.changes.pc;
       const ofLock = isFailed(last) && isLock(last.word);
-      const waits = ofLock && after === before; // a broken list may go on all the same
+      const waits = ofLock && after === before; // a broken list can continue after a failed try
       if (waits || (isFailed(last) && !ofLock)) return { steps, phase, waits, last };
       before = after;
       if (phaseAt(list, after, plain) !== phase && !rows.includes(after)) break;
@@ -136,7 +135,7 @@ export class LiveRun extends ShownRun {
     return { steps, phase: phase === "unlock" && last?.answer === undefined ? "restart" : phase, waits: false, last };
   }
 
-  // Returns the event at which the next press, made after event `count`, ends.
+  // Returns the last event of the press that is made after event `count`.
   endOfBit(count) {
     this.moveTo(count);
     const { thread, deed, changes } = this.trace.event(count + 1);
@@ -176,7 +175,7 @@ export class LiveRun extends ShownRun {
   }
 }
 
-// Returns the state of a run as text. Runs with equal texts continue alike.
+// Returns the state of a run as text. Runs with equal texts have the same continuations.
 function placeOf({ state: { nodes, lock, threads }, trace }) {
   return JSON.stringify([nodes, lock, threads.map(({ call, ...own }) => own), trace.calls.map(({ reply }) => reply)]);
 }
@@ -192,7 +191,7 @@ export function waysOn(spec, lines, calls, most = Infinity) {
   for (const { lines: begun, way } of waiting) {
     const run = new LiveRun({ ...spec, lines: begun });
     if (seen.size >= most) return undefined;
-    if (seen.has(placeOf(run))) continue; // for example after a press of a thread that waits
+    if (seen.has(placeOf(run))) continue; // for example, a press of a waiting thread changes nothing
     seen.add(placeOf(run));
     const left = (thread) => calls[thread].slice(run.trace.calls.filter((call) => call.thread === thread).length);
     const able = Object.keys(calls).map(Number).filter((thread) => !run.isIdle(thread) || left(thread).length > 0);

@@ -13,7 +13,8 @@ export function dots(number, done) {
   const names = [...SCREENS.map(({ nav }) => nav), "And now?"];
   const items = names.map((name, index) => {
     const isDone = done[SCREENS[index]?.id] === true;
-    const given = { href: `#story=${index + 1}`, class: isDone ? "done" : "", title: name };
+    const kind = index === SCREENS.length ? "end" : isDone ? "done" : ""; // the last screen has no question
+    const given = { href: `#story=${index + 1}`, class: kind, title: name };
     const words = `<span>${name}</span>${isDone ? '<span class="unseen">, done</span>' : ""}`;
     return tag("li", {}, tag("a", index + 1 === number ? { ...given, "aria-current": "step" } : given, words));
   });
@@ -27,7 +28,7 @@ export const GONE = '<p class="welcome" role="status">All saved data has been de
 
 export function welcome(done) {
   const count = SCREENS.filter(({ id }) => done[id]).length;
-  const words = `Welcome back: you have done ${count} of ${SCREENS.length}. You are where you stopped.`;
+  const words = `Welcome back: you have answered ${count} of the ${SCREENS.length} questions. You are where you stopped.`;
   return `<p class="welcome">${words} <a href="#story=1">From the start</a></p>`;
 }
 
@@ -39,7 +40,7 @@ export function promptOf(screen, { stage, chosen, note }, figure) {
   const ledger = screen.ledger ? drawLedger(figure.run) : "";
   if (stage === "task" || stage === "again") return `<div class="doing">${ledger}<div>${reply}${asked(screen.task ?? screen.playTask, note)}</div></div>`;
   if (stage === "moment") return reply + asked(screen.then.task, note);
-  if (stage === "playing") return (isLecture() ? asked(screen.ask) : "") + reply;
+  if (stage === "playing") return isLecture() ? asked(screen.ask) + (reply || '<p class="you"></p>').replace("</p>", " Press → for the next step.</p>") : reply;
   const isOther = screen.options !== undefined && !screen.options[chosen]?.right;
   return `<div class="reveal${isOther ? " other" : ""}">${ledger}<div>${reply}<p class="why">${screen.reveal(figure)}</p></div></div>`;
 }
@@ -54,7 +55,7 @@ export function drawBar(stage, number, words = number === SCREENS.length ? "And 
   show.className = isLecture() && stage === "playing" ? "primary" : "quiet";
   on.hidden = !isDone && isNarrow();
   show.textContent = (isLecture() && { guess: "Reveal", playing: "Next step →" }[stage]) || SHOW[stage];
-  drawOn(isDone, isLecture() ? "Next slide →" : words); // (a slide leaves out screens of the path)
+  drawOn(isDone, isLecture() ? "Next slide →" : words); // (the slides do not have all screens of the path)
 }
 
 // Turns the stretches of the row "set" into buttons.
@@ -66,27 +67,27 @@ export function openContents(figure, press) {
     stretch.classList.add("press");
     stretch.onclick = () => press(contents, index);
     stretch.onkeydown = ({ key }) => {
-      if (key === "Enter" || key === " ") press(contents, index); // no other key is touched: a returned false would cancel Tab
+      if (key === "Enter" || key === " ") press(contents, index); // other keys keep their effect: returning false would cancel Tab
     };
   });
 }
 
-// ---- The last screen: a summary, and where to go next.
+// ---- The last screen: a summary, and links to the other activities.
 export const LAST = SCREENS.length + 1; // the number of the last screen
 
 const WAYS = [
   ["#ask", "Guess, then see", "Runs that stop at the question. What comes next, and why?"],
   ["#code=lock-free", "Step by the code", "Any list, any calls: press a line, and its thread executes it."],
   ["#break", "Break it", "Lists that lack one check each. Find a run that shows it."],
-  ["#learn", "Solve it", "Twelve lessons: choose the steps until the run shows what is asked."],
+  ["#learn", "Solve it", "Twelve lessons: choose the steps until the run meets the task."],
   ["#teachers", "Teach it", "A lecture of 45 minutes, homework in one link, hand-ins checked."],
 ];
 
 const TRUTH = `<details class="truth"><summary>How true is this?</summary><p>Each step that you saw was computed by a program. A machine has
-  checked the proof that this program runs the lists step by step. “Lost” is said only if a proved judge finds that no order of the calls explains their answers and
-  what is left. The list of screens 1 and 2 is CoarseList, with its lock ignored; that of “Why two locks?” is FineList, whose remove
-  does not lock the node that it takes out; that of screen 5 is OptimisticList without its second walk.
-  That the page draws what the program says is only tested. <a href="#read">More</a></p></details>`;
+  checked the proof that this program runs the lists step by step. “Lost” is said only if a proved judge finds that no order of the calls explains their replies and
+  the final list. The list of screens 1 and 2 is CoarseList, with its lock ignored; that of “Why two locks?” is FineList, with a remove
+  that does not lock the node that it takes out; that of screen 5 is OptimisticList without its second walk.
+  Whether the page draws these steps correctly is only tested. <a href="#read">More</a></p></details>`;
 
 const TREE = ["A balanced tree, one lock", "", "", "", "", 9.1, 4.1];
 const rowOf = (name, ...cells) => tag("tr", {}, tag("th", { scope: "row" }, name), ...cells.map((text) => tag("td", {}, text)));
@@ -104,7 +105,7 @@ export function endHtml(done) {
     one more check. Without them, numbers get lost.</p>
     <table class="five"><thead><tr><th>The list</th><td>Who waits?</td><td>What does it pay for that?</td></tr></thead>
     <tbody>${LISTS_AT_END.map(rowOfList).join("")}</tbody></table>
-    <h2>You have done ${count} of ${SCREENS.length}. And now?</h2><div class="ways">${ways.join("")}</div>
+    <h2>You have answered ${count} of the ${SCREENS.length} questions. And now?</h2><div class="ways">${ways.join("")}</div>
     <h2>When is one lock enough?</h2>
     <p class="prose">While calls are short. With 16 numbers, the extra locks and checks cost more than they save, and only lock-free was faster. With
     1,000 numbers, lazy and lock-free win, and a balanced tree behind one lock beats each list.</p>

@@ -1,4 +1,4 @@
-// The path, one screen at a time. A screen is done by a task or a guess. "Show me" makes the next press of one solution.
+// Shows the path, one screen at a time. Each screen has a task or a question. "Show me" makes the next press of a solution.
 import { byId } from "../page/dom.js";
 import { isLecture, now } from "../page/now.js";
 import { Figure } from "./figure.js";
@@ -88,7 +88,7 @@ function looked() {
   else setScene({ stage: "task", note: "" }); // a press was taken back
 }
 
-const FEW = 30; // runs that are tried after each press, to report early that nothing can go wrong any more
+const FEW = 30; // states that are searched after each press, to report early that nothing can go wrong any more
 const HOPELESS = "From here nothing can go wrong any more.";
 const startOver = (why) => setScene({ stage: "again", note: `${why} Start over. ${here().hint}` });
 const waysFrom = ({ spec, run }, most) => waysOn(spec, run.lines, spec.calls, most);
@@ -107,7 +107,8 @@ async function guessed(index) {
   return playOn();
 }
 
-// Plays a screen after the guess. [thread] is one press, [thread, "out"] all presses until its call returns. A slide waits for a key before each.
+// Plays a screen after the guess. [thread] is one press of a thread, [thread, "out"] all presses until its call
+// returns. On a slide, each press waits for a key.
 async function playOn() {
   const { figure } = scene;
   const { play, then } = here();
@@ -144,12 +145,12 @@ function done() {
   focusOn();
 }
 
-// Focuses Continue, unless another button has the focus.
+// Focuses the button Continue, unless another control has the focus.
 function focusOn() {
   if (!isLecture() && document.activeElement.closest("button, a, input, [tabindex='0']") === null) part("#go-on").focus({ preventScroll: true });
 }
 
-// Returns the presses that complete the task from here: found by a search if the task can fail, else those of its help.
+// Returns the thread to press next to complete the task: found by a search if the task can fail, else taken from the screen's `help`.
 function nextPress(figure, { help, ledger }) {
   if (ledger) return waysFrom(figure, Infinity)?.[0];
   const isOver = (thread) => figure.run.isIdle(thread) && figure.left(thread).length === 0;

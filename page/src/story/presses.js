@@ -1,4 +1,4 @@
-// Groups the rows of the tables into the presses of a thread's button, and names each press.
+// Groups the rows of the step tables into phases: a press on a thread's button makes the steps of one phase. Names each press.
 
 const walkers = (...rows) => Object.fromEntries(rows.map((row) => [row, "walk"]));
 
@@ -23,7 +23,7 @@ const PHASES = {
 };
 
 export const phaseAt = (list, row, plain) => PHASES[plain ? "plain" : list][row] ?? "answer";
-// Rows that always belong to the press before them.
+// Returns the rows that always belong to the press before them.
 export const joinedRows = (list, plain) => (plain ? [10] : list === "lock-free" || list === "lazy" ? [22, 25] : []);
 
 const WORDS = {
@@ -50,7 +50,7 @@ const WORDS = {
   tidytry: ({ key }) => `try to unlink ${key}`,
 };
 
-// What a list without one of these steps does in its place, in words that do not give the missing check away.
+// Names of presses on a broken list, in words that do not reveal the missing check.
 const WORDS_OF_BROKEN = {
   next: () => "walk to the next node",
   check: () => "check pred and curr",

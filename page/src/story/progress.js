@@ -1,23 +1,25 @@
 // The progress stored in this browser: finished screens, guesses, broken lists, the student's name.
 import { BOOK_NAME } from "../../made/book.js";
 import { LACKING } from "../../made/classics.js";
+import { NAMED as NAMED_TOO } from "../course/hand_in.js";
 import { isText, keepUnder, keptUnder } from "../page/kept.js";
 import { change } from "../page/now.js";
 
 const STORY = "listset-story";
-const BROKEN = "listset-broken"; // of each list that was broken the line that is handed in
-const NAMED = "listset-named-checks"; // the lists of which the reader has said what they lack
+const BROKEN = "listset-broken"; // stores for each broken list the line to hand in
+const NAMED = "listset-named-checks"; // stores the lists with a missing check that the reader has named
 const NOTHING = { at: 1, done: {}, asks: {}, student: "", number: "", homework: null };
 
 /** @returns {{ at: number, done: Record<string, boolean>, asks: Record<string, string>, student: string, number: string, homework: any }} */
 export const keptStory = () => ({ ...NOTHING, ...keptUnder(STORY) });
 export const keepStory = (change) => keepUnder(STORY, { ...keptStory(), ...change });
-// The lines of the orders that were judged right, by run and level.
+// Stores the lines of the orders that were judged right, by run and level.
 const JUDGED = "listset-judged";
 export const judgedLines = () => Object.fromEntries(textsKept(keptUnder(JUDGED)));
 export const keepJudged = (run, line) => keepUnder(JUDGED, { ...keptUnder(JUDGED), [run]: line });
 const isBrokenLine = ([name, line]) => Object.hasOwn(LACKING, name) && isText(line);
-export const brokenLines = () => Object.entries(keptUnder(BROKEN) ?? {}).filter(isBrokenLine);
+// Returns the lines to hand in about broken lists, by list.
+export const brokenLines = () => Object.entries(keptUnder(BROKEN) ?? {}).filter(isBrokenLine).map(([name, line]) => [name, isNamed(name) ? `${line} ${NAMED_TOO}` : line]);
 export const isBrokenOnce = (name) => brokenLines().some(([one]) => one === name);
 export const keepBrokenLine = (name, line) => keepUnder(BROKEN, { ...keptUnder(BROKEN), [name]: line });
 export const isNamed = (name) => (keptUnder(NAMED) ?? []).includes(name);
@@ -30,17 +32,17 @@ export function startAfresh(button) {
     button.textContent = "Press again to delete";
     return;
   }
-  change("run", { text: "" }); // so that it is not stored again
+  change("run", { text: "" }); // so that the text is not stored again
   try {
     for (const name of Object.keys(localStorage)) if (name.startsWith("listset-")) localStorage.removeItem(name);
   } catch {
     // This browser stores nothing.
   }
-  location.hash = "#story=1&gone=yes"; // the first screen says so
+  location.hash = "#story=1&gone=yes"; // the first screen confirms it
   location.reload();
 }
 
-// ---- Opened courses, solutions of lessons, and lessons whose answer was shown.
+// ---- Opened courses, solutions of lessons, and lessons with an answer that the reader has looked at.
 const LESSONS_KEPT = "listset-lessons-2";
 const textsKept = (kept) => Object.entries(kept ?? {}).filter(([, text]) => isText(text));
 const namesKept = (kept) => (Array.isArray(kept) ? kept.filter(isText) : []);

@@ -45,7 +45,7 @@ function lockSaid(event, who, plain, waits) {
   return `wants ${what}, but ${chipOf(event.saw.slice(1))} holds it. ${bold(waits ? "It waits." : "It continues all the same.")}`;
 }
 
-// Decides whether the list has the key's place just before a node: other threads can have changed the list since the walk passed.
+// Decides whether the key belongs just before a node of the chain: other threads can have changed the list since the walk passed.
 function isPlaceOf(state, key, owner) {
   const chain = state.chain();
   const at = chain.indexOf(owner);
@@ -94,7 +94,7 @@ function linkSaid(moment, owner, who, phase) {
   return owner === "head" ? `starts at the head: curr is at ${to}.` : `moves on: curr is at ${to}.`;
 }
 
-// Writes what the last read of a call without changes finds. Only a broken list answers true at a mark, or leaves a removed node unmarked.
+// Writes the sentence about the last read of a contains or ceiling. Only in a broken list is the reply true at a mark, or a removed node without a mark.
 function lookSaid(state, { answer }, owner, who, isMarked) {
   if (isMarked && /^(true|at-)/.test(answer ?? "")) return `takes ${who} to be in the set: ${bold("it does not look at the mark.")}`;
   if (isMarked) return `sees the mark: ${bold(`this ${who} has been removed.`)}`;

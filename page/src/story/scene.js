@@ -8,7 +8,7 @@ import { Figure } from "./figure.js";
 import { NARROW } from "./figure_parts.js";
 
 /**
- * A view has the class of its place (`kind`) and its parts as text. `fault` returns why there is no such place, or null. `begin` makes the figure
+ * A view has the CSS class of its place (`kind`) and its HTML. `fault` returns the reason why a place does not exist, or null. `begin` makes the figure
  * after the parts are in the page, `draw` shows the progress, `end` is called before the parts are removed. Buttons run `deeds`, a key calls
  * `press`. `goes` moves on or back on a slide, and returns whether it did.
  * @typedef {import("../page/reducer.js").Place} Place
@@ -31,7 +31,7 @@ export async function copyText(text, words) {
   part("#scene-said").textContent = ((await copied(text)) ? words : `Copy this by hand: ${text}`) + warningOf(text);
 }
 
-// Shows the task, the question or the reply above the threads' buttons. The space is reserved, so nothing scrolls.
+// Shows the task, the question or the reply above the threads' buttons. The layout reserves this space, so nothing scrolls.
 export const showPrompt = (html) => setHtml(part("#prompt"), html);
 
 export function takeFigure(figure) {
@@ -66,7 +66,7 @@ export function renderScene({ place, scene: state }) {
 }
 
 export function openScene({ activity, id = "", given = {}, view = null, slide = 0 }) {
-  scene.key = ""; // a place that is shown already begins anew
+  scene.key = ""; // so that a place that is shown already begins again
   change("view", { view, slide });
   dispatch("place", { activity, screen: "scene", id, given });
 }
@@ -82,7 +82,7 @@ export function listenToScene() {
 export const head = (kicker, title, more = "", kind = "") =>
   `<div class="head">${kicker === "" ? "" : `<p class="kicker">${kicker}</p>`}<h1 class="${kind}" tabindex="-1">${title}</h1>${more}</div>`;
 
-// Returns a screen whose figure takes the remaining height.
+// Returns a screen with a figure that fills the remaining height.
 export const onStage = (head, kind = "") => `<section class="screen on-stage ${kind}">${head}<div id="figure"></div></section>`;
 
 export const backLink = ({ href, words }) => tag("a", { class: "button quiet back", href }, escaped(words));
@@ -141,13 +141,14 @@ export function drawLedger(run, count = run.trace.total) {
 
 export const isOddRun = (run) => run.promised().join() !== run.has().join();
 
-// Returns the thread whose letter is this key, or -1.
+// Returns the thread with this letter as its key, or -1.
 export function threadOfKey({ key, ctrlKey, metaKey, altKey, repeat }) {
   if (!now.prefs.letters || repeat || ctrlKey || metaKey || altKey || !/^[a-z]$/.test(key)) return -1;
   return key.charCodeAt(0) - "a".charCodeAt(0);
 }
 
-// A key steps a thread, or begins its first call. Later calls begin by their button, so one press too many begins nothing.
+// Handles the key of a thread: the thread makes steps, or begins its first call. Later calls are begun by a button, so that a press too many begins
+// nothing.
 export function pressThread(event) {
   const thread = threadOfKey(event);
   const { figure } = scene;

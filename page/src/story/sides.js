@@ -1,4 +1,5 @@
-// Two lists side by side run one program of calls. A turn makes the thread's next step in both. A list whose call has returned waits for the other.
+// Two lists side by side run the same program of calls. A turn makes the next step of a thread in both lists. If the thread's call has returned in one
+// list only, that list waits.
 import { letterOf } from "../run/markup.js";
 import { MOST_NUMBER } from "../run/trace.js";
 import { LiveRun, RunFault } from "./live_run.js";
@@ -43,7 +44,7 @@ export class Sides {
     return next === undefined ? null : this.sides.map(() => `begin ${thread} ${next}`);
   }
 
-  // Returns the call whose next step the thread makes after `at` turns, or undefined if all its calls have returned in both lists.
+  // Returns the current or next call of the thread after `at` turns, or undefined if all its calls have returned in both lists.
   callOf(thread, at) {
     const isBegun = ({ counts }) => ({ begun }) => begun <= counts[at];
     const begunIn = (side) => side.run.trace.callsOf[thread].filter(isBegun(side));

@@ -22,7 +22,8 @@ function lectureHtml() {
   const sum = LECTURE.reduce((total, [minutes]) => total + minutes, 0);
   return `<section class="panel" id="slides"><h2>A lecture of ${sum} minutes</h2>
     <p class="prose">Each slide is as large as the screen. A presenter’s keys, the arrows and Space go on and back, through all of them; A and B
-    let a thread step; Escape leads back here. Ask the class first, then step.</p>
+    let a thread step; Escape leads back here. Ask the class first, then step. The project has no licence yet: show the slides and link to them, but ask
+    before you copy them.</p>
     <p class="line"><a class="button" target="_blank" href="#notes">Notes and a clock, for your own screen ↗</a><a class="button" target="_blank" href="#handout">A handout to print ↗</a></p><ol class="plan">${LECTURE.map(slide).join("")}</ol></section>`;
 }
 
@@ -44,7 +45,7 @@ function beginEmbed() {
   which.value = "two-removers";
   which.onchange = () => {
     part("#embed-text").textContent = snippetOf(which.value);
-    part("#embed-frame").src = `${location.pathname}?embed=${which.value}#ask=${which.value}&view=embed`; // another address than this page's, so that the frame loads
+    part("#embed-frame").src = `${location.pathname}?embed=${which.value}#ask=${which.value}&view=embed`; // the query makes the address differ from this page's address, so that the frame loads
   };
   which.onchange();
 }
@@ -86,7 +87,7 @@ function homeworkHtml() {
     <div class="line"><label class="wide-label">Title <input id="hw-title" value="Concurrent lists, week 1" maxlength="60"></label>
     <label class="wide-label">Due (optional; students see it) <input id="hw-due" type="date"></label></div>
     <div class="columns">${picks("learn", "Solve", lessons)}${picks("break", "Break", levels)}
-    <fieldset><legend>Judge: numbered runs</legend><p class="small">All students get the same run and state what each call returns and where it
+    <fieldset><legend>Judge: numbered runs</legend><p class="small">All students get the same run and state what each call returns and when it
       takes effect.</p><div class="line"><select id="hw-kind" aria-label="list of the run">${listOptions("lazy")}</select>
       <input id="hw-number" type="number" min="1" max="9999" value="${FIRST_NUMBER}" aria-label="number of the run">
       <button data-do="add">Add this run</button></div><ul id="hw-seeds"></ul></fieldset></div>
@@ -105,7 +106,7 @@ function fill() {
   piece("count").textContent = count === 0 ? "Nothing is ticked yet." : `${count} task${count === 1 ? "" : "s"}`;
   piece("link").textContent = linkTo(address);
   piece("open").href = address;
-  if (count > 0) Object.assign(part("#in-link"), { value: linkTo(address) }).oninput?.(); // the hand-ins are checked for this assignment
+  if (count > 0) Object.assign(part("#in-link"), { value: linkTo(address) }).oninput?.(); // the panel of hand-ins then checks for this assignment
   const item = (seed, at) => `<li><code>${seed}</code> <a href="#seed=${seed}" target="_blank">look</a>
     <button class="quiet small" data-do="drop" data-at="${at}" aria-label="leave out ${seed}">✕</button></li>`;
   piece("seeds").innerHTML = work.seeds.map(item).join("");
@@ -150,7 +151,7 @@ const OWN = `<section class="panel" id="own"><h2>Lessons of your own</h2>
 
 function html() {
   const jump = ([id, name]) => tag("button", { class: "quiet", "data-do": "jump", "data-panel": id }, name);
-  const lead = `<p class="lead">A lecture of 45 minutes, figures for your own pages, homework as a single link, and automatic checking of what is handed in.
+  const lead = `<p class="lead">A lecture of 45 minutes, figures for your own pages, homework as a single link, and automatic checking of hand-ins.
     No account, no server: all of it happens in the browser.</p><p class="jump">${Object.entries(PANELS).map(jump).join("")}</p>`;
   return `${head("", "For teachers", lead, "title")}${lectureHtml()}${embedHtml()}${homeworkHtml()}${handInsHtml()}${OWN}
     <footer class="foot"><span id="scene-said" class="small" role="status"></span><span class="spread"></span>

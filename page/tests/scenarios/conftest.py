@@ -1,4 +1,4 @@
-"""Scenarios in which a person uses the page with keys, clicks and touches, and sees the results. They run in each
+"""Scenarios: a person uses the page with keys, clicks and touches, and sees the results. They run in each
 installed browser.
 
 pytest page/tests/scenarios [--browser chromium] [--shots FOLDER]
@@ -15,9 +15,9 @@ import pytest
 import webdriver  # (with build/ in the path, by pytest.ini)
 
 PAGE = pathlib.Path(__file__).resolve().parents[2]
-SECONDS = 60  # the time within which something must be visible
-SLOW = 2  # the seconds that the engine takes to load over a slow network
-SCENARIOS = {"webkit": 8}  # how many scenarios one browser is used for, since WebKit's driver fails after some dozen pages; other browsers are used for all
+SECONDS = 60  # the longest wait until something must be visible
+SLOW = 2  # the loading time of the engine over a slow network, in seconds
+SCENARIOS = {"webkit": 8}  # scenarios before a new browser is started, since WebKit's driver fails after some dozen pages; other browsers are not replaced
 
 
 class Quiet(http.server.SimpleHTTPRequestHandler):

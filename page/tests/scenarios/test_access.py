@@ -166,3 +166,17 @@ def test_at_twice_the_size_nothing_overflows_and_no_bar_stays(visitor):
         go(visitor, address)
         assert visitor.script("return document.documentElement.scrollWidth <= document.documentElement.clientWidth"), address
         assert visitor.script("return [...document.querySelectorAll('.foot')].every((it) => getComputedStyle(it).position === 'static')"), address
+
+
+def test_words_keep_their_spaces_on_a_tablet(visitor):
+    visitor.devtools("Emulation.setDeviceMetricsOverride", width=1180, height=820, deviceScaleFactor=1, mobile=True)
+    visitor.devtools("Emulation.setTouchEmulationEnabled", enabled=True)
+    try:
+        visitor.open("#story=2")
+        gap, high = visitor.script("""const link = document.querySelector("nav [data-to=story]"), right = document.createRange(), left = document.createRange();
+            left.setStart(link.firstChild.firstChild, 0); left.setEnd(link.firstChild.firstChild, 3); right.selectNodeContents(link.lastChild);
+            return [right.getBoundingClientRect().left - left.getBoundingClientRect().right, link.getBoundingClientRect().height]""")
+        assert gap > 2 and (visitor.name != "chromium" or high >= 40)
+    finally:
+        visitor.devtools("Emulation.clearDeviceMetricsOverride")
+        visitor.devtools("Emulation.setTouchEmulationEnabled", enabled=False)

@@ -72,7 +72,7 @@ def test_a_question_works_in_a_frame_of_another_page(visitor):
     assert visitor.script(links) == 0  # no link leads out of the frame
     visitor.settle()
     visitor.open()
-    visitor.wait("return location.hash.includes('story=2')")  # what was viewed in a frame does not count as the reader's last place
+    visitor.wait("return location.hash.includes('story=2')")  # a place in a frame is not stored as the reader's last place
 
 
 def test_old_addresses_open_the_questions(visitor):
@@ -83,7 +83,7 @@ def test_old_addresses_open_the_questions(visitor):
 
 
 def test_sentences_are_whole(visitor):
-    """Each event of each example has a whole sentence."""
+    """Checks that each event of each example has a whole sentence."""
     visitor.open("#ask")
     told = visitor.inside("""const { LiveRun, QUESTIONS, APPENDIX, saidOf, momentAt } = listsets;
         return [...QUESTIONS, ...APPENDIX].flatMap(({ list, opening, threads = 2, quota = 4, lines, rest }) => {

@@ -8,7 +8,7 @@ SCHEDULES = pathlib.Path(__file__).resolve().parents[3] / "examples/schedules/la
 
 
 def won(visitor):
-    """Wins level 1 as its hints say: both threads walk, B makes its whole add, then A ends."""
+    """Wins level 1 by its hints: both threads walk, B makes its whole add, then A ends."""
     visitor.open("#break=1")
     for key in "aaabbbbbbaa":
         if not visitor.is_seen(".reveal"):
@@ -114,9 +114,9 @@ def test_a_run_that_does_not_break_the_list_is_reported(visitor):
     assert "not broken this time" in visitor.text("#prompt") and visitor.is_seen("[data-again]")
 
 
-def test_a_list_has_the_same_number_everywhere(visitor):
+def test_cards_have_no_numbers_and_a_level_has_that_of_its_link(visitor):
     visitor.open("#break")
-    assert visitor.text(".card[href='#break=7'] i").endswith(" #break=7")
+    assert visitor.script("return [...document.querySelectorAll('.card i.small')].every((it) => !/[0-9#]/.test(it.innerText))")
     visitor.open("#break=7")
     assert visitor.is_seen("#figure") and "#break=7" in visitor.script("return document.querySelector('.kicker').textContent")
 

@@ -1,12 +1,33 @@
 """Tests the judge, Compare, files, and the messages about wrong files."""
 
+import pytest
 from test_stage import fit
 
 
 def test_an_answer_without_point_and_reply_is_reported(visitor):
     visitor.open("#example=snip&judge")
     visitor.click("#judge-ask")
-    assert "point" in visitor.text("#judge-verdict") and "reply" in visitor.text("#judge-verdict")
+    assert "moment" in visitor.text("#judge-verdict") and "reply" in visitor.text("#judge-verdict")
+
+
+def test_judge_uses_the_words_of_the_path(visitor):
+    for address, what in (("#example=snip&judge", "#bench"), ("#judge", "#scene"), ("#seed=lazy.2.5.2.17&judge", "#bench")):
+        visitor.open(address)
+        words = visitor.text(what).lower()
+        assert "return" in words and "takes effect" in words and "moment" in words, address
+        assert not any(word in words for word in ("replayer", " answers ", "linearization", "where does it", "where it takes")), address
+
+
+@pytest.mark.parametrize("size", [(1366, 640), (1280, 720), (1536, 730)], ids=lambda size: "x".join(map(str, size)))
+def test_the_list_of_a_run_to_judge_is_never_cut(visitor, size):
+    fit(visitor, *size)
+    for address in ("#example=read-in-anothers-step&judge", "#example=snip&judge", "#seed=lazy.3.2.5.7&judge"):
+        visitor.open(address)
+        for count in range(1, visitor.inside("return listsets.now.run.trace.total") + 1, 3):
+            visitor.inside("listsets.goByHand(given[0])", count)
+            visitor.script("return new Promise((done) => requestAnimationFrame(() => requestAnimationFrame(done)))")
+            assert visitor.script("""const list = document.querySelector(".list"), edge = list.getBoundingClientRect().bottom + 2;
+                return [...list.querySelectorAll("text, .box, rect.hot")].every((it) => it.getBoundingClientRect().bottom <= edge)"""), (address, count)
 
 
 def test_the_judge_button_is_visible(visitor):

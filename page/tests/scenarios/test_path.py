@@ -64,6 +64,44 @@ def test_each_fast_press_makes_its_own_steps(visitor):
     assert visitor.inside("return listsets.scene.figure.past.length") == 4 and "add(5) returns true" in visitor.text(".said")
 
 
+SENTENCES = """window.told = []; const said = document.querySelector(".said");
+    new MutationObserver(() => { if (window.told.at(-1)?.[0] !== said.innerText) window.told.push([said.innerText, performance.now()]); })
+        .observe(said, { subtree: true, childList: true, characterData: true })"""
+
+
+@pytest.mark.parametrize(("address", "keys"), [("#story=2", "abaabb"), ("#story=5", "aabb"), ("#story=4.2", "bbaab")])
+def test_each_step_of_fast_presses_is_seen(visitor, address, keys):
+    told = []
+    for pressed in (visitor.step, lambda keys: visitor.press(*keys)):
+        visitor.open(address)
+        visitor.script(SENTENCES)
+        pressed(keys)
+        visitor.wait("return (window.wrappedJSObject ?? window).eval('listsets.scene.figure.past.length') === arguments[0]", len(keys))
+        visitor.settle()
+        visitor.idle()
+        told.append(visitor.script("return window.told"))
+    assert [text for text, _ in told[0]] == [text for text, _ in told[1]]
+    if not visitor.script("return matchMedia('(prefers-reduced-motion: reduce)').matches"):
+        assert all(after - before > 100 for (_, before), (_, after) in zip(told[1], told[1][1:]))
+
+
+@pytest.mark.parametrize(("address", "keys"), [("#story=4.3", "bbbaaabb"), ("#story=4.2", "bbbaaabb"), ("#story=3", "3")])
+def test_no_button_says_that_a_thread_starts_again(visitor, address, keys):
+    visitor.open(address)
+    visitor.script("""window.labels = []; new MutationObserver(() => document.querySelectorAll(".step").forEach((it) => window.labels.push(it.innerText)))
+        .observe(document.getElementById("scene"), { subtree: true, childList: true })""")
+    visitor.step(keys)
+    visitor.revealed()
+    visitor.step("aaaaaa" if address == "#story=3" else "")
+    assert [it for it in visitor.script("return window.labels") if "start again" in it] == [] and visitor.script("return window.labels.length") > 0
+
+
+def test_the_path_counts_its_questions(visitor):
+    visitor.open("#story=10")
+    questions = visitor.script("return document.querySelectorAll('.dots a:not(.end)').length")
+    assert questions == 9 and f"answered 0 of the {questions} questions" in visitor.text(".end h2")
+
+
 def test_buttons_do_not_move(visitor):
     visitor.open("#story=5")
     places = set()
@@ -171,7 +209,7 @@ def test_a_returning_visitor_continues_where_they_left(visitor):
     visitor.wait("return location.hash === '#story=4'")
     visitor.settle()
     visitor.open()
-    assert "Welcome back: you have done 1 of 9" in visitor.text(".welcome") and visitor.text("h1").startswith("Can each node")
+    assert "Welcome back: you have answered 1 of the 9 questions" in visitor.text(".welcome") and visitor.text("h1").startswith("Can each node")
     visitor.click(".welcome a")
     visitor.wait("return document.querySelector('h1').innerText.startsWith('How does a thread')")
     assert "done" in visitor.script("return document.querySelectorAll('.dots a')[2].className")

@@ -51,7 +51,7 @@ STILL = """const own = window.matchMedia.bind(window);
 
 
 def fit(visitor, width, height):
-    """Resizes the window. Narrow windows in Chromium are those of a phone, with touch. In Firefox and WebKit, windows
+    """Resizes the window. In Chromium, a narrow window is a phone with touch. In Firefox and WebKit, windows
     cannot be narrower than 450 to 500 pixels.
     """
     if width < 500 and visitor.name == "chromium":
@@ -179,6 +179,6 @@ def test_slides_are_readable(visitor, size):
         assert small == [], number
         visitor.press("PageDown")
         walk.look(f"#lecture={number}, one key on")
-        bars = visitor.script("return [...document.querySelectorAll('.strip text.call')].filter((it) => it.getClientRects().length > 0).map((it) => parseFloat(getComputedStyle(it).fontSize) * it.getScreenCTM().a / innerHeight)")
-        assert all(share > .026 for share in bars), (number, bars)
+        bars = visitor.script("return [...document.querySelectorAll(':is(.strip, #judge-bars) text')].filter((it) => it.getClientRects().length > 0).map((it) => [it.textContent, parseFloat(getComputedStyle(it).fontSize) * it.getScreenCTM().a / innerHeight])")
+        assert all(share > .033 for text, share in bars if text not in ("should", "have")), (number, bars)
     walk.end()

@@ -1,4 +1,4 @@
-"""Tests what teachers use: a lecture, an assignment as a single link, and what a class handed in. Also tests the student
+"""Tests the page for teachers: a lecture, an assignment as a single link, and the hand-ins of a class. Also tests the student
 who opens the link.
 """
 
@@ -68,7 +68,11 @@ def test_completed_tasks_are_ticked_and_handed_in(visitor):
     visitor.unfold("#hand details")
     text = visitor.text("#hand-text")
     assert "student Ada Lovelace (4711000)" in text and "one-lock #list=coarse" in text and "break second-walk #" in text
-    assert "assignment Week 3\n" in text
+    assert "assignment Week 3\n" in text and " named\n" not in text and "Now name the missing check" in visitor.text(".tasks .task[href='#break=7']")
+    visitor.script("localStorage.setItem('listset-named-checks', '[\"second-walk\"]')")
+    visitor.open(LINK)
+    visitor.unfold("#hand details")
+    assert " named\n" in visitor.text("#hand-text") and "Now name" not in visitor.text(".tasks")
     visitor.click("[data-do=save]")
     assert visitor.text("#scene-said") == "Saved: ada-lovelace-4711000-week-3.txt. Hand in this file."
 
@@ -109,13 +113,30 @@ def test_hand_ins_of_a_class_are_checked(visitor):
     assert "2 rows with this name, since a number is missing: max.txt, max-2.txt" in row("Max Maier")
     assert "handed in for “Week 2”: not counted" in row("Eva")
     assert visitor.text(".class tfoot").split()[2:5] == ["31", "of", "33"]
+    assert "CoarseList, #break=1: as Max Maier, Max Maier and 29 more" in row("Student 6\t") and "check not named" in row("Student 6\t")
     visitor.click("#in-wrong")
-    assert visitor.script("return [...document.querySelectorAll('.class tbody tr')].filter((it) => it.getClientRects().length > 0).length") == 0
+    assert visitor.script("return [...document.querySelectorAll('.class tbody tr')].filter((it) => it.getClientRects().length > 0).map((it) => it.cells[0].innerText)") == ["Eva"]
+    assert visitor.text("#in-hidden") == "32 of 33 rows hidden"
     visitor.click("#in-wrong")
+    assert visitor.text("#in-hidden") == ""
     visitor.click(".class thead button", "Same schedules")
     assert "2 of 2 with" in visitor.text(".class tbody tr")
     visitor.type("#in-link", "http://example.org/foo")
     assert visitor.text("#in-said") == "This is not the link of an assignment: “#assignment=” is missing." and not visitor.is_seen(".class")
+
+
+def test_the_table_shows_levels_and_unreadable_texts(visitor):
+    order = "judge read-in-anothers-step {} 0-true,2-true,1-false,3-true"
+    texts = {"Ada (1)": order.format("replies"), "Bo (2)": order.format("points"), "Cy (3)": f"{order.format('points')}\n{order.format('replies')}\n{BROKEN} named",
+             "Di (4)": "This is no line of a solution.", "Ed (5)": ""}
+    visitor.open("#teachers")
+    dropped(visitor, [[f"{name}.txt", HAND_IN.format("Week 3", name, lines)] for name, lines in texts.items()])
+    visitor.wait("return document.querySelectorAll('.class tbody tr').length === 5")
+    rows = visitor.script("return [...document.querySelectorAll('.class tbody tr')].map((it) => it.innerText)")
+    assert "replies and moments" in rows[0] and "moments alone" in rows[1] and "check named" in rows[2]
+    visitor.click("#in-wrong")
+    seen = visitor.script("return [...document.querySelectorAll('.class tbody tr:not([hidden]) th')].map((it) => it.innerText)")
+    assert seen == ["Di", "Ed"] and visitor.text("#in-hidden") == "3 of 5 rows hidden"
 
 
 def test_hand_ins_with_the_same_number_are_one_student(visitor):
@@ -204,6 +225,35 @@ def test_a_slide_accepts_every_key_and_stops_at_the_decision(visitor):
     assert "pred is no longer in the list" in visitor.text(".said") and "No." in visitor.text(".why")
     visitor.press("PageDown")
     visitor.wait("return document.querySelector('.said').innerText.includes('returns true')")
+
+
+def test_the_presenters_keys_end_the_last_slide(visitor):
+    visitor.open("#lecture=11")
+    total = visitor.inside("return listsets.now.run.trace.total")
+    for _ in range(total):
+        visitor.press("PageDown")
+    visitor.wait("return document.getElementById('where').innerText === arguments[0]", f"event {total} of {total}")
+    assert visitor.text("#judge-verdict") == ""
+    visitor.press("PageDown")
+    visitor.wait("return document.getElementById('judge-verdict').innerText.startsWith('The answer: contains returns false')")
+    assert visitor.hash == "#lecture=11" and visitor.in_window("#judge-verdict")
+    visitor.press("PageUp")
+    visitor.wait("return document.getElementById('judge-verdict').innerText === ''")
+    visitor.press("PageDown")
+    visitor.wait("return document.getElementById('judge-verdict').innerText !== ''")
+    visitor.press("PageDown")
+    visitor.wait("return location.hash === '#teachers'")
+
+
+def test_a_slide_names_the_key_of_the_next_step(visitor):
+    for number, key in ((2, "3"), (3, "2")):
+        visitor.open(f"#lecture={number}")
+        visitor.press(key)
+        visitor.idle()
+        visitor.wait("return document.getElementById('prompt').innerText.includes('Press → for the next step')")
+        visitor.press("Right")
+        visitor.revealed()
+        assert "Press →" not in visitor.text("#prompt")
 
 
 def test_a_slide_adapts_to_its_window(visitor):

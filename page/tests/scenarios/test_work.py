@@ -116,7 +116,7 @@ def test_the_readers_order_is_judged(visitor):
     for call, moment in enumerate((10, 23.5, 23, 36)):
         visitor.inside("""const { judging } = listsets; judging.place(judging.exercise.calls[given[0]], given[1])""", call, moment)
     visitor.click("#judge-ask")
-    assert visitor.text("#judge-verdict").startswith("check says ok") or "in your order" in visitor.text("#judge-verdict")
+    assert visitor.text("#judge-verdict").startswith("Right: in this order") or "in your order" in visitor.text("#judge-verdict")
     visitor.click("#judge-end")
     assert visitor.is_seen("#past") and visitor.focus() == "BUTTON judge-begin"
 
@@ -134,7 +134,7 @@ def test_a_numbered_run_is_the_same_for_everyone(visitor, another):
 
 
 def test_a_slow_network(visitor):
-    """While the engine loads, the page says what it is about."""
+    """Checks that the page describes itself while the engine is loaded."""
     visitor.go(f"{visitor.place}/slow.html#example=snip&event=3")
     assert "Two threads share one list" in visitor.text("#scene") and not visitor.is_seen("#bench")
     visitor.wait("return document.body.dataset.ready === 'yes'")
