@@ -118,7 +118,8 @@ abbrev pub ComesFirst : Option CallRecord → Option CallRecord → Type 0
 ComesFirst first None = Unit {0}
 ComesFirst first (Some y) = EndsBefore first y.begun
 
--- States that no two calls on a key clash of which the first ends before the second starts.
+-- States that no call on a key clashes with a later call: one that starts after the first call has ended. Also states
+-- that no call clashes with the key's opening state, or with its final state.
 abbrev pub HasNoClash : List CallRecord → ℕ → Presence → Option Presence → Type 0
 HasNoClash calls key there left = (was : Presence) (first second : Option CallRecord) → ComesFirst first second
     → IsClash calls key there left was first second → ⊥

@@ -31,14 +31,15 @@ abbrev pub ClashesIn : List ℕ → List CallRecord → ℕ → Option Presence 
 ClashesIn opening calls key left c =
     IsClash calls key (presence (has_key key opening)) left c.was (record_if c.first) (record_if c.second)
 
--- States that no two calls on a key clash of which the first ends before the second starts.
+-- States that no call on a key clashes with a later call: one that starts after the first call has ended. Also states
+-- that no call clashes with the key's opening state, or with its final state.
 abbrev pub HasNoClashIn : List ℕ → List CallRecord → ℕ → Option Presence → Type 0
 HasNoClashIn opening calls key left = HasNoClash calls key (presence (has_key key opening)) left
 
 -- States that a verdict is correct. If it includes a clash, the clash is on the key that the reason (`refusal`) names.
 -- The clash involves the key's final state only if the reason is about the final keys.
--- If the verdict includes no clash, no two calls on this key clash of which the first ends before the second starts.
--- Neither does a call clash with the key's opening state, nor with its final state.
+-- If the verdict includes no clash, no call on this key clashes with a later call, with the key's opening state, or with
+-- its final state.
 abbrev pub IsVerdict : ℕ → List ℕ → List CallRecord → List ℕ → Verdict → Type 0
 IsVerdict threads opening calls keys verdict.Linearizable = IsStreamVerdict (stream_history threads opening calls) keys Linearizable
 IsVerdict threads opening calls keys (verdict.NotLinearizable refusal clash) =

@@ -20,7 +20,8 @@ pub enum Verdict {
     /// Some order explains the calls, from the opening keys, and leaves the final keys.
     Linearizable,
     /// No order explains the calls and leaves the final keys. Contains the reason, and two calls on its key that clash.
-    /// Contains no clash only if no two calls on this key clash of which the first ends before the second starts.
+    /// Contains no clash only if no call on this key clashes with a later call: one that starts after the first call has
+    /// ended.
     NotLinearizable(Refusal, Option<Clash>),
 }
 
@@ -47,8 +48,8 @@ fn left_as(keys: &[u32], refusal: Refusal) -> Option<Presence>
     }
 }
 
-/// Returns two clashing calls on the key that `refusal` (the reason of the verdict) names. Returns `None` only if no two
-/// calls on this key clash of which the first ends before the second starts.
+/// Returns two clashing calls on the key that `refusal` (the reason of the verdict) names. Returns `None` only if no call
+/// on this key clashes with a later call: one that starts after the first call has ended.
 fn clash_for(stream: &Stream, refusal: Refusal, left: Option<Presence>) -> Option<Clash>
     requires told { IsToldBy stream.now.failed (NotLinearizable refusal) }
     requires left { IsSome left → refusal.moment ≡ None }
