@@ -29,7 +29,7 @@ use Rattle.lset_judge.specs.Events.{Kind, changes, sees, nothing, kind_as, kind_
 use Rattle.lset_judge.specs.Rest.{alone, has_ended, key_if, turns_to}
 use Rattle.lset_judge.specs.Verdict.{IsUnexplained}
 use Rattle.lset_judge.specs.Clash.{records, HaveNone, record_if, is_apart, other, left_so, needed_by, leaves_if, needs_if, IsOf, is_before, NothingTurns, Clashes, IsClash}
-use Rattle.lset_judge.proofs.EventLemmas.{kind, until, told, opens_so}
+use Rattle.lset_judge.proofs.EventLemmas.{kind, until, told, end_below, opens_so}
 use Rattle.lset_judge.proofs.PlacedCalls.{below_test}
 use Rattle.lset_judge.proofs.TimelineOfKey.{In, one_of, Act, act, suits, becomes, TakeTurns, Apart, IsAct}
 use Rattle.lset_judge.proofs.TimelineFromOrder.{does, begins_told, stands, ready}
@@ -98,7 +98,7 @@ after_left left s b x (p ∷ ys) turns pairs (inr i) l n = after_left left (beco
 
 -- ---- Lemmas about the states that calls leave and the states that calls need
 
-some_same : (p q : Presence) → Some p ≡ Some q → p ≡ q
+pub some_same : (p q : Presence) → Some p ≡ Some q → p ≡ q
 some_same p q e = cc
 
 leaves_so : (f : Effect) (p : Presence) → left_so f ≡ Some p → Leaves (is_there p) (kind_as f)
@@ -135,12 +135,12 @@ other_left : (p : Presence) (b : Bool) → is_there p ≡ b → b ≡ is_there (
 other_left Present b e f = true≢false (e ∙ f)
 other_left Absent b e f = true≢false (sym (e ∙ f))
 
-ended_by_then : (since u last : ℕ) (x : CallRecord) (o : Option (ℕ × Reply)) → x.ended ≡ o → until last x ≡ u → has_ended since o ≡ true → u ≤ since
+pub ended_by_then : (since u last : ℕ) (x : CallRecord) (o : Option (ℕ × Reply)) → x.ended ≡ o → until last x ≡ u → has_ended since o ≡ true → u ≤ since
 ended_by_then since u last x None e is h = absurd (true≢false (sym h))
 ended_by_then since u last x (Some d) e is h =
     let same : until last x ≡ d.0 = rw e refl in let low : d.0 ≤ since = grind (arith, nat_tests) in omega (arith, same, is, low)
 
-before_end : (begun : ℕ) (e : ℕ × Reply) (y : CallRecord) → y.ended ≡ Some e → begun < e.0 → is_before begun (Some y) ≡ true
+pub before_end : (begun : ℕ) (e : ℕ × Reply) (y : CallRecord) → y.ended ≡ Some e → begun < e.0 → is_before begun (Some y) ≡ true
 before_end begun e y is l = rw is (below_test begun e.0 l)
 
 -- ---- Lemmas about the acts that an order of the calls determines. An act is the effect of a call on the key.
@@ -149,7 +149,8 @@ module _ (threads : ℕ) (calls : List CallRecord) (history : IsHistory threads 
     (there : Presence) (left : Option Presence) (finally : Bool) (leaves : IfSome left (λ (l : Presence). finally ≡ is_there l))
     (ys : List Act) (turns : TakeTurns finally (is_there there) ys) (pairs : Pairs Apart ys)
     (acts : AllByRecursion (IsAct (λ m. event_at last k calls m) last) ys)
-    (stand : (n : ℕ) (e : ℕ × Reply) → n < length calls → (get_or calls n no_call).ended ≡ Some e → (key_of (get_or calls n no_call).call).0 ≡ k
+    (now : ℕ)
+    (stand : (n : ℕ) (e : ℕ × Reply) → n < length calls → (get_or calls n no_call).ended ≡ Some e → (key_of (get_or calls n no_call).call).0 ≡ k → e.0 ≤ now
     → In (act (get_or calls n no_call).begun e.0 (kind (get_or calls n no_call))) ys) where
   abbrev act_for : CallRecord → ℕ × Reply → Act
   act_for x e = act x.begun e.0 (kind x)
@@ -157,11 +158,11 @@ module _ (threads : ℕ) (calls : List CallRecord) (history : IsHistory threads 
   is_act : (a : Act) → In a ys → IsAct (λ m. event_at last k calls m) last a
   is_act a i = one_of (IsAct (λ m. event_at last k calls m) last) a ys acts i
 
-  stands_for : (x : CallRecord) (e : ℕ × Reply) → IsOf calls k x → x.ended ≡ Some e → In (act_for x e) ys
-  stands_for x e is ended =
+  stands_for : (x : CallRecord) (e : ℕ × Reply) → IsOf calls k x → x.ended ≡ Some e → e.0 ≤ now → In (act_for x e) ys
+  stands_for x e is ended by =
       let at : get_or calls is.known.0 no_call ≡ x = get_or_default calls is.known.0 no_call x is.known.1 ∙ is.known.2 in
-      subst (λ (z : CallRecord). z.ended ≡ Some e → (key_of z.call).0 ≡ k → In (act z.begun e.0 (kind z)) ys) at
-      (stand is.known.0 e is.known.1) ended is.own
+      subst (λ (z : CallRecord). z.ended ≡ Some e → (key_of z.call).0 ≡ k → e.0 ≤ now → In (act z.begun e.0 (kind z)) ys) at
+      (stand is.known.0 e is.known.1) ended is.own by
 
   positive : (a : Act) → In a ys → 0 < a.until
   positive a i = let l = (is_act a i).ends_later in omega (arith, l)
@@ -188,24 +189,27 @@ module _ (threads : ℕ) (calls : List CallRecord) (history : IsHistory threads 
       (left_end x.call x.ended v c.was_so.1).2
       (λ a i q s t. none v x.begun (Some y) c.nothing a i q s (before_end a.begun e y ended t)))
 
-  clash : (was : Presence) (first second : Option CallRecord) → IsClash calls k there left was first second → ⊥
-  clash was None None c = other_left was finally
+  abbrev IsBy : Option CallRecord → Type 0
+  IsBy o = (x : CallRecord) (e : ℕ × Reply) → IsOf calls k x → o ≡ Some x → x.ended ≡ Some e → e.0 ≤ now
+
+  pub clash : (was : Presence) (first second : Option CallRecord) → IsBy first → IsBy second → IsClash calls k there left was first second → ⊥
+  clash was None None by also c = other_left was finally
       (stays_left finally (is_there there) (is_there was) ys (ap is_there c.0.was_so) turns
       (λ a i d. none was 0 None c.0.nothing a i d (positive a i) refl)) (otherwise was c.0.needed)
-  clash was None (Some y) c =
+  clash was None (Some y) by also c =
       let e = need_end y.call y.ended was c.0.needed.1 in
-      e.2 (stays finally (is_there there) (is_there was) (act_for y e.0) ys (ap is_there c.0.was_so) turns pairs (stands_for y e.0 c.0.needed.0 e.1)
+      e.2 (stays finally (is_there there) (is_there was) (act_for y e.0) ys (ap is_there c.0.was_so) turns pairs (stands_for y e.0 c.0.needed.0 e.1 (also y e.0 c.0.needed.0 refl e.1))
       (λ a i d b. none was 0 (Some y) c.0.nothing a i d (positive a i) (before_end a.begun e.0 y e.1 b)))
-  clash was (Some x) None c =
+  clash was (Some x) None by also c =
       let d = left_end x.call x.ended was c.0.was_so.1 in
       other_left was finally
-      (after_left finally (is_there there) (is_there was) (act_for x d.0) ys turns pairs (stands_for x d.0 c.0.was_so.0 d.1) d.2
+      (after_left finally (is_there there) (is_there was) (act_for x d.0) ys turns pairs (stands_for x d.0 c.0.was_so.0 d.1 (by x d.0 c.0.was_so.0 refl d.1)) d.2
       (λ a i q s. none was x.begun None c.0.nothing a i q s refl)) (otherwise was c.0.needed)
-  clash was (Some x) (Some y) c =
+  clash was (Some x) (Some y) by also c =
       let d = left_end x.call x.ended was c.0.was_so.1 in
       let e = need_end y.call y.ended was c.0.needed.1 in
-      let i = stands_for x d.0 c.0.was_so.0 d.1 in
-      let j = stands_for y e.0 c.0.needed.0 e.1 in
+      let i = stands_for x d.0 c.0.was_so.0 d.1 (by x d.0 c.0.was_so.0 refl d.1) in
+      let j = stands_for y e.0 c.0.needed.0 e.1 (also y e.0 c.0.needed.0 refl e.1) in
       elim c.1 [
         | inl p ↦ (let first : d.0.0 < y.begun = subst (λ o. IsSomeAnd o (λ (f : ℕ × Reply). f.0 < y.begun)) d.1 p in
             let long = (is_act (act_for x d.0) i).ends_later in
@@ -230,8 +234,12 @@ clash_refutes h keys k there left was first second history opens leaves c order 
     let r = ready h.opening.threads h.calls history last upto k h.opening.quota (opening_set h.opening) order ex.linearizes (has_key k keys) l in
     let acts : List Act = map (λ (p : Placed). act (get_or h.calls p.call no_call).begun (until last (get_or h.calls p.call no_call)) (does k (get_or h.calls p.call no_call).call p.reply)) order in
     clash h.opening.threads h.calls history last upto k there left (has_key k keys) leaves acts
-    (subst (λ b. TakeTurns (has_key k keys) b acts) opens r.take_turns) r.pairs r.acts
-    (stands h.opening.threads h.calls history last upto k h.opening.quota (opening_set h.opening) order ex.linearizes) was first second c
+    (subst (λ b. TakeTurns (has_key k keys) b acts) opens r.take_turns) r.pairs r.acts last
+    (λ n e low is own by. stands h.opening.threads h.calls history last upto k h.opening.quota (opening_set h.opening) order ex.linearizes n e low is own)
+    was first second (by_last first) (by_last second) c
+  where
+    by_last : (o : Option CallRecord) (x : CallRecord) (e : ℕ × Reply) → IsOf h.calls k x → o ≡ Some x → x.ended ≡ Some e → e.0 ≤ latest_moment h.calls
+    by_last o x e is same ended = end_below h.calls is.known.0 x e is.known.1 (ap (λ (z : CallRecord). z.ended) is.known.2 ∙ ended)
 
 -- If two calls on a key clash, no order explains the key's calls, with any quota.
 pub clash_has_none : (threads key : ℕ) (there : Presence) (left : Option Presence) (was : Presence) (first second : Option CallRecord) (calls : List CallRecord)

@@ -148,7 +148,7 @@ module _ (threads : ℕ) (opening : List ℕ) (calls : List CallRecord) (s : Str
   abbrev h : HistoryValue
   h = stream_history threads opening calls
 
-  all_over : (n : ℕ) → n < length calls → IfSome (call_numbered calls n).ended (λ (e : ℕ × Reply). e.0 ≤ s.moment)
+  pub all_over : (n : ℕ) → n < length calls → IfSome (call_numbered calls n).ended (λ (e : ℕ × Reply). e.0 ≤ s.moment)
   all_over n low = for_some (λ (e : ℕ × Reply). e.0 ≤ s.moment) (call_numbered calls n).ended (λ e q. elim (is.pending.kept n low) [
     | inl over ↦ (let u = over.2 in let same = ap (λ (z : ℕ × Reply). z.0) (same_some (call_numbered calls n).ended e over.0 q over.1) in omega (arith, same, u))
     | inr c ↦ absurd (

@@ -1,6 +1,6 @@
 -- Proof: the facts that the judge stores about the calls on each key are correct when the set opens, and stay correct
 -- when a call starts or ends. The facts let the judge find a clash: two calls that rule out every order.
-use Rattle.std.proofs.Common.{inl, inr, ◌≡◌, ◌≢◌, ◌⊎◌, ℕ, suc, ◌-◌, ◌<◌, ◌≤◌, true, false, List, [], ◌∷◌, ◌++◌, refl, sym, ap, ◌∙◌, arith, subst, length, get_or}
+use Rattle.std.proofs.Common.{inl, inr, ◌≡◌, ◌≢◌, ℕ, suc, ◌-◌, ◌<◌, ◌≤◌, true, false, List, [], ◌∷◌, ◌++◌, refl, sym, ap, ◌∙◌, arith, subst, length, get_or}
 use Rattle.std.proofs.Common.{append_assoc, append-nil}
 use Rattle.std.specs.Prelude.{Option, Some, None, IfSome, IsSomeAnd, All, Contains, is_some, nat_lt}
 use Rattle.std.proofs.Math.Nat.{le-max_left, le-max_right}
@@ -29,10 +29,10 @@ use Rattle.lset_judge.specs.declared.stream.StreamVerdict.TheVariants.{NotLinear
 use Rattle.lset_judge.specs.Rule.{Event, begins, ends, looks, leaves, idle, State, fits, found, entered, open_changes}
 use Rattle.lset_judge.specs.Events.{Kind, changes, sees, nothing, kind_if, until_if, begin_event, end_event}
 use Rattle.lset_judge.specs.Rest.{has_ended, turns_to}
-use Rattle.lset_judge.specs.Clash.{record_if, other, leaves_if, needs_if, IsOf, WasSo, since_of, is_before, is_before_end, NothingTurns, Clashes, InOrder, IsClash}
+use Rattle.lset_judge.specs.Clash.{record_if, other, needs_if, IsOf, WasSo, since_of, is_before, is_before_end, NothingTurns, Clashes, InOrder, IsClash}
 use Rattle.lset_judge.specs.Stream.{behind_all, record_of, pending_of, key_in, event_of, state_for, IsBefore, IsMetBy, IsToldBy, IsStreamOf, failed_verdict}
-use Rattle.lset_judge.specs.Facts.{Facts, first_of, until_of, facts_opened, facts_for, begun_by, IsEnded, IsKept, AreOverBy, AreFacts, IsClashBy, AreKnownBy, IsStreamKept}
-use Rattle.lset_judge.specs.Facts.{IsStanding, EndsBy, ClashTurned, ComesAfter, IsClashing, IsFound, IsFoundLeft, BeginIsKnown, EndIsKept, EndIsKnown, ClashesStream, clash_met}
+use Rattle.lset_judge.specs.Facts.{Facts, first_of, until_of, facts_opened, facts_for, begun_by, IsEnded, AreOverBy, AreFacts, IsClashBy, AreKnownBy, IsStreamKept}
+use Rattle.lset_judge.specs.Facts.{EndsBy, ClashTurned, ComesAfter, IsFound, IsFoundLeft, BeginIsKnown, EndIsKept, EndIsKnown, ClashesStream, clash_met}
 use Rattle.lset_judge.specs.Judge.{ClashesIn}
 use Rattle.lset_judge.specs.Pending.{IsNext}
 use Rattle.lset_judge.proofs.RuleLeads.{at_once}
@@ -59,7 +59,7 @@ need_ends : (c : Call) (o : Option (ℕ × Reply)) (p : Presence) → needs_if c
 need_ends c None p h = absurd cc
 need_ends c (Some e) p h = (e, refl)
 
-is_of_more : (calls later : List CallRecord) (key : ℕ) (x : CallRecord) → IsOf calls key x → IsOf (calls ++ later) key x
+pub is_of_more : (calls later : List CallRecord) (key : ℕ) (x : CallRecord) → IsOf calls key x → IsOf (calls ++ later) key x
 is_of_more calls later key x is = record { known = Contains-append_left calls later x is.known; own = is.own }
 
 was_more : (calls later : List CallRecord) (key : ℕ) (there was : Presence) (first : Option CallRecord) → WasSo calls key there was first
@@ -150,7 +150,7 @@ module _ (opening : List ℕ) (calls : List CallRecord) (key : ℕ) (f : Facts) 
 abbrev own_key : StreamCall → ℕ
 own_key call = (key_of call.call).0
 
-clash_found : (opening : List ℕ) (calls : List CallRecord) (f : Facts) (call : StreamCall) → AreFacts opening calls (own_key call) f
+pub clash_found : (opening : List ℕ) (calls : List CallRecord) (f : Facts) (call : StreamCall) → AreFacts opening calls (own_key call) f
     → All IsBefore calls → (moment : ℕ) (c : Clash) → IsFound f call c → IsOf calls (own_key call) (record_of call)
     → ((e : ℕ × Reply) → call.ended ≡ Some e → e.0 ≤ moment) → IsClashBy opening calls moment (own_key call) c
 clash_found opening calls f call facts before moment c s is by_then = λ later after.
@@ -164,7 +164,7 @@ clash_found opening calls f call facts before moment c s is by_then = λ later a
 
 pub ended_facts : (opening : List ℕ) (calls : List CallRecord) (call : StreamCall) (old new : Facts) → AreFacts opening calls (own_key call) old
     → IsEnded call old new → IsOf calls (own_key call) (record_of call) → AreFacts opening calls (own_key call) new
-ended_facts opening calls call old new facts (inl same) is = subst (AreFacts opening calls (own_key call)) (sym same) facts
+ended_facts opening calls call old new facts (inl same) is = subst (AreFacts opening calls (own_key call)) (sym same.same) facts
 ended_facts opening calls call old new facts (inr kept) is = record {
   was = subst (λ (o : Option StreamCall). WasSo calls (own_key call) (presence (has_key (own_key call) opening)) new.was (record_if o)) (sym kept.first)
       (is, kept.leaves);
@@ -188,7 +188,7 @@ module _ (threads : ℕ) (opening : List ℕ) (calls : List CallRecord) (s t : S
   abbrev key : ℕ
   key = key_in p
 
-  has_next : Contains s.pending p
+  pub has_next : Contains s.pending p
   has_next = Contains-permutation (p ∷ rest) s.pending p (IsPermutation-sym s.pending (p ∷ rest) next.is) (0, omega arith, refl)
 
   later_end : s.moment ≤ t.moment
@@ -197,16 +197,18 @@ module _ (threads : ℕ) (opening : List ℕ) (calls : List CallRecord) (s t : S
   numbered : (n : ℕ) × (n < length calls) × (p ≡ pending_of (call_numbered calls n))
   numbered = All-contains (λ (q : Pending). (n : ℕ) × (n < length calls) × (q ≡ pending_of (call_numbered calls n))) s.pending p is.pending.known has_next
 
-  is_own : IsOf calls key (record_of p.call)
+  pub is_own : IsOf calls key (record_of p.call)
   is_own = record {
     known = subst (λ (q : Pending). Contains calls (record_of q.call)) (sym numbered.2) (Contains-get_or calls numbered.0 no_call numbered.1);
     own = refl;
   }
 
-  ends_at : (e : ℕ × Reply) → p.call.ended ≡ Some e → e.0 ≤ t.moment
-  ends_at e at =
-      let same : e.0 ≡ t.moment = sym (moment ∙ subst (λ (q : Pending). q.end ≡ until_if behind_all q.call.begun q.call.ended) (sym numbered.2) refl
-      ∙ ap (until_if behind_all p.call.begun) at) in omega (arith, same)
+  pub ends_now : (e : ℕ × Reply) → p.call.ended ≡ Some e → e.0 ≡ t.moment
+  ends_now e at = sym (moment ∙ subst (λ (q : Pending). q.end ≡ until_if behind_all q.call.begun q.call.ended) (sym numbered.2) refl
+      ∙ ap (until_if behind_all p.call.begun) at)
+
+  pub ends_at : (e : ℕ × Reply) → p.call.ended ≡ Some e → e.0 ≤ t.moment
+  ends_at e at = let same = ends_now e at in omega (arith, same)
 
   kept_clash : (clash : Option Clash) (f : Failed) → f.key.0 ≡ key → EndIsKept s.states p.call t.states clash → AreFacts opening calls key (facts_for s.states key)
       → AreKnownBy opening calls t.moment t.states (Some f) clash
@@ -238,14 +240,14 @@ module _ (threads : ℕ) (opening : List ℕ) (calls : List CallRecord) (s t : S
 
 -- ---- The stored facts about the calls on each key stay correct when a call starts
 
-first_still : (v : Event) (k : ℕ) (f : Facts) → first_of k (begun_by v f) ≡ first_of k f
+pub first_still : (v : Event) (k : ℕ) (f : Facts) → first_of k (begun_by v f) ≡ first_of k f
 first_still (begins w u) k f = refl
 first_still (ends w) k f = refl
 first_still (looks w n) k f = refl
 first_still (leaves w) k f = refl
 first_still idle k f = refl
 
-was_still : (v : Event) (f : Facts) → (begun_by v f).was ≡ f.was
+pub was_still : (v : Event) (f : Facts) → (begun_by v f).was ≡ f.was
 was_still (begins w u) f = refl
 was_still (ends w) f = refl
 was_still (looks w n) f = refl
@@ -270,7 +272,7 @@ until_own (changes false) u Absent f t = le-max_right f.takes_until u
 until_own (sees w) u to f t = absurd (true≢false (sym t))
 until_own nothing u to f t = absurd (true≢false (sym t))
 
-never_fails : (kind : Kind) (u m : ℕ) (s : State) → entered (begin_event kind u) (found m (begin_event kind u) s) ≡ None → ⊥
+pub never_fails : (kind : Kind) (u m : ℕ) (s : State) → entered (begin_event kind u) (found m (begin_event kind u) s) ≡ None → ⊥
 never_fails kind u m s e = true≢false (ap is_some (sym (ap (entered (begin_event kind u)) (at_once (open_changes s) m (begin_event kind u) s (fit kind))) ∙ e))
   where
     fit : (k : Kind) → fits (suc m) (begin_event k u) s ≡ true

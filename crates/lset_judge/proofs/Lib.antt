@@ -18,3 +18,5 @@ pub mod OrderAsRead
 pub mod ClashOfKey
 pub mod FactsGoOn
 pub mod CountOfKey
+pub mod NoClashYet
+pub mod FactsSuffice

@@ -625,7 +625,7 @@ module _ (threads : ℕ) (calls : List CallRecord) (history : IsHistory threads 
     was_some m v None e = e
     was_some m v (Some s) e = refl
 
-    run : (m : ℕ) → m ≤ last → ((k : ℕ) → is_some (after k m) ≡ true)
+    pub run : (m : ℕ) → m ≤ last → ((k : ℕ) → is_some (after k m) ≡ true)
         → (o : List Placed) × Built m o × ((k : ℕ) → (s : State) × Link k m s o × (after k m ≡ Some s))
     run zero low each = ([], first_built, λ k. (opened (has_key k start.keys), first_link k, refl))
     run (suc m) low each =
@@ -664,13 +664,18 @@ module _ (threads : ℕ) (calls : List CallRecord) (history : IsHistory threads 
   contains_placed n r (p ∷ ps) h (inr i) =
       let rest = contains_placed n r ps (λ k d l. h (suc k) d (omega arith)) i in let l = rest.1 in (suc rest.0, omega (arith, l), rest.2)
 
+  -- The order contains each call that has ended.
+  pub contains_ended : (m : ℕ) (o : List Placed) → Built m o → (n : ℕ) (e : ℕ × Reply) → n < length calls → (x_ n).ended ≡ Some e → e.0 ≤ m
+      → Contains o (put n e.1)
+  contains_ended m o b n e low s early = contains_placed n e.1 o
+      (λ i d l q. sym (subst (λ z. IfSome z (λ (f : ℕ × Reply). f.1 ≡ (get_or o i d).reply)) (ap (λ j. (x_ j).ended) q ∙ s) (b.replies i d l)))
+      (b.ended n e low s early)
+
   pub linearizes : (o : List Placed) → Built last o → Linearizes quota start calls o
   linearizes o b = record {
     known = b.known;
     once = b.once;
-    ended = λ n e r low s. contains_placed n r o
-        (λ i d l q. sym (subst (λ z. IfSome z (λ (f : ℕ × Reply). f.1 ≡ (get_or o i d).reply)) (ap (λ j. (x_ j).ended) q ∙ s) (b.replies i d l)))
-        (b.ended n (e, r) low s (let a = end_below calls n no_call (e, r) low s in omega (arith, a, upto)));
+    ended = λ n e r low s. contains_ended last o b n (e, r) low s (let a = end_below calls n no_call (e, r) low s in omega (arith, a, upto));
     legal = b.legal;
     in_time = b.in_time;
   }

@@ -24,7 +24,7 @@ use Rattle.lset_history.proofs.Pairs.{pairs_head, pairs_tail}
 use Rattle.lset_judge.specs.Rule.{Event, begins, looks, leaves, idle, opened, changes_to}
 use Rattle.lset_judge.specs.Events.{Kind, changes, sees, nothing, kind_of, open_kind, kind_if, until_if, begin_event, end_event, event_at}
 use Rattle.lset_judge.specs.Events.{RulePasses}
-use Rattle.lset_judge.proofs.EventLemmas.{kind, until, begun_below, end_below, Begins, Ends, Told, of_nothing, of_begin, of_end, told, begins_at, if_some, none_or_some}
+use Rattle.lset_judge.proofs.EventLemmas.{kind, until, begun_below, end_below, Begins, Ends, Told, of_nothing, of_begin, of_end, told, begins_at, if_some, for_some, none_or_some}
 use Rattle.lset_history.proofs.Keys.{has_with, has_with_other, has_without, has_without_other}
 use Rattle.lset_judge.proofs.TimelineOfKey.{In, Act, act, suits, becomes, TakeTurns, Apart, IsAct, AreEvents, Lists, Ready, succeeds, one_of}
 
@@ -100,14 +100,14 @@ module _ (threads : ℕ) (calls : List CallRecord) (history : IsHistory threads 
   late_end None begun c b h = omega (arith, c, b)
   late_end (Some e) begun c b h = h
 
-  begins_differ : (i j : ℕ) → i < length calls → j < length calls → i ≢ j → (x_ i).begun ≢ (x_ j).begun
+  pub begins_differ : (i j : ℕ) → i < length calls → j < length calls → i ≢ j → (x_ i).begun ≢ (x_ j).begun
   begins_differ i j a b n same = elim (cases_order i j) [
     | inl e ↦ n e
     | inr (inl l) ↦ (let r = (follows i j l b).increasing in omega (arith, r, same))
     | inr (inr l) ↦ (let r = (follows j i l a).increasing in omega (arith, r, same))
   ]
 
-  end_apart : (i j : ℕ) (e : ℕ × Reply) → i < length calls → j < length calls → i ≢ j → (x_ j).ended ≡ Some e → e.0 ≢ (x_ i).begun
+  pub end_apart : (i j : ℕ) (e : ℕ × Reply) → i < length calls → j < length calls → i ≢ j → (x_ j).ended ≡ Some e → e.0 ≢ (x_ i).begun
   end_apart i j e a b n s = elim (cases_order i j) [
     | inl q ↦ absurd (n q)
     | inr (inl l) ↦ (if_some (λ f. (f.0 ≢ (x_ i).begun) × IfSome (x_ i).ended (λ (d : ℕ × Reply). f.0 ≢ d.0)) (x_ j).ended e s (follows i j l b).ends_alone).0
@@ -233,7 +233,7 @@ module _ (threads : ℕ) (calls : List CallRecord) (history : IsHistory threads 
     in_map (q ∷ ps) zero p l e = inl (ap act_of e)
     in_map (q ∷ ps) (suc n) p l e = inr (in_map ps n p (omega arith) e)
 
-    pairs_map : (ps : List Placed) → All (λ (p : Placed). p.call < length calls) ps → AllPairs (λ (p r : Placed). p.call ≢ r.call) ps
+    pub pairs_map : (ps : List Placed) → All (λ (p : Placed). p.call < length calls) ps → AllPairs (λ (p r : Placed). p.call ≢ r.call) ps
         → AllPairs (λ (p r : Placed). Precedes (call_numbered calls r.call) (call_numbered calls p.call) → ⊥) ps
         → Pairs Apart (map act_of ps)
     pairs_map [] known once time = tt
@@ -253,13 +253,55 @@ module _ (threads : ℕ) (calls : List CallRecord) (history : IsHistory threads 
               (pairs_tail (λ (p r : Placed). Precedes (call_numbered calls r.call) (call_numbered calls p.call) → ⊥) p ps time),
         )
 
-    turns_map : (quota : ℕ) (left : Bool) (ps : List Placed) (s : SetState) → IsLegal quota s (map (answered calls) ps)
+    pub turns_map : (quota : ℕ) (left : Bool) (ps : List Placed) (s : SetState) → IsLegal quota s (map (answered calls) ps)
         → has_key k (set_left s (map (answered calls) ps)).keys ≡ left → TakeTurns left (has_key k s.keys) (map act_of ps)
     turns_map quota left [] s l e = e
     turns_map quota left (p ∷ ps) s l e =
         let one = does_one k quota (x_ p.call).thread s (x_ p.call).call p.reply l.0 in
         let next : SetState = after_call s (x_ p.call).thread (x_ p.call).call p.reply in
         (one.0, subst (λ b. TakeTurns left b (map act_of ps)) one.1 (turns_map quota left ps next l.1 e))
+
+    -- The reply of each completed call in the order is its reply in the history.
+    abbrev pub SameReplies : List Placed → Type 0
+    SameReplies order = All (λ (p : Placed). IfSome (x_ p.call).ended (λ (e : ℕ × Reply). e.1 ≡ p.reply)) order
+
+    own_if : (c : Call) (r : Reply) (w : Bool) → does k c r ≡ changes w → ((key_of c).0 ≡ k) × (kind_of c r ≡ changes w)
+    own_if c r w e = elim (cases_Bool ((key_of c).0 == k)) [
+      | inl t ↦ (same_number _ _ t, rw t at e)
+      | inr f ↦ absurd (let g : nothing ≡ changes w = rw f at e in cc)
+    ]
+
+    kind_there : (x : CallRecord) (r : Reply) (w : Bool) → IfSome x.ended (λ (e : ℕ × Reply). e.1 ≡ r) → kind_of x.call r ≡ changes w → kind x ≡ changes w
+    kind_there x r w same e = elim (none_or_some x.ended) [
+      | inl s ↦ subst (λ o. kind_if x.call o ≡ changes w) (sym s) (open_change x.call r w e)
+      | inr s ↦ subst (λ o. kind_if x.call o ≡ changes w) (sym s.1)
+          (subst (λ q. kind_of x.call q ≡ changes w) (sym (if_some (λ (e : ℕ × Reply). e.1 ≡ r) x.ended s.0 s.1 same)) e)
+    ]
+
+    pub acts_are : (order : List Placed) → All (λ (p : Placed). p.call < length calls) order → SameReplies order → AllByRecursion (IsAct ev last) (map act_of order)
+    acts_are order known replies = all_map (IsAct ev last) order (λ i d low.
+        let p : Placed = get_or order i d in
+        let is : p.call < length calls = known i d low in
+        let c = is_call p.call is in record {
+          counted = c.counted;
+          inside = begun_low p.call is;
+          ends_later = late_end (x_ p.call).ended (x_ p.call).begun c.counted (begun_low p.call is) c.ends_later;
+          told = λ w e.
+              let own = own_if (x_ p.call).call p.reply w e in
+              let at = begins_at last k p.call calls is history.pairs own.0 in
+              let kd = kind_there (x_ p.call) p.reply w (replies i d low) own.1 in
+              at ∙ ap (λ q. begin_event q (until last (x_ p.call))) kd;
+        })
+
+    -- The order contains the act (the effect) of a completed call on the key, if it contains the call.
+    pub stands_if : (order : List Placed) (n : ℕ) (e : ℕ × Reply) → Contains order (record { call = n; reply = e.1 }) → (x_ n).ended ≡ Some e
+        → (key_of (x_ n).call).0 ≡ k → In (act (x_ n).begun e.0 (kind (x_ n))) (map act_of order)
+    stands_if order n e c s own =
+        let i = in_map order c.0 (record { call = n; reply = e.1 }) c.1 c.2 in
+        let a : until last (x_ n) ≡ e.0 = until_ended n e s in
+        let b : does k (x_ n).call e.1 ≡ kind (x_ n) = rw (equal_test (key_of (x_ n).call).0 k own) (rw s refl) in
+        subst (λ u. In (act (x_ n).begun u (kind (x_ n))) (map act_of order)) a
+        (subst (λ q. In (act (x_ n).begun (until last (x_ n)) q) (map act_of order)) b i)
 
     module _ (quota : ℕ) (start : SetState) (order : List Placed) (l : Linearizes quota start calls order) where
       -- A completed call has the same reply in the order as in the history.
@@ -275,53 +317,19 @@ module _ (threads : ℕ) (calls : List CallRecord) (history : IsHistory threads 
             | inr (inr a) ↦ absurd (l.once c.0 i d a low (ap (λ (r : Placed). r.call) is))
           ]
 
-      own_if : (c : Call) (r : Reply) (w : Bool) → does k c r ≡ changes w → ((key_of c).0 ≡ k) × (kind_of c r ≡ changes w)
-      own_if c r w e = elim (cases_Bool ((key_of c).0 == k)) [
-        | inl t ↦ (same_number _ _ t, rw t at e)
-        | inr f ↦ absurd (let g : nothing ≡ changes w = rw f at e in cc)
-      ]
-
-      kind_there : (i : ℕ) (d : Placed) (w : Bool) → i < length order
-          → kind_of (x_ (get_or order i d).call).call (get_or order i d).reply ≡ changes w → kind (x_ (get_or order i d).call) ≡ changes w
-      kind_there i d w low e =
-          let p : Placed = get_or order i d in
-          let x : CallRecord = x_ p.call in
-          elim (none_or_some x.ended) [
-            | inl s ↦ subst (λ o. kind_if x.call o ≡ changes w) (sym s) (open_change x.call p.reply w e)
-            | inr s ↦ subst (λ o. kind_if x.call o ≡ changes w) (sym s.1) (subst (λ r. kind_of x.call r ≡ changes w) (same_reply i d s.0 low s.1) e)
-          ]
-
-      acts_are : AllByRecursion (IsAct ev last) (map act_of order)
-      acts_are = all_map (IsAct ev last) order (λ i d low.
-          let p : Placed = get_or order i d in
-          let known : p.call < length calls = l.known i d low in
-          let c = is_call p.call known in record {
-            counted = c.counted;
-            inside = begun_low p.call known;
-            ends_later = late_end (x_ p.call).ended (x_ p.call).begun c.counted (begun_low p.call known) c.ends_later;
-            told = λ w e.
-                let own = own_if (x_ p.call).call p.reply w e in
-                let is = begins_at last k p.call calls known history.pairs own.0 in
-                let kd = kind_there i d w low own.1 in
-                is ∙ ap (λ q. begin_event q (until last (x_ p.call))) kd;
-          })
-
       -- For each completed call on the key, the order contains an act: the effect of the call, with its start and end.
       pub stands : (n : ℕ) (e : ℕ × Reply) → n < length calls → (x_ n).ended ≡ Some e → (key_of (x_ n).call).0 ≡ k
           → In (act (x_ n).begun e.0 (kind (x_ n))) (map act_of order)
-      stands n e known s own =
-          let c = l.ended n e.0 e.1 known s in
-          let i = in_map order c.0 (record { call = n; reply = e.1 }) c.1 c.2 in
-          let a : until last (x_ n) ≡ e.0 = until_ended n e s in
-          let b : does k (x_ n).call e.1 ≡ kind (x_ n) = rw (equal_test (key_of (x_ n).call).0 k own) (rw s refl) in
-          subst (λ u. In (act (x_ n).begun u (kind (x_ n))) (map act_of order)) a
-          (subst (λ q. In (act (x_ n).begun (until last (x_ n)) q) (map act_of order)) b i)
+      stands n e known s own = stands_if order n e (l.ended n e.0 e.1 known s) s own
+
+      replies : SameReplies order
+      replies i d low = for_some (λ (e : ℕ × Reply). e.1 ≡ (get_or order i d).reply) (x_ (get_or order i d).call).ended (λ e s. sym (same_reply i d e low s))
 
       pub ready : (left : Bool) → has_key k (set_left_by start calls order).keys ≡ left
           → Ready ev last left are_events 0 (opened (has_key k start.keys)) (map act_of order)
       ready left e = record {
         take_turns = turns_map quota left order start l.legal e;
-        acts = acts_are;
+        acts = acts_are order l.known replies;
         pairs = pairs_map order l.known l.once l.in_time;
         lists = none;
         begins_to_come = λ i w u f late low.
@@ -352,7 +360,7 @@ module _ (threads : ℕ) (calls : List CallRecord) (history : IsHistory threads 
           none w = subst (λ xs. Lists ev last left are_events w 0 xs (map act_of order)) (nothing_open w) (record {
             from_event = λ u h. absurd (true≢false (sym h));
             needed = λ u h low. absurd (true≢false (sym h));
-            holds = λ a i d low. let c = (one_of (IsAct ev last) a (map act_of order) acts_are i).counted in absurd (omega (arith, c, low));
+            holds = λ a i d low. let c = (one_of (IsAct ev last) a (map act_of order) (acts_are order l.known replies) i).counted in absurd (omega (arith, c, low));
             once = tt;
           })
 

@@ -1,6 +1,6 @@
 -- Clashes: two calls on a key that rule out every order, whatever the other calls did. The key's opening state can
 -- replace the first call, and its final state can replace the second.
-use Rattle.std.specs.Prelude.{◌≡◌, ◌≢◌, ℕ, ◌⊎◌, ◌||◌, not, nat_lt, Bool, true, List, Option, Some, None, map, All, IfSome, Contains as Has}
+use Rattle.std.specs.Prelude.{◌≡◌, ◌≢◌, ◌<◌, ℕ, ◌⊎◌, ◌||◌, not, nat_lt, Bool, true, List, Option, Some, None, map, All, IfSome, IsSomeAnd, Contains as Has}
 use Rattle.lset_words.specs.declared.Call.{Call}
 use Rattle.lset_words.specs.declared.Reply.{Reply}
 use Rattle.lset_words.specs.declared.history.CallRecord.{CallRecord}
@@ -107,6 +107,22 @@ InOrder calls key there left (Some x) None = Unit {0}
 abbrev pub IsClash : List CallRecord → ℕ → Presence → Option Presence → Presence → Option CallRecord → Option CallRecord → Type 0
 IsClash calls key there left was first second =
     Clashes calls key there left was first second × InOrder calls key there left first second
+
+-- States that the first of two calls ends before the second call starts. Always holds if the opening state replaces the
+-- first call, or the final state the second. `EndsBefore` states that a call ends before a moment.
+abbrev pub EndsBefore : Option CallRecord → ℕ → Type 0
+EndsBefore None moment = Unit {0}
+EndsBefore (Some x) moment = IsSomeAnd x.ended (λ (e : ℕ × Reply). e.0 < moment)
+
+abbrev pub ComesFirst : Option CallRecord → Option CallRecord → Type 0
+ComesFirst first None = Unit {0}
+ComesFirst first (Some y) = EndsBefore first y.begun
+
+-- States that no call on a key clashes with a later call: one that starts after the first call has ended. Also states
+-- that no call clashes with the key's opening state, or with its final state.
+abbrev pub HasNoClash : List CallRecord → ℕ → Presence → Option Presence → Type 0
+HasNoClash calls key there left = (was : Presence) (first second : Option CallRecord) → ComesFirst first second
+    → IsClash calls key there left was first second → ⊥
 
 -- States the lemma: if two calls in a history clash, no order explains the history and leaves `keys`, whatever the
 -- other calls did.

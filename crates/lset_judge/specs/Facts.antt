@@ -17,6 +17,7 @@ use Rattle.lset_words.specs.History.{Precedes}
 use Rattle.lset_words.specs.SequentialSet.{has_key}
 use Rattle.lset_judge.specs.declared.stream.StreamCall.{StreamCall}
 use Rattle.lset_judge.specs.declared.stream.Failed.{Failed}
+use Rattle.lset_judge.specs.declared.stream.Pending.{Pending}
 use Rattle.lset_judge.specs.declared.stream.Refusal.{Refusal}
 use Rattle.lset_judge.specs.declared.stream.Stream.{Stream}
 use Rattle.lset_judge.specs.declared.rule.KeyState.{KeyState}
@@ -26,8 +27,9 @@ use Rattle.lset_judge.specs.declared.clash.Clash.{Clash}
 use Rattle.lset_judge.specs.Rule.{Event, begins, ends, looks, leaves, idle}
 use Rattle.lset_judge.specs.Events.{kind_if, until_if}
 use Rattle.lset_judge.specs.Rest.{turns_to}
+use Rattle.lset_judge.specs.Verdict.{is_plain}
 use Rattle.lset_judge.specs.Stream.{States, behind_all, record_of, IsStreamOf}
-use Rattle.lset_judge.specs.Clash.{record_if, other, leaves_if, needs_if, since_of, WasSo, IsClash}
+use Rattle.lset_judge.specs.Clash.{record_if, other, leaves_if, needs_if, since_of, EndsBefore, HasNoClash, IsOf, WasSo, Clashes, IsClash}
 
 -- The facts that the judge stores about the calls on a key. The judge stores one completed call, the kept call, which
 -- left the key in the state `was`. `kept` is the kind of the kept call; `thread`, `begun` and `ended` are its thread,
@@ -113,18 +115,32 @@ begun_by (looks w since) f = f
 begun_by (leaves w) f = f
 begun_by idle f = f
 
--- States that the facts `new` store the completed call `call`, which left the key in the state `new.was`. The latest
--- ends of changes are the same in `new` as in `old`.
+-- States that the facts `new` store the completed call `call`, which left the key in the state `new.was`. All changes to
+-- the other state end by the start of `call`. For the call that `old` stores, this does not hold, or this call left the
+-- key in the other state. The latest ends of changes are the same in `new` as in `old`.
 pub record IsKept (call : StreamCall) (old new : Facts) : Type 0 where
   pub first : first_of (key_of call.call).0 new ≡ Some call
   pub leaves : leaves_if call.call call.ended ≡ Some new.was
   pub puts : new.puts_until ≡ old.puts_until
   pub takes : new.takes_until ≡ old.takes_until
+  pub standing : until_of (other new.was) old ≤ call.begun
+  pub better : old.was ≡ new.was → until_of (other new.was) old ≤ old.begun → ⊥
+
+-- States that the kept call of these facts serves at least as well as `call`: if all changes to the other state end by
+-- the start of `call`, the kept call left the key in the same state, and all these changes end by its start.
+abbrev pub ServesAsWell : StreamCall → Facts → Type 0
+ServesAsWell call f = IfSome call.ended (λ (e : ℕ × Reply). is_plain call.call e.1 ≡ true) → (p : Presence) → leaves_if call.call call.ended ≡ Some p
+    → until_of (other p) f ≤ call.begun → (f.was ≡ p) × (until_of (other p) f ≤ f.begun)
+
+-- The facts do not change at the end of `call`, since their kept call serves at least as well.
+pub record IsUnchanged (call : StreamCall) (old new : Facts) : Type 0 where
+  pub same : new ≡ old
+  pub serves : ServesAsWell call old
 
 -- States how the facts about a key change when a call on it ends: they stay the same, or the call replaces the one call
 -- that they store.
 abbrev pub IsEnded : StreamCall → Facts → Facts → Type 0
-IsEnded call old new = (new ≡ old) ⊎ IsKept call old new
+IsEnded call old new = IsUnchanged call old new ⊎ IsKept call old new
 
 -- ---- The meaning of the stored facts about a key
 
@@ -154,11 +170,51 @@ AreKnownBy opening calls moment states None clash = (k : ℕ) → AreFacts openi
 AreKnownBy opening calls moment states (Some f) None = AreFacts opening calls f.key.0 (facts_for states f.key.0)
 AreKnownBy opening calls moment states (Some f) (Some c) = IsClashBy opening calls moment f.key.0 c
 
+-- ---- The facts suffice to find a clash
+
+-- States that a moment is the latest end of a change to the state `there`. It is 0 if there is no change.
+abbrev pub IsLatest : List CallRecord → ℕ → Presence → ℕ → Type 0
+IsLatest calls key there moment = (moment ≡ 0)
+    ⊎ ((x : CallRecord) × IsOf calls key x × (turns_to there (kind_if x.call x.ended) ≡ true) × (moment ≡ until_if behind_all x.begun x.ended))
+
+-- States that a call has ended by a moment.
+abbrev pub IsPast : ℕ → Option CallRecord → Type 0
+IsPast moment None = Unit {0}
+IsPast moment (Some x) = IfSome x.ended (λ (e : ℕ × Reply). e.0 ≤ moment)
+
+-- States that the kept call of these facts clashes with each call with which `first` clashes. `first` left the key in
+-- the state p.
+pub record IsAsGood (key : ℕ) (f : Facts) (p : Presence) (first : Option CallRecord) : Type 0 where
+  pub was : f.was ≡ p
+  pub standing : until_of (other p) f ≤ f.begun
+  pub early : (moment : ℕ) → EndsBefore first moment → EndsBefore (record_if (first_of key f)) moment
+
+-- States that the facts about a key suffice: if any completed call (or the opening state) can clash with a call that ends
+-- later, the kept call can.
+pub record AreComplete (opening : List ℕ) (calls : List CallRecord) (moment key : ℕ) (f : Facts) : Type 0 where
+  pub latest : (there : Presence) → IsLatest calls key there (until_of there f)
+  pub since : f.begun ≡ since_of (record_if (first_of key f))
+  pub past : IsPast moment (record_if (first_of key f))
+  pub best : (p : Presence) (first : Option CallRecord) → WasSo calls key (presence (has_key key opening)) p first → IsPast moment first
+      → until_of (other p) f ≤ since_of first → IsAsGood key f p first
+
+-- States that no two calls on the key that have ended by a moment clash one after the other.
+abbrev pub NoneMissed : List ℕ → List CallRecord → ℕ → ℕ → Type 0
+NoneMissed opening calls moment key = (p : Presence) (first : Option CallRecord) (y : CallRecord) → EndsBefore first y.begun
+    → Clashes calls key (presence (has_key key opening)) None p first (Some y) → IsPast moment (Some y) → ⊥
+
+abbrev pub AreCompleteBy : List ℕ → List CallRecord → ℕ → States → Option Failed → Option Clash → Type 0
+AreCompleteBy opening calls moment states None clash = (k : ℕ) → AreComplete opening calls moment k (facts_for states k)
+AreCompleteBy opening calls moment states (Some f) None =
+    AreComplete opening calls moment f.key.0 (facts_for states f.key.0) × NoneMissed opening calls moment f.key.0
+AreCompleteBy opening calls moment states (Some f) (Some c) = Unit {0}
+
 -- States that the stream s has judged these calls, and that its stored facts about the keys are correct (see
--- `AreKnownBy`).
+-- `AreKnownBy`) and suffice to find a clash (see `AreCompleteBy`).
 pub record IsStreamKept (threads : ℕ) (opening : List ℕ) (calls : List CallRecord) (s : Stream) : Type 0 where
   pub stream : IsStreamOf threads opening calls s
   pub known : AreKnownBy opening calls s.moment s.states s.failed s.clash
+  pub complete : AreCompleteBy opening calls s.moment s.states s.failed s.clash
 
 -- ---- Definitions that only one contract uses
 
@@ -225,7 +281,7 @@ abbrev pub EndIsKnown : States → StreamCall → States → Option Failed → O
 EndIsKnown before call after None was clash = EndIsKept before call after clash
     × ((k : ℕ) → k ≢ (key_of call.call).0 → facts_for after k ≡ facts_for before k)
 EndIsKnown before call after (Some f) None clash = (EndIsKept before call after clash × (f.key.0 ≡ (key_of call.call).0))
-    ⊎ ((facts_for after f.key.0 ≡ facts_for before f.key.0) × (clash ≡ None))
+    ⊎ ((facts_for after f.key.0 ≡ facts_for before f.key.0) × (clash ≡ None) × (f.key.0 ≢ (key_of call.call).0))
 EndIsKnown before call after (Some f) (Some c) clash = clash ≡ Some c
 
 abbrev pub clash_met : Option Failed → Option Clash → Option Clash
@@ -237,3 +293,8 @@ clash_met (Some f) clash = clash
 abbrev pub ClashesStream : List ℕ → Refusal → Option Presence → Stream → Clash → Type 0
 ClashesStream opening refusal left s c = (threads : ℕ) (calls : List CallRecord) → IsStreamKept threads opening calls s
     → IsClash calls refusal.key.0 (presence (has_key refusal.key.0 opening)) left c.was (record_if c.first) (record_if c.second)
+
+-- States that no two calls on the key that the reason names clash one after the other, once all ends have been processed.
+abbrev pub HasNone : List ℕ → Refusal → Option Presence → Stream → Type 0
+HasNone opening refusal left s = (threads : ℕ) (calls : List CallRecord) → IsStreamKept threads opening calls s
+    → All (λ (p : Pending). behind_all ≤ p.end) s.pending → HasNoClash calls refusal.key.0 (presence (has_key refusal.key.0 opening)) left

@@ -1,5 +1,5 @@
 -- The calls that a `Judge` has judged, and the meaning of its verdict.
-use Rattle.std.specs.Prelude.{ℕ, List, Option, Some, None, IfSome}
+use Rattle.std.specs.Prelude.{◌≡◌, ℕ, List, Option, Some, None, IfSome}
 use Rattle.lset_words.specs.declared.effect.Presence.{Presence}
 use Rattle.lset_words.specs.Effects.{presence}
 use Rattle.lset_words.specs.SequentialSet.{has_key}
@@ -10,7 +10,7 @@ use Rattle.lset_judge.specs.declared.set_judge.Verdict.{Verdict}
 use Rattle.lset_judge.specs.declared.set_judge.Verdict.TheVariants as verdict
 use Rattle.lset_judge.specs.declared.set_judge.Judge.{Judge}
 use Rattle.lset_judge.specs.declared.clash.Clash.{Clash}
-use Rattle.lset_judge.specs.Clash.{record_if, IsClash}
+use Rattle.lset_judge.specs.Clash.{record_if, HasNoClash, IsClash}
 use Rattle.lset_judge.specs.Facts.{IsStreamKept}
 
 -- States that the judge j has judged these calls, on a set that opened with the keys `opening`.
@@ -31,16 +31,25 @@ abbrev pub ClashesIn : List ℕ → List CallRecord → ℕ → Option Presence 
 ClashesIn opening calls key left c =
     IsClash calls key (presence (has_key key opening)) left c.was (record_if c.first) (record_if c.second)
 
+-- States that no call on a key clashes with a later call: one that starts after the first call has ended. Also states
+-- that no call clashes with the key's opening state, or with its final state.
+abbrev pub HasNoClashIn : List ℕ → List CallRecord → ℕ → Option Presence → Type 0
+HasNoClashIn opening calls key left = HasNoClash calls key (presence (has_key key opening)) left
+
 -- States that a verdict is correct. If it includes a clash, the clash is on the key that the reason (`refusal`) names.
 -- The clash involves the key's final state only if the reason is about the final keys.
+-- If the verdict includes no clash, no call on this key clashes with a later call, with the key's opening state, or with
+-- its final state.
 abbrev pub IsVerdict : ℕ → List ℕ → List CallRecord → List ℕ → Verdict → Type 0
 IsVerdict threads opening calls keys verdict.Linearizable = IsStreamVerdict (stream_history threads opening calls) keys Linearizable
 IsVerdict threads opening calls keys (verdict.NotLinearizable refusal clash) =
     IsStreamVerdict (stream_history threads opening calls) keys (NotLinearizable refusal)
     × IfSome clash (ClashesIn opening calls refusal.key.0 (left_by keys refusal.key.0 refusal.moment))
+    × (clash ≡ None → HasNoClashIn opening calls refusal.key.0 (left_by keys refusal.key.0 refusal.moment))
 
 abbrev pub IsVerdictCutOff : ℕ → List ℕ → List CallRecord → Verdict → Type 0
 IsVerdictCutOff threads opening calls verdict.Linearizable = IsStreamVerdictCutOff (stream_history threads opening calls) Linearizable
 IsVerdictCutOff threads opening calls (verdict.NotLinearizable refusal clash) =
     IsStreamVerdictCutOff (stream_history threads opening calls) (NotLinearizable refusal)
     × IfSome clash (ClashesIn opening calls refusal.key.0 None)
+    × (clash ≡ None → HasNoClashIn opening calls refusal.key.0 None)

@@ -1,11 +1,12 @@
 //! The facts that the judge stores about the calls on each key. They let it find a clash: two calls on the key that
 //! rule out every order.
 
-ghost use Rattle.std.specs.Prelude.{◌≡◌, ◌↔◌, IfSome, IsTrue, MatchOption, Some};
+ghost use Rattle.std.specs.Prelude.{◌≡◌, ◌↔◌, ◌≤◌, false, IsTrue, MatchOption, Some};
 ghost use Rattle.lset_words.specs.Effects.{effect_of};
 ghost use Rattle.lset_words.specs.Words.{key_of};
 ghost use Rattle.lset_judge.specs.Clash.{left_so, other};
 ghost use Rattle.lset_judge.specs.Code.{state_of, event_as};
+ghost use Rattle.lset_judge.specs.Verdict.{is_plain};
 ghost use Rattle.lset_judge.specs.Facts.{begun_by, facts_of, first_of, is_call, reply_kept, until_of, word_kept, ComesAfter, EndsBy, IsClashing, IsEnded, IsFound, IsFoundLeft, IsStanding};
 
 use crate::clash::{Clash, leaves, needs, other};
@@ -27,7 +28,7 @@ fn ends_by(first: StreamCall, second: StreamCall) -> bool
 /// Returns the key's state after a completed call, and the kind of the call. Returns `None` for a `ceiling`, and for a
 /// reply that is neither true nor false.
 fn kept_as(call: Call, reply: Reply) -> Option<(Presence, Kept)>
-    ensures { IfSome result (λ p. (left_so (effect_of call reply) ≡ Some p.0) × (word_kept p.1 p.0 (key_of call) ≡ call)
+    ensures { MatchOption result (is_plain call reply ≡ false) (λ p. (left_so (effect_of call reply) ≡ Some p.0) × (word_kept p.1 p.0 (key_of call) ≡ call)
         × (reply_kept p.1 p.0 ≡ reply) × IsTrue (is_call p.1)) }
 {
     match (call, reply) {
@@ -185,7 +186,12 @@ impl KeyState {
     /// Returns whether a completed call that started at `begun` and left the key in the state `was` replaces the stored
     /// call. It does so only if all changes to the other state had ended by `begun`. If the stored call left the same
     /// state and all these changes had ended when it started, the stored call stays.
-    fn is_to_be_kept(&self, begun: u64, was: Presence) -> bool {
+    fn is_to_be_kept(&self, begun: u64, was: Presence) -> bool
+        ensures kept { IsTrue result → (until_of (other was) (facts_of self.now) ≤ begun)
+            × (self.now.was ≡ was → until_of (other was) (facts_of self.now) ≤ self.now.begun → ⊥) }
+        ensures stays { result ≡ false → until_of (other was) (facts_of self.now) ≤ begun
+            → (self.now.was ≡ was) × (until_of (other was) (facts_of self.now) ≤ self.now.begun) }
+    {
         let until = self.until(other(was));
         until <= begun && !(self.was == was && until <= self.begun)
     }

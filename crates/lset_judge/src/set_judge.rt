@@ -1,10 +1,10 @@
 //! The judge of a recording that is read call by call. If no order explains the calls, the judge returns the reason.
 
-ghost use Rattle.std.specs.Prelude.{◌≡◌, ◌<◌, ◌++◌, ◌∷◌, ◌≢◌, [], ℕ, IfErr, IfOk, IfSome, List, OnOk};
+ghost use Rattle.std.specs.Prelude.{◌≡◌, ◌<◌, ◌++◌, ◌∷◌, ◌≢◌, [], ℕ, IfErr, IfOk, IfSome, IsSome, List, None, OnOk};
 ghost use Rattle.std.specs.List.Sorted.{IsStrictlyIncreasing};
 ghost use Rattle.lset_words.specs.declared.history.CallRecord.{CallRecord as RecordedCall};
 ghost use Rattle.lset_judge.specs.Stream.{record_of, moment_of, pending_in, IsToldBy, MayCome};
-ghost use Rattle.lset_judge.specs.Facts.{ClashesStream};
+ghost use Rattle.lset_judge.specs.Facts.{ClashesStream, HasNone};
 ghost use Rattle.lset_judge.specs.Judge.{left_by, IsJudgeOf, IsVerdict, IsVerdictCutOff};
 ghost use Rattle.lset_judge.specs.declared.stream.StreamVerdict.TheVariants.{NotLinearizable};
 
@@ -19,8 +19,9 @@ use std::alloc::{AllocError, Global};
 pub enum Verdict {
     /// Some order explains the calls, from the opening keys, and leaves the final keys.
     Linearizable,
-    /// No order explains the calls and leaves the final keys. Contains the reason, and two calls that clash, if the
-    /// judge found them.
+    /// No order explains the calls and leaves the final keys. Contains the reason, and two calls on its key that clash.
+    /// Contains no clash only if no call on this key clashes with a later call: one that starts after the first call has
+    /// ended.
     NotLinearizable(Refusal, Option<Clash>),
 }
 
@@ -47,11 +48,13 @@ fn left_as(keys: &[u32], refusal: Refusal) -> Option<Presence>
     }
 }
 
-/// Returns two clashing calls on the key that `refusal` (the reason of the verdict) names, if the judge found such
-/// calls.
+/// Returns two clashing calls on the key that `refusal` (the reason of the verdict) names. Returns `None` only if no call
+/// on this key clashes with a later call: one that starts after the first call has ended.
 fn clash_for(stream: &Stream, refusal: Refusal, left: Option<Presence>) -> Option<Clash>
-    requires { IsToldBy stream.now.failed (NotLinearizable refusal) }
-    ensures { IfSome result (λ c. (opening : List ℕ) → ClashesStream opening refusal left stream.now c) }
+    requires told { IsToldBy stream.now.failed (NotLinearizable refusal) }
+    requires left { IsSome left → refusal.moment ≡ None }
+    ensures found { IfSome result (λ c. (opening : List ℕ) → ClashesStream opening refusal left stream.now c) }
+    ensures missed { result ≡ None → (opening : List ℕ) → HasNone opening refusal left stream.now }
 {
     match left {
         None => stream.clash_met(),

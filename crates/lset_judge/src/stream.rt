@@ -10,10 +10,11 @@ ghost use Rattle.lset_words.specs.SequentialSet.{has_key};
 ghost use Rattle.lset_words.specs.Words.{key_of};
 ghost use Rattle.lset_judge.specs.Rule.{entered, found, opened};
 ghost use Rattle.lset_words.specs.Effects.{presence};
+ghost use Rattle.lset_judge.specs.Clash.{other};
 ghost use Rattle.lset_judge.specs.Code.{event_as};
 ghost use Rattle.lset_judge.specs.Events.{kind_as, kind_if, until_if, begin_event, end_event};
 ghost use Rattle.lset_judge.specs.Leaving.{may_be_left};
-ghost use Rattle.lset_judge.specs.Facts.{begun_by, clash_met, facts_for, facts_opened, BeginIsKnown, EndIsKept, EndIsKnown, IsClashing, IsEnded, IsFound, IsFoundLeft, IsStreamKept};
+ghost use Rattle.lset_judge.specs.Facts.{begun_by, clash_met, facts_for, facts_opened, BeginIsKnown, EndIsKept, EndIsKnown, IsClashing, IsEnded, IsFound, IsFoundLeft, IsStanding, IsStreamKept};
 ghost use Rattle.lset_judge.specs.Stream.{record_of, stream_history, behind_all, state_for, pending_of, key_in, event_of, IsBefore, IsMet, IsStreamOf, MayCome, failed_verdict, verdict_of_key, moment_of, pending_in, IsStreamVerdict, IsStreamVerdictCutOff, IsMetBy, IsToldBy};
 ghost use Rattle.lset_judge.specs.Verdict.{is_plain};
 ghost use Rattle.lset_judge.specs.declared.stream.StreamFault.TheVariants.{Memory};
@@ -259,17 +260,25 @@ fn note_begin(
 
 /// Records the end of a call on a key that has failed the judge's rule (the test of one key's calls). Returns a clash
 /// that involves this call, if the stored facts show one.
-fn note_end(states: &mut HashMap<u32, KeyState>, call: StreamCall) -> Option<Clash>
-    ensures kept { EndIsKept states.old call states.new result }
-    ensures missed { result ≡ None → IsClashing (facts_for states.old (key_of call.call).0) call → ⊥ }
+fn note_end(
+    states: &mut HashMap<u32, KeyState>,
+    alloc: Global,
+    call: StreamCall,
+) -> Result<Option<Clash>, AllocError>
+    ensures kept { IfOk result (λ clash. EndIsKept states.old call states.new clash) }
+    ensures missed { IfOk result (λ clash. clash ≡ None → IsClashing (facts_for states.old (key_of call.call).0) call → ⊥) }
 {
     let key = call.call.key().0;
     if let Some(state) = states.get_mut(&key) {
         let clash = state.clash_of(call);
         state.keep(call);
-        return clash;
+        return Ok(clash);
     }
-    KeyState::opened(Presence::Absent).clash_of(call)
+    let mut state = KeyState::opened(Presence::Absent);
+    let clash = state.clash_of(call);
+    state.keep(call);
+    states.insert(key, state)?;
+    Ok(clash)
 }
 
 /// The result of processing the end of a call.
@@ -515,16 +524,17 @@ impl Stream {
     }
 
     /// Processes the end of a pending call after the judge's rule (its test of each key's calls) has failed.
-    fn end_after_failure(&mut self, next: Pending, failed: Failed)
+    fn end_after_failure(&mut self, next: Pending, failed: Failed) -> Result<(), AllocError>
         requires { self.old.failed ≡ Some failed }
-        ensures met { IsMet self.old (key_in next) next.end (event_of next) self.new }
-        ensures known { EndIsKnown self.old.states next.call self.new.states self.old.failed self.old.clash self.new.clash }
-        ensures missed { failed.key.0 ≡ key_in next → self.new.clash ≡ None → IsClashing (facts_for self.old.states (key_in next)) next.call → ⊥ }
+        ensures met { OnOk result (IsMet self.old (key_in next) next.end (event_of next) self.new) }
+        ensures known { OnOk result (EndIsKnown self.old.states next.call self.new.states self.old.failed self.old.clash self.new.clash) }
+        ensures missed { OnOk result (failed.key.0 ≡ key_in next → self.new.clash ≡ None → IsClashing (facts_for self.old.states (key_in next)) next.call → ⊥) }
     {
         if failed.key.0 == next.key() && self.clash.is_none() {
-            self.clash = note_end(&mut self.states, next.call);
+            self.clash = note_end(&mut self.states, self.alloc, next.call)?;
         }
         self.moment = next.end;
+        Ok(())
     }
 
     /// Processes the end of a pending call, and advances the stream to this end.
@@ -537,7 +547,7 @@ impl Stream {
             → IsClashing (facts_for self.old.states (key_in next)) next.call → ⊥)) }
     {
         if let Some(failed) = self.failed {
-            self.end_after_failure(next, failed);
+            self.end_after_failure(next, failed)?;
             return Ok(());
         }
         self.meet_end_going(next)?;
@@ -711,7 +721,9 @@ impl Stream {
     /// Returns a call on `key` that clashes with the key's final state `left`, if the stored facts show one. Returns
     /// `None` if the judge's rule (the test of one key's calls) has failed for any key.
     pub(crate) fn clash_left(&self, key: u32, left: Presence) -> Option<Clash>
-        ensures { IfSome result (λ c. (self.now.failed ≡ None) × IsFoundLeft key (facts_for self.now.states key) left c) }
+        ensures found { IfSome result (λ c. (self.now.failed ≡ None) × IsFoundLeft key (facts_for self.now.states key) left c) }
+        ensures missed { result ≡ None → self.now.failed ≡ None → left ≡ other (facts_for self.now.states key).was
+            → IsStanding key (facts_for self.now.states key) → ⊥ }
     {
         if self.failed.is_some() {
             return None;

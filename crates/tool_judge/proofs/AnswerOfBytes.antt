@@ -1,5 +1,5 @@
 -- The answers of `judge` are correct for the bytes of an input.
-use Rattle.std.proofs.Common.{◌≡◌, ◌≢◌, ℕ, inl, inr, List, ◌++◌, Ok, Err, Option, Some, None, sym, subst}
+use Rattle.std.proofs.Common.{◌≡◌, ◌≢◌, ◌⊎◌, ℕ, inl, inr, List, ◌++◌, Ok, Err, Option, Some, None, sym, subst, ◌∙◌}
 use Rattle.std.specs.Prelude.{IfSome}
 use Rattle.std.specs.Io.KnownBytes.{Consumes}
 use Rattle.lset_text.specs.declared.causes.Cause.{Cause}
@@ -14,7 +14,7 @@ use Rattle.lset_recording.proofs.TextFound.{text_found}
 use Rattle.tool_base.specs.declared.trouble.Trouble.{Trouble}
 use Rattle.tool_base.specs.Tools.{AnswerValue}
 use Rattle.tool_base.specs.Trouble.{of_line_fault, of_line}
-use Rattle.tool_judge.specs.Judging.{IsAnswerTo, Judges}
+use Rattle.tool_judge.specs.Judging.{IsAnswerTo, Judges, without_clash}
 
 pub of_fault : (bytes : List ℕ) (e : LineFault) (t : Trouble) → t ≡ of_line_fault e → (e.cause ≢ wrong.Memory → Says bytes (Err e))
     → Judges bytes (Err t)
@@ -25,17 +25,18 @@ of_fault bytes e t is says = by e.line e.cause is says
     by line wrong.Memory is says = inr (inl is)
     by line cause is says = inr (inr (fault line cause, says (λ bad. absurd cc), is))
 
-pub answered : (bytes : List ℕ) (c : Recording) (said : RecordingAnswer) (a : AnswerValue) → Says bytes (Ok c) → IsAnswered c said
-    → IsAnswerTo said.verdict said.calls a → Judges bytes (Ok a)
-answered bytes c said a says is made = (
+pub answered : (bytes : List ℕ) (c : Recording) (said shown : RecordingAnswer) (a : AnswerValue) → Says bytes (Ok c) → IsAnswered c said
+    → ((shown.verdict ≡ said.verdict) ⊎ (shown.verdict ≡ without_clash said.verdict)) → shown.calls ≡ said.calls
+    → IsAnswerTo shown.verdict shown.calls a → Judges bytes (Ok a)
+answered bytes c said shown a says is shows calls made = (
   c,
   says,
   text_found bytes c says,
   record {
     recording = is.recording;
-    verdict = said.verdict;
-    verdict_is = is.verdict;
-    answer_is = subst (λ (n : ℕ). IsAnswerTo said.verdict n a) is.calls made;
+    verdict = shown.verdict;
+    verdict_is = (said.verdict, is.verdict, shows);
+    answer_is = subst (λ (n : ℕ). IsAnswerTo shown.verdict n a) (calls ∙ is.calls) made;
   },
 )
 

@@ -46,11 +46,21 @@ abbrev pub IsAnswerTo : Verdict → ℕ → AnswerValue → Type 0
 IsAnswerTo Linearizable calls answer = Begins (ok_line calls) answer.text × (answer.status ≡ 0)
 IsAnswerTo (NotLinearizable refusal clash) calls answer = Begins (refused_text refusal clash) answer.text × (answer.status ≡ 1)
 
--- The answer is correct for a recording: it is the answer for a correct verdict on this recording.
+-- The verdict without its clash.
+abbrev pub without_clash : Verdict → Verdict
+without_clash Linearizable = Linearizable
+without_clash (NotLinearizable refusal clash) = NotLinearizable refusal None
+
+-- The verdict is a correct verdict on a recording, or a correct verdict without its clash.
+abbrev pub IsShown : Recording → Verdict → Type 0
+IsShown c shown = (verdict : Verdict) × IsVerdictOnRecording c verdict × ((shown ≡ verdict) ⊎ (shown ≡ without_clash verdict))
+
+-- The answer is correct for a recording: it is the answer for a correct verdict on this recording. A brief answer leaves
+-- out the clash.
 pub record IsAnswerOn (c : Recording) (answer : AnswerValue) : Type 0 where
   pub recording : IsRecording c
   pub verdict : Verdict
-  pub verdict_is : IsVerdictOnRecording c verdict
+  pub verdict_is : IsShown c verdict
   pub answer_is : IsAnswerTo verdict (length c.calls) answer
 
 -- The result is correct for the bytes of an input: a correct answer for the recording that they spell, the error of the

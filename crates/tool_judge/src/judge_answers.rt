@@ -1,10 +1,8 @@
-ghost use Rattle.std.specs.Prelude.{◌≡◌, ◌≢◌, ℕ, List, IfOk, IfErr, IfSome, Ok};
-ghost use Rattle.lset_recording.specs.Kept.{IsAnswered, IsRead};
-ghost use Rattle.lset_recording.specs.Reading.{IsVerdictOnRecording};
-ghost use Rattle.lset_recording.specs.Texts.{Recording};
+ghost use Rattle.std.specs.Prelude.{◌≡◌, ◌≢◌, ◌⊎◌, ℕ, List, IfOk, IfErr, IfSome, Ok};
+ghost use Rattle.lset_recording.specs.Kept.{IsRead};
 ghost use Rattle.tool_base.specs.Tools as tools;
 ghost use Rattle.tool_base.specs.declared.trouble.Trouble.TheVariants.{CannotRead};
-ghost use Rattle.tool_judge.specs.Judging.{IsAnswerTo, Judges};
+ghost use Rattle.tool_judge.specs.Judging.{IsAnswerTo, Judges, without_clash};
 ghost use Rattle.tool_judge.specs.Exact.{AnswersAreRight};
 
 use crate::texts::{ok_text, refusal_text};
@@ -26,7 +24,7 @@ pub(crate) enum Detail {
 
 /// Removes the contradiction from a verdict.
 fn without_clash(verdict: Verdict) -> Verdict
-    ensures { (c : Recording) → IsVerdictOnRecording c verdict → IsVerdictOnRecording c result }
+    ensures { result ≡ without_clash verdict }
 {
     match verdict {
         Verdict::Linearizable => Verdict::Linearizable,
@@ -36,7 +34,8 @@ fn without_clash(verdict: Verdict) -> Verdict
 
 /// Removes the parts of an answer that are not printed at this level of detail.
 fn in_detail(said: RecordingAnswer, detail: Detail) -> RecordingAnswer
-    ensures { (c : Recording) → IsAnswered c said → IsAnswered c result }
+    ensures verdict { (result.verdict ≡ said.verdict) ⊎ (result.verdict ≡ without_clash said.verdict) }
+    ensures calls { result.calls ≡ said.calls }
 {
     match detail {
         Detail::Whole => said,

@@ -14,5 +14,6 @@ returns c = λ threads opening calls is.
     let s = c.come_to_end.new.self in let refusal = c.in-NotLinearizable.refusal in
     let so = c.in_ok-come_to_end.ensures.kept threads opening calls is in (
       subst (IsStreamVerdictCutOff (stream_history threads opening calls)) c.in-NotLinearizable.is (c.verdict_cut_off.ensures.said threads opening calls so.stream),
-      clash_now s refusal None None c.clash_for-clash.result refl c.clash_for-clash.ensures threads opening calls so,
+      clash_now s refusal None None c.clash_for-clash.result refl c.clash_for-clash.ensures.found threads opening calls so,
+      (λ none. c.clash_for-clash.ensures.missed none opening threads calls so c.in_ok-come_to_end.ensures.met),
     )

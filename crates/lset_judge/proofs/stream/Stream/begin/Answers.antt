@@ -7,6 +7,7 @@ use Rattle.lset_judge.specs.Stream.{record_of, pending_of, key_in, IsMetBy}
 use Rattle.lset_judge.proofs.CallBegins.{begins_apart, call_begun}
 use Rattle.lset_judge.specs.Facts.{BeginIsKnown}
 use Rattle.lset_judge.proofs.FactsGoOn.{begin_known}
+use Rattle.lset_judge.proofs.FactsSuffice.{complete_begin}
 use Rattle.lset_judge.proofs.stream.Stream.begin.Goals as goal
 
 pub insert-requires : goal.insert-requires
@@ -32,4 +33,5 @@ returns-clause-begun c = λ threads opening calls low is.
     c.in_ok-meet.ensures.known) in record {
       stream = call_begun threads opening calls s is.stream (record_of x) c.requires.may c.requires.met low t moved met.at_moment by;
       known = begin_known opening calls (record_of x) s t c.requires.may.begins met.at_moment by known c.in_ok-meet.ensures.clash is.known;
+      complete = complete_begin threads opening calls s is.stream (record_of x) c.requires.may c.requires.met t met.at_moment by known c.in_ok-meet.ensures.clash is.complete;
     }

@@ -6,6 +6,7 @@ use Rattle.lset_judge.specs.declared.stream.Pending.{Pending}
 use Rattle.lset_judge.specs.Facts.{IsStreamKept}
 use Rattle.lset_judge.proofs.CallBegins.{end_met}
 use Rattle.lset_judge.proofs.FactsGoOn.{end_known}
+use Rattle.lset_judge.proofs.FactsSuffice.{complete_end}
 use Rattle.lset_judge.proofs.stream.Stream.meet_before.Goals as goal
 
 pub loop-next-init : goal.loop-next-init
@@ -30,6 +31,8 @@ loop-next-preserved c =
           let so = end_met threads opening calls s t c.args.moment p rest c.requires next met.pending met.at_moment met.by now.stream in record {
             stream = so;
             known = end_known threads opening calls s t c.args.moment p rest next met.at_moment now.stream c.in_ok-end.ensures.known met.by now.known;
+            complete = complete_end threads opening calls s t c.args.moment p rest next met.at_moment now.stream so met.by c.in_ok-end.ensures.known
+                c.in_ok-end.ensures.missed now.known now.complete;
           };
       before = λ low. let at = met.at_moment in let early = next.early in omega (arith, at, early);
       some = subst (All (Contains was)) (sym met.pending)

@@ -5,6 +5,7 @@ use Rattle.lset_judge.specs.declared.stream.Stream.{Stream}
 use Rattle.lset_judge.specs.Stream.{IsStreamOf}
 use Rattle.lset_judge.specs.Facts.{facts_for}
 use Rattle.lset_judge.proofs.FactsGoOn.{first_facts}
+use Rattle.lset_judge.proofs.FactsSuffice.{complete_first}
 use Rattle.lset_judge.proofs.stream.Stream.new.Goals as goal
 
 pub returns-clause-opened : goal.returns-clause-opened
@@ -14,4 +15,5 @@ returns-clause-opened c = λ threads.
     let is : IsStreamOf threads c.args.opening.now [] s = search (rules, empty_history) in record {
       stream = is;
       known = λ k. first_facts c.args.opening.now k (facts_for states k) (c.in_ok-opening_states.ensures.facts k);
+      complete = λ k. complete_first c.args.opening.now k (facts_for states k) (c.in_ok-opening_states.ensures.facts k);
     }
