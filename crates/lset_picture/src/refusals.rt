@@ -60,12 +60,7 @@ fn put_reason(out: &mut String, refusal: &Refusal, told: &[u32]) -> Result<(), A
             call,
             first,
             second,
-        } => {
-            write!(
-                out,
-                "Twice {call}: it is at places {first} and {second}"
-            )
-        }
+        } => { write!(out, "Twice {call}: it is at places {first} and {second}") }
         Refusal::Missing {
             call,
             moment,
