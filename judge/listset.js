@@ -668,7 +668,8 @@ function linkOf(file) {
 function tooLongHint(name) {
   if (name === "judge")
     return `Only a recording can have more than ${LONGEST} bytes: line 1 must be 'listset-calls 1', and no line has more than 128 bytes`;
-  return `Standard input has more than ${LONGEST} bytes, and only judge reads more. To let ${name} read the first lines alone: .. | head -n 1000 | listset ${name}`;
+  const shortened = name === "check" ? "For a report of fewer calls, shorten its schedule: .. | head -n 1000 | listset replay | listset check" : `To let ${name} read the first 1000 lines of a ${name === "draft" ? "draft" : "schedule"} alone: .. | head -n 1000 | listset ${name}`;
+  return `Standard input has more than ${LONGEST} bytes, and only judge reads more. ${shortened}`;
 }
 function meant(engine, name, file) {
   if (file === "help")
@@ -706,7 +707,7 @@ function longHint(engine, file, number, cause) {
   const shown = line ? `Line ${number} is '${line}'. ` : "";
   const name = quoted(file);
   if (cause === "NotEnded" && isEndLong(file)) {
-    return `${shown}The line has more than the 128 bytes that a line can have, and no newline at its end. Write the title and each call in a line of its own, which ends with LF. If another sign is between the calls, such as a semicolon: tr ';' '\\n' < ${name} > NEW`;
+    return `${shown}The line has more than the 128 bytes that a line can have, and no newline at its end. Write the title and each call in a line of its own, which ends with LF. If another sign is between the calls, such as a semicolon: tr ';' '\\n' < ${name} > ${name}.new`;
   }
   return `${shown}${why.replace(/\s+/g, " ").trim().slice(cause.length).trim().replaceAll("FILE", name)}`;
 }
@@ -782,8 +783,7 @@ function ofThisFile(engine, { texts, values: [file = "-"] }, value) {
 function asCalled(hint) {
   const [from, whole] = [path.relative("", process.argv[1]), process.argv[1]];
   const called = `node ${quoted(from.length < whole.length ? from : whole)}`;
-  const safe = /[^>] NEW[ ;)]/.test(hint) ? hint.replace(/([^>])> NEW/g, "$1> NEWER") : hint;
-  return safe.replace(/\blistset (?=((replay|judge|check|show|trace|draft|example|gen|run|serve|faults|explain|help)\b|--version|--help))/g, `${called} `);
+  return hint.replace(/\blistset (?=((replay|judge|check|show|trace|draft|example|gen|run|serve|faults|explain|help)\b|--version|--help))/g, `${called} `);
 }
 function wordsHint(given, said) {
   const [name = ""] = given;
@@ -888,7 +888,7 @@ async function main(given) {
   if (engine !== null)
     return write(answerOrTrouble(engine, words), hintOn(engine, words));
   const instead = words.name === "run" ? asCalled(". To see random calls in Node, step by step: listset gen lazy 2 4 9 5 1 | listset replay") : "";
-  const why = words.isBuilt ? `${words.name} needs a built program, which Node does not have (README.md, "Try it")${instead}` : NOT_RUN;
+  const why = words.isBuilt ? `${words.name} needs a built program, which Node does not have. The script ./listset builds one with the command rt of the Rattle toolchain (README.md, "Try it")${instead}` : NOT_RUN;
   if (process.env.LISTSET_ENGINE === void 0)
     process.stderr.write(`listset: ${why}
 `);
