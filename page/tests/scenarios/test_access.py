@@ -85,9 +85,9 @@ def next_stop(visitor, stops):
 @pytest.mark.parametrize("size", [(1280, 720), (683, 320), (390, 844)], ids=["1280x720", "twice-as-large", "phone"])
 def test_each_tab_stop_is_visible_and_can_be_left(visitor, size):
     fit(visitor, *size)
-    visitor.open("#read")
     hidden = []
     for address in PLACES:
+        visitor.open("#read")  # the focus is then in the page: in Firefox, Tab has moved it to the browser's own buttons, and no focus event follows
         go(visitor, address)
         visitor.script("window.stops = 0; document.querySelectorAll('[data-stop]').forEach((it) => delete it.dataset.stop); document.activeElement.blur(); document.querySelector('#skip').focus()")
         stops = []
