@@ -86,7 +86,7 @@ function unitsOf(state, room, slots, isFlat) {
   const sizes = [1, 2, 3, 4, 5, MOST_POINTING].map(sizeWith).filter(({ isGood }) => isGood);
   const { lanes, scale: largest } = sizes.reduce((one, other) => (other.scale > one.scale + 0.001 ? other : one));
   const heights = heightsOf(form.below[tight], lanes);
-  const scale = Math.min(largest, Math.max(LEAST_OF_ALL, room.high / heights.height)); // if the stage is too low, labels are smaller and nothing is cut
+  const scale = room.isWhole ? Math.min(largest, Math.max(LEAST_OF_ALL, (room.high + MARGIN) / heights.height)) : largest; // smaller labels, but nothing is cut
   return { ...heights, form, scale, tight, row, isLow: form.below[tight] === 0, width: Math.max(room.wide / scale, slots * form.slot), spare: Math.max(0, room.high / scale - heights.height) };
 }
 
@@ -198,7 +198,7 @@ function freeHand(own, placed, { x, y, width: node }, { height, over }, width) {
  * `room` has the pixels of the stage (`wide`, `high`) and the `least` of a unit, the most nodes of the chain (`slots`), where a `lock` is shown
  * ("list", "nodes" or ""), whether every node stays in the chain (`flat`), how `tight` the last drawing was, the pixels left free at both `ends`,
  * and the registers whose hands are not drawn (`hides`).
- * @typedef {{ wide: number, high: number, least?: number, slots: number, lock: string, flat?: boolean, tight?: number, ends?: number[], hides: string[], names?: boolean }} Room
+ * @typedef {{ wide: number, high: number, least?: number, slots: number, lock: string, flat?: boolean, tight?: number, ends?: number[], hides: string[], names?: boolean, isWhole?: boolean }} Room
  */
 export function arranged(state, event, room) {
   const chain = state.chain();

@@ -80,7 +80,7 @@ function placeTheList(figure, { state, event: made }, isNear) {
   const { names = false, slots = 4, flat, strip, isPath = false } = spec;
   const hides = HIDDEN[String(names || (spec.list === "lock-free" && !isPath))];
   const least = innerWidth >= 1900 ? 1 : 0;
-  const room = { wide, high: tall, least, slots: Math.max(slots, drawn.slots), lock: lockShown(spec), flat, tight: drawn.tight, hides, names, ends: strip && isPath ? barEnds(figure) : undefined };
+  const room = { wide, high: tall, least, slots: Math.max(slots, drawn.slots), lock: lockShown(spec), flat, tight: drawn.tight, hides, names, ends: strip && isPath ? barEnds(figure) : undefined, isWhole: figure.box.classList.contains("judged") };
   const list = arranged(state, event, room);
   const fallen = drawn.chain.filter((name) => !list.chain.includes(name) && !state.nodes[name]?.link.endsWith("*"));
   const isStep = isNear && run.count === drawn.count + 1;

@@ -179,6 +179,6 @@ def test_slides_are_readable(visitor, size):
         assert small == [], number
         visitor.press("PageDown")
         walk.look(f"#lecture={number}, one key on")
-        bars = visitor.script("return [...document.querySelectorAll(':is(.strip, #judge-bars) text')].filter((it) => it.getClientRects().length > 0).map((it) => [it.textContent, parseFloat(getComputedStyle(it).fontSize) * it.getScreenCTM().a / innerHeight])")
+        bars = visitor.script("return [...document.querySelectorAll(':is(.strip, #judge-bars) text')].filter((it) => it.getClientRects().length > 0).map((it) => [it.textContent, parseFloat(getComputedStyle(it).fontSize) * it.ownerSVGElement.getBoundingClientRect().width / it.ownerSVGElement.viewBox.baseVal.width / innerHeight])")
         assert all(share > .033 for text, share in bars if text not in ("should", "have")), (number, bars)
     walk.end()
