@@ -159,11 +159,12 @@ fn put_kinds(out: &mut String, tally: &Tally) -> Result<(), AllocError> {
         ),
         (tally.others, "of no such kind"),
     ];
-    let mut mark = ": ";
+    let mut is_first = true;
     for (count, kind) in kinds {
         if count > 0 {
-            write!(out, "{mark}{count} {kind}")?;
-            mark = " + ";
+            out.push_str(if is_first { ": " } else { " + " })?;
+            write!(out, "{count} {kind}")?;
+            is_first = false;
         }
     }
     Ok(())
