@@ -91,20 +91,11 @@ may_ok threads calls x h =
 pub may_again : (threads : ℕ) (calls : List CallRecord) (x : CallRecord) → MayFollow threads calls x
     → may_follow threads calls x ≡ true
 may_again threads calls x may =
-    (may_by threads calls x).1 (
-      may.call.of_a_thread,
-      (
-        (may.call.counted, λ k d b. (may.follows k d b).increasing),
-        (
-          both x.ended may.call.ends_later (λ k d b. (may.follows k d b).ends_alone),
-          (
-            (λ k d b. let below = (may.follows k d b).increasing in
-                (λ same. omega arith, flipped (get_or calls k d).ended (may.follows k d b).begins_alone)),
-            λ k d b. (may.follows k d b).none_open,
-          ),
-        ),
-      ),
-    )
+    (may_by threads calls x).1 (may.call.of_a_thread, ((may.call.counted, λ k d b. (may.follows k d b).increasing),
+    (both x.ended may.call.ends_later (λ k d b. (may.follows k d b).ends_alone),
+    ((λ k d b. let below = (may.follows k d b).increasing in
+    (λ same. omega arith, flipped (get_or calls k d).ended (may.follows k d b).begins_alone)),
+    λ k d b. (may.follows k d b).none_open))))
   where
     flipped : (o : Option (ℕ × Reply)) → IfSome o (λ (e : ℕ × Reply). e.0 ≢ x.begun) → IfSome o (λ (e : ℕ × Reply). x.begun ≢ e.0)
     flipped o h = IfSome_then o h (λ e other same. other (sym same))
